@@ -10,29 +10,37 @@ does; `asm`, `code` and `c` make operators of assembly text, code and C; `algori
 from __future__ import annotations
 
 import importlib
+import importlib.util
 import os
+import sys
 from typing import TYPE_CHECKING, Any, Dict, List
 
 if TYPE_CHECKING:
     from . import algorithms, draw
     from .algorithms.temporal_paths import events
     from .alignment import align
-    from ._client.pending_jobs import Budget, JobResult
+    from .backends.protocol import Budget, JobResult
     from .errors import (BudgetExceeded, BudgetWarning, Busy, Closed, CompileError, DimensionMismatch, DomainMismatch, MaskWarning, NamesDiffer,
                          NoThread, NotMade,
-                         NotSettled, OperatorRefused, OutOfMemory, ReadError, Refused, ResultLost, SpmatError, TextRefused,
+                         NotSettled, OperatorRefused, OutOfMemory, ProtocolError, ReadError, Refused, ResultLost, SpmatError, TextRefused,
                          ThreadUnavailable, TooLarge, UnitsDiffer)
     from .loops import Loop, empty, loop, steady
     from .loops.fixpoint import fixpoint
     from .mask import Mask
     from .matrix import Matrix, bipartite
     from .operators import Operator, Semiring, asm, binary, code, indexunary, select, semiring, unary
-    from .operators.clang import c
-    from .operators.compiler.symbolic_operands import cdiv, cmod, rsh, udiv, ult, umod, where
-    from .operators.explanation import code_of, explain
+    from .operators.c import c
+    from .operators.compiler.operands import cdiv, cmod, rsh, udiv, ult, umod, where
+    from .operators.diagnostics import code_of, explain
     from .pricing.call_price import price
     from .session import Session
     from .tiles import concat
+    from .vector import Vector
+
+
+if importlib.util.find_spec('numpy') is None:
+    raise ImportError('spmat needs numpy (1.22 or newer), and %s has none. To have it: pip install numpy; or on Debian '
+                      'apt install python3-numpy, which is for /usr/bin/python3' % sys.executable)
 
 
 def _version() -> str:
@@ -43,8 +51,9 @@ def _version() -> str:
 
 __version__ = _version()
 __all__ = ['Budget', 'BudgetExceeded', 'BudgetWarning', 'Busy', 'Closed', 'CompileError', 'DimensionMismatch', 'DomainMismatch', 'JobResult', 'Loop',
-           'Mask', 'MaskWarning', 'Matrix', 'NamesDiffer', 'NoThread', 'NotMade', 'NotSettled', 'Operator', 'OperatorRefused', 'OutOfMemory', 'ReadError',
-           'Refused', 'ResultLost', 'Semiring', 'Session', 'SpmatError', 'TextRefused', 'ThreadUnavailable', 'TooLarge', 'UnitsDiffer', 'algorithms',
+           'Mask', 'MaskWarning', 'Matrix', 'NamesDiffer', 'NoThread', 'NotMade', 'NotSettled', 'Operator', 'OperatorRefused', 'OutOfMemory',
+           'ProtocolError', 'ReadError', 'Refused', 'ResultLost', 'Semiring', 'Session', 'SpmatError', 'TextRefused', 'ThreadUnavailable', 'TooLarge',
+           'UnitsDiffer', 'Vector', 'algorithms',
            'align', 'asm', 'binary', 'bipartite', 'c', 'cdiv', 'cmod', 'code', 'code_of', 'concat', 'draw', 'empty', 'events', 'explain', 'fixpoint',
            'indexunary',
            'loop', 'price', 'rsh', 'select', 'semiring', 'steady', 'udiv', 'ult', 'umod', 'unary', 'where']
@@ -53,27 +62,27 @@ __all__ = ['Budget', 'BudgetExceeded', 'BudgetWarning', 'Busy', 'Closed', 'Compi
 # that makes a session doesn't wait for pictures.
 _PLACES: Dict[str, str] = {name: module for module, names in {
     'alignment': 'align',
-    'operators.clang': 'c',
+    'operators.c': 'c',
     'errors': 'BudgetExceeded BudgetWarning Busy Closed CompileError DimensionMismatch DomainMismatch MaskWarning NamesDiffer NoThread NotMade '
               'NotSettled OperatorRefused '
-              'OutOfMemory ReadError Refused ResultLost SpmatError TextRefused ThreadUnavailable TooLarge UnitsDiffer',
-    '_client.pending_jobs': 'Budget JobResult',
+              'OutOfMemory ProtocolError ReadError Refused ResultLost SpmatError TextRefused ThreadUnavailable TooLarge UnitsDiffer',
+    'backends.protocol': 'Budget JobResult',
     'loops': 'Loop empty loop steady',
     'mask': 'Mask',
     'matrix': 'Matrix bipartite',
     'operators': 'Operator Semiring asm binary code indexunary select semiring unary',
-    'operators.compiler.symbolic_operands': 'cdiv cmod rsh udiv ult umod where',
-    'operators.explanation': 'code_of explain',
+    'operators.compiler.operands': 'cdiv cmod rsh udiv ult umod where',
+    'operators.diagnostics': 'code_of explain',
     'pricing.call_price': 'price',
     'loops.fixpoint': 'fixpoint',
     'algorithms.temporal_paths': 'events',
     'session': 'Session',
+    'vector': 'Vector',
     'tiles': 'concat'}.items() for name in names.split()}
 
 # What python-graphblas has at its top, and what it is here.
 _ELSEWHERE = {'agg': 'aggregators are names, as in A.reduce_rowwise("count")', 'monoid': 'folds take binary operators, as in A.reduce_rowwise("plus")',
-              'op': 'operators are names, as in A.ewise_add(B, "plus")', 'Vector': 'vectors are matrices of one column, as v = s.from_coo(rows, [0] * n, '
-              'values, n, 1)', 'Scalar': 'scalars are numbers of Python', 'replace': 'write C.update(B, mask=M.S, replace=True)',
+              'op': 'operators are names, as in A.ewise_add(B, "plus")', 'Scalar': 'scalars are numbers of Python', 'replace': 'write C.update(B, mask=M.S, replace=True)',
               'dtypes': 'all values are whole numbers of 64 bits', 'ss': 'write spmat.concat(tiles), A.split(sizes) and A.reshape(nrows, ncols)'}
 
 

@@ -84,8 +84,8 @@ def _aggregated(matrix: Any, op: str, axis: int, where: Optional[Mask], name: Op
 
 def _means(sums: Any, counts: Any, name: Optional[str]) -> Any:
     """Means as parts of a unit, each the nearest."""
-    rows, columns, many = sums.to_coo(arrays=False)
-    exact = [Fraction(total, count) for total, count in zip(many, counts.to_coo(arrays=False)[2])]
+    rows, columns, many = sums.entries(arrays=False)
+    exact = [Fraction(total, count) for total, count in zip(many, counts.entries(arrays=False)[2])]
     parts = FINEST
     while parts > 1 and any(abs(mean) * parts > MOST for mean in exact):
         parts //= 10

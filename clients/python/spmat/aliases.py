@@ -19,8 +19,7 @@ def alias(matrix: H, notes: 'Notes') -> H:
     made: Any = object.__new__(type(matrix))
     made.__dict__.update(matrix.__dict__)
     made.notes = notes
-    if made.in_one_place:
-        made.handle.add_matrix(made)
+    made.handle.add_matrix(made)
     found: H = made
     return found
 

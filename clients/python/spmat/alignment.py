@@ -9,7 +9,7 @@ from .errors import NamesDiffer, refusal
 from .io.exporters import Held
 from .io.matrix_text import is_array
 from .limits import MOST_SIDE
-from .metadata import COLUMNS, POSITIONS, ROWS, Axis, Nodes, check_names
+from .metadata import COLUMNS, POSITIONS, ROWS, Axis, Nodes, check_names, vertices_of
 
 M = TypeVar('M', bound=Held)
 WAYS = ('outer', 'inner')
@@ -102,7 +102,7 @@ def _groups(matrices: Sequence[Held]) -> List[List[_Side]]:
 
 def _is_square(matrix: Held) -> bool:
     """Whether a matrix is that of a graph, or may be one, whose rows and columns are the same vertices."""
-    return matrix.nrows == matrix.ncols and matrix.notes.axis(ROWS).agrees(matrix.notes.axis(COLUMNS))
+    return matrix.nrows == matrix.ncols and vertices_of(matrix.notes) is not None
 
 
 def _common(sides: Sequence[_Target], how: str) -> _Target:
@@ -142,7 +142,7 @@ def _moved(matrix: M, rows: _Target, columns: _Target, before: Sequence[M]) -> M
     if tables == [None, None]:
         is_same = notes.rows is matrix.notes.rows and notes.columns is matrix.notes.columns and notes == matrix.notes
         return matrix if is_same else alias(matrix, notes)
-    i, j, values = _kept(*matrix.to_coo(), *tables)
+    i, j, values = _kept(*matrix.entries(), *tables)
     like = next((one for one in before if one.nrows == rows.size and one.session == matrix.session), matrix)
     made: M = like.session.from_coo(i, j, values, rows.size, columns.size)  # type: ignore[assignment]
     made.notes = notes._replace(source='')

@@ -1,22 +1,26 @@
-"""Methods that are made of others: parts that are set, aggregators, tiles, powers, diagonals. Matrices of one session have them, and
-those in row blocks; what each takes in jobs stands with it."""
+"""Methods that are made of others: copies under any mask, parts that are set, aggregators, tiles, powers, diagonals. Whatever takes jobs
+has them; what each takes in jobs stands with it."""
 from __future__ import annotations
 
-# what a matrix holds is told by the kinds of matrices
-# pylint: disable=abstract-method
+# what a matrix holds is told by the kinds of matrices; masks are turned
+# pylint: disable=abstract-method,invalid-unary-operand-type
 
-from typing import TYPE_CHECKING, Any, Dict, List, Optional, Tuple, TypeVar
+from typing import TYPE_CHECKING, Any, Callable, Dict, List, Optional, Tuple, TypeVar
 
-from . import assignment, tiles, units
+from . import aggregators, assignment, tiles, units
+from .backends.unread import reading
 from .errors import refusal
 from .indexing import gather, picked
-from .metadata import BY_POSITIONS, COLUMNS, NOTHING, ROWS, check_equal, check_same_names, on_diagonal
-from .operators import Op
-from .pricing.unread import reading
+from .job_operators import of_form
+from .mask import Mask, as_mask, structure
+from .metadata import (BY_POSITIONS, COLUMNS, NOTHING, ROWS, Notes, check_equal, check_same_names, hint_of, of_copy, of_update,
+                       on_diagonal, under)
+from .operators import Op, Semiring, binary, indexunary, unary
 from .signs import Signs
 
 if TYPE_CHECKING:
-    from .matrix import Matrix, MaskLike, Ring
+    from .job_operators import Ring
+    from .matrix import Matrix, MaskLike
 
 C = TypeVar('C', bound='Composites')
 Sizes = tiles.Sizes
@@ -37,6 +41,25 @@ class MatrixType(type):
 class Composites(Signs, metaclass=MatrixType):
     """What is made of the jobs of other methods."""
 
+    is_vector = False                              # it is a Vector
+
+    if TYPE_CHECKING:                              # what a matrix has beside
+        @property
+        def waits(self) -> bool:
+            """Whether it is the result of a job that hasn't run."""
+
+        @property
+        def nvals(self) -> int:
+            """The number of entries."""
+
+        apply: Callable[..., Any]
+        select: Callable[..., Any]
+        ewise_add: Callable[..., Any]
+        ewise_mult: Callable[..., Any]
+        mxm: Callable[..., Any]
+        reduce_rowwise: Callable[..., Any]
+        _check_shape: Callable[..., None]
+
     # -- a part of it, and values by position
 
     @reading
@@ -46,8 +69,9 @@ class Composites(Signs, metaclass=MatrixType):
 
         Rows and columns are named as `index` has it, or counted from 0; below 0 no number is a position. Of a list or an array each counts, as
         often as it stands there; a row that is there twice leaves the rows without names. Lists, arrays and columns of pandas that have
-        True and False alone filter, as do columns of 0 and 1 and masks of columns: those with names are aligned by these. A slice of names
-        takes both ends, as in pandas; one of positions leaves out the second and counts from the end below 0, as in numpy.
+        True and False alone filter, as do masks of columns: those with names are aligned by these. A column itself is refused, as it could
+        be a list of rows as well. A slice of names takes both ends, as in pandas; one of positions leaves out the second and counts from
+        the end below 0, as in numpy. Where numbers are names, but for 0 to n - 1, a number in a slice could be either and is refused.
 
         1 job for the rows and 1 for the columns that are chosen, and 1 run where both are; a value comes with 1 run more. In the GraphBLAS
         GrB_extract. Raises ValueError where there is no such vertex, IndexError where a filter has another length, TypeError for floats and
@@ -83,10 +107,108 @@ class Composites(Signs, metaclass=MatrixType):
         part = matrix[row, slice(None) if column is None else column]
         if not isinstance(part, Signs):
             return default if part is None else part
-        values = part.to_coo(arrays=False)[2]
+        values = part.entries(arrays=False)[2]
         if part.shape != (1, 1):
             raise TypeError('get is of one entry, and %r, %r are %dx%d: write A[rows, columns]' % (row, column, *part.shape))
         return units.to_decimal(values[0], part.unit) if values else default
+
+    # -- folds, copies, and what lies outside of a mask
+
+    def reduce_columnwise(self: C, op: Op = 'plus', *, mask: Any = None, associative: Optional[bool] = None,
+                          name: Optional[str] = None) -> C:
+        """A row: the fold of each column that isn't empty, from its first row to its last, for every operator. 1 job and no run:
+        a product of a row of ones with this matrix, by `second`. The session keeps the ones; it uploads them at the first use of
+        a length. It takes the aggregators that `reduce_rowwise` takes, of which "argmin" gives rows. `associative` is as for `mxm`:
+        row blocks then fold their own rows, and send a row each."""
+        if aggregators.is_aggregator(op):
+            return aggregators.aggregated(self, str(op), 0, mask, name)
+        ring = Semiring(of_form('product', op), binary.second)
+        ones: Any = self.session.ones(self.nrows)
+        made: C = ones.mxm(self, ring, mask=mask, associative=associative, name=name)
+        return made
+
+    @reading
+    def reduce_scalar(self, op: Op = 'plus', *, raw: bool = False) -> Any:
+        """The fold of all entries as a number, or None where there are none: the folds of the rows, folded, so the operator has
+        to be associative. It is an int, or where the fold has a unit a float, what it stands for; `raw=True` gives the stored whole
+        number. At most 2 jobs and 2 runs (1 and 1 of a row or a column), and one number comes back. Of the aggregators of
+        `reduce_rowwise` it takes those that aren't positions; "mean" is a float. A sum or a product beyond 64 bits wraps, without a
+        word; algorithms refuse where theirs could."""
+        if aggregators.is_aggregator(op):
+            return aggregators.aggregate_all(self, str(op), raw)
+        rows = self if self.ncols == 1 else self.reduce_rowwise(op)
+        made = rows if rows.nrows == 1 else rows.reduce_columnwise(op, associative=True)
+        values = made.entries(arrays=False)[2]
+        return units.to_decimal(values[0], 1 if raw else made.unit) if values else None
+
+    def dup(self: C, *, mask: Any = None, name: Optional[str] = None) -> C:
+        """A copy: 1 job, and with a complement as its mask what `without` takes."""
+        where = as_mask(mask)
+        if where is not None and where.complement:
+            return self.without(~where, name=name)
+        made: C = self.apply(unary.identity, mask=where, name=name)
+        return made
+
+    def without(self: C, mask: Any, *, name: Optional[str] = None) -> C:
+        """The entries outside a mask, whatever the values: 5 jobs and 3 runs, 1 run more where this matrix or the mask's waits, 1
+        job and 1 run more for `A.V`. Ones for the entries here and zeros for the mask's; their union by `zero` is 1 only where
+        this matrix is alone; a copy under those. Of ~A.S or ~A.V it is a copy under A.S or A.V, 1 job."""
+        where = as_mask(mask, warns=False)
+        if where is None:
+            raise TypeError('expected a mask')
+        if where.complement:
+            return self.dup(mask=~where, name=name)
+        notes = notes_under(~where, self.shape, of_copy(self.notes))
+        other = structure(where)
+        if self.waits or other.waits:
+            self.session.backend.run()
+        here, there = self.apply(unary.one), other.apply(unary.zero)
+        alone = here.ewise_add(there, binary.zero).select(indexunary.nonzero)
+        made: C = self.apply(unary.identity, mask=alone.S, name=name)
+        made.notes = notes
+        return made
+
+    def update(self: C, other: C, accum: Optional[Op] = None, mask: Any = None, replace: bool = False, *,
+               name: Optional[str] = None) -> C:
+        """A new matrix, what the GraphBLAS writes C<M, accum> = other: under the mask `other`, or with `accum` the union of both
+        by it; outside the mask this matrix, or nothing where `replace` is set. So `C.update(A.mxm(B), "plus")` is python-graphblas'
+        `C(accum) << A.mxm(B)`, and `C.update(B, mask=M.S)` its `C(M.S) << B`; `assign` sets a part.
+
+        Without a mask 1 job, no run. With one 7 jobs and 4 runs, with `replace` 1 and none (5 and 3 for a complement); `accum` is 1 job
+        more, A.V 1 and 1; and where an operand or the mask waits, 1 run."""
+        self._check_shape('union', other, self.shape)
+        where = as_mask(mask)
+        if where is not None:
+            check_mask(where, self.shape, self.notes)
+        op = None if accum is None else of_form('union', accum)
+        notes = of_update(self.notes, other.notes, op, where, replace)
+        made = self._updated(other, accum, where, replace, name)
+        made.notes = notes
+        return made
+
+    def _updated(self: C, other: C, accum: Optional[Op], where: Optional[Mask], replace: bool, name: Optional[str]) -> C:
+        inside: C = other if accum is None else self.ewise_add(other, accum, name=None if where is not None else name)
+        if where is None:
+            return inside if accum is not None else other.dup(name=name)
+        where = Mask(structure(where), complement=where.complement)
+        if replace:
+            return inside.dup(mask=where, name=name)
+        made: C = self.without(where).ewise_add(inside.dup(mask=where), binary.first, name=name)
+        return made
+
+    @reading
+    def isequal(self: C, other: C) -> bool:
+        """Whether both have the same sizes, positions and values. No job where sizes or numbers of entries differ; else 2 jobs
+        and 2 runs. NamesDiffer or UnitsDiffer where they can't be compared."""
+        if not isinstance(other, Composites):
+            raise TypeError('expected a matrix, got %r' % (other,))
+        if self.shape != other.shape:
+            return False
+        check_equal(self.notes, other.notes)
+        if self.nvals != other.nvals:
+            return False
+        differ = self.ewise_mult(other, 'ne')
+        return bool(differ.nvals == self.nvals and differ.select('nonzero').nvals == 0)
 
     # -- by entries
 
@@ -97,7 +219,7 @@ class Composites(Signs, metaclass=MatrixType):
         `left_default` stands for this matrix's entries, `right_default` for the other's. 5 jobs and 2 runs, besides those of the
         mask. In the GraphBLAS GxB_eWiseUnion, in python-graphblas the same name."""
         ours, theirs = filled(other, left_default, self.unit), filled(self, right_default, other.unit)
-        return self.ewise_add(ours, 'first').ewise_mult(other.ewise_add(theirs, 'first'), op, mask=mask, name=name)  # type: ignore[attr-defined, no-any-return]
+        return self.ewise_add(ours, 'first').ewise_mult(other.ewise_add(theirs, 'first'), op, mask=mask, name=name)  # type: ignore[no-any-return]
 
     def isclose(self: C, other: C, rel_tol: float = 1e-7, abs_tol: float = 0.0) -> bool:
         """Whether both have the same sizes and positions, and values that differ by at most `rel_tol` times the greater one, or by
@@ -111,9 +233,9 @@ class Composites(Signs, metaclass=MatrixType):
         if self.shape != other.shape:
             return False
         check_same_names(self.notes, other.notes)
-        if self.nvals != other.nvals:  # type: ignore[attr-defined]
+        if self.nvals != other.nvals:
             return False
-        (rows, columns, values), (i, j, others) = self.to_coo(arrays=False), other.to_coo(arrays=False)
+        (rows, columns, values), (i, j, others) = self.entries(arrays=False), other.entries(arrays=False)
         if (rows, columns) != (i, j):
             return False
         pairs = [(units.exact_number(x) / self.unit, units.exact_number(y) / other.unit) for x, y in zip(values, others) if
@@ -171,15 +293,17 @@ class Composites(Signs, metaclass=MatrixType):
         return tiles.reshaped(self, nrows, ncols, order, name)  # type: ignore[arg-type, return-value]
 
 
-def have_same_entries(first: Any, second: Any) -> bool:
-    """Whether two matrices have the same sizes, positions and values. NamesDiffer or UnitsDiffer where they can't be compared."""
-    if first.shape != second.shape:
-        return False
-    check_equal(first.notes, second.notes)
-    if first.nvals != second.nvals:
-        return False
-    differ = first.ewise_mult(second, 'ne')
-    return bool(differ.nvals == first.nvals and differ.select('nonzero').nvals == 0)
+def check_mask(where: Mask, shape: Tuple[int, int], notes: Notes) -> None:
+    """DimensionMismatch where a mask has another shape than the result, of which `notes` are known."""
+    if where.matrix.shape != shape:
+        raise refusal('J9', detail='the result is %dx%d, the mask %dx%d%s' % (
+            *shape, *where.matrix.shape, hint_of(notes, where.matrix.notes)))
+
+
+def notes_under(where: Mask, shape: Tuple[int, int], notes: Notes) -> Notes:
+    """What is known of a result under a mask. DimensionMismatch where the mask has another shape, NamesDiffer where it has other names."""
+    check_mask(where, shape, notes)
+    return under(notes, where.matrix.notes, where.value, where.complement)
 
 
 def filled(pattern: Any, number: Any, unit: units.Unit) -> Any:
@@ -220,7 +344,7 @@ def diagonal(matrix: 'Matrix', k: int, name: Optional[str]) -> 'Matrix':
     k = whole(k, 'number of a diagonal')
     if 1 not in matrix.shape:
         return _diagonal_of(matrix, k, name)
-    rows, columns, values = matrix.to_coo()
+    rows, columns, values = matrix.entries()
     at, count = (rows, matrix.nrows) if matrix.ncols == 1 else (columns, matrix.ncols)
     down, right = max(-k, 0), max(k, 0)
     moved: Tuple[Any, Any] = (at, at) if not k else ([int(i) + down for i in at], [int(i) + right for i in at])

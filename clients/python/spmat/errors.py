@@ -22,6 +22,7 @@ here once, in the words of docs/protocol.md and docs/bpf.md.
 """
 from __future__ import annotations
 
+import re
 import copy
 from typing import Any, Callable, Dict, Optional, Sequence, Tuple, Type
 
@@ -81,6 +82,11 @@ SENTENCES: Dict[str, str] = {
     'memory SPENT': 'run: out of memory, after so many steps',
     'thread SPENT': 'run: a thread could not be started for a worker; those that were started went on, to so many steps',
     'busy': 'the server has as many sessions as it serves',
+    'login': 'the gateway knows no such user, or another token is right',
+    'quota': 'this user, or its group, has used up a quota',
+    'ledger': 'the gateway can book no session now; try later',
+    'engine': 'the gateway could not start a session',
+    'session': 'the gateway has ended the session; it says why, how the steps are known, and how many it charges',
 }
 
 MORE_STEPS = 'open a session with more steps, and other.adopt(G) takes a matrix there'
@@ -98,6 +104,17 @@ MENDS: Dict[str, str] = {
 }
 
 
+# arguments of calls that errors of files and sessions are about; words write them as `columns=`
+ARGUMENTS = ('bipartite', 'columns', 'comments', 'date_format', 'delimiter', 'directed', 'dup_op', 'format', 'header', 'missing', 'name',
+             'program', 'scale', 'steps', 'tls', 'token', 'unit', 'values', 'workers')
+_ARGUMENT = re.compile(r'(?<![\w"\'.-])(%s)=' % '|'.join(ARGUMENTS))
+
+
+def arguments_in(words: str) -> Tuple[str, ...]:
+    """List the arguments of a call that a message writes as ``columns=``, each once."""
+    return tuple(dict.fromkeys(_ARGUMENT.findall(words)))
+
+
 class SpmatError(Exception):
     """Everything that this package raises of its own."""
 
@@ -107,15 +124,22 @@ class Closed(SpmatError):
     are what the program said, its status among them."""
 
 
+class ProtocolError(Closed):
+    """What came is no reply to the command that was sent: the other side is no server of spmat, or something between drops, repeats or
+    swaps replies. The session is ended, as commands and replies are out of step."""
+
+
 class MaskWarning(UserWarning):
     """A matrix was given as a mask: it means its structure, `A.S`, where the C API of the GraphBLAS means its values, `A.V`."""
 
 
 class ReadError(SpmatError, ValueError):
-    """A file isn't what was to be read: `.file` its name, `.at` the line, from 1, or None, `.line` what stands there."""
+    """A file isn't what was to be read: `.file` its name, `.at` the line, from 1, or None, `.line` what stands there. `.arguments` are
+    the names of the arguments of a call that the words are about, such as ``columns``."""
 
     def __init__(self, file: str, at: Optional[int], words: str, line: str = '') -> None:
         self.file, self.at, self.words, self.line = file, at, words, line
+        self.arguments = arguments_in(words)
         place = file if at is None else '%s, line %d' % (file, at)
         super().__init__('%s: %s%s' % (place, words, ': %r' % line if line else ''))
 
@@ -271,19 +295,23 @@ class BudgetExceeded(Refused):
     docstring says, else None. Reading it takes no steps."""
 
     algorithm = ''
+    arguments = ('steps',)
     partial: Any = None
 
     def __init__(self, rule: str, numbers: Sequence[int] = (), command: str = '', line: str = '', detail: str = '') -> None:
         detail = detail or ('the price is %d, and %d are left' % tuple(numbers[:2]) if len(numbers) >= 2 else '')
         super().__init__(rule, numbers, command, line, detail)
 
-    def of_algorithm(self, name: str) -> 'BudgetExceeded':
-        """This refusal, of a job of an algorithm, with what can be done."""
-        wanted = ('%s wants a job of up to %s steps' % (name, format(self.price, ',')) if name else 'the price is %d' % self.price)
-        out = type(self)(self.rule, self.numbers, self.command, self.line, '%s, and %d are left: %s; spmat.price(lambda: ..) tells '
-                         'beforehand what a call takes' % (wanted, self.left, MORE_STEPS))
-        out.algorithm = name
-        return out
+    def with_advice(self) -> 'BudgetExceeded':
+        """This refusal of a job, with what can be done."""
+        return type(self)(self.rule, self.numbers, self.command, self.line, 'the price is %d, and %d are left: %s; spmat.price(lambda: ..) '
+                          'tells beforehand what a call takes' % (self.price, self.left, MORE_STEPS))
+
+    def name_algorithm(self, name: str) -> None:
+        """Notes which algorithm wanted the job."""
+        wanted = '%s wants a job of up to %s steps' % (name, format(self.price, ','))
+        self.algorithm, self.detail = name, self.detail.replace('the price is %d' % self.price, wanted, 1)
+        self.args = (self.message(),)
 
     def of_call(self, name: str) -> 'BudgetExceeded':
         """This refusal, of a whole call of an algorithm before any of its jobs, with what can be done."""
@@ -319,10 +347,13 @@ class BudgetExceeded(Refused):
 
 _CLASSES: Dict[str, Type[Refused]] = {
     'J4': DomainMismatch, 'J5': DimensionMismatch, 'J9': DimensionMismatch, 'J7': TooLarge, 'J8': TooLarge, 'M4': TooLarge,
-    'S7': TooLarge, 'S8': BudgetExceeded, 'S9': OperatorRefused, 'memory': OutOfMemory, 'thread': NoThread, 'busy': Busy}
+    'S7': TooLarge, 'S8': BudgetExceeded, 'S9': OperatorRefused, 'memory': OutOfMemory, 'thread': NoThread, 'busy': Busy,
+    'ledger': Busy}
 _FAMILIES: Dict[str, Type[Refused]] = {'A': OperatorRefused, 'V': OperatorRefused, 'M': TextRefused}
 
 Near = Callable[[str, int], str]
+OF_GATEWAY = ('login', 'quota', 'ledger', 'engine', 'session')
+"""Refusals by which a gateway ends a session, or lets it not begin; the words behind say more."""
 
 
 def is_placed(rule: str) -> bool:
@@ -347,7 +378,8 @@ def refusal_of(reply: str, command: str, near: Optional[Near] = None) -> Refused
     rule = words[1] if len(words) > 1 else ''
     numbers = [int(word) for word in words[2:] if word.isdigit()]
     line = near(rule, numbers[0]) if near is not None and numbers and is_placed(rule) else ''
-    return refusal(rule, numbers, command, line, form_of(command) if rule in ('S1', 'S2') else '')
+    detail = form_of(command) if rule in ('S1', 'S2') else ' '.join(words[2:]) if rule in OF_GATEWAY else ''
+    return refusal(rule, numbers, command, line, detail)
 
 
 def form_of(command: str) -> str:

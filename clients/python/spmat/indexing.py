@@ -39,7 +39,7 @@ def picked(matrix: 'Matrix', at: Any) -> Union['Matrix', int, float, None]:
     if columns.places is not None:
         part = part.mxm(gather(matrix, columns.places, 1), 'any_first')
     if rows.one and columns.one:
-        values = part.to_coo(arrays=False)[2]
+        values = part.entries(arrays=False)[2]
         return units.to_decimal(values[0], matrix.unit) if values else None
     return part
 
@@ -145,26 +145,32 @@ def _is_boolean(many: Any) -> bool:
 
 
 def _of_slice(matrix: 'Matrix', index: slice, axis: int) -> Chosen:
-    """The places of a slice: names count at both ends, as in pandas; positions from the first to before the last, as in numpy."""
+    """The places of a slice: names count at both ends, as in pandas; positions from the first to before the last, as in numpy. A number
+    could be either where numbers are names: ValueError."""
     start, stop, step = index.start, index.stop, index.step
     if start is None and stop is None and step is None:
         return Chosen(None)
+    names = matrix.notes.names(axis)
+    number = next((end for end in (start, stop) if hasattr(end, '__index__') and not _is_truth(end)), None)
+    if number is not None and names is not None and names.numbered and not names.are_counted:
+        raise ValueError('%ss have numbers for names, so that %d in a slice could be a name or a position: write a list or a range of '
+                         'names, such as range(%s, %s)' % (WHAT[axis], number, start if start is not None else names[0],
+                                                           stop if stop is not None else '..'))
     for end in (start, stop):
         if _is_truth(end) or isinstance(end, float):
             _refuse_kind(end, axis, type(end) if isinstance(end, float) else bool)
     backward = step is not None and step < 0
-    if start is not None and _names_vertex(matrix, start, axis):
+    if start is not None and _names_vertex(start):
         start = matrix.index(start, axis)
-    if stop is not None and _names_vertex(matrix, stop, axis):
+    if stop is not None and _names_vertex(stop):
         last = matrix.index(stop, axis)
         stop = last + 1 if not backward else last - 1 if last else None
     return Chosen(list(range(*slice(start, stop, step).indices(matrix.shape[axis]))))
 
 
-def _names_vertex(matrix: 'Matrix', end: Any, axis: int) -> bool:
+def _names_vertex(end: Any) -> bool:
     """Whether an end of a slice is a name, and not a position."""
-    names = matrix.notes.names(axis)
-    return not hasattr(end, '__index__') or (names is not None and names.numbered)
+    return not hasattr(end, '__index__')
 
 
 def _of_list(matrix: 'Matrix', many: Any, axis: int) -> List[int]:
@@ -213,20 +219,19 @@ def _of_series(matrix: 'Matrix', series: Any, axis: int) -> List[int]:
         WHAT[axis], 'some stand twice' if lacking is None else 'there is none %r' % (lacking,)))
 
 
-def _of_column(matrix: 'Matrix', column: Any, axis: int) -> List[int]:
-    """The places of a column (or row) of spmat that filters, or of a mask of one; aligned by names where both have some."""
-    mask = column if isinstance(column, Mask) else None
-    values: Any = column if mask is None else mask.matrix
+def _of_column(matrix: 'Matrix', mask: Any, axis: int) -> List[int]:
+    """The places of a mask of a column (or row); aligned by names where both have some. TypeError for the column itself."""
+    if not isinstance(mask, Mask):
+        raise TypeError('a matrix as an index of %ss could filter them or list them: write c.V for the %ss whose value is not 0, c.S for '
+                        'those with an entry, or c.to_list() for a list of %ss' % ((WHAT[axis],) * 3))
+    values = mask.matrix
     if 1 not in values.shape:
         raise TypeError('%ss are filtered by a column or a row, not by a matrix of %dx%d' % (WHAT[axis], *values.shape))
     length = values.nrows if values.ncols == 1 else values.ncols
-    rows, columns, numbers = values.to_coo(arrays=False)
+    rows, columns, numbers = values.entries(arrays=False)
     at = rows if values.ncols == 1 else columns
-    if mask is None and not set(numbers) <= {0, 1}:
-        raise TypeError('a column of other values than 0 and 1 is no filter: write c.S for the %ss with an entry, c.V for those whose '
-                        'value is not 0, or c.to_list() for a list of %ss' % (WHAT[axis], WHAT[axis]))
-    stored = {place for place, number in zip(at, numbers) if number or (mask is not None and not mask.value)}
-    inside = mask is None or not mask.complement
+    stored = {place for place, number in zip(at, numbers) if number or not mask.value}
+    inside = not mask.complement
     side = 0 if values.ncols == 1 else 1
     own, whole = values.notes.axis(side), matrix.notes.axis(axis)
     if own.has_names and whole.has_names and not own.agrees(whole):

@@ -3,14 +3,15 @@ from __future__ import annotations
 
 from decimal import Decimal
 from fractions import Fraction
-from typing import NamedTuple, Optional, Tuple, Union
+from typing import Dict, NamedTuple, Optional, Tuple, Union
 
 from . import units
 from ._client.protocol import FORMS
 from .errors import refusal
-from .operators import Op, Operator, READY, find
+from .operators import READY, Op, Operator, Semiring, find, find_semiring
 
 Number = Union[int, float, Fraction, Decimal]
+Ring = Union[str, Semiring, Tuple[Op, Op]]
 
 
 class Applied(NamedTuple):
@@ -30,11 +31,27 @@ def of_form(form: str, op: Op) -> Operator:
     return found
 
 
+_RINGS: Dict[str, Tuple[Semiring, Tuple[Operator, Operator]]] = {}          # by names, as they are looked up
+
+
+def ring_of(op: Ring) -> Tuple[Semiring, Tuple[Operator, Operator]]:
+    """A semiring, and its two operators as a product takes them."""
+    found = _RINGS.get(op) if isinstance(op, str) else None
+    if found is None:
+        ring = find_semiring(op)
+        found = ring, (of_form('product', ring.add), of_form('product', ring.mul))
+        if isinstance(op, str):
+            _RINGS[op] = found
+    return found
+
+
 def applied(op: Op, right: Optional[Number], left: Optional[Number], unit: units.Unit) -> Applied:
     """What `apply` sends of a matrix with this unit."""
     if right is not None and left is not None:
         raise TypeError('right= or left=, not both')
     bound = right is not None or left is not None
+    if not bound and isinstance(op, Operator) and op.kind == 'unary':
+        return Applied(op, None, True, unit if unit == 1 else units.of_unary(op, unit))
     kinds = ('binary', 'index') if bound else ('unary', 'index')
     found = find(_kind_of(op, kinds, bound), op)
     number = left if left is not None else right if right is not None else 0

@@ -27,6 +27,7 @@ COMMUTE: FrozenSet[str] = frozenset((
 # Index operators that look at the value alone, and with a thunk of 0 these two: what they select of a symmetric matrix is one.
 BY_VALUE: FrozenSet[str] = frozenset(('nonzero', 'thunk', 'valueeq', 'valuege', 'valuegt', 'valuele', 'valuelt', 'valuene'))
 BY_DIAGONAL: FrozenSet[str] = frozenset(('diag', 'offdiag'))
+IDENTITY: FrozenSet[str] = frozenset(('identity',))
 # Binary operators whose result is one of both values.
 CHOOSE: FrozenSet[str] = frozenset(('any', 'first', 'max', 'min', 'second'))
 
@@ -213,6 +214,7 @@ class Notes(NamedTuple):
     value_names: Optional[Nodes] = None
     unnamed_rows: Unnamed = Unnamed.ANYTHING
     unnamed_columns: Unnamed = Unnamed.ANYTHING
+    sides: int = 0                                 # 1 where rows and columns are two kinds of vertices, -1 of its transpose
 
     def __repr__(self) -> str:
         sides = ['None' if names is None else '<%d names>' % len(names) for names in (self.rows, self.columns)]
@@ -340,17 +342,17 @@ def _chosen(op: Operator, first: Optional[Nodes], second: Optional[Nodes]) -> Op
 
 def of_applied(first: Notes, op: Operator, even: bool, unit: Unit) -> Notes:
     """What is known of the result of `apply`, whose unit is given; `even` says that the operator doesn't look at rows and columns."""
-    if first is NOTHING:
-        return NOTHING
-    same = _is_ready(op, frozenset(('identity',)))
+    if first.value_names is None and first.directed is None and first.weighted is None and not first.source and unit == first.unit:
+        return first                               # all that is known are names, which stay
+    same = _is_ready(op, IDENTITY)
     return first._replace(directed=_even(first) if even else None, weighted=first.weighted if same else None, source='',
                           unit=unit, value_names=first.value_names if same else None)
 
 
 def of_selected(first: Notes, op: Operator, thunk: int) -> Notes:
     """What is known of the result of `select`: values stay."""
-    if first is NOTHING:
-        return NOTHING
+    if first.directed is None and not first.source:
+        return first
     even = _is_ready(op, BY_VALUE) or (thunk == 0 and _is_ready(op, BY_DIAGONAL))
     return first._replace(directed=_even(first) if even else None, source='')
 
@@ -382,25 +384,27 @@ def _of_pair(first: Notes, second: Notes, unit: Unit, value_names: Optional[Node
 
 def _elementwise(first: Notes, second: Notes, pairs: Pairs) -> Notes:
     """The notes of the first with what the rows and columns of both are called. Where these are the same, or one has none, nothing is compared."""
-    alike = first.rows is second.rows and first.columns is second.columns and first[-2:] == second[-2:]
+    alike = first.rows is second.rows and first.columns is second.columns and first[7:] == second[7:]
     if second is NOTHING or alike:
         return first
     if first is NOTHING:
         return second._replace(weighted=None)
-    return first.with_axes(*joined(first, second, pairs))
+    return first.with_axes(*joined(first, second, pairs))._replace(sides=first.sides or second.sides)
 
 
 def of_product(first: Notes, second: Notes, ring: Semiring, same: bool) -> Notes:
     """What is known of a product; `same` says that both operands are one matrix."""
-    if first is NOTHING and second is NOTHING:
-        return NOTHING
+    if first is second and (first is NOTHING or first is BY_POSITIONS):
+        return first
     inner = joined(first, second, PRODUCT)[0]
     rows, columns = (inner if _are_alike(one) else one.axis(axis) for one, axis in ((first, ROWS), (second, COLUMNS)))
     if not (_are_alike(first) and _are_alike(second)):
         rows, columns = rows.alone(), columns.alone()
     met = _met(ring.mul, first, second)
+    # the product of a bipartite matrix and the transpose of one has one kind of vertices
+    sides = 0 if first.sides == -second.sides else first.sides or second.sides
     return Notes(directed=_even(first) if same and _is_ready(ring.mul, COMMUTE) else None, value_names=_chosen(ring.add, met, met),
-                 unit=units.of_product(ring.add, ring.mul, first.unit, second.unit)).with_axes(rows, columns)
+                 unit=units.of_product(ring.add, ring.mul, first.unit, second.unit), sides=sides).with_axes(rows, columns)
 
 
 def _are_alike(notes: Notes) -> bool:
@@ -475,7 +479,7 @@ def check_same_names(first: Notes, second: Notes) -> None:
 
 def turned(first: Notes) -> Notes:
     """What is known of the transpose."""
-    return first.with_axes(first.axis(COLUMNS), first.axis(ROWS))._replace(source='')
+    return first.with_axes(first.axis(COLUMNS), first.axis(ROWS))._replace(source='', sides=-first.sides)
 
 
 def of_both_sides(first: Notes, nrows: int, ncols: int) -> Notes:
@@ -497,6 +501,31 @@ def on_diagonal(first: Notes, along: int) -> Notes:
     return Notes(directed=False, unit=first.unit, value_names=first.value_names).with_axes(axis, axis)
 
 
+BY_PLACE: Dict[str, int] = {'rowle': ROWS, 'rowgt': ROWS, 'colle': COLUMNS, 'colgt': COLUMNS}
+
+
+def check_counts_places(op: str, first: Notes) -> None:
+    """ValueError where a ready operator counts rows or columns that have other numbers for names."""
+    axis = BY_PLACE.get(op)
+    names = None if axis is None else first.names(axis)
+    if names is not None and names.numbered and not names.are_counted:
+        what = 'columns' if axis else 'rows'
+        raise ValueError('"%s" counts %s from 0, and here %s have numbers for names, such as %r: write A[%s] with a list of names, or '
+                         'A.select(spmat.indexunary.%s, ..) to count them all the same' % (
+                             op, what, what, names[0], ':, names' if axis else 'names, :', op))
+
+
+TWO_KINDS = ('a graph has one kind of vertices, and rows and columns of this matrix are two kinds: spmat.bipartite(B) is the graph of both, '
+             'and B.mxm(B.T, "plus_pair") says how many neighbours two rows share')
+
+
+def check_one_kind(graph: Notes) -> None:
+    """ValueError where the rows and the columns of a square matrix are vertices of two kinds."""
+    rows, columns = graph.axis(ROWS), graph.axis(COLUMNS)
+    if graph.sides or (rows.has_names and columns.has_names and not rows.agrees(columns)):
+        raise ValueError(TWO_KINDS)
+
+
 def of_vertices(first: Notes, graph: Notes) -> Notes:
     """What is known of a column, of which nothing is known but that it says something of each vertex of a graph."""
     axis = vertices_of(graph)
@@ -506,7 +535,7 @@ def of_vertices(first: Notes, graph: Notes) -> Notes:
 def vertices_of(graph: Notes) -> Optional[Axis]:
     """What the vertices of a square matrix are called: its rows and its columns; None where these differ."""
     rows, columns = graph.axis(ROWS), graph.axis(COLUMNS)
-    return rows.with_other(columns) if rows.agrees(columns) else None
+    return rows.with_other(columns) if rows.agrees(columns) and not graph.sides else None
 
 
 def _is_ready(op: Operator, names: FrozenSet[str]) -> bool:

@@ -6,57 +6,56 @@ runs. A product that is too large is made by halves of the rows of its left oper
 from __future__ import annotations
 
 import contextlib
-from typing import TYPE_CHECKING, Callable, List, Optional, Sequence, TypeVar
+from typing import TYPE_CHECKING, Callable, List, Optional, Sequence
 
+from .backends.protocol import Job
 from .errors import Refused, SpmatError, TooLarge
 from .limits import MOST_PRICE, MOST_SIDE
-from .operators import Operator
+from .operators import indexunary
 
 if TYPE_CHECKING:
-    from .algorithms.protocols import GraphMatrix
     from .matrix import Matrix
 
-M = TypeVar('M', bound='GraphMatrix')
 
 BY_PARTS = 'mxm(.., parts=True) makes it by parts of the rows'
 SMALLER = 'select() some rows with "rowle" and "rowgt", and do them one after the other; spmat.blocks does so over several sessions'
 
 
-def explained(fault: Refused, form: str, ops: Sequence[Operator], operands: Sequence['Matrix'], mask: Optional['Matrix'] = None) -> Refused:
-    """A refusal of a job that is too large, with its size, the limit, and the way out. A product is counted by a few small jobs; where
-    these are refused too, the number is left out."""
+def explained(fault: Refused, job: Job, matrices: Sequence['Matrix']) -> Refused:
+    """A refusal of a job that is too large, with its size, the limit, and the way out. `matrices` are its operands, and the mask's
+    where it has one. A product is counted by a few small jobs; where these are refused too, the number is left out."""
     if fault.rule not in ('J7', 'J8') or fault.detail:
         return fault
     calls: Optional[int] = None
     with contextlib.suppress(SpmatError, ValueError):
-        calls = calls_of(form, operands, mask)
-    out = type(fault)(fault.rule, fault.numbers, form, '', _words(fault.rule, form, ops, operands, calls))
-    return out
+        calls = count_calls(job.form, *matrices)
+    return type(fault)(fault.rule, fault.numbers, job.form, '', _words(fault.rule, job, calls))
 
 
-def calls_of(form: str, operands: Sequence['Matrix'], mask: Optional['Matrix']) -> int:
+def count_calls(form: str, first: 'Matrix', second: Optional['Matrix'] = None, mask: Optional['Matrix'] = None) -> int:
     """Of a product its multiplications, in the rows of which a mask stores something; of a union the entries of both operands, of
     another form the entries of the first, which it looks at."""
-    first = operands[0]
     if form == 'product':
+        assert second is not None
         rows = None if mask is None else mask.reduce_rowwise('first').S
-        return first.apply('one').mxv(operands[1].apply('one').reduce_rowwise('plus'), 'plus_times', mask=rows).reduce_scalar() or 0
-    return first.nvals + operands[1].nvals if form == 'union' else first.nvals
+        row_sizes = second.apply('one').reduce_rowwise('plus')
+        return first.apply('one').mxv(row_sizes, 'plus_times', mask=rows).reduce_scalar() or 0
+    return first.nvals + second.nvals if form == 'union' and second is not None else first.nvals
 
 
-def _words(rule: str, form: str, ops: Sequence[Operator], operands: Sequence['Matrix'], calls: Optional[int]) -> str:
-    way = BY_PARTS if form == 'product' else SMALLER
+def _words(rule: str, job: Job, calls: Optional[int]) -> str:
+    way = BY_PARTS if job.form == 'product' else SMALLER
     if rule == 'J7':
-        what = 'multiplications' if form == 'product' else 'entries of both together'
+        what = 'multiplications' if job.form == 'product' else 'entries of both together'
         number = '' if calls is None else '%s %s, and ' % (format(calls, ','), what)
         return '%s%s is the most of a job%s: %s' % (number, format(MOST_SIDE, ','), '' if number else ' (%s)' % what, way)
-    length = sum(operands[0].session.backend.length_of(op) for op in ops)
+    length = sum(job.operands[0].backend.length_of(op) for op in job.operators)
     reckoned = '' if calls is None else 'up to %s calls of %d instructions, which are %s steps, and ' % (
         format(calls, ','), length, format(calls * length, ','))
     return '%s%s is the most of a job: a shorter operator is cheaper, and %s' % (reckoned, format(MOST_PRICE, ','), way)
 
 
-def in_parts(first: M, job: Callable[[M], M]) -> M:
+def in_parts(first: Matrix, job: Callable[[Matrix], Matrix]) -> Matrix:
     """What a job gives, which makes each row of its result of the same row of `first`; where that is too large, by halves of the rows,
     joined by a union. TooLarge where one row is too dear, or the whole result has more entries than a matrix may have."""
     try:
@@ -67,12 +66,12 @@ def in_parts(first: M, job: Callable[[M], M]) -> M:
     return _halves(first, job, 0, first.nrows)
 
 
-def _halves(first: M, job: Callable[[M], M], start: int, end: int) -> M:
+def _halves(first: Matrix, job: Callable[[Matrix], Matrix], start: int, end: int) -> Matrix:
     """Both halves, each by its halves where it is too large. They are joined at once: each part has 8 bytes for every row of the whole,
     and so no more parts are held at a time than halvings lead to one."""
     middle = (start + end) // 2
-    parts: List[M] = []
-    for op, low, high in (('rowle', start, middle), ('rowgt', middle, end)):
+    parts: List[Matrix] = []
+    for op, low, high in ((indexunary.rowle, start, middle), (indexunary.rowgt, middle, end)):
         rows = first.select(op, middle - 1)
         try:
             parts.append(job(rows))

@@ -1,26 +1,28 @@
 """Sessions: matrices in, jobs, the queue, the budget."""
 from __future__ import annotations
 
+import io
 from typing import TYPE_CHECKING, Any, Dict, List, Optional, Tuple, Type, Union
 
 from . import limits, units
-from ._client.backend import Backend
-from ._client.connection import Connection, Progress
-from ._client.handles import Handle
-from ._client.pending_jobs import Budget, Run
+from ._client.connection import SECONDS, Connection, Progress, checked_settings
 from ._client.server_program import Program
-from ._client.transport import Address
+from ._client.transport import Address, Timeouts
 from .aliases import alias
+from .backends.protocol import Budget, Run
+from .backends.server import ServerBackend
+from .backends.unread import all_priced, backend_now
 from .errors import OperatorRefused, Refused, TextRefused, refusal
 from .io import coo, matrix_market, matrix_text
-from .io.graph_files import Layout, Request, name_of
+from .io.columns import Layout
+from .io.files import name_of
+from .io.formats import Request
 from .io.importers import DupOp, Sources
 from .io.matrix_text import Triples
 from .limits import MOST_STEPS
 from .matrix import Matrix
 from .metadata import BY_POSITIONS, NOTHING, as_constant
 from .operators import Operator, diagnostics, find
-from .pricing import foreseen
 
 if TYPE_CHECKING:
     import ssl
@@ -47,29 +49,38 @@ class Session(Sources[Matrix]):
 
     `runs`, `jobs` and `connection.commands` count what was sent."""
 
-    _backend_type: Type[Backend] = Backend
+    _backend_type: Type[ServerBackend] = ServerBackend
 
     def __init__(self, steps: float = MOST_STEPS, workers: int = 1, program: Optional[Program] = None,
                  progress: Optional[Progress] = None) -> None:
         self._begin(Connection.to_child(steps, workers, program, progress), int(workers))
 
     @classmethod
-    def connect(cls, host: str = '127.0.0.1', port: int = 7171, timeout: Optional[float] = None,
-                progress: Optional[Progress] = None, tls: Optional[ssl.SSLContext] = None) -> Session:
+    def connect(cls, host: str = '127.0.0.1', port: int = 7171, timeout: Optional[float] = SECONDS,
+                progress: Optional[Progress] = None, tls: Optional[ssl.SSLContext] = None,
+                token: Optional[str] = None, ca: Optional[str] = None,
+                run_timeout: Optional[float] = None) -> Session:
         """A session of `spmat serve`; where `host` has a slash, of `spmat.socket` or another server at this socket file. `tls` is an
         `ssl.SSLContext`, where TLS is spoken in front of the server; the name in its certificate has to be `host`.
 
+        `Session.connect('spmat://anna@graphs.example:7173', token='..')` is a session of a gateway (docs/service.md), which speaks TLS.
+        `token` is by default the variable SPMAT_TOKEN. `ca` is a file with who signs the gateway's certificate, where the system
+        trusts nobody who does. Where the gateway knows the user by a certificate, `tls` has it in place of `token` and `ca`.
+
         Raises OSError where nobody listens or TLS is refused, Closed where the connection is closed before a first answer, and Busy
-        where the server has as many sessions as it serves. `timeout` in seconds; where it passes amid a command the session is
-        closed."""
+        where the server has as many sessions as it serves. `timeout` is how many seconds connecting may take, and then each command from
+        its first byte to the last of its reply; None waits for ever. A command that runs jobs takes as long as they do: `run_timeout` is
+        its limit, None unless given. Where a limit passes, TimeoutError is raised and the session is closed; so it is where a reply doesn't
+        answer its command (ProtocolError)."""
         session = cls.__new__(cls)
-        Session._begin(session, Connection.to_server(Address(host, port, tls), timeout, progress), None)
+        address = Address.of_gateway(host, token, ca, tls) if '://' in host else Address(host, port, tls)
+        Session._begin(session, Connection.to_server(address, Timeouts(timeout, run_timeout), progress), None)
         return session
 
     def _begin(self, connection: Connection, workers: Optional[int]) -> None:
         self.connection = connection
         self._workers = workers
-        self.backend = self._backend_type(self, connection, shared=workers is None)
+        self._backend = self._backend_type(self, connection, shared=workers is None)
         self._ones: Dict[int, Matrix] = {}
         self.budget()                              # says at once where there is no session
 
@@ -86,9 +97,21 @@ class Session(Sources[Matrix]):
         return '<Session, %s>' % ('%d jobs wait' % len(self.backend.queue) if self.connection.ended is None else 'ended')
 
     @property
+    def backend(self) -> ServerBackend:
+        """What takes the jobs of its matrices: its own backend, or while a call is priced one that foresees them."""
+        return self._backend if not all_priced else backend_now(self._backend)  # type: ignore[no-any-return]
+
+    @property
     def workers(self) -> Optional[int]:
-        """How many threads a batch has at most; None of a session of `spmat serve`, which doesn't say."""
+        """How many threads a batch has at most; None of a session of `spmat serve`, which doesn't say. Who knows it may set it there:
+        algorithms go by it where many workers want another way than one. No answer depends on it."""
         return self._workers
+
+    @workers.setter
+    def workers(self, many: int) -> None:
+        if not self._backend.queue.shared:
+            raise AttributeError('this session started its own program, with %d workers' % (self._workers or 1))
+        self._workers = checked_settings(0, many)[1]
 
     @property
     def runs(self) -> int:
@@ -106,10 +129,7 @@ class Session(Sources[Matrix]):
 
     def budget(self) -> Budget:
         """What the budget holds. No run."""
-        with self.backend.turn():
-            told = Budget(*map(int, self.backend.command('budget').words[1:4]))
-            self.backend.queue.note_budget(told.left, told.reserved)
-            return told
+        return self.backend.budget()
 
     # -- matrices in
 
@@ -121,23 +141,9 @@ class Session(Sources[Matrix]):
         return made
 
     def _from_text(self, text: Union[bytes, str], name: Optional[str] = None) -> Matrix:
-        foreseen.check_read()
         text = text.encode() if isinstance(text, str) else bytes(text)
-        if len(text) > limits.MOST_TEXT:
-            raise refusal('S7', detail='the text has %d bytes' % len(text))
         backend = self.backend
-        with backend.turn():
-            backend.sweep()
-            handle = Handle(backend.names, wished=name)
-            try:
-                reply = backend.command('matrix ' + handle.key, text, lambda rule, at: matrix_text.line_at(text, at))
-            except BaseException:
-                handle.give_back()
-                raise
-            nrows, ncols, nvals = map(int, reply.words[1:4])
-            handle.note_size(nrows, nvals)
-            handle.nvals = handle.most = nvals
-            return Matrix(self, handle, (nrows, ncols), name)
+        return (backend.matrix_type or Matrix)(self, backend.put_text(text, name), name)
 
     def _from(self, triples: Triples, dup_op: DupOp = None, name: Optional[str] = None) -> Matrix:
         return self._of_triples(self._folded(triples, dup_op), False, name)
@@ -147,7 +153,7 @@ class Session(Sources[Matrix]):
 
     def _of_triples(self, triples: Triples, symmetric: bool, name: Optional[str]) -> Matrix:
         try:
-            return foreseen.stood(self, triples[3:], len(triples.rows)) or self._from_text(matrix_text.write(triples, ones=True, symmetric=symmetric), name)
+            return self._from_text(matrix_text.write(triples, ones=True, symmetric=symmetric), name)
         except TextRefused as refused:
             if refused.rule != 'M8' or refused.at is None:
                 raise
@@ -158,19 +164,19 @@ class Session(Sources[Matrix]):
         if dup_op is None:
             return triples
         op = find('binary', dup_op)
-        return coo.unrepeated(triples, lambda many: self._from(many).reduce_rowwise(op).to_coo(
-            arrays=matrix_text.is_array(many.rows))[2])
+        return coo.unrepeated(triples, lambda many: self._from(many).reduce_rowwise(op).entries()[2])
 
-    def mmread(self, source: Any, *, values: bool = True, scale: Optional[float] = None, dup_op: DupOp = None,
-               name: Optional[str] = None) -> Matrix:
+    def mmread(self, source: Any, *, values: bool = True, scale: Optional[float] = None, max_bytes: Optional[int] = None,
+               dup_op: DupOp = None, name: Optional[str] = None) -> Matrix:
         """A matrix from a Matrix Market file: a path (also .gz and .bz2), or a file opened in binary. What the server reads is
         sent as it is; `real` values, `array`, `skew-symmetric`, and with `dup_op` positions that repeat (1 job and 1 run where any
         do) are made so here. Values are whole numbers; with `scale` they are multiplied by it and rounded to the nearest, and with
-        `values=False` not read, so that each entry is 1, also of `complex` files. ValueError names the file and the line. In
-        python-graphblas `io.mmread`; `read_graph` reads other formats too."""
+        `values=False` not read, so that each entry is 1, also of `complex` files. A packed file has at most 268,435,456 bytes once it is
+        unpacked, or `max_bytes`. ValueError names the file and the line. In python-graphblas `io.mmread`; `read_graph` reads other
+        formats too."""
         request = Request('mtx', Layout(values=values, scale=scale))
         units.of_read(scale, dup_op)
-        return self._market(name_of(source), matrix_market.load(source), request, dup_op, name)
+        return self._market(name_of(source), matrix_market.load(source, max_bytes), request, dup_op, name)
 
     def _market(self, file: str, text: bytes, request: Request, dup_op: DupOp, name: Optional[str]) -> Matrix:
         values = matrix_market.Values(request.layout.values, request.layout.scale)
@@ -178,7 +184,8 @@ class Session(Sources[Matrix]):
             made, kind = self._of_market(text, values, dup_op, name)
         except TextRefused as refused:
             if refused.rule == 'M8' and refused.command != matrix_market.COMMAND and not matrix_market.is_plain(text):
-                raise matrix_market.repeated(text).of_file(file) from None       # the file's line, not that of the text that was made of it
+                found = matrix_market.find_repeated(io.BytesIO(text))            # the file's line, not that of the text that was made of it
+                raise (found or refused).of_file(file) from None
             said = '' if text.split()[:1] == [b'%%MatrixMarket'] else matrix_market.NO_MARKET
             raise refused.hinting('M8', coo.DUP_OP).of_file(file, said if refused.rule == 'M1' else '') from None
         except Refused as refused:
@@ -201,19 +208,20 @@ class Session(Sources[Matrix]):
         nrows, ncols = coo.side(nrows, 0, 'nrows'), coo.side(ncols, 0, 'ncols')
         if nrows * ncols > limits.MOST_SIDE:
             raise refusal('M4', detail='%d entries' % (nrows * ncols))
-        return as_constant(foreseen.stood(self, (nrows, ncols), nrows * ncols) or self._from(coo.full(nrows, ncols, value), name=name))
+        return as_constant(self._from(coo.full(nrows, ncols, value), name=name))
 
     def identity(self, n: int, value: int = 1, *, name: Optional[str] = None) -> Matrix:
         """A square matrix with one value on its diagonal."""
         at = coo.indices(coo.side(n, 0, 'n'))
-        return as_constant(foreseen.stood(self, (n, n), n) or self._from(coo.checked(at, at, value, n, n), name=name))
+        return as_constant(self._from(coo.checked(at, at, value, n, n), name=name))
 
     def ones(self, ncols: int) -> Matrix:
         """A row of ones, which folds columns. The session keeps those of the last few lengths, but for very long ones, and gives another
         matrix of them each time."""
-        with self.backend.turn():
-            row = self._ones.pop(ncols, None) or self.full(1, ncols)
-            if ncols <= LONG and not isinstance(row, foreseen.Stand):
+        with self._backend.turn():
+            row = self._ones.pop(ncols, None)
+            row = self.full(1, ncols) if row is None else row
+            if ncols <= LONG and row.handle.backend is self._backend:
                 self._ones[ncols] = row
             while len(self._ones) > KEPT_ONES:
                 del self._ones[next(iter(self._ones))]
@@ -231,14 +239,12 @@ class Session(Sources[Matrix]):
 
     def dis(self, op: Operator) -> str:
         """An operator as assembly text, a line for each instruction, however it was made."""
-        with self.backend.turn():
-            return ''.join(line + '\n' for line in self.backend.command('dis ' + self.backend.upload(op).name).lines)
+        return ''.join(line + '\n' for line in self.backend.lines_of('dis', op))
 
     def types(self, op: Operator) -> List[str]:
         """What the verifier knows before each instruction, a line each: its slot, and for R0 to R10 `u` (unset on some path), `n`
         (a number), `p` with a distance (a place in the stack), `m` (set differently); or its slot and `-` where no path leads."""
-        with self.backend.turn():
-            return self.backend.command('types ' + self.backend.upload(op).name).lines
+        return self.backend.lines_of('types', op)
 
     def check(self, op: Operator) -> diagnostics.Check:
         """What the verifier says of an operator: whether it is accepted, the instructions with what R0 to R10 hold before each, and
@@ -255,16 +261,4 @@ class Session(Sources[Matrix]):
     def run(self) -> Run:
         """Runs the jobs that wait. Matrix methods do it where they need a result. Where the run is refused (OutOfMemory,
         NoThread) the queue is empty all the same, and each result of it raises NotMade from then on."""
-        if foreseen.asked() is not None:
-            return Run()                           # of what is foreseen nothing is queued
-        backend, queue = self.backend, self.backend.queue
-        with backend.turn():
-            self.connection.settle()
-            if not len(queue) and not queue.running:
-                return Run()
-            queue.run_later()
-            backend.sweep()
-            self.connection.exchange()
-            if self.connection.refused is not None:
-                raise self.connection.refused
-            return queue.results()
+        return self.backend.run()

@@ -116,7 +116,7 @@ class Signs(Held):
         """The value of the one entry that there is of a matrix of one row and one column."""
         if self.shape != (1, 1):
             self._no('%s() unless it is 1x1 (this is %dx%d)' % (kind, *self.shape), 'A.reduce_scalar(), or A.get(i, j)')
-        values = self.to_coo(arrays=False)[2]
+        values = self.entries(arrays=False)[2]
         if not values:
             raise ValueError('%s() of a matrix without an entry: A.get(0, 0, default=0) gives a number all the same' % kind)
         return int(values[0])
@@ -124,8 +124,8 @@ class Signs(Held):
     def __len__(self) -> int:
         self._no('len()', 'A.nrows, A.ncols, or A.nvals for the number of entries')
 
-    def __bool__(self) -> bool:
-        return True                                # not by its length; a matrix is there, whatever it holds
+    def __bool__(self) -> NoReturn:  # pylint: disable=invalid-bool-returned  # it raises
+        self._no('truth value', 'A.nvals > 0 for whether it has entries, A is not None, or A.isequal(B)')
 
     def __iter__(self) -> Any:
         self._no('iteration', 'for row, column, value in A.to_triples()')

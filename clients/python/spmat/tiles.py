@@ -4,12 +4,13 @@ from __future__ import annotations
 import itertools
 from typing import TYPE_CHECKING, Any, List, Optional, Sequence, Tuple, Union
 
+import numpy
+
 from .assignment import selector
 from .errors import refusal
 from .indexing import WHAT, gather
 from .io import coo
 from .io.exporters import Held
-from .io.matrix_text import is_array
 from .limits import MOST_SIDE
 from .metadata import BY_POSITIONS, COLUMNS, NOTHING, ROWS, Axis, Nodes, Unnamed, axis_of, joined
 from .operators import Op
@@ -155,15 +156,11 @@ def reshaped(matrix: 'Matrix', nrows: int, ncols: int, order: str, name: Optiona
     if nrows * ncols != matrix.nrows * matrix.ncols:
         raise refusal('J5', detail='%dx%d has %d places, and %dx%d has %d' % (
             *matrix.shape, matrix.nrows * matrix.ncols, nrows, ncols, nrows * ncols))
-    rows, columns, values = matrix.to_coo()
+    rows, columns, values = matrix.entries()
     by_rows = ORDERS[order]
     width, new = (matrix.ncols, ncols) if by_rows else (matrix.nrows, nrows)
-    if is_array(rows):
-        at = rows * width + columns if by_rows else columns * width + rows
-        first, second = at // max(new, 1), at % max(new, 1)
-    else:
-        places = [i * width + j if by_rows else j * width + i for i, j in zip(rows, columns)]
-        first, second = [place // new for place in places], [place % new for place in places]
+    at = rows * width + columns if by_rows else columns * width + rows
+    first, second = at // max(new, 1), at % max(new, 1)
     made = matrix.session.from_coo(first if by_rows else second, second if by_rows else first, values, nrows, ncols, name=name)
     made.notes = BY_POSITIONS._replace(unit=matrix.unit)
     return made
@@ -181,18 +178,11 @@ def kronecker(first: 'Matrix', second: 'Matrix', op: Op, name: Optional[str]) ->
     if first.nvals * second.nvals > MOST_SIDE:
         raise refusal('M4', detail='%d entries, of %d and of %d' % (first.nvals * second.nvals, first.nvals, second.nvals))
     shape = coo.side(first.nrows * second.nrows, 0, 'nrows'), coo.side(first.ncols * second.ncols, 0, 'ncols')
-    (i, j, x), (k, l, y) = first.to_coo(), second.to_coo()
-    if is_array(i) and is_array(k):
-        import numpy
-        each, times = len(k), len(i)
-        rows = numpy.repeat(i, each) * second.nrows + numpy.tile(k, times)
-        columns = numpy.repeat(j, each) * second.ncols + numpy.tile(l, times)
-        values: Tuple[Any, Any] = numpy.repeat(x, each), numpy.tile(y, times)
-    else:
-        rows = [a * second.nrows + b for a in i for b in k]
-        columns = [a * second.ncols + b for a in j for b in l]
-        values = [a for a in x for _ in y], [b for _ in x for b in y]
-    sides = [first.session.from_coo(rows, columns, many, *shape) for many in values]
+    (i, j, x), (k, l, y) = first.entries(), second.entries()
+    each, times = len(k), len(i)
+    rows = numpy.repeat(i, each) * second.nrows + numpy.tile(k, times)
+    columns = numpy.repeat(j, each) * second.ncols + numpy.tile(l, times)
+    sides = [first.session.from_coo(rows, columns, many, *shape) for many in (numpy.repeat(x, each), numpy.tile(y, times))]
     axes = [_pairs(first, second, axis) for axis in (ROWS, COLUMNS)]
     for made, of in zip(sides, (first, second)):
         made.notes = NOTHING._replace(unit=of.unit).with_axes(*axes)

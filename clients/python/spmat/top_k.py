@@ -4,14 +4,16 @@ from __future__ import annotations
 from fractions import Fraction
 from typing import TYPE_CHECKING, Tuple
 
+from .operators import Operator, indexunary
+
 if TYPE_CHECKING:
-    from .algorithms.protocols import M
+    from .matrix import Matrix
 
 FEW = 1 << 14                                      # entries that come to the client sooner than they are counted
 SPARE = 4                                          # times as many as are asked for are few enough
 
 
-def greatest(matrix: M, k: int) -> M:
+def greatest(matrix: Matrix, k: int) -> Matrix:
     """The k greatest entries, of equals the first, and some others: all entries from a threshold on. This matrix where it has few entries.
 
     Runs: 4, and 1 for each halving of what lies between the least and the greatest value; of entries of one value 1 for each halving of the
@@ -35,22 +37,22 @@ def greatest(matrix: M, k: int) -> M:
     return more.ewise_add(first_entries(above.select('valueeq', Fraction(least) / unit), k - more.nvals), 'first')
 
 
-def first_entries(matrix: M, k: int) -> M:
+def first_entries(matrix: Matrix, k: int) -> Matrix:
     """The first k entries by row and column, and some others."""
-    rows = _bisected(matrix, k, matrix.nrows, ('rowle', 'rowgt'))
+    rows = _bisected(matrix, k, matrix.nrows, (indexunary.rowle, indexunary.rowgt))
     if rows[0].nvals <= max(FEW, SPARE * k):
         return rows[0]
-    before = rows[0].select('rowle', rows[1] - 1)
-    last = rows[0].select('rowgt', rows[1] - 1)
-    return before.ewise_add(_bisected(last, k - before.nvals, matrix.ncols, ('colle', 'colgt'))[0], 'first')
+    before = rows[0].select(indexunary.rowle, rows[1] - 1)
+    last = rows[0].select(indexunary.rowgt, rows[1] - 1)
+    return before.ewise_add(_bisected(last, k - before.nvals, matrix.ncols, (indexunary.colle, indexunary.colgt))[0], 'first')
 
 
-def _bisected(matrix: M, k: int, count: int, names: Tuple[str, str]) -> Tuple[M, int]:
+def _bisected(matrix: Matrix, k: int, count: int, ops: Tuple[Operator, Operator]) -> Tuple[Matrix, int]:
     """The entries up to the first row, or column, by which there are k of them or more; and that row."""
     low, high, found = 0, count - 1, matrix
     while low < high:
         middle = (low + high) // 2
-        part = found.select(names[0], middle)
+        part = found.select(ops[0], middle)
         if part.nvals >= k:
             found, high = part, middle
         else:

@@ -8,7 +8,7 @@ import tempfile
 
 import spmat
 from spmat import algorithms, blocks
-from spmat.blocks import unsupported
+from spmat.blocks.sessions import OF_ONE_SESSION
 
 THREE = 'ABK'                                      # square matrices of random values; K is a mask
 MASKS = {'none': lambda M: None, 'S': lambda M: M.S, 'V': lambda M: M.V, '~S': lambda M: ~M.S, '~V': lambda M: ~M.V}
@@ -79,6 +79,7 @@ METHODS = {
     'ewise_union': [lambda g, mask: g.A.ewise_union(g.B, 'minus', 1, 2, mask=mask), lambda g, mask: g.A.ewise_union(g.C, 'minus', 1, 2)],
     'get': [lambda g, mask: [g.A.get(1, 2), g.A.get(1, 2, 9), g.C.get(2, default=5), g.R.get(3)], lambda g, mask: g.A.get(1)],
     'in_one_place': [lambda g, mask: isinstance(g.G.in_one_place, bool)],
+    'is_vector': [lambda g, mask: g.G.is_vector],
     'index': [lambda g, mask: g.G.index(_first(g.G.nodes)), lambda g, mask: g.G.index('nobody')],
     'is_named': [lambda g, mask: g.A.is_named],
     'isclose': [lambda g, mask: [g.A.isclose(g.A.dup()), g.A.isclose(g.B), g.A.isclose(g.A.apply('plus', right=1), 0, 1)]],
@@ -115,6 +116,7 @@ METHODS = {
     'to_pandas_edgelist': [lambda g, mask: g.G.to_pandas_edgelist().to_dict('list')],
     'to_parquet': [lambda g, mask: _parquet(g.G)],
     'write_edgelist': [lambda g, mask: _edgelist(g.G)],
+    'entries': [lambda g, mask: g.G.entries(arrays=False)],
     'to_coo': [lambda g, mask: g.G.to_coo(arrays=False), lambda g, mask: [list(map(int, many)) for many in g.G.to_coo()]],
     'to_dense': [lambda g, mask: g.G.to_dense(7).tolist()],
     'to_dict': [lambda g, mask: g.G.to_dict()],
@@ -209,6 +211,7 @@ def _told(check):
 
 
 SESSIONS = {
+    'backend': [lambda s: s.backend.is_estimate],
     'adopt': [lambda s: s.adopt(s.from_edgelist([('a', 'b', 2), ('b', 'c', 3)]))],
     'budget': [lambda s: s.budget().reserved],
     'check': [lambda s: _told(s.check(MINUS)), lambda s: _told(s.check(WRONG))],
@@ -384,8 +387,8 @@ def public(kind):
 def missing():
     """Names of Session, Matrix and `algorithms` that neither stand here, nor among what blocks say that they don't have."""
     functions = {name for name in algorithms.__all__ if inspect.isfunction(getattr(algorithms, name))}
-    return (sorted(public(spmat.Session) - set(SESSIONS) - set(unsupported.SESSION)), sorted(public(spmat.Matrix) - set(METHODS) - set(unsupported.MATRIX)),
-            sorted(functions - set(ALGORITHMS) - set(unsupported.ALGORITHMS)))
+    return (sorted(public(spmat.Session) - set(SESSIONS) - set(OF_ONE_SESSION)), sorted(public(spmat.Matrix) - set(METHODS)),
+            sorted(functions - set(ALGORITHMS)))
 
 
 def arguments():

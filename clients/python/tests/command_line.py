@@ -14,6 +14,11 @@ from spmat.cli.exit_status import Status
 PACKAGE = os.path.join(support.TOP, 'clients', 'python')
 
 
+def with_body(line, body):
+    """A command of a session with its body, as a script holds it."""
+    return '%s %d\n%s\n' % (line, len(body.encode()), body)
+
+
 class CommandLine(unittest.TestCase):
     """Tests that run commands in a folder of their own."""
 

@@ -29,11 +29,15 @@ def signed(number):
 
 
 MEANINGS = {
-    'add': lambda x, y: x + y, 'sub': lambda x, y: x - y, 'mul': lambda x, y: x * y, 'and': lambda x, y: x & y,
-    'or': lambda x, y: x | y, 'xor': lambda x, y: x ^ y, 'floordiv': lambda x, y: x // y if y else 0,
-    'mod': lambda x, y: x % y if y else x, 'lshift': lambda x, y: x << y if 0 <= y < 64 else 0,
+    'add': lambda x, y: x + y, 'sub': lambda x, y: x - y, 'mul': lambda x, y: x * y,
+    'and': lambda x, y: x & y, 'or': lambda x, y: x | y, 'xor': lambda x, y: x ^ y,
+    'floordiv': lambda x, y: x // y if y else 0, 'mod': lambda x, y: x % y if y else x,
+    'lshift': lambda x, y: x << y if 0 <= y < 64 else 0,
     'rshift': lambda x, y: x >> y if 0 <= y < 64 else x >> 63, 'pow': lambda x, y: x ** y,
     'divmod': lambda x, y: (x // y, x % y) if y else (0, x)}
+
+# Of these a number beyond a word wraps before it is divided or shifted.
+WRAPPED_FIRST = [MEANINGS[name] for name in ('floordiv', 'mod', 'rshift', 'divmod')]
 
 
 class Model:
@@ -86,7 +90,10 @@ def _operation(meaning, turned):
     def method(self, other):
         if not hasattr(other, '__index__'):
             return NotImplemented
-        got = meaning(_plain(other), self.word) if turned else meaning(self.word, _plain(other))
+        number = _plain(other)
+        if turned and meaning in WRAPPED_FIRST:
+            number = signed(number)
+        got = meaning(number, self.word) if turned else meaning(self.word, number)
         return tuple(map(Model, got)) if isinstance(got, tuple) else Model(got)
     return method
 

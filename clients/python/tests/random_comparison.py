@@ -2,6 +2,7 @@
 import random
 import time
 import traceback
+import warnings
 from dataclasses import dataclass, field
 from typing import Dict
 
@@ -40,7 +41,9 @@ def _compare(seed, out, session):
     kind, source = random_functions.source(seed)
     function = random_functions.function(source)
     try:
-        op = READY[kind](function)
+        with warnings.catch_warnings():            # a random function divides by 0 on some ways
+            warnings.simplefilter('ignore', RuntimeWarning)
+            op = READY[kind](function)
         plain = Plain(op)
     except spmat.CompileError as fault:
         words = next((words for words in REFUSALS if words in str(fault)), None)

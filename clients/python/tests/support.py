@@ -49,9 +49,11 @@ def needs(*modules):
 
 
 def has(module):
-    """Whether a module can be imported. Of one in a package the package is looked at first: find_spec would raise without it."""
+    """Whether a module can be imported. Of one in a package the package is looked at first: find_spec would raise without it. A folder of
+    tests that is called like a module is none."""
     package = module.rpartition('.')[0]
-    return (not package or has(package)) and importlib.util.find_spec(module) is not None
+    found = importlib.util.find_spec(module) if not package or has(package) else None
+    return found is not None and found.origin is not None
 
 
 class InSession(unittest.TestCase):
@@ -140,6 +142,21 @@ class Scripted(Listener):
                 connection.sendall(reply)
                 if isinstance(reply, Last):
                     return
+
+
+class Plausible:
+    """The same of a server that counts the jobs that wait."""
+
+    def __init__(self):
+        self._jobs = 0
+
+    def __call__(self, words, body):
+        reply = plausible(words, body)
+        if reply.startswith(b'ok queued'):
+            self._jobs += 1
+            return b'ok queued %d 1\n' % self._jobs
+        self._jobs = 0 if words[0] == 'run' else self._jobs
+        return reply
 
 
 def plausible(words, body):

@@ -9,7 +9,7 @@ import alike
 import support
 import spmat
 from spmat import algorithms, blocks
-from spmat.blocks import unsupported
+from spmat.blocks.sessions import OF_ONE_SESSION
 
 WANTS = {'to_pandas': 'pandas', 'to_pandas_edgelist': 'pandas', 'to_parquet': 'pyarrow', 'to_dense': 'numpy', 'to_networkx': 'networkx', 'to_scipy_sparse': 'scipy', 'from_networkx': 'networkx', 'from_scipy_sparse': 'scipy',
          'from_pandas_edgelist': 'pandas'}
@@ -42,7 +42,7 @@ class Alike(unittest.TestCase):
 
     def test_what_is_absent_says_why(self):
         many = self.many['3 sessions']
-        for name, why in unsupported.SESSION.items():
+        for name, why in OF_ONE_SESSION.items():
             with self.assertRaisesRegex(AttributeError, re.escape(why)):
                 getattr(many, name)
         with self.assertRaisesRegex(AttributeError, "^'BlockMatrix' object has no attribute 'nosuch'$"):

@@ -97,7 +97,7 @@ class AsOne(unittest.TestCase):
                 self.assertEqual(small.budget().spent - before[1], ample.budget().spent - before[0])
         with blocks.Sessions(3, steps=100) as least:
             G = least.from_triples(ring, 60, 60)
-            with self.assertRaisesRegex(spmat.BudgetExceeded, 'triangle_count wants a job of up to'):
+            with self.assertRaisesRegex(spmat.BudgetExceeded, 'triangle_count needs at least 600 steps, and 100 are left; none of its jobs was sent'):
                 algorithms.triangle_count(G, check=False)
             self.assertEqual(least.budget(), spmat.Budget(100, 0, 0))
 

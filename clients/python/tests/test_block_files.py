@@ -36,7 +36,7 @@ class Files(unittest.TestCase):
         folder = tempfile.TemporaryDirectory()
         self.addCleanup(folder.cleanup)
         self.path = os.path.join(folder.name, 'graph.mtx')
-        for module, name, value in ((parallel_read, 'LEAST', 1), (parallel_read, 'MOST', 300), (matrix_market, 'FEW', 0)):
+        for module, name, value in ((parallel_read, 'LEAST', 1), (parallel_read, 'MOST', 300)):
             patched = mock.patch.object(module, name, value)
             patched.start()
             self.addCleanup(patched.stop)
@@ -126,7 +126,7 @@ class Files(unittest.TestCase):
         with blocks.Sessions(4) as s:
             for order in ('ascending', 'shuffled'):
                 self.write(a_text(chance, n=4000, order=order))
-                made = [counts.nvals for counts in s.mmread(self.path).counts()]
+                made = [counts.nvals for counts in s.mmread(self.path).blocks.counts()]
                 self.assertLess(max(made), 1.2 * sum(made) / 4)
 
     @support.needs('numpy')
@@ -188,7 +188,7 @@ class Files(unittest.TestCase):
             self.assertEqual(s.mmread(self.path).to_text(), self.one.mmread(self.path).to_text())
             self.write(text)
             with open(self.path, 'rb') as file:
-                self.assertIsNone(parallel_read.seen(s, file))
+                self.assertIsNone(parallel_read.find_shared(s, file))
             with mock.patch.object(parallel_read, 'LEAST', len(text) + 1):
                 self.assertIsNone(parallel_read.read_matrix_market(s, self.path, matrix_market.Values(), None, None))
         self.assertEqual(self.by_workers, [False, False])

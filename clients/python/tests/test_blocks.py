@@ -1,6 +1,5 @@
 """Matrices in row blocks over threads give the bytes, the prices and the steps of one session, and refusals name the block."""
 import contextlib
-import importlib.util
 import os
 import random
 import signal
@@ -12,8 +11,8 @@ import model
 import support
 import spmat
 from spmat import algorithms, blocks
-from spmat.algorithms.frontier import SWAPPED, Vector
-from spmat.blocks import frontier
+from spmat.algorithms.traversal import swap, vector_of
+from spmat.blocks import jobs, worker_tasks
 
 COUNTS = (1, 2, 5)
 BY_FRONTS = ('components', 'bfs_levels', 'bfs_parents', 'sssp', 'core')
@@ -119,7 +118,7 @@ class Same(unittest.TestCase):
                     self.assertEqual(X.to_triples(), A.to_triples())
                     self.assertEqual(X.to_coo(arrays=False), A.to_coo(arrays=False))
                     self.assertEqual(X.T.to_text(), A.T.to_text())
-                    self.assertEqual([a is b for a, b in zip(X.T.futures, X.T.futures)], [True] * X.T.cut.blocks)
+                    self.assertEqual([a is b for a, b in zip(X.T.handle.futures, X.T.handle.futures)], [True] * X.T.cut.blocks)
                     self.assertEqual(X.diag().to_text(), A.diag().to_text())
                     self.assertEqual(X.without(Y).to_text(), A.without(B).to_text())
                     self.assertTrue(X.isequal(X.apply('identity')))
@@ -279,12 +278,14 @@ class Refusals(unittest.TestCase):
             for call in (lambda: X.apply(spmat.binary.plus), lambda: X.select(spmat.binary.plus), lambda: X.ewise_add(X, spmat.unary.abs)):
                 with self.assertRaises(spmat.DomainMismatch):
                     call()
-            A = one.from_triples([(0, 0, 1)], 4, 3)
-            for call in (lambda: X.ewise_add(A), lambda: X.apply('abs', mask=A), lambda: X.isequal(A), lambda: X.without(None)):
+            A = one.from_triples([(0, 0, 1), (1, 1, 1)], 4, 3)
+            for call in (lambda: X.ewise_add(A), lambda: A.ewise_add(X), lambda: X.apply('abs', mask=A.S), lambda: X.isequal(A),
+                         lambda: X.ewise_add(other.full(4, 3))):
+                with self.assertRaisesRegex(ValueError, 'another session'):
+                    call()
+            for call in (lambda: X.ewise_add(3), lambda: X.without(None)):
                 with self.assertRaises(TypeError):
                     call()
-            with self.assertRaisesRegex(ValueError, 'other sessions'):
-                X.ewise_add(other.full(4, 3))
             with self.assertRaisesRegex(ValueError, 'no ready unary'):
                 X.apply('nosuch')
 
@@ -340,7 +341,7 @@ class Refusals(unittest.TestCase):
     def test_pickling(self):
         import pickle
         with blocks.Sessions(2) as s:
-            with self.assertRaisesRegex(TypeError, 'belongs to its sessions'):
+            with self.assertRaisesRegex(TypeError, 'belongs to its session'):
                 pickle.dumps(s.full(3, 3))
 
 
@@ -400,19 +401,57 @@ class Lost(unittest.TestCase):
             self.assertGreater(s.again, 0)
 
 
+class OneClass(unittest.TestCase):
+    """Matrices in blocks are those of one session, on another backend."""
+
+    def test_no_method_is_written_again(self):
+        own = {name for name in vars(blocks.BlockMatrix) if not name.startswith('__')}
+        self.assertEqual(own & set(dir(spmat.Matrix)), {'_repr_html_'})
+
+    def test_what_it_is(self):
+        with blocks.Sessions(3) as s:
+            X = s.from_triples([(i, (i + 1) % 9, 1) for i in range(9)], 9, 9)
+            column = X.reduce_rowwise()
+            for one in (X, X.T, X.mxm(X), X.without(X.T), column, X.recut([0, 4, 9]), X.checkpoint()):
+                self.assertIsInstance(one, spmat.Matrix)
+                self.assertIsInstance(one, blocks.BlockMatrix)
+                self.assertIs(one.in_one_place, False)
+            levels = algorithms.bfs_levels(X, 0)
+            self.assertIsInstance(levels, spmat.Vector)
+            self.assertEqual((levels[3], levels.cut, levels.to_dense().shape), (3, X.cut, (9,)))
+            self.assertEqual(X.blocks.recut([0, 4, 9]).blocks.cut, blocks.Cut((0, 4, 9)))
+            self.assertEqual((X.blocks.cut, X.blocks.counts(), X.blocks.sessions),
+                             (X.cut, X.counts(), X.sessions))
+
+    def test_columns_are_folded_where_they_lie(self):
+        """With `associative=True`, and in `reduce_scalar`, each block is folded at its session, and a row comes from each."""
+        triples = [(*at, x) for at, x in entries(5, 40, 7, 90).items()]
+        mask = [(0, j, j % 2) for j in range(0, 7, 2)]
+        with spmat.Session() as one, blocks.Sessions(2, blocks=5) as many:
+            sides = [(s.from_triples(triples, 40, 7), s.from_triples(mask, 1, 7)) for s in (one, many)]
+            asked, submit = [], many.engine.submit
+            many.engine.submit = lambda settings, place, label, function, *args: \
+                asked.append(function) or submit(settings, place, label, function, *args)
+            for op in ('plus', 'min', 'first', 'second', 'times'):
+                for kind in ('none', 'S', 'V', '~S'):
+                    want, got = (A.reduce_columnwise(op, mask=MASKS[kind](K), associative=True) for A, K in sides)
+                    with self.subTest(op=op, mask=kind):
+                        self.assertEqual((got.to_text(), got.cut.nrows), (want.to_text(), 1))
+                (A, _), (X, _) = sides
+                self.assertEqual(X.reduce_scalar(op), A.reduce_scalar(op))
+            self.assertEqual(asked.count(worker_tasks.fold_rows), 5 * 5 * 5)
+            self.assertEqual(asked.count(worker_tasks.full), 0)        # no row of ones goes to a block
+
+
 class Fronts(unittest.TestCase):
-    """A step of a front, pushed and pulled, by lists and by arrays: what one session's product of a row gives."""
+    """A step of a front, pushed and pulled: what one session's product of a row gives."""
 
     RINGS = ('any_first', 'first_first', 'second_first', 'min_plus', 'max_first', 'plus_times')
 
-    def vectors(self, n, many, seed):
+    def vector(self, n, many, seed):
         random_ = random.Random(seed)
         at = sorted(random_.sample(range(n), many))
-        values = [random_.choice((1, -5, (1 << 62) + 3, -1 << 63, 9)) for _ in at]
-        yield Vector(at, values)
-        if importlib.util.find_spec('numpy'):
-            import numpy
-            yield Vector(numpy.array(at, numpy.int64), numpy.array(values, numpy.int64))
+        return vector_of(at, [random_.choice((1, -5, (1 << 62) + 3, -1 << 63, 9)) for _ in at])
 
     def test_as_a_product_of_a_row(self):
         n = 60
@@ -420,16 +459,14 @@ class Fronts(unittest.TestCase):
         with spmat.Session() as one, blocks.Sessions(3) as many:
             G, X = one.from_triples(triples, n, n), many.from_triples(triples, n, n)
             for ring in map(spmat.semiring, *zip(*(name.split('_') for name in self.RINGS))):
-                turned = spmat.Semiring(ring.add, SWAPPED.get(ring.mul, ring.mul))
                 for number, size in enumerate((0, 1, 9, 50)):
-                    for front in self.vectors(n, size, number):
-                        at, values = list(map(int, front.at)), list(map(int, front.values))
-                        row = one.from_coo([0] * size, at, values, 1, n).mxm(G, ring)
-                        want = row.to_coo(arrays=False)[1:]
-                        found = frontier.push(X, front, ring), frontier.pull(X.T, front, turned)
-                        for way, got in zip(('push', 'pull'), found):
-                            with self.subTest(ring=ring, size=size, way=way, kind=type(front.at).__name__):
-                                self.assertEqual((list(map(int, got.at)), list(map(int, got.values))), tuple(map(list, want)))
+                    front = self.vector(n, size, number)
+                    row = one.from_coo([0] * size, front.at.tolist(), front.values.tolist(), 1, n).mxm(G, ring)
+                    want = row.to_coo(arrays=False)[1:]
+                    found = jobs.push_front(X, front, ring), jobs.pull_front(X.T, front, swap(ring))
+                    for way, got in zip(('push', 'pull'), found):
+                        with self.subTest(ring=ring, size=size, way=way):
+                            self.assertEqual((got.at.tolist(), got.values.tolist()), tuple(map(list, want)))
 
     def test_only_blocks_that_have_the_front_are_asked(self):
         with blocks.Sessions(4) as s:
@@ -437,8 +474,8 @@ class Fronts(unittest.TestCase):
             X.wait()
             asked, submit = [], s.engine.submit
             s.engine.submit = lambda settings, place, *more: asked.append(place) or submit(settings, place, *more)
-            self.assertEqual(frontier.push(X, Vector([11, 12], [1, 1]), spmat.semiring('any', 'first')), Vector([11, 12], [1, 1]))
-            self.assertEqual(asked, [1])
+            got = jobs.push_front(X, vector_of([11, 12], [1, 1]), spmat.semiring('any', 'first'))
+            self.assertEqual((got.at.tolist(), got.values.tolist(), asked), ([11, 12], [1, 1], [1]))
 
 
 class Steps(unittest.TestCase):

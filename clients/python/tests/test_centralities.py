@@ -1,5 +1,6 @@
 """Closeness, eigenvector and Katz centrality, hubs and authorities beside plain Python in fractions and floats: within the error that is told."""
 import math
+import random
 import unittest
 from unittest import mock
 
@@ -7,7 +8,6 @@ import graphs
 import support
 import spmat
 from spmat import algorithms
-from spmat.algorithms import centrality, frontier
 
 
 def values_of(graph, weighted):
@@ -111,22 +111,8 @@ class Centralities(graphs.OnGraphs):
                 self.assertEqual(function(one).by_node(), function(many).by_node())
 
 
-@support.needs('numpy')
-class ByArrays(Centralities):
-    """The same where all graphs are many vertices, so that numbers are arrays."""
-
-    def setUp(self):
-        super().setUp()
-        for module in (centrality, frontier):
-            few = mock.patch.object(module, 'FEW', 0)
-            few.start()
-            self.addCleanup(few.stop)
-
-    def test_they_are(self):
-        with mock.patch.object(centrality._Steps, '_dense', autospec=True, side_effect=centrality._Steps._dense) as made:
-            algorithms.katz(graphs.UNDIRECTED[3].matrix(self.s), 0.03)
-        self.assertTrue(all(call.args[0].numpy is not None for call in made.call_args_list))
-        self.assertGreater(made.call_count, 5)
+class Large(support.InSession):
+    """Vectors of many vertices."""
 
     def test_sums_beyond_64_bits(self):
         """Authorities of many vertices add up to more than a word."""
@@ -175,6 +161,21 @@ class Louvain(graphs.OnGraphs):
                 parts = {min(graphs.levels(near, i)) for i in range(graph.count)}
                 self.assertGreaterEqual(len(set(labels)), len(parts))
         self.each(graphs.UNDIRECTED, look)
+
+    @support.needs('networkx')
+    def test_as_good_as_networkx(self):
+        """On graphs by chance, skewed ones and grids the modularity is no less than 0.97 times that of networkx' own method."""
+        import networkx
+        chance = random.Random(4)
+        skewed = {(int(300 * chance.random() ** 3), chance.randrange(300)) for _ in range(2000)}
+        grid = [(20 * r + c, 20 * r + c + step) for r in range(20) for c in range(20) for step in (1, 20) if (c if step == 1 else r) < 19]
+        even = [(chance.randrange(200), chance.randrange(200)) for _ in range(800)]
+        for pairs in (skewed, grid, even):
+            made = networkx.Graph((i, j) for i, j in pairs if i != j)
+            theirs = [networkx.community.modularity(made, networkx.community.louvain_communities(made, seed=seed)) for seed in range(3)]
+            G = self.s.from_networkx(made, weight=None)
+            ours = [algorithms.louvain(G, seed=seed).modularity for seed in range(3)]
+            self.assertGreater(sum(ours), .97 * sum(theirs))
 
     def test_planted(self):
         """Cliques in a ring are found as they are."""

@@ -9,7 +9,8 @@ import graphs
 import support
 import spmat
 from spmat import algorithms
-from spmat.pricing import call_price, foreseen, job_bounds
+from spmat.backends import estimate, unread
+from spmat.pricing import call_price
 
 # Calls of algorithms; of any other that of `alike`.
 OWN = {
@@ -52,7 +53,7 @@ def ended(call, G):
 
 def unguarded(call, graph, steps, known):
     """What a call comes to on so many steps where nobody looks at the budget beforehand."""
-    with spmat.Session(steps=steps) as session, mock.patch('spmat.pricing.budget_check._check_budget'):
+    with spmat.Session(steps=steps) as session, mock.patch('spmat.pricing.call_price._check_budget'):
         G = graph.matrix(session)
         G.kept.update(known)
         return ended(call, G)
@@ -145,17 +146,17 @@ class Counted(support.InSession):
         for kind in ('unary', 'binary', 'indexunary'):
             ready = getattr(spmat, kind)
             for name in ready:
-                size = job_bounds.size_of(ready[name])
+                size = estimate.size_of(ready[name])
                 self.assertEqual(size.length, self.s.backend.length_of(ready[name]), name)
                 self.assertLessEqual(size.shortest, size.length)
         code = spmat.code('unary', 'bf10000000000000' '1500010000000000' '0700000001000000' '9500000000000000')
         for op in (spmat.asm('unary', 'wide r0, 5\njeq64 r1, 7, 2\nadd64 r0, 1\nadd64 r0, 2\nexit\n'), code):
-            size = job_bounds.size_of(op)
+            size = estimate.size_of(op)
             self.assertEqual((size.length, size.shortest), (self.s.backend.length_of(op), 3))
         A = self.s.from_coo([0, 0], [0, 1], [0, 5])
         self.assertEqual(A.apply(code).wait().steps, 3 + 4)
-        with self.assertRaises(foreseen.Unforeseen):
-            job_bounds.size_of(spmat.asm('unary', 'mov64 r0, r1\nja 7\nexit\n'))
+        with self.assertRaises(unread.Unforeseen):
+            estimate.size_of(spmat.asm('unary', 'mov64 r0, r1\nja 7\nexit\n'))
 
     def steps_of(self, call):
         """What a call needs for certain, and the price and the steps of its last job."""
@@ -247,11 +248,11 @@ class Chains(support.InSession):
         for seed in range(200):
             matrices = self.matrices(random.Random(seed))
             sure = call_price.Price(sends=False).inside()
-            with foreseen.asking(sure):
+            with unread.pricing(sure):
                 stands = self.chain(matrices, seed)
             spent = needed = 0
             for stand, made in zip(stands, self.chain(matrices, seed)):
-                self.assertLessEqual(stand.least, made.wait().nvals, seed)
+                self.assertLessEqual(stand.handle.least, made.wait().nvals, seed)
                 self.assertGreaterEqual(stand.handle.most, made.nvals, seed)
                 needed, spent = max(needed, spent + made.price), spent + made.steps
             self.assertLessEqual(sure.needed, needed, seed)
@@ -264,21 +265,21 @@ class Chains(support.InSession):
         G, sure = self.s.full(2, 2), call_price.Price(sends=False).inside()
 
         def refuse():
-            raise foreseen.Unforeseen()
-        with foreseen.asking(sure):
-            with self.assertRaises(foreseen.Unforeseen):
-                sure.fact(G, 'both ways', refuse)
-            with foreseen.granted({'both ways': True}):
-                self.assertIs(sure.fact(G, 'both ways', refuse), True)
-                with self.assertRaises(foreseen.Unforeseen):
-                    sure.fact(G, 'loops', refuse)
-            self.assertIs(sure.fact(G, 'both ways', refuse), True)
+            raise unread.Unforeseen()
+        with unread.pricing(sure):
+            with self.assertRaises(unread.Unforeseen):
+                sure.find_fact(G, 'both ways', refuse)
+            with sure.granting({'both ways': True}):
+                self.assertIs(sure.find_fact(G, 'both ways', refuse), True)
+                with self.assertRaises(unread.Unforeseen):
+                    sure.find_fact(G, 'loops', refuse)
+            self.assertIs(sure.find_fact(G, 'both ways', refuse), True)
             self.assertEqual(G.kept, {})
 
     def test_diagonals(self):
         """A selection off the diagonal leaves all but as many entries as there are rows."""
         G = self.s.full(4, 4)
-        self.assertEqual(call_price.needed_by(lambda: G.select('offdiag').apply('one')), 16 * job_bounds.size_of(spmat.indexunary.offdiag).shortest + 12 * 2)
+        self.assertEqual(call_price.needed_by(lambda: G.select('offdiag').apply('one')), 16 * estimate.size_of(spmat.indexunary.offdiag).shortest + 12 * 2)
 
 
 class Sessions(unittest.TestCase):
@@ -310,7 +311,7 @@ class Sessions(unittest.TestCase):
 
     def test_ample(self):
         """Where the budget has much left nobody looks; nor where an argument can be read but once."""
-        with spmat.Session() as session, mock.patch('spmat.pricing.budget_check._check_budget', side_effect=AssertionError):
+        with spmat.Session() as session, mock.patch('spmat.pricing.call_price._check_budget', side_effect=AssertionError):
             algorithms.degrees(KARATE.matrix(session)).wait()
         with spmat.Session(steps=100000) as session:
             G = KARATE.matrix(session)

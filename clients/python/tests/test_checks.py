@@ -26,6 +26,9 @@ class Checks(support.InSession):
             with self.subTest(name), self.assertRaisesRegex(ValueError, r'one way alone: algorithms\.undirected\(G\).*check=False'):
                 function(one_way, *MORE.get(name, ()))
             function(one_way, *MORE.get(name, ()), check=False)
+        for length in (2, 3, 4, 5, 40):            # a circle that leads one way alone, long or short, even or odd
+            circle = self.graph(*((i, (i + 1) % length) for i in range(length)), count=length)
+            self.assertGreater(algorithms.minimum_spanning_forest(circle, check=False).nvals, 0)
         both = algorithms.undirected(one_way)
         self.assertEqual(algorithms.triangle_count(both), 1)
         with self.assertRaisesRegex(ValueError, 'GT has to be the transpose'):

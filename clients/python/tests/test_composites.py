@@ -452,9 +452,9 @@ class Loops(Composites):
         loop = spmat.loop(step, first)
         loop.advance(3)
         state = loop.state
-        want = spmat.loops.tracing.State(first)
+        want = spmat.loops.State(first)
         for _ in range(3):
-            want = spmat.loops.tracing.State(step(want))
+            want = spmat.loops.State(step(want))
         for name in first:
             self.assertTrue(state[name].isequal(want[name]), name)
         with self.assertRaisesRegex(TypeError, 'is to be called before the loop'):

@@ -29,7 +29,7 @@ class Cuts(unittest.TestCase):
     def test_a_matrix_is_cut_by_entries(self):
         with blocks.Sessions(3) as s:
             X = s.from_triples([(0, j, 1) for j in range(50)] + [(i, 0, 1) for i in range(1, 101)], 101, 50)
-            self.assertEqual([counts.nvals for counts in X.counts()], [50, 50, 50])
+            self.assertEqual([counts.nvals for counts in X.blocks.counts()], [50, 50, 50])
 
     def test_other_cuts_are_cut_anew(self):
         """Operands and masks that are cut elsewhere."""

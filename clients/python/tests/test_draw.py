@@ -1,16 +1,19 @@
 """Pictures: that they are written, for graphs small, large and empty, and show what is there. Skipped without matplotlib."""
 import collections
 import os
+import subprocess
 import sys
 import tempfile
 import unittest
 from unittest import mock
 
+import numpy
+
 import graphs
 import support
 import spmat
 from spmat import algorithms, draw
-from spmat.display import graph_layout, matplotlib_style
+from spmat.display import graph_pictures, pictures
 
 
 def ink(path, colour):
@@ -51,7 +54,7 @@ class Pictures(unittest.TestCase):
     def test_route(self):
         """A path's edges have a colour of their own, and longer paths more of it; above 150 vertices the path alone is drawn."""
         G = graphs.UNDIRECTED[4].matrix(self.session)
-        short, long = (ink(self.drawn(draw.route, G, algorithms.shortest_path(G, 0, end)), draw.WARM) for end in (1, 41))
+        short, long = (ink(self.drawn(draw.route, G, algorithms.shortest_path(G, 0, end)), pictures.WARM) for end in (1, 41))
         self.assertGreater(short, 0)
         self.assertGreater(long, 3 * short)
         many = self.session.from_coo(range(199), range(1, 200), range(199), 200, 200)
@@ -68,10 +71,17 @@ class Pictures(unittest.TestCase):
         """Twice the entries have twice the ink."""
         half = self.session.full(40, 40).select('tril', -1)
         whole = half.ewise_add(half.T, 'first')
-        less, more = (ink(self.drawn(draw.spy, A), draw.INK) for A in (half, whole))
+        less, more = (ink(self.drawn(draw.spy, A), pictures.INK) for A in (half, whole))
         self.assertAlmostEqual(more / less, 2, delta=.05)
         self.assertGreater(more, .3)
-        self.assertEqual(ink(self.drawn(draw.spy, self.session.from_coo([], [], [], 40, 40)), draw.INK), 0)
+        self.assertEqual(ink(self.drawn(draw.spy, self.session.from_coo([], [], [], 40, 40)), pictures.INK), 0)
+
+    def test_vectors(self):
+        """A result of an algorithm is a vector, and is drawn as its column."""
+        G = graphs.UNDIRECTED[4].matrix(self.session)
+        found = algorithms.core_numbers(G)
+        self.assertGreater(ink(self.drawn(draw.spy, found), pictures.INK), 0)
+        self.drawn(draw.degree_histogram, found)
 
     def test_raster(self):
         rows, columns = [i * i % 700 for i in range(700)], [i * 37 % 300 for i in range(700)]
@@ -91,7 +101,7 @@ class Pictures(unittest.TestCase):
             found = algorithms.bfs_levels(G, 0, G)
             at = {i: level for (i, _), level in found.to_dict().items()}
             want = collections.Counter((at[i], at[j]) for i, j in graph.edges)
-            self.assertEqual(draw._between(G, at, max(at.values())), want)
+            self.assertEqual(graph_pictures.count_between(G, at, max(at.values()) + 1), want)
             self.drawn(draw.levels, G, found)
             self.drawn(draw.degree_histogram, G)
 
@@ -108,12 +118,11 @@ class Pictures(unittest.TestCase):
             draw.spy(A, self.path)
             draw.spy(A, self.path, first=1)
         self.assertEqual(seen, [(-.5, 1.5, 2.5, -.5), (.5, 2.5, 3.5, .5)])
-        self.assertGreater(ink(self.path, draw.INK), .2)
+        self.assertGreater(ink(self.path, pictures.INK), .2)
 
-    def texts(self, figure):
+    def texts(self, axes):
         """The words of a picture's texts and ticks, once it is drawn."""
-        figure.savefig(self.path)
-        axes = figure.axes[0]
+        axes.figure.savefig(self.path)
         ticks = [tick.get_text() for axis in (axes.xaxis, axes.yaxis) for tick in axis.get_ticklabels()]
         return [text.get_text() for text in axes.texts] + ticks + [axes.get_title()]
 
@@ -134,7 +143,7 @@ class Pictures(unittest.TestCase):
         from matplotlib.patches import FancyArrowPatch
         for names, room, place in ((['a', 'b', 'c'], 8, (0, 0)), (['Ann', 'Bob', 'Dora'], 4, (0, 5))):
             G = self.session.from_edgelist(list(zip(names, names[1:], [1, 1])), directed=True)
-            axes = draw.levels(G, algorithms.bfs_levels(G, names[0])).axes[0]
+            axes = draw.levels(G, algorithms.bfs_levels(G, names[0]))
             self.assertEqual({text.get_text() for text in axes.texts}, set(names))
             self.assertEqual({tuple(text.xyann) for text in axes.texts if text.xyann != text.xy} or {(0, 0)}, {place})
             self.assertEqual({patch.shrinkA for patch in axes.patches if isinstance(patch, FancyArrowPatch)}, {room})
@@ -148,14 +157,14 @@ class Pictures(unittest.TestCase):
         for graph in (graphs.UNDIRECTED[0], graphs.UNDIRECTED[1], graphs.UNDIRECTED[5], graphs.DIRECTED[3]):
             self.drawn(draw.graph, graph.matrix(self.session))
         sides = [(i, j) for part in (0, 10) for i in range(part, part + 10) for j in range(part, i)] + [(0, 10)]
-        at = graph_layout.places(20, set(sides))
-        self.assertEqual(at.tolist(), graph_layout.places(20, set(sides)).tolist())
+        at = graph_pictures.lay_out(20, set(sides))
+        self.assertEqual(at.tolist(), graph_pictures.lay_out(20, set(sides)).tolist())
         self.assertLessEqual(abs(at).max(), 1)
         within, across = (sum(abs(at[i] - at[j]).sum() for i, j in pairs) / len(pairs)
                           for pairs in (sides[:-1], [(i, j) for i in range(10) for j in range(10, 20)]))
         self.assertLess(2 * within, across)
         many = self.session.from_coo(range(900), [i // 2 for i in range(900)], 1, 900, 900)
-        self.assertGreater(ink(self.drawn(draw.graph, many), draw.INK), 0)
+        self.assertGreater(ink(self.drawn(draw.graph, many), pictures.INK), 0)
         with self.assertRaisesRegex(ValueError, 'up to 1,000 vertices and 5,000 edges, and this has 1,001 and 0'):
             draw.graph(self.session.from_coo([], [], [], 1001, 1001))
         with self.assertRaisesRegex(ValueError, 'expected a square matrix'):
@@ -181,6 +190,41 @@ class Pictures(unittest.TestCase):
         with self.assertRaises(ValueError):
             draw.spy(G, os.path.join(self.folder.name, 'picture.of-no-kind'))
 
+    def test_axes_of_the_caller(self):
+        """Each function draws on the axes that it gets, and returns them."""
+        from matplotlib.figure import Figure
+        G = graphs.UNDIRECTED[4].matrix(self.session)
+        calls = ((draw.spy,), (draw.degree_histogram,), (draw.graph,), (draw.levels, algorithms.bfs_levels(G, 0)),
+                 (draw.route, algorithms.shortest_path(G, 0, 5)))
+        for function, *more in calls:
+            with self.subTest(function=function.__name__):
+                left, right = Figure().subplots(1, 2)
+                self.assertIs(function(G, *more, ax=right), right)
+                self.assertTrue(right.has_data())
+                self.assertFalse(left.has_data())
+                function(G, *more, self.path, ax=left)                 # a path gets the figure of the axes
+                self.assertTrue(left.has_data())
+                self.assertGreater(os.path.getsize(self.path), 0)
+
+    def test_pyplot_shows_it(self):
+        """`plt.savefig` writes what was drawn last; a figure of the caller that is empty is drawn on."""
+        import matplotlib
+        matplotlib.use('Agg')
+        from matplotlib import pyplot
+        G = graphs.UNDIRECTED[3].matrix(self.session)
+        self.addCleanup(pyplot.close, 'all')
+        for start in (lambda: None, lambda: pyplot.figure(figsize=(3, 3))):
+            figure = start()
+            axes = draw.spy(G)
+            self.assertIs(axes, pyplot.gca())
+            if figure is not None:
+                self.assertIs(axes.figure, figure)
+            pyplot.savefig(self.path)
+            self.assertGreater(ink(self.path, pictures.INK), 0)
+            pyplot.close('all')
+        first, second = draw.spy(G), draw.degree_histogram(G)          # nothing is drawn over a picture
+        self.assertIsNot(first.figure, second.figure)
+
     def test_pyplot_is_left_alone(self):
         from matplotlib import pyplot
         before = pyplot.get_fignums()
@@ -188,11 +232,121 @@ class Pictures(unittest.TestCase):
         self.assertEqual(pyplot.get_fignums(), before)
 
 
+@support.needs('matplotlib', 'networkx')
+class Looks(support.InSession):
+    """Colours, sizes and texts of vertices."""
+
+    def setUp(self):
+        from matplotlib.figure import Figure
+        self.ax = Figure().add_subplot()
+        self.G = self.s.from_edgelist([('Ann', 'Bob'), ('Bob', 'Cid'), ('Cid', 'Ann'), ('Cid', 'Dora')], directed=False)
+
+    def dots(self):
+        """The vertices as they are drawn: colours and areas."""
+        from matplotlib.collections import PathCollection
+        (found,) = [part for part in self.ax.collections if isinstance(part, PathCollection)]
+        return found.get_facecolors().tolist(), found.get_sizes().tolist()
+
+    def legend(self):
+        """The words of the legend, and the colours beside them."""
+        from matplotlib.colors import to_rgba
+        found = self.ax.get_legend()
+        return {text.get_text(): list(to_rgba(line.get_color())) for text, line in zip(found.get_texts(), found.get_lines())}
+
+    def test_few_numbers_have_a_legend(self):
+        draw.graph(self.G, color=algorithms.core_numbers(self.G), ax=self.ax)
+        self.assertEqual(list(self.legend()), ['1', '2'])
+        self.assertEqual(self.dots()[0], [self.legend()[core] for core in ('2', '2', '2', '1')])
+
+    def test_fractions_have_a_colour_bar(self):
+        found = algorithms.pagerank(self.G)
+        draw.graph(self.G, color=found, ax=self.ax)
+        self.assertIsNone(self.ax.get_legend())
+        (bar,) = [axes for axes in self.ax.figure.axes if axes is not self.ax]
+        low, high = bar.get_ylim()
+        self.assertAlmostEqual(low, min(found.by_node().values()))
+        self.assertAlmostEqual(high, max(found.by_node().values()))
+
+    def test_communities_have_hues(self):
+        G = self.s.from_edgelist([(i, j) for part in (0, 5) for i in range(part, part + 5) for j in range(part, i)] + [(0, 5)],
+                                 directed=False)
+        draw.graph(G, color=algorithms.louvain(G), ax=self.ax)
+        self.assertEqual(list(self.legend()), ['0 (5)', '5 (5)'])
+        self.assertEqual(self.ax.get_legend().get_title().get_text(), 'community (vertices)')
+        colours, _ = self.dots()
+        self.assertEqual(colours, [self.legend()[word] for word in ['0 (5)'] * 5 + ['5 (5)'] * 5])
+
+    def test_many_groups_share_a_grey(self):
+        G = self.s.from_coo(range(29), range(1, 30), 1, 30, 30)
+        draw.graph(G, color=['group %d' % (i // 2) for i in range(30)], ax=self.ax)
+        self.assertEqual(len(self.legend()), 10)
+        self.assertEqual(list(self.legend())[-1], '6 others')
+
+    def test_vertices_without_a_value(self):
+        from matplotlib.colors import to_rgba
+        draw.graph(self.G, color={'Ann': 3}, ax=self.ax)
+        self.assertEqual(list(self.legend()), ['3', 'no value'])
+        self.assertEqual(self.dots()[0][1:], [list(to_rgba(pictures.PALE))] * 3)
+
+    def test_one_colour_and_one_size(self):
+        from matplotlib.colors import to_rgba
+        draw.graph(self.G, color='red', size=90, ax=self.ax)
+        self.assertEqual(self.dots(), ([list(to_rgba('red'))] * 4, [90] * 4))
+        self.assertIsNone(self.ax.get_legend())
+
+    def test_sizes_grow_with_values(self):
+        draw.graph(self.G, size={'Ann': 0, 'Bob': 1, 'Cid': 2}, ax=self.ax)
+        sizes = self.dots()[1]
+        self.assertEqual((sizes[0], sizes[3]), (pictures.LEAST_AREA, pictures.LEAST_AREA))
+        self.assertAlmostEqual(sizes[1] - sizes[0], sizes[2] - sizes[1])
+        self.assertEqual(sizes[2], pictures.MOST_AREA)
+
+    def test_texts(self):
+        for labels, want in ((None, {'Ann', 'Bob', 'Cid', 'Dora'}), (False, set()), ({'Bob': 'B'}, {'B'}),
+                             (numpy.arange(4) * 10, {'0', '10', '20', '30'})):
+            self.ax.clear()
+            draw.graph(self.G, labels=labels, ax=self.ax)
+            self.assertEqual({text.get_text() for text in self.ax.texts}, want)
+
+    def test_positions(self):
+        where = {'Ann': (0, 0), 'Bob': (1, 0), 'Cid': (0, 1), 'Dora': (5, 5)}
+        draw.graph(self.G, pos=where, ax=self.ax)
+        from matplotlib.collections import PathCollection
+        (found,) = [part for part in self.ax.collections if isinstance(part, PathCollection)]
+        self.assertEqual(found.get_offsets().tolist(), [list(map(float, where[name])) for name in self.G.nodes])
+
+    def test_a_series(self):
+        pandas = support.has('pandas') and __import__('pandas')
+        if not pandas:
+            self.skipTest('no module pandas')
+        draw.graph(self.G, color=pandas.Series({'Ann': 'x', 'Bob': 'x', 'Cid': 'y', 'Dora': 'y'}), ax=self.ax)
+        self.assertEqual(list(self.legend()), ['x (2)', 'y (2)'])
+
+    def test_what_is_refused(self):
+        for given, kind, words in (({'color': [1, 2]}, spmat.DimensionMismatch, 'color: expected 4 values, one for each vertex, got 2'),
+                                   ({'size': self.s.full(3, 1)}, spmat.DimensionMismatch, 'expected a column of 4 rows'),
+                                   ({'size': [1, -1, 1, 1]}, ValueError, 'size: expected numbers of 0 or more, got -1'),
+                                   ({'color': {'Eve': 1}}, ValueError, 'Eve'), ({'labels': 3}, TypeError, 'labels: expected a column'),
+                                   ({'pos': {'Ann': (0, 0)}}, ValueError, "pos: expected a position of each vertex, and 'Bob' has none")):
+            with self.subTest(given=given), self.assertRaisesRegex(kind, words):
+                draw.graph(self.G, ax=self.ax, **given)
+
+
+class Names(unittest.TestCase):
+    def test_its_functions_alone(self):
+        self.assertEqual(dir(draw), ['check', 'degree_histogram', 'graph', 'levels', 'raster', 'route', 'spy'])
+
+    def test_matplotlib_waits(self):
+        """The module is there without matplotlib, and doesn't import it."""
+        code = 'import sys, spmat; spmat.draw.spy; print("matplotlib" in sys.modules, "networkx" in sys.modules)'
+        self.assertEqual(subprocess.run([sys.executable, '-c', code], stdout=subprocess.PIPE, text=True, check=True).stdout, 'False False\n')
+
+
 class RoundNumbers(unittest.TestCase):
     def test_round_numbers(self):
         for least, most, want in ((1, 8, [1, 2, 5]), (3, 4, [3, 4]), (1, 1, [1]), (1, 300, [1, 2, 5, 10, 20, 50, 100, 200]),
                                   (2, 100000, [10, 100, 1000, 10000, 100000])):
-            self.assertEqual(matplotlib_style.round_numbers(least, most), want)
+            self.assertEqual(pictures.choose_round_numbers(least, most), want)
 
 
 class WithoutMatplotlib(unittest.TestCase):
@@ -200,7 +354,7 @@ class WithoutMatplotlib(unittest.TestCase):
         with mock.patch.dict(sys.modules, {'matplotlib': None, 'matplotlib.figure': None}):
             with self.assertRaises(ImportError) as said:
                 draw.check('picture.png')
-        self.assertIn('pictures want matplotlib', str(said.exception))
+        self.assertIn('a picture needs matplotlib (extra pictures): pip install matplotlib', str(said.exception))
 
     def test_the_rest_works(self):
         """Nothing but the picture wants it: the module is there without it."""

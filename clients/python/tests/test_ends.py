@@ -207,7 +207,7 @@ class Interrupts(unittest.TestCase):
     def test_each_command(self):
         """Ctrl-C amid each kind of command, by a server that answers late: the next commands are in step, and what was queued is known."""
         late = threading.Event()
-        answers = {'matrix': b'ok matrix 1 1 1\n', 'asm': b'ok op 3 3\n', 'apply': b'ok queued 1 7\n', 'budget': b'ok budget 9 0 0\n',
+        answers = {'matrix': b'ok matrix 1 1 1\n', 'asm': b'ok op 3 3\n', 'budget': b'ok budget 9 0 0\n',
                    'show': b'ok show 61\n%%MatrixMarket matrix coordinate integer general\n1 1 1\n1 1 5\n', 'quit': b'ok quit\n'}
         slow = []
 
@@ -217,9 +217,10 @@ class Interrupts(unittest.TestCase):
                 os.kill(os.getpid(), signal.SIGINT)
                 late.wait(10)
             if words[0] == 'run':
-                return b'ok run %d 4\n' % len(jobs) + b''.join(b'%s 1 1 1 2\n' % name.encode() for name in jobs)
+                return b'ok run %d %d\n' % (len(jobs), 2 * len(jobs)) + b''.join(b'%s 1 1 1 2\n' % name.encode() for name in jobs)
             if words[0] == 'apply':
                 jobs.append(words[1])
+                return b'ok queued %d 3\n' % len(jobs)
             return answers[words[0]]
         for command, call in (('budget', lambda s, A: s.budget()), ('show', lambda s, A: A.to_text()), ('matrix', lambda s, A: s.full(1, 1)),
                               ('asm', lambda s, A: A.apply('sgn')), ('apply', lambda s, A: A.apply('ainv'))):
@@ -247,7 +248,7 @@ class Interrupts(unittest.TestCase):
         def answer(words, body):
             if words[0] == 'matrix' and len(body) > 1 << 20:
                 sent.append(len(body))
-            return {'matrix': b'ok matrix 1 1 1\n'}.get(words[0]) or support.plausible(words, body)
+            return {'matrix': b'ok matrix 1 1 0\n'}.get(words[0]) or support.plausible(words, body)
         sent = []
 
         def progress(what, done, of):

@@ -3,6 +3,8 @@ import datetime
 import random
 import unittest
 
+import numpy
+
 import support
 import spmat
 from spmat import blocks
@@ -115,7 +117,6 @@ class Test(support.InSession):
 
     @support.needs('numpy')
     def test_dates(self):
-        import numpy
         day, hour = datetime.datetime(2024, 3, 1), datetime.timedelta(hours=1)
         rows = [('a', 'b', day), ('b', 'c', day + hour), ('b', 'd', day - hour), ('c', 'd', day + 5 * hour)]
         want = {'a': day - hour, 'b': day, 'c': day + hour, 'd': day + 5 * hour}
@@ -138,9 +139,30 @@ class Test(support.InSession):
             with self.assertRaisesRegex(fault, words):
                 call()
 
+    @support.needs('pandas')
+    def test_times_come_back_as_they_came(self):
+        """Of one class and zone with those that were handed in: as tuples, columns and tables."""
+        import pandas
+        zone = datetime.timezone(datetime.timedelta(hours=2))
+        stamps = [pandas.Timestamp('2024-03-01 10:00:00.000000001'), pandas.Timestamp('2024-03-02')]
+        for first, second in (stamps, [stamp.tz_localize('Europe/Berlin') for stamp in stamps],
+                              [datetime.datetime(2024, 3, 1, 10), datetime.datetime(2024, 3, 2)],
+                              [datetime.datetime(2024, 3, 1, 10, tzinfo=zone), datetime.datetime(2024, 3, 2, tzinfo=zone)],
+                              [datetime.date(2024, 3, 1), datetime.date(2024, 3, 2)], [numpy.datetime64('2024-03-01'), numpy.datetime64('2024-03-02')]):
+            columns = {'source': ['a', 'b'], 'target': ['b', 'c'], 'time': [first, second]}
+            tables = [[('a', 'b', first), ('b', 'c', second)], columns]
+            if isinstance(first, pandas.Timestamp):
+                tables += [pandas.DataFrame(columns), {**columns, 'time': pandas.Series([first, second])}]
+            for table in tables:
+                made = spmat.events(self.s, table)
+                found = made.earliest_arrival('a')
+                self.assertEqual(dict(found), {'a': first, 'b': first, 'c': second})
+                self.assertEqual([type(time) for time in found.values()], [type(first)] * 3)
+                self.assertEqual(getattr(found['c'], 'tzinfo', None), getattr(second, 'tzinfo', None))
+                self.assertEqual((made.event(1).time, found.path('c')[-1].arrival), (second, second))
+
     @support.needs('numpy', 'pandas')
     def test_tables(self):
-        import numpy
         import pandas
         frame = pandas.DataFrame({'from': ['Ann', 'Bob', 'Bob'], 'to': ['Bob', 'Cid', 'Cid'], 'when': pandas.to_datetime(
             ['2024-03-02 10:00', '2024-03-01', '2024-03-04 12:30'])})
@@ -148,7 +170,8 @@ class Test(support.InSession):
         self.assertEqual(found, {'Ann': pandas.Timestamp('2024-03-01'), 'Bob': pandas.Timestamp('2024-03-02 10:00'), 'Cid': pandas.Timestamp('2024-03-04 12:30')})
         zoned = frame.assign(when=frame['when'].dt.tz_localize('Europe/Berlin'), days=pandas.to_timedelta([1, 1, 2], 'D'))
         found = spmat.events(self.s, zoned, 'from', 'to', 'when', 'days').earliest_arrival('Ann', start=pandas.Timestamp('2024-03-02', tz='UTC'))
-        self.assertEqual(found['Cid'], numpy.datetime64('2024-03-06T11:30'))
+        self.assertEqual(found['Cid'], pandas.Timestamp('2024-03-06 12:30', tz='Europe/Berlin'))
+        self.assertEqual(str(found['Cid'].tz), 'Europe/Berlin')
         array = numpy.array([[1, 2, 5, 1], [2, 3, 5, 0], [2, 3, 6, 0]])
         self.assertEqual(spmat.events(self.s, array).earliest_arrival(1), {1: 5, 2: 6, 3: 6})
         self.assertEqual(spmat.events(self.s, array[:, :3]).earliest_arrival(1), {1: 5, 2: 5, 3: 5})

@@ -6,9 +6,8 @@ import graphs
 import spmat
 import support
 from spmat import algorithms
-from spmat.algorithms import core_decomposition, frontier, multi_source_bfs, random_vector, truss
+from spmat.algorithms import core_decomposition, independent_set, multi_source_bfs, traversal, triangle_counts as truss
 from spmat.errors import refusal
-from spmat.io import matrix_text
 
 PATH = graphs.undirected('path', 90, [(i, i + 1) for i in range(89)])
 ONE_WAY = graphs.directed('one way', 80, [(i, i + 1) for i in range(79)] + [(i, i + 2) for i in range(0, 70, 7)])
@@ -75,7 +74,7 @@ class Trusses(graphs.OnGraphs):
         side = 16
         pairs = [(side * r + c, side * ((r + a) % side) + (c + b) % side) for r in range(side) for c in range(side) for a, b in ((0, 1), (1, 0), (1, 1))]
         graph, told = graphs.undirected('torus', side * side, pairs[1:]), []
-        with mock.patch.object(truss, '_product', wraps=truss._product) as multiplied:
+        with mock.patch.object(truss, '_multiply', wraps=truss._multiply) as multiplied:
             found = algorithms.k_truss(graph.matrix(self.s), 4, lambda *now: told.append(now))
         self.assertEqual(found.to_dict(), graphs.truss(graph.near(), 4))
         self.assertGreater(len(told), 6)
@@ -97,20 +96,18 @@ class Cores(graphs.OnGraphs):
                 self.assertEqual(told, [('round', number, 0) for number in range(1, len(told) + 1)])
         self.each(graphs.UNDIRECTED, look)
 
-    def test_lists(self):
-        with mock.patch.object(matrix_text, 'find_numpy', lambda: None):
-            self.compare()
+    def test_pushes(self):
+        self.compare()
 
-    @support.needs('numpy')
-    def test_numpy(self):
-        with mock.patch.object(frontier, 'FEW', 0):
+    def test_scans(self):
+        with mock.patch.object(traversal, 'SMALL', 0):
             self.compare()
 
     def test_a_budget_counts(self):
         """Where steps are counted nobody is looked at but those that fall."""
-        with mock.patch.object(core_decomposition, '_on_the_loop', side_effect=AssertionError('the loop takes more steps')):
+        with mock.patch.object(core_decomposition, '_peel_by_loop', side_effect=AssertionError('the loop takes more steps')):
             self.assertEqual(algorithms.core_numbers(PATH.matrix(self.few)).to_list(), [1] * 90)
-        with self.assertRaisesRegex(AssertionError, 'more steps'), mock.patch.object(core_decomposition, '_on_the_loop', side_effect=AssertionError('more steps')):
+        with self.assertRaisesRegex(AssertionError, 'more steps'), mock.patch.object(core_decomposition, '_peel_by_loop', side_effect=AssertionError('more steps')):
             algorithms.core_numbers(PATH.matrix(self.s))
 
     def setUp(self):
@@ -138,20 +135,25 @@ class Squares(support.InSession):
 class Drawn(support.InSession):
     def test_each_once(self):
         for seed in (0, 1, -5, 1 << 70):
-            values = random_vector.drawn(self.s.ones(5000), seed).to_list()
+            values = independent_set.draw_numbers(self.s.ones(5000), seed).to_list()
             self.assertEqual(len(set(values)), 5000)
             self.assertTrue(0 < min(values) and max(values) < 1 << 32)
-            self.assertEqual(values, [value for value in random_vector.drawn(self.s.full(5000, 1, 7), seed).to_list()])
+            self.assertEqual(values, [value for value in independent_set.draw_numbers(self.s.full(5000, 1, 7), seed).to_list()])
             self.assertLess(abs(sum(values) / 5000 / (1 << 31) - 1), .05)
             up = sum(a < b for a, b in zip(values, values[1:]))
             self.assertLess(abs(up - 2500), 200)                           # no more than by chance
 
+    def test_the_client_draws_the_same(self):
+        for seed in (0, 1, -5, 1 << 70):
+            made = independent_set.draw_numbers(self.s.full(1, 3000), seed).to_dense(0)[0]
+            self.assertEqual(list(made), independent_set.draw_on_paper(3000, seed).tolist())
+
     def test_a_text_is_no_seed(self):
         with self.assertRaisesRegex(TypeError, "a seed is a whole number, .*, not 'x'"):
-            random_vector.drawn(self.s.ones(5), 'x')
+            independent_set.draw_numbers(self.s.ones(5), 'x')
 
     def test_seeds(self):
-        first, second = (random_vector.drawn(self.s.ones(2000), seed).to_list() for seed in (1, 2))
+        first, second = (independent_set.draw_numbers(self.s.ones(2000), seed).to_list() for seed in (1, 2))
         self.assertLess(sum(a == b for a, b in zip(first, second)), 3)
         self.assertLess(abs(sum(a < b for a, b in zip(first, second)) - 1000), 150)
 

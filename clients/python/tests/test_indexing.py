@@ -54,27 +54,28 @@ class Filters(InSession):
     def test_columns_and_masks(self):
         out = self.W.reduce_rowwise('plus')        # a 11, b 2, d 4, e 0
         heavy = out.apply(lambda x: x > 3)
-        self.assertEqual(self.W[heavy, :].row_nodes, ['a', 'd'])
+        self.assertEqual(self.W[heavy.V, :].row_nodes, ['a', 'd'])
         self.assertEqual(self.W[out.S, :].row_nodes, ['a', 'b', 'd', 'e'])
         self.assertEqual(self.W[out.V, :].row_nodes, ['a', 'b', 'd'])
         self.assertEqual(self.W[~out.S, :].row_nodes, ['c'])
         self.assertEqual(self.W[~out.V, ~heavy.V].row_nodes, ['c', 'e'])
         self.assertEqual(self.W[:, self.W.reduce_columnwise('plus').V].column_nodes, ['b', 'c', 'e'])
-        with self.assertRaisesRegex(TypeError, 'c.S for the rows with an entry, c.V'):
-            self.W[out, :]
+        for column in (out, heavy, heavy.T):       # whatever its values are
+            with self.assertRaisesRegex(TypeError, 'could filter them or list them: write c.V for the rows whose value is not 0, c.S'):
+                self.W[column, :]
         with self.assertRaisesRegex(IndexError, 'a filter of 3 values for 5 rows'):
-            self.W[self.s.from_coo([0, 2], [0, 0], 1, 3, 1), :]
+            self.W[self.s.from_coo([0, 2], [0, 0], 1, 3, 1).S, :]
         with self.assertRaisesRegex(TypeError, 'by a column or a row, not by a matrix of 5x5'):
             self.W[self.W.S, :]
 
     def test_columns_align_by_names(self):
         turned = self.s.from_coo(range(5), [0] * 5, [1, 0, 0, 0, 1], 5, 1)
         turned.nodes = ROWS[::-1]                  # e and a
-        self.assertEqual(self.W[turned, :].row_nodes, ['a', 'e'])
+        self.assertEqual(self.W[turned.V, :].row_nodes, ['a', 'e'])
         self.assertEqual(self.W[~turned.V, :].row_nodes, ['b', 'c', 'd'])
         turned.nodes = ['a', 'b', 'c', 'd', 'f']
         with self.assertRaisesRegex(IndexError, "the filter has no vertex 'e'"):
-            self.W[turned, :]
+            self.W[turned.V, :]
 
     def test_matrices_as_masks(self):
         W = self.W
@@ -177,12 +178,25 @@ class Names(InSession):
 
     def test_numbers_as_names(self):
         G = self.s.from_edgelist([(10, 20, 1), (20, 30, 2), (30, 40, 3)])
-        self.assertEqual(G[10:30, :].row_nodes, [10, 20, 30])
-        self.assertEqual(G[:20, :].row_nodes, [10, 20])
+        self.assertEqual(G[range(10, 31, 10), :].row_nodes, [10, 20, 30])
         self.assertEqual(G[::2, :].row_nodes, [10, 30])
-        for cut in (slice(0, 2), slice(-1, None)):
-            with self.assertRaisesRegex(ValueError, 'no vertex'):
+        for cut in (slice(10, 30), slice(None, 20), slice(0, 2), slice(-1, None)):
+            with self.assertRaisesRegex(ValueError, 'rows have numbers for names, so that .* in a slice could be a name or a position: .* range'):
                 G[cut, :]
+
+    def test_operators_that_count(self):
+        """They count from 0, which nobody may take for names from 1."""
+        G = self.s.from_edgelist([(1, 2, 1), (2, 3, 2), (3, 1, 3)])
+        for op, what in (('rowle', 'rows'), ('rowgt', 'rows'), ('colle', 'columns'), ('colgt', 'columns')):
+            with self.assertRaisesRegex(ValueError, '"%s" counts %s from 0, and here %s have numbers for names, such as 1' % (op, what, what)):
+                G.select(op, 1)
+        self.assertEqual(G.select(spmat.indexunary.rowle, 1).to_edgelist(), [(1, 2, 1), (2, 3, 2)])
+        self.assertEqual(self.W.select('rowle', 0).nvals, self.W['a', :].nvals)
+        plain = self.s.from_edgelist([(0, 1, 1), (1, 0, 2)])
+        self.assertEqual(plain.select('rowle', 0).nvals, 1)
+
+    def test_numbers_and_places(self):
+        G = self.s.from_edgelist([(10, 20, 1), (20, 30, 2), (30, 40, 3)])
         self.assertEqual(G[[40, 10], 20].to_edgelist(), [(10, 20, 1)])
 
     def test_tuples_and_frozensets_are_names(self):
@@ -301,7 +315,9 @@ class Signs(InSession):
         self.assertEqual((int(one), float(one), type(float(one))), (7, 7.0, float))
         with self.assertRaisesRegex(ValueError, 'without an entry'):
             int(one.select('valuegt', 9))
-        self.assertTrue(self.s.from_coo([], [], [], 0, 0))       # a matrix is there, whatever it holds
+        for call in (lambda: bool(one), lambda: not one, lambda: one or 3, lambda: [1 for _ in 'x' if one.select('valuegt', 9)]):
+            with self.assertRaisesRegex(TypeError, r'no truth value: write A\.nvals > 0'):
+                call()
 
     def test_what_identity_does(self):
         A, B = self.s.identity(2), self.s.identity(2)

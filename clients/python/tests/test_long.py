@@ -5,8 +5,7 @@ from unittest import mock
 import graphs
 import support
 from spmat import algorithms
-from spmat.algorithms import server_side_search
-from spmat.io import matrix_text
+from spmat.algorithms import server_loops
 
 SIDE = 12
 GRID = graphs.undirected('grid', SIDE * SIDE, [(SIDE * r + c, SIDE * r + c + d) for r in range(SIDE) for c in range(SIDE) for d in (1, SIDE)
@@ -18,7 +17,7 @@ class Long(support.InSession):
     def compare(self):
         for after in (0, 1, 3):
             for graph in SOME:
-                with self.subTest(after=after, graph=graph.name), mock.patch.object(server_side_search, 'LONG', after):
+                with self.subTest(after=after, graph=graph.name), mock.patch.object(server_loops, 'LONG', after):
                     self.one(graph, graph.count // 3)
 
     def one(self, graph, source):
@@ -38,17 +37,12 @@ class Long(support.InSession):
         self.assertEqual(lengths.to_dict(), {(i, 0): length for i, length in graphs.shortest(graph.edges, near, source).items()})
         self.assertEqual([number for _, number, _ in told], list(range(1, len(told) + 1)))
 
-    def test_lists(self):
-        with mock.patch.object(matrix_text, 'find_numpy', lambda: None):
-            self.compare()
-
-    @support.needs('numpy')
-    def test_numpy(self):
+    def test_models(self):
         self.compare()
 
     def test_directed_graphs_stay_with_the_client(self):
         for graph in graphs.DIRECTED:
-            with self.subTest(graph=graph.name), mock.patch.object(server_side_search, 'LONG', 0):
+            with self.subTest(graph=graph.name), mock.patch.object(server_loops, 'LONG', 0):
                 G, near = graph.matrix(self.s), graph.near()
                 self.assertEqual(algorithms.bfs_levels(G, 0).to_dict(), {(i, 0): level for i, level in graphs.levels(near, 0).items()})
                 self.assertEqual(algorithms.sssp(G, 0).to_dict(),

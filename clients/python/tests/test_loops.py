@@ -11,8 +11,7 @@ import graphs
 import support
 import spmat
 from spmat import blocks
-from spmat.io import matrix_text
-from spmat.loops import traced_loop
+from spmat.loops.rounds import of_two
 
 NEXT = spmat.semiring('any', spmat.asm('binary', 'mov64 r0, r1\nadd64 r0, 1\nexit\n'))
 NAME = re.compile('_[0-9]+')                        # of the client, for a matrix
@@ -52,7 +51,7 @@ def by_hand(step, state, most):
     now = dict(state)
     for number in range(1, most + 1):
         try:
-            got = traced_loop.of_two(step)(traced_loop.State(now), number)
+            got = of_two(step)(spmat.loops.State(now), number)
             for matrix in got.values():
                 matrix.wait()
         except spmat.Refused as fault:
@@ -121,7 +120,7 @@ class Rounds(support.InSession):
             self.assertIsNone(fault)
             self.assertEqual(texts(loop.state), texts(now))
             before = by_hand(step, start, rounds - 1)[0]
-            near = step(traced_loop.State(before), rounds)['near']
+            near = step(spmat.loops.State(before), rounds)['near']
             last = [(int(place), int(value)) for number, place, value in zip(*loop.shown['near']) if number == rounds]
             self.assertEqual(last, [(j, value) for _, j, value in near.to_triples()])
             self.assertEqual(len(loop.shown['least'].values), rounds)
@@ -151,7 +150,7 @@ class Rounds(support.InSession):
                 (lambda s: {'front': s.front.apply('plus', right=s.front.reduce_scalar())}, TypeError, 'reduce_rowwise'),
                 (lambda s: {'front': s.front.session.full(1, 70)}, TypeError, '`full` of the session is to be called before the loop'),
                 (lambda s: {'front': s.front.mxm(G.apply('one'), 'any_first')}, ValueError, 'to be made before the loop'),
-                (lambda s: s.front, TypeError, 'returns its new matrices by name, such as {"front": front}, not TracedMatrix'),
+                (lambda s: s.front, TypeError, 'returns its new matrices by name, such as {"front": front}, not Matrix'),
                 (lambda s: {'front': 3}, TypeError, "what a step returns as 'front' is no matrix, but int"),
                 (lambda s: {'front': s.front.reduce_rowwise()}, ValueError, 'front is 1x70 before a round and 1x1 behind it'),
                 (lambda s: {'front': s.back}, AttributeError, "no matrix 'back' in the state of this loop: it has front")):
@@ -217,11 +216,10 @@ class Rounds(support.InSession):
         self.assertEqual((made + again.run(spmat.empty('front')), again.number), (70, 70))
         self.assertEqual(sorted(map(int, again.shown['front'].places)), list(range(1, 70)))
 
-    def test_lists(self):
-        with mock.patch.object(matrix_text, 'find_numpy', lambda: None):
-            loop = search(self.s, PATH)
-            loop.run(spmat.empty('front'))
-            self.assertEqual(list(loop.shown['front']), [list(range(1, 70)), list(range(1, 70)), list(range(1, 70))])
+    def test_what_is_shown(self):
+        loop = search(self.s, PATH)
+        loop.run(spmat.empty('front'))
+        self.assertEqual([many.tolist() for many in loop.shown['front']], [list(range(1, 70)), list(range(1, 70)), list(range(1, 70))])
 
     def test_threads(self):
         """A loop and other jobs of one session, by threads that take turns."""
@@ -258,7 +256,7 @@ class Rounds(support.InSession):
         for graph in graphs.UNDIRECTED[3:6]:
             step, state = lengths(self.s, graph)
             told = []
-            got = spmat.fixpoint(state['known'], lambda now: step(traced_loop.State(known=now))['known'], progress=lambda *now: told.append(now))
+            got = spmat.fixpoint(state['known'], lambda now: step(spmat.loops.State(known=now))['known'], progress=lambda *now: told.append(now))
             want = graphs.shortest(graph.edges, graph.near(), 0)
             self.assertEqual({i: length for (i, _), length in got.to_dict().items() if length < 1 << 39}, want)
             self.assertEqual([number for _, number, _ in told], list(range(1, len(told) + 1)))
@@ -291,7 +289,7 @@ class Refusals(unittest.TestCase):
             step, state = begin(s)
             spent, now = [], dict(state)
             for number in range(1, 12):
-                now = {'known': step(traced_loop.State(now))['known'].wait()}
+                now = {'known': step(spmat.loops.State(now))['known'].wait()}
                 s.run()
                 spent.append(s.budget().spent)
         tripped, seen = 0, set()

@@ -6,8 +6,8 @@ import graphs
 import spmat
 import support
 from spmat import algorithms
-from spmat.algorithms import bfs, frontier
-from spmat.algorithms.frontier import Columns, Rows
+from spmat.algorithms import traversal
+from spmat.algorithms.traversal import Columns, Rows
 
 PAIRS = [(i, j) for i in range(40) for j in range(40) if i != j and (7 * i + 3 * j) % 5 == 0]
 SOME_ALONE = graphs.undirected('some vertices have no edge', 50, PAIRS)
@@ -33,31 +33,46 @@ class ManyWorkers(unittest.TestCase):
                  lambda G: algorithms.pagerank(G, personalization={0: 1}, dangling={1: 2, 3: 1}),
                  lambda G: algorithms.pagerank(G, G.T, damping=.5),
                  lambda G: algorithms.katz(G, .01).values, lambda G: algorithms.eigenvector(algorithms.undirected(G), tolerance=1e-3).values]
-        with mock.patch.multiple(frontier, MANY_ENTRIES=1, MANY_AT_A_VERTEX=0):
+        with mock.patch.multiple(traversal, MANY_ENTRIES=1, MANY_AT_A_VERTEX=0):
             for graph in graphs.tried([SOME_ALONE, SOME_END, graphs.UNDIRECTED[3], graphs.DIRECTED[-1]]):
                 for number, call in enumerate(calls):
                     with self.subTest(graph=graph.name, call=number):
                         one, many = graph.matrix(self.one), graph.matrix(self.many)
-                        self.assertIsInstance(bfs.flow_lines(many, None, True), Columns)
-                        self.assertIsInstance(bfs.flow_lines(one, None, True), Rows)
+                        self.assertIsInstance(traversal.find_flow(many, None, True), Columns)
+                        self.assertIsInstance(traversal.find_flow(one, None, True), Rows)
                         self.assertEqual(call(many).to_text(), call(one).to_text())
 
     def test_a_price_comes_before_the_work(self):
-        with mock.patch.multiple(frontier, MANY_ENTRIES=1, MANY_AT_A_VERTEX=0):
+        with mock.patch.multiple(traversal, MANY_ENTRIES=1, MANY_AT_A_VERTEX=0):
             G = SOME_ALONE.matrix(self.many)
             self.assertGreater(spmat.price(lambda: algorithms.pagerank(G)).steps, 0)
 
     def test_which_sessions_and_graphs_these_are(self):
-        with mock.patch.multiple(frontier, MANY_ENTRIES=900):
+        with mock.patch.multiple(traversal, MANY_ENTRIES=900):
             for want, graph in ((True, self.many.full(30, 30)), (False, self.one.full(30, 30)), (False, self.many.full(29, 29)),
                                 (False, self.many.identity(1000))):
                 with self.subTest(want=want, graph=graph):
-                    self.assertEqual(frontier.is_shared(graph), want)
+                    self.assertEqual(traversal.is_shared(graph), want)
 
     def test_a_session_knows_its_workers(self):
         self.assertEqual([self.one.workers, self.many.workers], [1, 4])
         with support.Relay() as relay, spmat.Session.connect('127.0.0.1', relay.port) as session:
             self.assertIsNone(session.workers)
+
+    def test_a_caller_says_how_many_workers_a_server_has(self):
+        with support.Relay(steps=1 << 60) as relay:
+            with spmat.Session.connect('127.0.0.1', relay.port) as session:
+                with self.assertRaisesRegex(ValueError, 'workers are 1 to 64'):
+                    session.workers = 65
+                session.workers = 4
+                self.assertEqual((session.workers, session.backend.queue.shared), (4, True))
+                with mock.patch.multiple(traversal, MANY_ENTRIES=1, MANY_AT_A_VERTEX=0):
+                    G = SOME_ALONE.matrix(session)
+                    self.assertIsInstance(traversal.find_flow(G, None, True), Columns)
+                    got = algorithms.pagerank(G).to_text()
+                self.assertEqual(got, algorithms.pagerank(SOME_ALONE.matrix(self.one)).to_text())
+        with self.assertRaisesRegex(AttributeError, 'with 1 workers'):
+            self.one.workers = 4
 
 
 if __name__ == '__main__':

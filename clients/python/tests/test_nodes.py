@@ -165,14 +165,13 @@ class Brackets(unittest.TestCase):
         for call, words in ((lambda: A @ A, 'A.mxm(B)'), (lambda: A + A, 'A.ewise_add(B)'), (lambda: 3 * A, 'A.ewise_mult(B)'),
                             (lambda: A - 1, 'minus'), (lambda: A / A, 'cdiv'), (lambda: A // 2, 'floordiv'), (lambda: A & A, 'land'),
                             (lambda: A | A, 'lor'), (lambda: A < 3, 'A.select("<", 3)'), (lambda: A >= 3, 'A.select(">=", 3)'),
-                            (lambda: len(A), 'A.nvals'), (lambda: list(A), 'A.to_triples()'), (lambda: A <= 1, '<='), (lambda: A > 1, '>')):
+                            (lambda: len(A), 'A.nvals'), (lambda: bool(A), 'A.nvals > 0'), (lambda: list(A), 'A.to_triples()'), (lambda: A <= 1, '<='), (lambda: A > 1, '>')):
             with self.assertRaises(TypeError) as said:
                 call()
             self.assertIn(words, str(said.exception))
         with self.assertRaises(TypeError) as said:
             A[0, 0] = 3
         self.assertIn('A.update', str(said.exception))
-        self.assertTrue(A)                                   # and no method is called for the truth of it
         self.assertTrue(A == A)
 
     @support.needs('numpy')

@@ -10,10 +10,10 @@ from unittest import mock
 import support
 import spmat
 from spmat import algorithms, blocks
-from spmat._client import handles
+from spmat.backends import names
 from spmat.algorithms import cached_properties, utils
 
-POISONED = handles.POISONED
+POISONED = names.POISONED
 
 
 def busy(session, count=12):
@@ -92,11 +92,11 @@ class Constants(unittest.TestCase):
 class Owners(support.InSession):
     def test_no_second_owner(self):
         """An owner takes its name itself; there is no way to make one of a name that is taken."""
-        names = self.s.backend.names
-        first = handles.Handle(names)
-        self.assertNotEqual(first.key, handles.Handle(names).key)
-        taken = handles.Handle(names, wished='taken')
-        self.assertEqual(('taken', False), (taken.key, handles.Handle(names, wished='taken').key == 'taken'))
+        backend = self.s.backend
+        first = names.ServerHandle(backend, (1, 1))
+        self.assertNotEqual(first.key, names.ServerHandle(backend, (1, 1)).key)
+        taken = names.ServerHandle(backend, (1, 1), wished='taken')
+        self.assertEqual(('taken', False), (taken.key, names.ServerHandle(backend, (1, 1), wished='taken').key == 'taken'))
 
     def test_a_matrix_of_an_owner_goes(self):
         """The name is given back when the last one goes."""

@@ -1,28 +1,84 @@
-"""What is installed: pyproject.toml names each folder of the package that holds modules."""
+"""What is installed: pyproject.toml names each folder of the package, and what it needs; Debian's packages need the same."""
 import os
 import re
 import unittest
 
+from spmat import extras
+
 import support
 
 
-
-def folders():
+def list_folders():
     """The packages as they lie in folders, with dots."""
     held = [folder for folder, _, files in os.walk(os.path.join(support.CLIENT, 'spmat')) if '__init__.py' in files]
     return sorted(os.path.relpath(folder, support.CLIENT).replace(os.sep, '.') for folder in held)
 
 
-def named():
-    """The packages that pyproject.toml names."""
+def read_project():
+    """The text of pyproject.toml."""
     with open(os.path.join(support.CLIENT, 'pyproject.toml'), encoding='utf-8') as file:
-        return sorted(re.findall(r'"([^"]+)"', re.search(r'^packages = \[(.*?)\]', file.read(), re.M | re.S).group(1)))
+        return file.read()
+
+
+def list_packages():
+    """The packages that pyproject.toml names."""
+    return sorted(re.findall(r'"([^"]+)"', re.search(r'^packages = \[(.*?)\]', read_project(), re.M | re.S).group(1)))
+
+
+def read_extras():
+    """The extras of pyproject.toml, and what each wants, without versions."""
+    table = re.search(r'^\[project\.optional-dependencies\]\n(.*?)\n\n', read_project(), re.M | re.S).group(1)
+    return {name: [re.match(r'[\w-]+(\[[\w,-]+\])?', want).group() for want in re.findall(r'"([^"]+)"', wants)]
+            for name, wants in re.findall(r'^(\w+) = \[(.*)\]$', table, re.M)}
 
 
 class Packages(unittest.TestCase):
     def test_all_are_installed(self):
-        self.assertIn('spmat.cli', folders())
-        self.assertEqual(named(), folders())
+        self.assertIn('spmat.cli', list_folders())
+        self.assertEqual(list_packages(), list_folders())
+
+    def test_numpy_is_required(self):
+        self.assertIn('\ndependencies = ["numpy>=1.22"]\n', read_project())
+
+    def test_each_extra_brings_its_modules(self):
+        found = read_extras()
+        for module, extra in extras.EXTRAS.items():
+            with self.subTest(module=module):
+                self.assertIn(extra.project, found[extra.extra])
+
+    def test_all_is_every_extra(self):
+        found = read_extras()
+        self.assertEqual(found['all'], ['spmat[%s]' % ','.join(name for name in found if name not in ('all', 'arrays', 'graphs'))])
+
+    def test_names_of_1_0(self):
+        found = read_extras()
+        self.assertEqual([found['arrays'], found['graphs']], [['spmat[scipy]'], ['spmat[networkx]']])
+        self.assertLessEqual({'pictures', 'dask'}, set(found))
+
+    @unittest.skipUnless(os.path.isdir(os.path.join(support.TOP, 'packaging')), 'an installed client has no packaging')
+    def test_debian_recommends_the_same(self):
+        with open(os.path.join(support.TOP, 'packaging', 'debian', 'control'), encoding='utf-8') as file:
+            fields = file.read().split('Package: python3-spmat\n')[1].split('Description:')[0]
+        self.assertRegex(fields, r'(?m)^Depends: .*\bpython3-numpy$')
+        recommended = set(re.findall(r'[\w-]+', re.search(r'^Recommends: (.*?)^\w', fields, re.M | re.S).group(1)))
+        self.assertLessEqual({extra.debian for extra in extras.EXTRAS.values() if extra.debian}, recommended)
+
+
+class Missing(unittest.TestCase):
+    def test_a_module_that_is_here(self):
+        self.assertIs(extras.import_extra('os', 'nothing'), os)
+
+    def test_the_error_says_what_to_type(self):
+        extras.EXTRAS['no_such_module'] = extras.Extra('files', 'no-such-project', 'python3-none')
+        self.addCleanup(extras.EXTRAS.pop, 'no_such_module')
+        with self.assertRaises(ImportError) as raised:
+            extras.import_extra('no_such_module.part', 'a picture')
+        self.assertEqual(str(raised.exception), 'a picture needs no_such_module (extra files): pip install no-such-project, or on Debian '
+                                                "apt install python3-none (No module named 'no_such_module')")
+        self.assertEqual(raised.exception.name, 'no_such_module')
+
+    def test_without_a_package_of_debian(self):
+        self.assertEqual(extras.describe_missing('pyarrow', 'parquet'), 'parquet needs pyarrow (extra parquet): pip install pyarrow')
 
 
 if __name__ == '__main__':

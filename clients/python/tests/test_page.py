@@ -4,6 +4,7 @@ import io
 import os
 import re
 import subprocess
+import sys
 import tempfile
 import time
 import unittest
@@ -53,7 +54,9 @@ class Page(unittest.TestCase):
         blocks = self.blocks('.')
         command, said = next(pair for pair in zip(blocks, blocks[1:]) if pair[0].startswith('PYTHONPATH='))
         begun = time.process_time() + sum(os.times()[2:4])
-        done = subprocess.run(['sh', '-c', command], cwd=support.TOP, stdout=subprocess.PIPE, check=True, timeout=100)
+        path = os.pathsep.join([os.path.dirname(sys.executable), os.environ['PATH']])      # this Python is the one that has numpy
+        done = subprocess.run(['sh', '-c', command], cwd=support.TOP, env={**os.environ, 'PATH': path}, stdout=subprocess.PIPE, check=True,
+                              timeout=100)
         self.assertEqual(done.stdout.decode(), said)
         self.assertLess(time.process_time() + sum(os.times()[2:4]) - begun, 10)
 

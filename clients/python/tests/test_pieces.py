@@ -104,7 +104,7 @@ class Files(unittest.TestCase):
         X = self.many.mmread(io.BytesIO(text))
         X.mmwrite(Target())
         self.assertEqual(b''.join(written), text)
-        self.assertEqual([piece.count(b'\n') for piece in written], [2, *(counts.nvals for counts in X.counts())])
+        self.assertEqual([piece.count(b'\n') for piece in written], [2, *(counts.nvals for counts in X.blocks.counts())])
 
     def test_no_more_than_a_block_is_held(self):
         """What is made text at a time, of a file whose entries are counted and cut in three."""
@@ -114,7 +114,7 @@ class Files(unittest.TestCase):
         with mock.patch.object(chunked_input, 'PIECE', 4096), \
                 mock.patch.object(chunked_input.matrix_text, 'write', lambda triples: seen.append(len(triples.rows)) or written(triples)):
             X = self.many.mmread(io.BytesIO(text_of(a, 300, 300, shuffled)))
-        self.assertEqual(seen[:3], [counts.nvals for counts in X.counts()])
+        self.assertEqual(seen[:3], [counts.nvals for counts in X.blocks.counts()])
         self.assertLess(max(seen), len(a) / 3 + 40)
 
     def test_larger_than_one_session_takes(self):

@@ -4,11 +4,13 @@ import itertools
 import random
 import unittest
 import warnings
+from unittest import mock
 
 import graphs
 import support
 import spmat
 from spmat import algorithms
+from spmat.algorithms import step_bounds, strong_components
 from spmat.algorithms.registry import ALGORITHMS
 
 
@@ -46,7 +48,8 @@ COMMON = [graphs.UNDIRECTED[3], graphs.undirected('sparse', 100, _random_pairs(1
 OPTIONS = {
     'all_pairs': [{}], 'betweenness': [{}, {'sources': [0]}, {'weighted': True}],
     'bfs_levels': [{'source': 0}, {'source': 0, 'depth': 2}, {'source': 0, 'target': 5}, {'source': [0, 3]}],
-    'bfs_parents': [{'source': 0}, {'source': 0, 'depth': 1}], 'bipartite_sides': [{}], 'closeness': [{}],
+    'bfs_parents': [{'source': 0}, {'source': 0, 'depth': 1}], 'bipartite_sides': [{}],
+    'closeness': [{}, {'weighted': True}],
     'clustering': [{}, {'check': False}], 'common_neighbours': [{}, {'pairs': 'G'}], 'connected_components': [{}],
     'core_numbers': [{}, {'check': False}], 'degrees': [{}], 'diameter': [{}, {'searches': 2}], 'distance_counts': [{}], 'eccentricity': [{}],
     'eigenvector': [{'rounds': 100}, {'weighted': True, 'rounds': 200}], 'has_path': [{'source': 0, 'target': 5}],
@@ -62,18 +65,6 @@ OPTIONS = {
     'shortest_paths': [{'source': 0}, {'source': 0, 'weighted': True}, {'source': 0, 'cutoff': 3}], 'squares': [{}],
     'sssp': [{'source': 0}, {'source': 0, 'cutoff': 20}, {'source': 0, 'target': 5}], 'strongly_connected_components': [{}],
     'topological_levels': [{}], 'transitive_closure': [{}], 'triangle_count': [{}], 'triangles': [{}], 'undirected': [{}]}
-
-
-# Where the most is more than 20 times what is spent on graphs that are none of the odd ones, and why.
-LOOSE = {
-    'all_pairs': 'a pair of vertices may change in as many rounds as there are vertices', 'path_lengths': 'as for all_pairs',
-    'transitive_closure': 'there may be as many rounds as vertices, and all pairs may be looked at in each', 'closeness': 'weighted as all_pairs',
-    'betweenness': 'with weights as for path_lengths', 'diameter': 'more searches are allowed than are wanted',
-    'sssp': 'lengths of vertices within a band may change as often as light edges make a path', 'shortest_path': 'as for sssp',
-    'shortest_paths': 'as for sssp', 'k_shortest_paths': 'as for sssp', 'k_truss': 'edges may fall one after the other',
-    'louvain': '16 levels of 20 sweeps are allowed', 'hits': 'as many rounds as rounds= are allowed', 'eigenvector': 'as for hits',
-    'katz': 'as for hits, where alpha times the most edges of a vertex is 1 or more', 'has_path': 'the target may be the last to be found',
-    'maximal_independent_set': 'the seed may have vertices decided one after the other'}
 
 
 def arguments(G, options):
@@ -144,15 +135,19 @@ class Algorithms(support.InSession):
 
 class Nearness(support.InSession):
     def test_near(self):
-        """No bound is twenty times too high on common graphs, but for those that say why."""
-        for name in sorted(set(OPTIONS) - set(LOOSE)):
+        """No bound is twenty times too high on common graphs."""
+        for name in sorted(OPTIONS):
             for graph in COMMON:
-                with self.subTest(algorithm=name, graph=graph.name):
-                    G, named = graph.matrix(self.s), OPTIONS[name][0]
-                    priced = spmat.price(lambda: getattr(algorithms, name)(G, **arguments(G, named)))
-                    spent, ended = called(self.s, lambda: getattr(algorithms, name)(G, **arguments(G, named)))
-                    if ended and spent:
-                        self.assertLessEqual(priced.most, 20 * spent)
+                for named in OPTIONS[name]:
+                    self.check_near(name, graph, named)
+
+    def check_near(self, name, graph, named):
+        with self.subTest(algorithm=name, graph=graph.name, **named):
+            G = graph.matrix(self.s)
+            priced = spmat.price(lambda: getattr(algorithms, name)(G, **arguments(G, named)))
+            spent, ended = called(self.s, lambda: getattr(algorithms, name)(G, **arguments(G, named)))
+            if ended and spent:
+                self.assertLessEqual(priced.most, 20 * spent)
 
     def test_rounds(self):
         """Where rounds are bounded by the caller, the bound is near."""
@@ -161,7 +156,25 @@ class Nearness(support.InSession):
             priced = spmat.price(lambda: getattr(algorithms, name)(G, rounds=60, tolerance=1e-4))
             spent, _ = called(self.s, lambda: getattr(algorithms, name)(G, rounds=60, tolerance=1e-4))
             self.assertTrue(spent <= priced.most <= 20 * spent, name)
-            self.assertIn('up to 60 rounds', repr(priced))
+            self.assertRegex(repr(priced), r'\d+ products of 5 an edge')
+
+
+class StrongComponents(support.InSession):
+    def test_rounds(self):
+        """And of so many components that they are found in rounds: on chains of circles, of which none leads to the next, or all do."""
+        circles = [(3 * k + i, 3 * k + (i + 1) % 3) for k in range(20) for i in range(3)]
+        others = {'apart': [], 'chain': [(3 * k, 3 * k + 3) for k in range(19)], 'turned': [(3 * k + 3, 3 * k) for k in range(19)],
+                  'loops': [(i, i) for i in range(0, 60, 2)], 'random': _random_pairs(3, 60, 80)}
+        with mock.patch.multiple(step_bounds, FEW_EDGES=4, MOST_EDGES_READ=8), \
+                mock.patch.multiple(strong_components, AT_ONCE=4, SMALL=8), \
+                mock.patch.object(strong_components, '_search_around'):
+            for name, more in others.items():
+                with self.subTest(name):
+                    G = graphs.directed(name, 60, {*circles, *more}).matrix(self.s)
+                    priced = spmat.price(lambda G=G: algorithms.strongly_connected_components(G))
+                    spent, ended = called(self.s, lambda G=G: algorithms.strongly_connected_components(G))
+                    self.assertTrue(ended and priced.least <= spent <= priced.most, (priced, spent))
+                    self.assertGreater(spent, 60)
 
 
 class Directed(unittest.TestCase):
@@ -298,7 +311,7 @@ class Partial(unittest.TestCase):
         return whole, caught.exception.partial
 
     def test_communities(self):
-        _, partial = self.refused('louvain', .6)
+        _, partial = self.refused('louvain', .85)
         self.assertIsInstance(partial, algorithms.Communities)
         with spmat.Session() as session:
             found = algorithms.modularity(graphs.UNDIRECTED[3].matrix(session), session.from_coo(range(34), [0] * 34, partial.to_list()))

@@ -136,12 +136,12 @@ class Shapes(support.InSession):
         self.assertEqual(again['parents'].by_node(), {'a': 'b', 'b': 'c', 'c': 'c'})
         self.assertEqual(again['ranks'].by_node(), algorithms.pagerank(G).by_node())
 
-    def test_weights_are_told_first(self):
-        """An algorithm by whose argument values count says in its first paragraph what counts without."""
+    def test_weights_are_told(self):
+        """An algorithm by whose argument values count says what counts without."""
         for name, one in ALGORITHMS.items():
             if 'weighted' in one.parameters:
-                first = inspect.getdoc(one.function).split('\n\n')[0]
-                self.assertRegex(' '.join(first.split()), r'unless `weighted=True`', name)
+                text = ' '.join(inspect.getdoc(one.function).split())
+                self.assertRegex(text, r'weighted : bool, default False Whether [^:]*; else ', name)
 
     def test_in_blocks(self):
         from spmat import blocks

@@ -102,15 +102,6 @@ class Routes(graphs.OnGraphs):
             for target in within:
                 self.holds(graph, tree.path(target), 0, target, far, weighted)
 
-    def test_lists_and_arrays(self):
-        """The same tree by lists as by arrays of numpy."""
-        graph = by_chance(1500, 4, list(range(1, 30)), 5)
-        G = graph.matrix(self.s)
-        with_arrays = [algorithms.shortest_paths(G, 0, weighted=weighted).predecessors.to_dict() for weighted in (False, True)]
-        with mock.patch('spmat.io.matrix_text.find_numpy', lambda: None):
-            by_lists = [algorithms.shortest_paths(G, 0, weighted=weighted).predecessors.to_dict() for weighted in (False, True)]
-        self.assertEqual(with_arrays, by_lists)
-
     def test_k_shortest(self):
         """The lengths are those of the k shortest of all simple paths, each once."""
         for seed, values in enumerate(([1], [1, 2, 3], [0, 1], [5])):

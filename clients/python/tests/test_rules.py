@@ -7,9 +7,10 @@ import unittest
 
 import support
 import spmat
-from spmat._client import connection, handles, transport
+from spmat._client import connection, transport
+from spmat.backends import names
 
-USED_AGAIN = unittest.skipIf(os.environ.get(handles.POISONED), 'no name is used again, and each is overwritten')
+USED_AGAIN = unittest.skipIf(os.environ.get(names.POISONED), 'no name is used again, and each is overwritten')
 
 
 class Versions(unittest.TestCase):
@@ -100,7 +101,7 @@ class Overwritten(unittest.TestCase):
         return {key: s.connection.command('show ' + key).body.split(b'\n')[1] for key in ('_1', '_2', '_3')}
 
     def test_large_ones(self):
-        n = handles.SMALL + 1
+        n = names.SMALL + 1
         with spmat.Session() as s:
             A, B = s.from_triples([], n, 1), s.from_triples([(0, 0, 1)], n, 1)
             C = B.apply('ainv').wait()
@@ -200,11 +201,12 @@ class InStep(unittest.TestCase):
 class RefusedRun(unittest.TestCase):
     """A refused run has emptied the queue: each result of it raises from then on, with that refusal as its cause."""
 
-    def answer(self, words, body):
-        return b'no memory 7\n' if words[0] == 'run' else support.plausible(words, body)
-
     def test_results_raise(self):
-        with support.Scripted(self.answer) as server, spmat.Session.connect(port=server.port) as s:
+        plausible = support.Plausible()
+
+        def answer(words, body):
+            return b'no memory 7\n' if words[0] == 'run' else plausible(words, body)
+        with support.Scripted(answer) as server, spmat.Session.connect(port=server.port) as s:
             A = s.from_triples([(0, 0, 1)])
             B, C = A.apply('abs'), A.apply('ainv')
             with self.assertRaises(spmat.OutOfMemory) as said:
@@ -284,7 +286,7 @@ class Interrupted(unittest.TestCase):
         def answer(words, body):
             return time.sleep(10) if words[0] == 'run' else support.plausible(words, body)
         with support.Scripted(answer) as server:
-            s = spmat.Session.connect(port=server.port, timeout=3)
+            s = spmat.Session.connect(port=server.port, run_timeout=3)
             A = s.from_triples([(0, 0, 1)]).apply('abs')
             with self.assertRaises(OSError):
                 A.wait()

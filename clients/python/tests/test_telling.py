@@ -8,6 +8,7 @@ import unittest
 import support
 import spmat
 from spmat import blocks, oversized_jobs
+from spmat.backends.protocol import Job
 from spmat.errors import refusal
 from spmat.operators import assembly, dataflow
 
@@ -115,7 +116,7 @@ class Labels(Case):
 
     def test_wrong(self):
         for text, words in (('ja end\nmov64 r0, r1\nfin: exit', 'line 1: no label end: in the text; there are fin'),
-                            ('a: mov64 r0, r1\na: exit', 'line 2: the label a: stands in the text already')):
+                            ('a: mov64 r0, r1\na: exit', 'line 2: the label a: is in the text already')):
             with self.assertRaises(ValueError) as said:
                 spmat.asm('unary', text)
             self.assertIn(words, str(said.exception))
@@ -174,7 +175,8 @@ class Limits(Case):
         self.assertIn('20,000,000 multiplications', str(said.exception))
         few = self.s.from_coo(range(5), [0] * 5, 1, 5000, 5000)
         self.assertEqual(self.ones.mxm(self.wide, mask=few.S).nvals, 5)
-        union = oversized_jobs.explained(refusal('J7', command='union a b c'), 'union', [spmat.binary.plus], [self.ones, self.ones])
+        job = Job('union', (spmat.binary.plus,), (self.ones.handle, self.ones.handle), self.ones.shape)
+        union = oversized_jobs.explained(refusal('J7', command='union a b c'), job, [self.ones, self.ones])
         self.assertIn('10,000 entries of both together, and 16,777,216 is the most of a job: select() some rows', str(union))
 
     def test_a_price_too_high(self):
@@ -216,13 +218,13 @@ class Limits(Case):
 
 class Scripts(unittest.TestCase):
     def test_forms_of_commands(self):
-        from spmat.cli import session_script_command
+        from spmat.cli import session_commands
         import argparse
         said = io.StringIO()
         options = argparse.Namespace(quiet=True, connect=None, steps=100, workers=1, program=None, keep_going=True,
                                      csv=False, json=False, tls=False, cacert=None, cert=None, key=None)
         with contextlib.redirect_stderr(said), contextlib.redirect_stdout(io.StringIO()):
-            session_script_command.run_lines(iter(['product P plus G G\n', 'reduce D\n', 'frobnicate\n']), '.', options)
+            session_commands.run_commands(io.BytesIO(b'product P plus G G\nreduce D\nfrobnicate\n'), options)
         self.assertIn('it is written `product OUT ADD MUL A B [mask M]`', said.getvalue())
         self.assertIn('it is written `reduce OUT OP A [mask M]`', said.getvalue())
         self.assertIn('commands are matrix, asm, op', said.getvalue())

@@ -213,7 +213,7 @@ class Test(support.InSession):
     @unittest.skipUnless(shutil.which('mypy'), 'no mypy')
     def test_type_checkers_refuse_a_row_for_a_vertex(self):
         text = ('from typing import Hashable, List\nfrom spmat import Matrix\nfrom spmat.algorithms import bfs_levels, k_hop, sssp\n'
-                'from spmat.algorithms.bfs import Search\nfrom spmat.algorithms.protocols import Place\n'
+                'from spmat.algorithms.bfs import Search\nfrom spmat.algorithms.types import Place\n'
                 'def f(G: Matrix, row: Place, rows: List[Place], name: Hashable) -> None:\n'
                 '    bfs_levels(G, name)\n    bfs_levels(G, [name, 3])\n    Search([row])\n    sssp(G, 3, target="a")\n'
                 '    bfs_levels(G, row)\n    bfs_levels(G, rows)\n    sssp(G, row)\n    k_hop(G, 2, rows)\n    Search([name])\n    Search([3])\n')

@@ -5,7 +5,7 @@ import support  # noqa: F401 (finds the program)
 import spmat
 from spmat import operators
 from spmat._client.connection import checked_settings
-from spmat.operators.clang import FromC
+from spmat.operators.c import FromC
 
 
 class Words(unittest.TestCase):

@@ -18,19 +18,21 @@ import socket
 import sys
 import threading
 import weakref
-from typing import Any, Callable, Deque, List, Optional, Sequence, Tuple, Type, Union
+from typing import Any, Callable, Deque, List, Mapping, Optional, Sequence, Tuple, Type, Union
 
-from ..errors import Closed, Near, Refused, SpmatError, refusal_of
+from ..errors import OF_GATEWAY, Closed, Near, Refused, SpmatError, refusal_of
 from ..io.coo import whole
 from ..limits import MOST_STEPS, MOST_WORKERS
 from .commands import Command, CommandBatch, Outgoing
 from .protocol import WORDS_WITH_BODY
-from .replies import Incoming, PIECE, Raw, Reply
+from .reply_checks import NOTHING, Limits
+from .replies import Incoming, PIECE, Reply
 from .server_program import Program, program_words
 from .sigint import Guard
-from .transport import Address, Channel, Child, Socket
+from .transport import Address, Channel, Child, Socket, Timeouts
 
-ENDS = ('S5', 'S6', 'S7', 'busy')
+ENDS = ('S5', 'S6', 'S7', 'busy', *OF_GATEWAY)
+SECONDS = 60.0                                     # for a command to a server and its whole reply, where its jobs don't run
 
 Progress = Callable[[str, int, int], None]
 
@@ -71,9 +73,9 @@ class Connection:
         return cls(Child(program_words(program) + ['run', '--steps', str(steps), '--workers', str(workers)]), progress)
 
     @classmethod
-    def to_server(cls, address: Address, timeout: Optional[float] = None, progress: Optional[Progress] = None) -> Connection:
-        """Connects to a server; `timeout` in seconds, for each piece that is sent or awaited."""
-        return cls(Socket(address, timeout), progress)
+    def to_server(cls, address: Address, timeouts: Timeouts = Timeouts(SECONDS, None), progress: Optional[Progress] = None) -> Connection:
+        """Connects to a server."""
+        return cls(Socket(address, timeouts), progress)
 
     @property
     def ended(self) -> Optional[str]:
@@ -106,10 +108,12 @@ class Connection:
         if os.getpid() != self._owner:
             raise SpmatError('a session belongs to the process that opened it: open another one here')
 
-    def command(self, line: str, body: Optional[bytes] = None, near: Optional[Near] = None) -> Reply:
+    def command(self, line: str, body: Optional[bytes] = None, near: Optional[Near] = None,
+                within: Mapping[str, Limits] = NOTHING) -> Reply:
         """Sends a command, with the length of its body where it has one, and reads the whole reply. Raises Refused for `no ..` and
-        Closed where the session has ended. `near` gives the line that stands at a place of the body, for the refusal's words."""
-        reply = self.exchange(Command(line, body, near))
+        Closed where the session has ended. `near` gives the line that stands at a place of the body, for the refusal's words, and `within`
+        the limits of the reply's numbers that the client knows."""
+        reply = self.exchange(Command(line, body, near, within=within))
         assert reply is not None
         return reply
 
@@ -165,6 +169,7 @@ class Connection:
             self._enter()
             try:
                 self.commands += batch.commands
+                self._channel.deadline.begin(False)
                 self._send_text(batch.text)
                 self._pending.append(batch)
             except BaseException as fault:
@@ -222,6 +227,7 @@ class Connection:
     def _read_first(self) -> None:
         """The same of what is pending first. KeyboardInterrupt leaves it so; what else comes ends the session."""
         first = self._pending[0]
+        self._channel.deadline.begin(first.runs)
         try:
             reply = first.read(self.incoming)
         except KeyboardInterrupt:
@@ -238,20 +244,18 @@ class Connection:
             self.end('an exception came while its replies were noted', kill=True)
             raise
 
-    def _note(self, first: Union[Command, CommandBatch], reply: Union[Raw, bytes]) -> None:
+    def _note(self, first: Union[Command, CommandBatch], reply: Union[Reply, str, bytes]) -> None:
         """Does what a reply says."""
         if isinstance(first, CommandBatch):
-            assert isinstance(reply, bytes)
-            first.replies = reply
-            return
-        assert isinstance(reply, Raw)
-        answer = first.answer = reply.reply() or self._refused(reply.first, first)
-        if not isinstance(answer, Refused):
-            first.done(answer)
-            return
-        first.lost(answer)
-        if first.matters and self.refused is None:
-            self.refused = answer
+            first.replies = reply if isinstance(reply, bytes) else b''
+        elif isinstance(reply, Reply):
+            first.answer = reply
+            first.done(reply)
+        elif isinstance(reply, str):
+            refused = first.answer = self._refused(reply, first)
+            first.lost(refused)
+            if first.matters and self.refused is None:
+                self.refused = refused
 
     def _fill(self, into: bytearray) -> bool:
         """Appends what comes next; whether anything did."""
@@ -296,6 +300,7 @@ class Connection:
         """Sends commands, which are pending then. What comes meanwhile ends the session."""
         self.commands += len(commands)
         self._pending.extend(commands)
+        self._channel.deadline.begin(False)
         try:
             self._send(commands)
         except BaseException as fault:

@@ -45,8 +45,10 @@ class Behind(enum.Enum):
 
 
 class Syntax(NamedTuple):
-    """How a command is written behind its name, and what its reply brings. LEN is the length of a body, which comes behind the line."""
+    """How a command is written behind its name, how its reply is written behind `ok`, and what the reply brings. LEN is the length of a
+    body, which comes behind the line."""
     words: str = ''
+    reply: str = ''
     brings: Optional[Behind] = None
 
     @property
@@ -64,16 +66,16 @@ FORMS: Dict[str, Form] = {
     'reduce': Form('OP', 'A', ('binary',), Places.ROWS, 'reduce_rowwise'),
 }
 COMMANDS: Dict[str, Syntax] = {
-    'matrix': Syntax('NAME LEN'),
-    'asm': Syntax('NAME KIND LEN'),
-    'op': Syntax('NAME KIND LEN'),
-    'dis': Syntax('NAME', Behind.LINES),
-    'types': Syntax('NAME', Behind.LINES),
-    **{name: Syntax(form.words) for name, form in FORMS.items()},
-    'run': Syntax(brings=Behind.LINES),
-    'show': Syntax('NAME', Behind.BYTES),
-    'budget': Syntax(),
-    'quit': Syntax(),
+    'matrix': Syntax('NAME LEN', 'matrix ROWS COLUMNS ENTRIES'),
+    'asm': Syntax('NAME KIND LEN', 'op SLOTS INSTRUCTIONS'),
+    'op': Syntax('NAME KIND LEN', 'op SLOTS INSTRUCTIONS'),
+    'dis': Syntax('NAME', 'dis LINES', Behind.LINES),
+    'types': Syntax('NAME', 'types LINES', Behind.LINES),
+    **{name: Syntax(form.words, 'queued POSITION PRICE') for name, form in FORMS.items()},
+    'run': Syntax('', 'run JOBS STEPS', Behind.LINES),
+    'show': Syntax('NAME', 'show BYTES', Behind.BYTES),
+    'budget': Syntax('', 'budget LEFT RESERVED SPENT'),
+    'quit': Syntax('', 'quit'),
 }
 WORDS_WITH_BODY = {name: len(syntax.words.split()) for name, syntax in COMMANDS.items() if syntax.has_body}
 """The commands that have a body, with how many words stand before its length."""

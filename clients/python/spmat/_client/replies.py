@@ -7,7 +7,7 @@ from __future__ import annotations
 
 from typing import Callable, List, NamedTuple, Optional
 
-from ..errors import Closed
+from ..errors import Closed, ProtocolError
 from .protocol import Behind, brought
 
 PIECE = 1 << 20
@@ -31,23 +31,25 @@ class Incoming:
         self._lines_seen, self._looked = 0, 0      # of a reply with lines: how many ended before the place that was looked at
         self.received = 0
 
-    def next(self) -> 'Raw':
-        """The next reply, once it is there whole. Closed where it can't come any more, or is none."""
+    def next(self, check: Callable[[List[str]], None]) -> 'Raw':
+        """The next reply, once it is there whole. Closed where it can't come any more. `check` looks at the words of its first line before
+        more is awaited, and raises where they answer nothing."""
         first = self._first_line()
+        check(first.words)
         brings = brought(first.words)
         if brings is None:
             return self._taken(first, first.end)
-        try:
-            size = int(first.words[2])
-        except (IndexError, ValueError):
-            raise Closed('the reply is none of spmat: `%s`' % ' '.join(first.words)[:200]) from None
+        size = int(first.words[2])
         if brings is Behind.BYTES:
             return self._taken(first, self._bytes_until(first.end + size, size))
         return self._taken(first, self._lines_until(first.end, size))
 
-    def through(self, mark: bytes) -> bytes:
-        """All that comes up to the end of the line with a mark, which stands in no other reply, once it is there."""
+    def through(self, mark: bytes, most: int) -> bytes:
+        """All that comes up to the end of the line with a mark, which stands in no other reply, once it is there. ProtocolError where that
+        is more than `most` bytes."""
         while True:
+            if len(self._bytes) > most:
+                raise ProtocolError('the replies to a loop have more than %d bytes, the most that its commands can be answered with' % most)
             at = self._bytes.find(mark, self._looked)
             end = self._bytes.find(b'\n', at) if at >= 0 else -1
             if end >= 0:
@@ -64,7 +66,7 @@ class Incoming:
             if end >= 0:
                 return _First(self._bytes[:end].decode('ascii', 'replace').split(), end + 1)
             if len(self._bytes) >= LONGEST_LINE:
-                raise Closed('the reply is none of spmat: `%s`' % self._bytes[:200].decode('ascii', 'replace'))
+                raise ProtocolError('the reply is none of spmat: `%s`' % self._bytes[:200].decode('ascii', 'replace'))
             self._more()
 
     def _bytes_until(self, end: int, size: int) -> int:
@@ -79,6 +81,8 @@ class Incoming:
         self._looked = max(self._looked, start)
         while self._lines_seen < count:
             end = self._bytes.find(b'\n', self._looked)
+            if end < 0 and len(self._bytes) - self._looked >= LONGEST_LINE:
+                raise ProtocolError('a line of a reply is none of spmat: `%s`' % self._bytes[self._looked:self._looked + 200].decode('ascii', 'replace'))
             if end < 0:
                 self._more()
             else:

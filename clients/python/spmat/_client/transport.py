@@ -10,6 +10,8 @@ import select
 import socket
 import subprocess
 import tempfile
+import time
+import urllib.parse
 from typing import TYPE_CHECKING, Iterator, NamedTuple, Optional, Sequence, Union
 
 from .replies import PIECE
@@ -18,6 +20,8 @@ if TYPE_CHECKING:
     import ssl
 
 SECONDS_TO_QUIT = 5.0
+TIMED_OUT = 'timed out: the command and its whole reply took longer than timeout= (or run_timeout=) says'
+GATEWAY_PORT = 7173
 # Waits until its input ends, which is when nobody holds the other end any more, and then ends a process.
 WATCHER = 'read -r _; kill -9 "$0"'
 
@@ -27,6 +31,34 @@ def _readable(file: int, seconds: Optional[float] = None) -> bool:
     poll = select.poll()
     poll.register(file, select.POLLIN)
     return bool(poll.poll(None if seconds is None else 1000 * seconds))
+
+
+class Timeouts(NamedTuple):
+    """How many seconds a command and its whole reply may take, and one that runs jobs; None without end."""
+    command: Optional[float] = None
+    run: Optional[float] = None
+
+
+class Deadline:
+    """When what is sent or awaited has to be done."""
+
+    def __init__(self, timeouts: Timeouts) -> None:
+        self._timeouts = timeouts
+        self._until: Optional[float] = None        # by the monotonic clock
+
+    def begin(self, runs: bool) -> None:
+        """A command begins, or its reply is awaited; `runs` where the server may take as long as its jobs do."""
+        seconds = self._timeouts.run if runs else self._timeouts.command
+        self._until = None if seconds is None else time.monotonic() + seconds
+
+    def left(self) -> Optional[float]:
+        """How many seconds are left, None without end. socket.timeout where none are."""
+        if self._until is None:
+            return None
+        left = self._until - time.monotonic()
+        if left <= 0:
+            raise socket.timeout(TIMED_OUT)
+        return left
 
 
 class Watcher:
@@ -58,6 +90,7 @@ class Child:
     """The bytes of a process `spmat run`. It has a process group of its own, so a Ctrl-C at a terminal doesn't reach it."""
 
     def __init__(self, words: Sequence[str]) -> None:
+        self.deadline = Deadline(Timeouts())
         self._owner = os.getpid()
         self._said = tempfile.TemporaryFile()
         try:
@@ -71,14 +104,16 @@ class Child:
         self._watcher = Watcher(self.process.pid)
 
     def wait(self) -> None:
-        """Waits until `receive` has something."""
-        _readable(self._output)
+        """Waits until `receive` has something. socket.timeout where that takes longer than the deadline says."""
+        if not _readable(self._output, self.deadline.left()):
+            raise socket.timeout(TIMED_OUT)
 
     def receive(self) -> bytes:
         """What came; nothing at the end."""
         return os.read(self._output, PIECE)
 
     def write(self, piece: Union[bytes, memoryview]) -> None:
+        """Writes a piece, however long that takes: the program reads as it can."""
         assert self.process.stdin is not None
         self.process.stdin.write(piece)
         self.process.stdin.flush()
@@ -120,12 +155,42 @@ class Address(NamedTuple):
     host: str
     port: int
     tls: Optional[ssl.SSLContext] = None
+    login: bytes = b''
+
+    @classmethod
+    def of_gateway(cls, url: str, token: Optional[str] = None, ca: Optional[str] = None,
+                   tls: Optional[ssl.SSLContext] = None) -> Address:
+        """The address `spmat://USER@HOST:PORT` of a gateway, which speaks TLS, with the line that logs in there.
+
+        Parameters
+        ----------
+        token
+            The user's token (default: the variable SPMAT_TOKEN). An address without a user wants none: `tls` has a certificate.
+        ca
+            A file with who signs the gateway's certificate (default: those whom the system trusts).
+
+        Raises
+        ------
+        ValueError
+            Where this is no such address, or there is neither a token nor a certificate.
+        """
+        import ssl as speaker
+        parts = urllib.parse.urlsplit(url)
+        if parts.scheme != 'spmat' or not parts.hostname or parts.path not in ('', '/') or parts.password:
+            raise ValueError('a gateway is spmat://USER@HOST:PORT, such as spmat://anna@localhost:7173, with the token in token= '
+                             'or in the variable SPMAT_TOKEN; not %r' % url)
+        login = 'login %s %s\n' % (parts.username, token or os.environ.get('SPMAT_TOKEN', ''))
+        if len(login.split()) != 3 if parts.username else not tls:
+            raise ValueError('a gateway wants a token of the user (token=, or the variable SPMAT_TOKEN), without blanks; or no user, and '
+                             'a certificate in tls=')
+        return cls(parts.hostname, parts.port or GATEWAY_PORT, tls or speaker.create_default_context(cafile=ca),
+                   login.encode() if parts.username else b'')
 
     def __str__(self) -> str:
         return self.host if self.is_file() else '%s, port %d' % (self.host, self.port)
 
     def is_file(self) -> bool:
-        return '/' in self.host
+        return '/' in self.host and '://' not in self.host
 
     def connected(self, timeout: Optional[float]) -> socket.socket:
         """A connection. ValueError where this is no address, OSError where nobody listens there, or lets nobody in."""
@@ -168,23 +233,28 @@ class Address(NamedTuple):
 class Socket:
     """The bytes of a connection to a server, or to what stands in front of it."""
 
-    def __init__(self, address: Address, timeout: Optional[float] = None) -> None:
+    def __init__(self, address: Address, timeouts: Timeouts) -> None:
+        self.deadline = Deadline(timeouts)
         self._has_tls = address.tls is not None
-        self._socket = address.connected(timeout)
-        self._timeout = timeout
+        self._socket = address.connected(timeouts.command)
+        if address.login:
+            self._socket.sendall(address.login)
 
     def wait(self) -> None:
-        """Waits until `receive` has something. socket.timeout where that takes too long."""
+        """Waits until `receive` has something. socket.timeout where that takes longer than the deadline says."""
         if getattr(self._socket, 'pending', int)():
             return                                 # TLS has taken it in already
-        if not _readable(self._socket.fileno(), self._timeout):
-            raise socket.timeout('timed out')
+        if not _readable(self._socket.fileno(), self.deadline.left()):
+            raise socket.timeout(TIMED_OUT)
 
     def receive(self) -> bytes:
-        """What came; nothing at the end."""
+        """What came; nothing at the end. socket.timeout where a piece of TLS doesn't come whole in time."""
+        self._socket.settimeout(self.deadline.left())
         return self._socket.recv(PIECE)
 
     def write(self, piece: Union[bytes, memoryview]) -> None:
+        """Writes a piece. socket.timeout where that takes longer than the deadline says."""
+        self._socket.settimeout(self.deadline.left())
         self._socket.sendall(piece)
 
     def fault(self, answered: bool) -> str:
@@ -194,7 +264,7 @@ class Socket:
                     'front)')
         if self._has_tls:
             return ('TLS was refused: the other side closed the connection before a first answer. It wants a certificate that it '
-                    'knows (tls.load_cert_chain), or has no place left')
+                    'knows (tls= with load_cert_chain), or has no place left')
         return ('the server closed the connection before a first answer: it has no place left, ended at its start, or what stands '
                 'in front refused this client (where it speaks TLS, give tls=)')
 

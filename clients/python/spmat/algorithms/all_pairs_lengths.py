@@ -1,8 +1,9 @@
 """Lengths of shortest paths between all vertices, or from many at once, and what can be reached."""
 from __future__ import annotations
 
-from collections import Counter
 from typing import NamedTuple, Tuple
+
+import numpy
 
 from ..errors import refusal
 from ..limits import MOST_SIDE
@@ -10,19 +11,25 @@ from ..matrix import Matrix
 from ..operators import Operator, Semiring, asm, binary
 from . import step_bounds
 from .cached_properties import extremes
-from .protocols import M, Vertices
+from .types import Vertices
 from .registry import algorithm
 from .single_source_paths import CYCLE, TOO_LONG
+from .strong_components import strongly_connected_components
+from .traversal import is_whole, read_column
 from .utils import Progress, find_places, loops, mark_rows, name_rows, order, product, tell
 
-SHORT = 16              # entries a row up to which the graph is squared, so that one push covers more edges
+# entries a row up to which the graph is squared, so that one push covers more edges
+SHORT = 16
 GROWTH = 3              # and only where a square has no more than so many times the entries
-MANY, DEAR = 1 << 16, 64  # of a graph with more entries than MANY it is asked first whether a square has more than DEAR multiplications for each
+# of a graph with more entries than MANY it is asked first whether a square has more than DEAR
+# multiplications for each
+MANY, DEAR = 1 << 16, 64
 MOST_HALF = (1 << 62) - 1
 MARKED_BOUND = 1 << 61  # what lengths stay below for that a bit of each may be a mark
 # 1 on the diagonal where the value is below 0, else 0
 BELOW_ZERO = asm('index', 'mov64 r0, 0\njne64 r2, r3, 2\njsge64 r1, 0, 1\nmov64 r0, 1\nexit\n')
-# Lengths are doubled, and the lowest bit is a mark: 1 where the length is less than what was known before.
+# Lengths are doubled, and the lowest bit is a mark: 1 where the length is less than what was known
+# before.
 MARK_SUM = asm('binary', 'mov64 r0, r1\nadd64 r0, r2\nor64 r0, 1\nexit\n', 'marked_sum')
 IS_MARKED = asm('index', 'mov64 r0, r1\nand64 r0, 1\nexit\n', 'marked')
 UNMARK = asm('unary', 'mov64 r0, r1\nand64 r0, -2\nexit\n', 'unmark')
@@ -31,8 +38,8 @@ REACHED = Semiring(binary.any, binary.pair)
 
 
 class Way(NamedTuple):
-    """How what is known spreads: terms of a known entry and one of `reach`, marked; their union with what is known, of which the
-    marked ones are new; and the known ones without marks."""
+    """How what is known spreads: terms of a known entry and one of `reach`, marked; their union
+    with what is known, of which the marked ones are new; and the known ones without marks."""
     terms: Semiring
     join: str
     is_new: Operator
@@ -44,16 +51,19 @@ BY_REACH = Way(REACHED, 'first', asm('index', 'mov64 r0, r1\nexit\n', 'marked_re
                asm('unary', 'mov64 r0, 0\nexit\n', 'unmark_reach'))
 
 
-def _is_dear(near: M) -> bool:
-    """Whether a square has so many multiplications that it would hardly be sparse: of large graphs in which a few rows are long."""
+def _is_dear(near: Matrix) -> bool:
+    """Whether a square has so many multiplications that it would hardly be sparse: of large graphs
+    in which a few rows are long."""
     if near.nvals <= MANY:
         return False
-    terms = near.mxv(near.apply('one').reduce_rowwise('plus'), 'plus_second').reduce_scalar('plus') or 0
+    terms = near.mxv(near.apply('one').reduce_rowwise('plus'),
+                     'plus_second').reduce_scalar('plus') or 0
     return terms > DEAR * near.nvals
 
 
-def _squared(near: M, way: Way) -> Tuple[M, int]:
-    """What lies within so many edges: `near`, squared while its rows are short, and that number. A push by it spares rounds."""
+def _squared(near: Matrix, way: Way) -> Tuple[Matrix, int]:
+    """What lies within so many edges: `near`, squared while its rows are short, and that number. A
+    push by it spares rounds."""
     edges = 1
     while near.nvals <= SHORT * near.nrows and edges < near.nrows and not _is_dear(near):
         further = near.ewise_add(product(near, near, way.terms), way.join)
@@ -64,10 +74,11 @@ def _squared(near: M, way: Way) -> Tuple[M, int]:
     return near, edges
 
 
-def _spread(start: M, fresh: M, reach: M, way: Way, progress: Progress, most: int = 1 << 62,
-            signed: bool = False) -> M:
-    """What is known from the start on, when nothing new is added: each round what is new is pushed by `reach`, so an entry is
-    multiplied again only where it changed. Raises ValueError for a cycle of negative length."""
+def _spread(start: Matrix, fresh: Matrix, reach: Matrix, way: Way, progress: Progress,
+            most: int = 1 << 62, signed: bool = False) -> Matrix:
+    """What is known from the start on, when nothing new is added: each round what is new is pushed
+    by `reach`, so an entry is multiplied again only where it changed. Raises ValueError for a cycle
+    of negative length."""
     known, number = start, 0
     while fresh.nvals:
         joined = known.ewise_add(product(fresh, reach, way.terms), way.join)
@@ -82,33 +93,60 @@ def _spread(start: M, fresh: M, reach: M, way: Way, progress: Progress, most: in
 
 
 def _check_room(W: Matrix) -> None:
-    """Raises TooLarge where the parts of the graph whose vertices all reach one another have more pairs than a matrix may hold."""
-    from .strong_components import strongly_connected_components
-    if W.nrows ** 2 <= MOST_SIDE or not W.in_one_place:
+    """Raises TooLarge where the parts of the graph whose vertices all reach one another have more
+    pairs than a matrix may hold."""
+    if W.nrows ** 2 <= MOST_SIDE or not is_whole(W):
         return
-    sizes = Counter(strongly_connected_components(W).to_list())
-    pairs = sum(many * many for many in sizes.values())
+    sizes = numpy.bincount(read_column(strongly_connected_components(W)).values)
+    pairs = sum(many * many for many in sizes.tolist())
     if pairs > MOST_SIDE:
-        raise refusal('J7', detail='%d pairs of vertices have a path: path_lengths takes some sources at a time' % pairs)
+        raise refusal('J7', detail='%d pairs of vertices have a path: path_lengths takes some '
+                      'sources at a time' % pairs)
 
 
 @algorithm('lengths of shortest paths between all', values=True, lengths=True,
            steps=step_bounds.all_pairs, shape=step_bounds.square)
 def all_pairs(W: Matrix, progress: Progress = None) -> Matrix:
-    """The length of the shortest path from each vertex (the row) to each (the column); no entry where no path leads. An entry's
-    value is the length of its edge, and may be negative.
+    """The length of the shortest path from each vertex (the row) to each (the column).
 
-    `progress('round', k, 0)` is called after each round.
+    Parameters
+    ----------
+    W : Matrix
+        The graph; an entry's value is the length of its edge, and may be negative.
+    progress : callable, optional
+        `progress('round', k, 0)` is called after each round.
 
-    Runs: 3 a round, 3 for each squaring, 6 of a graph of more than 65,536 entries, and 8; more where the product is made by parts (16,777,216 multiplications). There
-    is a round for each edge of
-    the longest of the shortest paths, or for every 2, 4, .. of them where rows are short: the graph is squared first while a row
-    has 16 entries or fewer and a square three times as many at most. What changed in a round is multiplied in the next, and nothing else: where all edges have one length
-    that is each pair of vertices once for each edge (`networkx` does the same by n searches). The result has up to 16,777,216
-    entries, 4,096 vertices that all reach one another; where the graph has parts with more pairs it is TooLarge (J7) before the
-    first round. Steps: up to 9 for each edge behind a pair whose length changed, and 12 an entry of the result, a round.
-    GraphBLAS: `mxm` over min and plus. Raises ValueError where there is a cycle of negative
-    length, and where lengths could pass 2^63.
+    Returns
+    -------
+    Matrix
+        No entry where no path leads.
+
+    Raises
+    ------
+    ValueError
+        If there is a cycle of negative length, or lengths could pass 2^63.
+    TooLarge
+        If the result has more than 16,777,216 entries, 4,096 vertices that all reach one another:
+        where the graph has parts with more pairs before the first round.
+
+    Notes
+    -----
+    There is a round for each edge of the longest of the shortest paths, or for every 2, 4, .. of
+    them where rows are short: the graph is squared first while a row has 16 entries or fewer and a
+    square three times as many at most. What changed in a round is multiplied in the next, and
+    nothing else: where all edges have one length that is each pair of vertices once for each edge
+    (`networkx` does the same by n searches).
+
+    Runs: 3 a round, 3 for each squaring, 6 of a graph of more than 65,536 entries, and 8; more
+    where the product is made by parts (16,777,216 multiplications). Steps: up to 9 for each edge
+    behind a pair whose length changed, and 12 an entry of the result, a round.
+
+    GraphBLAS: `mxm` over min and plus. networkx: `all_pairs_bellman_ford_path_length`.
+
+    Examples
+    --------
+    >>> all_pairs(W)[0, 3]
+    7
     """
     order(W)
     _check_room(W)
@@ -124,7 +162,8 @@ def all_pairs(W: Matrix, progress: Progress = None) -> Matrix:
 
 
 def _by_squaring(W: Matrix, progress: Progress) -> Matrix:
-    """All lengths where they leave no bit for a mark: the whole matrix squared until nothing changes."""
+    """All lengths where they leave no bit for a mark: the whole matrix squared until nothing
+    changes."""
     count, lengths = W.nrows, W.ewise_add(loops(W, 0), 'min')
     for number in range(1, max(1, (count - 1).bit_length()) + 1):
         _check_sums(lengths)
@@ -139,13 +178,15 @@ def _by_squaring(W: Matrix, progress: Progress) -> Matrix:
 
 
 def _check_sums(lengths: Matrix) -> None:
-    """Raises ValueError where two lengths that are added would wrap, or there is a cycle of negative length already."""
+    """Raises ValueError where two lengths that are added would wrap, or there is a cycle of
+    negative length already."""
     least, most = extremes(lengths)
     if max(most, -least) <= MOST_HALF:
         return
     _check_cycles(lengths)
     if product(lengths, lengths, TOO_LONG).reduce_scalar('max'):
-        raise ValueError('lengths could pass 2^63 - 1: some are %d to %d, and two are added; divide the values' % (least, most))
+        raise ValueError('lengths could pass 2^63 - 1: some are %d to %d, and two are added; '
+                         'divide the values' % (least, most))
 
 
 def _check_cycles(lengths: Matrix) -> None:
@@ -156,43 +197,99 @@ def _check_cycles(lengths: Matrix) -> None:
 @algorithm('lengths of shortest paths from some vertices', 'sources', values=True, lengths=True,
            steps=step_bounds.path_lengths, shape=step_bounds.rows_of_sources)
 def path_lengths(W: Matrix, sources: Vertices, progress: Progress = None) -> Matrix:
-    """The length of the shortest path from each of some vertices, a row for each in their order, to each vertex (the column); no
-    entry where no path leads. Sources and the vertices that they reach make up to 16,777,216 entries; lengths along a path stay
-    below 2^60 in size. `progress('round', k, 0)` is called after each round.
+    """The length of the shortest path from each of some vertices to each vertex.
 
-    Runs: 3 a round, 3 for each squaring, 6 of a graph of more than 65,536 entries, and 8; more where the product is made by parts. Rounds as for `all_pairs`. Raises
-    ValueError where a source is
-    no vertex, lengths could be too large, or a source reaches a cycle of negative length.
+    Parameters
+    ----------
+    W : Matrix
+        The graph; an entry's value is the length of its edge, and may be negative.
+    sources : list of vertices
+        Where paths begin.
+    progress : callable, optional
+        `progress('round', k, 0)` is called after each round.
+
+    Returns
+    -------
+    Matrix
+        A row for each source in their order; no entry where no path leads. Sources and the vertices
+        that they reach make up to 16,777,216 entries.
+
+    Raises
+    ------
+    ValueError
+        If a source is no vertex, lengths along a path could reach 2^60 in size, or a source reaches
+        a cycle of negative length.
+
+    Notes
+    -----
+    Rounds are as for `all_pairs`.
+
+    Runs: 3 a round, 3 for each squaring, 6 of a graph of more than 65,536 entries, and 8; more
+    where the product is made by parts. Steps: as for `all_pairs`, of these rows.
+
+    GraphBLAS: `mxm` over min and plus. networkx: `multi_source_dijkstra_path_length`.
+
+    Examples
+    --------
+    >>> path_lengths(W, [0, 2]).to_dict()
+    {(0, 0): 0, (0, 1): 2, (0, 2): 3, (0, 3): 7, (1, 2): 0, (1, 3): 4}
     """
     order(W)
     rows = find_places(W, sources)
     return name_rows(W, lengths_from(mark_rows(W, rows, 0), reach_of(W), progress), rows)
 
 
-def reach_of(W: M) -> Tuple[M, int]:
-    """How far what lies within so many edges is, and that number. ValueError where lengths of paths could be too large."""
+def reach_of(W: Matrix) -> Tuple[Matrix, int]:
+    """How far what lies within so many edges is, and that number. ValueError where lengths of paths
+    could be too large."""
     least, most = extremes(W)
     if max(most, -least) * max(1, W.nrows) >= MARKED_BOUND:
         raise ValueError('lengths of paths beyond 2^60: scale the weights')
     return _squared(W.apply('times', right=2).ewise_add(loops(W, 0), 'min'), BY_LENGTH)
 
 
-def lengths_from(start: M, reach: Tuple[M, int], progress: Progress = None) -> M:
+def lengths_from(start: Matrix, reach: Tuple[Matrix, int], progress: Progress = None) -> Matrix:
     """As `path_lengths`, of a matrix with a 0 at the source of each row."""
     near, edges = reach
-    return _spread(start, start, near, BY_LENGTH, progress, start.ncols // edges + 2).apply('arsh', right=1)
+    known = _spread(start, start, near, BY_LENGTH, progress, start.ncols // edges + 2)
+    return known.apply('arsh', right=1)
 
 
 @algorithm('which vertices reach which', plot='spy',
            steps=step_bounds.transitive_closure, shape=step_bounds.square)
 def transitive_closure(G: Matrix, progress: Progress = None) -> Matrix:
-    """An entry 1 from each vertex (the row) to each (the column) that a path of at least one edge leads to.
+    """An entry 1 from each vertex to each that a path of at least one edge leads to.
 
-    `progress('round', k, 0)` is called after each round.
+    Parameters
+    ----------
+    G : Matrix
+        The graph; an entry (i, j) is an edge from i to j.
+    progress : callable, optional
+        `progress('round', k, 0)` is called after each round.
 
-    Runs: 3 a round, 3 for each squaring, and 2; more where the product is made by parts. Rounds as for `all_pairs`. Each pair is
-    multiplied once, with the edges behind it. Steps: up to 4 for each edge behind a pair, and 8 an entry of the result, a round.
-    GraphBLAS: `mxm` over any and pair.
+    Returns
+    -------
+    Matrix
+        Rows are where paths begin, columns where they end.
+
+    Raises
+    ------
+    TooLarge
+        If the result has more than 16,777,216 entries.
+
+    Notes
+    -----
+    Rounds are as for `all_pairs`. Each pair is multiplied once, with the edges behind it.
+
+    Runs: 3 a round, 3 for each squaring, and 2; more where the product is made by parts. Steps: up
+    to 4 for each edge behind a pair, and 8 an entry of the result, a round.
+
+    GraphBLAS: `mxm` over any and pair. networkx: `transitive_closure`.
+
+    Examples
+    --------
+    >>> transitive_closure(W).nvals
+    6
     """
     order(G)
     _check_room(G)

@@ -1,18 +1,21 @@
 """How many shortest paths go through each vertex, by the number of edges or by their values."""
 from __future__ import annotations
 
-from typing import Any, Callable, Generic, List, NamedTuple, Optional, Tuple
+from typing import Any, Callable, List, NamedTuple, Optional, Tuple
 
+import numpy
+
+from ..matrix import Matrix
 from ..metadata import without_names
 from ..operators import Semiring, asm, binary
 from . import step_bounds
 from .all_pairs_lengths import lengths_from, reach_of
 from .cached_properties import extremes, is_both_ways, is_transpose, transpose_of
-from .frontier import Tally, read
 from .multi_source_bfs import Batch, REACHED, find_sources
-from .protocols import M, Place, Vertices
+from .types import Array, Place, Vertices
 from .registry import algorithm
 from .results import Centrality, as_centrality
+from .traversal import put_all, read_vector
 from .utils import Progress, beside, product, tell
 
 PATHS = Semiring(binary.plus, binary.first)
@@ -23,169 +26,227 @@ SCALE = 1 << 20
 
 
 class Fixed(NamedTuple):
-    """How shares of paths are written as whole numbers: those of a path in units of 2^-bits, results in units of 1/scale; and how many paths
-    from one vertex keep what is lost by rounding below the tolerance."""
+    """How shares of paths are written as whole numbers: those of a path in units of 2^-bits,
+    results in units of 1/scale; and how many paths from one vertex keep what is lost by rounding
+    below the tolerance."""
     bits: int
     scale: int
     most: int
 
 
-class Edges(Generic[M]):
-    """A graph by its edges, numbered in the order of their entries: from which vertex each leads, with its value, and to which; both also
-    transposed. A product of a row for each search with these has a column for each edge, or for each vertex again."""
+class Edges:
+    """A graph by its edges, numbered in the order of their entries: from which vertex each leads,
+    with its value, and to which; both also transposed. A product of a row for each search with
+    these has a column for each edge, or for each vertex again."""
 
-    def __init__(self, G: M) -> None:
+    def __init__(self, G: Matrix) -> None:
         tails, heads, values = G.to_coo()
         self.many = len(tails)
-        self.leave = without_names(G.session.from_coo(tails, range(self.many), values, G.nrows, self.many))
-        self.enter = without_names(G.session.from_coo(range(self.many), heads, 1, self.many, G.nrows))
+        self.leave = without_names(G.session.from_coo(tails, range(self.many), values, G.nrows,
+                                                      self.many))
+        self.enter = without_names(G.session.from_coo(range(self.many), heads, 1, self.many,
+                                                      G.nrows))
         self.tails, self.heads = self.leave.T, self.enter.T
         self.reach = reach_of(G)
 
 
-class Tight(Generic[M]):
-    """Searches from some vertices along the edges of shortest paths, by values. `front` has how many of so many edges lead to each vertex:
-    one with shortest paths of several numbers of edges is found as often."""
+class Tight:
+    """Searches from some vertices along the edges of shortest paths, by values. `front` has how
+    many of so many edges lead to each vertex: one with shortest paths of several numbers of edges
+    is found as often."""
 
-    def __init__(self, edges: Edges[M], sources: List[Place], count: int) -> None:
+    def __init__(self, edges: Edges, sources: List[Place], count: int) -> None:
         self._edges, many = edges, len(sources)
-        self.front = without_names(edges.leave.session.from_coo(range(many), sources, 1, many, count))
+        rows = list(map(int, sources))
+        self.front = without_names(
+            edges.leave.session.from_coo(range(many), rows, 1, many, count))
         lengths = lengths_from(self.front.apply('zero'), edges.reach)
         there = product(lengths, edges.heads, REACHED)
-        self._tight = product(lengths, edges.leave, LENGTHEN).ewise_mult(there, 'eq').select('nonzero')
+        longer = product(lengths, edges.leave, LENGTHEN)
+        self._tight = longer.ewise_mult(there, 'eq').select('nonzero')
 
     def advance(self) -> None:
         """Takes each search an edge farther."""
-        self.front = product(product(self.front, self._edges.leave, REACHED, self._tight), self._edges.enter, PATHS)
+        self.front = product(product(self.front, self._edges.leave, REACHED, self._tight),
+                             self._edges.enter, PATHS)
 
-    def back(self, shares: M, counts: M) -> M:
+    def back(self, shares: Matrix, counts: Matrix) -> Matrix:
         """What the next vertices on shortest paths have, added up, at those that have counts."""
-        return product(product(shares, self._edges.heads, REACHED, self._tight), self._edges.tails, PATHS, counts)
+        return product(product(shares, self._edges.heads, REACHED, self._tight), self._edges.tails,
+                       PATHS, counts)
 
 
 @algorithm('shortest paths through each vertex', 'sources', 'weighted', scale=SCALE, ranked=True,
-           says='How many shortest paths between two other vertices go through each vertex: for each two vertices '
-                'the share of their shortest paths. Of an undirected graph each two vertices count once. With '
-                '--source only paths from these count. With --weighted values of edges are lengths, 1 or more.',
-           steps=step_bounds.betweenness)
-def betweenness(G: M, sources: Optional[Vertices] = None, tolerance: float = 1e-3, scale: int = SCALE,
-                progress: Progress = None, *, weighted: bool = False) -> Centrality:
-    """How many shortest paths between two other vertices go through each vertex, as a column in units of 1/scale (2^-20): for each two
-    vertices the share of their shortest paths. Of an undirected graph each two vertices count once. With `sources` only paths from these
-    count, and each direction by itself, as LAGraph has it. Each edge is 1 long, unless `weighted=True` has values be lengths, 1 or more.
+           says='How many shortest paths between two other vertices go through each vertex: for '
+           'each two vertices the share of their shortest paths. Of an undirected graph each two '
+           'vertices count once. With --source only paths from these count. With --weighted values '
+           'of edges are lengths, 1 or more.', steps=step_bounds.betweenness)
+def betweenness(G: Matrix, sources: Optional[Vertices] = None, tolerance: float = 1e-3,
+                scale: int = SCALE, progress: Progress = None, *,
+                weighted: bool = False) -> Centrality:
+    """How many shortest paths between two other vertices go through each vertex.
 
-    Shares are rounded down: each vertex' number is too small by less than `tolerance` and one unit for each source, or the call is refused;
-    `error` says by how much at most. `progress('source', k, n)` is called after each batch of sources.
+    Parameters
+    ----------
+    G : Matrix
+        The graph; an entry (i, j) is an edge from i to j.
+    sources : list of vertices, optional
+        Paths from these alone count, and each direction by itself, as LAGraph has it; else those
+        from all vertices, and of an undirected graph each two vertices once.
+    tolerance : float, default 1e-3
+        Each vertex' number is too small by less than that and one unit for each source, or the
+        call is refused.
+    scale : int, default 2**20
+        The units of 1, up to 2^30.
+    progress : callable, optional
+        `progress('source', k, n)` is called after each batch of sources.
+    weighted : bool, default False
+        Whether values are lengths, 1 or more; else each edge is 1 long.
 
-    Limits: paths are counted in 62 bits, and a grid of 35 by 35 has more; all shortest paths from a source may be no more than 2^k times
-    the tolerance, where k is 62 less the bits of the number of vertices. Costs: a search from each source, forth and back.
+    Returns
+    -------
+    Centrality
+        A column in units of 1/scale: for each two vertices the share of their shortest paths, added
+        up. `error` says by how much a number is too small at most.
 
-    Runs: 12 a level and batch; a batch has 4,194,304 / n sources. Steps: up to 10 an edge and 30 a vertex, a source; 20 a
-    vertex and level more where an edge leads one way alone. With `weighted=True` a batch has 4,194,304 / m sources of a graph of m edges,
-    and takes the runs and steps of `path_lengths` besides; a level is a number of edges of shortest paths, and steps are up to 20 an edge
-    for each number of edges that the shortest paths to its start have, and 20 a vertex and level, a source. Brandes' algorithm in fixed
-    point. LAGraph: `LAGr_Betweenness`. networkx: `betweenness_centrality` with `normalized=False`. Raises ValueError where there are too
-    many paths, for a scale that isn't 1 to 2^30, and with `weighted=True` for a value below 1 or lengths beyond 2^60.
+    Raises
+    ------
+    ValueError
+        If there are too many paths, `scale` isn't 1 to 2^30, or with `weighted` a value is below 1
+        or lengths are beyond 2^60.
+
+    Notes
+    -----
+    Brandes' algorithm in fixed point. Paths are counted in 62 bits, and a grid of 35 by 35 has
+    more; all shortest paths from a source may be no more than 2^k times the tolerance, where k is
+    62 less the bits of the number of vertices. It costs a search from each source, forth and back.
+
+    Runs: 12 a level and batch; a batch has 4,194,304 / n sources. Steps: up to 10 an edge and 30 a
+    vertex, a source; 20 a vertex and level more where an edge leads one way alone. With weights a
+    batch has 4,194,304 / m sources of a graph of m edges, and takes the runs and steps of
+    `path_lengths` besides; a level is a number of edges of shortest paths, and steps are up to 20
+    an edge for each number of edges that the shortest paths to its start have, and 20 a vertex and
+    level, a source.
+
+    LAGraph: `LAGr_Betweenness`. networkx: `betweenness_centrality` with `normalized=False`.
+
+    Examples
+    --------
+    >>> betweenness(G).by_node()
+    {0: 0.0, 1: 0.0, 2: 6.0, 3: 6.0, 4: 0.0, 5: 0.0}
     """
     at, count = find_sources(G, sources), G.nrows
     if not 1 <= scale <= 1 << 30 or not 0 < tolerance < 1:
         raise ValueError('a scale is 1 to 2^30, and a tolerance lies between 0 and 1')
     if count * len(at) * scale >= 1 << 62:
-        raise ValueError('%d sources of %d vertices are too many for a scale of %d' % (len(at), count, scale))
+        raise ValueError('%d sources of %d vertices are too many for a scale of %d'
+                         % (len(at), count, scale))
     edges = _edges(G) if weighted else None
     bits = 62 - count.bit_length()
     fixed = Fixed(bits, scale, int(tolerance * 2 ** bits))
-    sums, size = Tally(count, 0), max(1, MOST_AT_ONCE // max(count, edges.many if edges is not None else 1, 1))
+    wide = max(count, edges.many if edges is not None else 1, 1)
+    sums, size = numpy.zeros(count, numpy.int64), max(1, MOST_AT_ONCE // wide)
     paths = 0
     for first in range(0, len(at), size):
         some = at[first:first + size]
         paths = max(paths, _add(G, some, fixed, sums, edges))
         tell(progress, 'source', first + len(some), len(at))
-    made, error = sums.column(G, None), _lost(len(at), count, paths, fixed)
+    made, error = put_all(G, sums), _lost(len(at), count, paths, fixed)
     if sources is None and is_both_ways(G) and (not weighted or is_transpose(G, G, True)):
         made, error = made.apply('cdiv', right=2), error / 2 + 1 / scale
     return as_centrality(beside(G, made), scale, error, tolerance=tolerance)
 
 
 def _lost(sources: int, count: int, paths: int, fixed: Fixed) -> float:
-    """How far from the true one a number is at most: of each source a unit of a share for each path, and one of the result; and where the one
-    is no multiple of the other, a share of the number itself, which is up to the number of pairs."""
+    """How far from the true one a number is at most: of each source a unit of a share for each
+    path, and one of the result; and where the one is no multiple of the other, a share of the
+    number itself, which is up to the number of pairs."""
     whole, rest = divmod(1 << fixed.bits, fixed.scale)
-    return sources * (paths / (1 << fixed.bits) + 1 / fixed.scale) + (sources * count / whole if rest else 0)
+    units = sources * (paths / (1 << fixed.bits) + 1 / fixed.scale)
+    return units + (sources * count / whole if rest else 0)
 
 
-def _edges(G: M) -> 'Edges[M]':
+def _edges(G: Matrix) -> 'Edges':
     """The edges of a graph, whose values are lengths. ValueError where one is below 1."""
     least = extremes(G)[0]
     if least < 1 and G.nvals:
-        raise ValueError('with weighted=True values are lengths of 1 or more, and here is one of %d: along edges of 0 or less shortest paths '
-                         'have no number' % least)
+        raise ValueError('with weighted=True values are lengths of 1 or more, and here is one of '
+                         '%d: along edges of 0 or less shortest paths have no number' % least)
     return Edges(G)
 
 
-def _add(G: M, sources: List[Place], fixed: Fixed, sums: Tally, edges: Optional['Edges[M]']) -> int:
-    """Adds what the paths from some sources give to each vertex; the most shortest paths that one of these has."""
-    levels, back, paths = _by_edges(G, sources, fixed) if edges is None else _by_values(G, sources, fixed, edges)
+def _add(G: Matrix, sources: List[Place], fixed: Fixed, sums: Array,
+         edges: Optional['Edges']) -> int:
+    """Adds what the paths from some sources give to each vertex; the most shortest paths that one
+    of these has."""
+    found = _by_edges(G, sources, fixed) if edges is None else _by_values(G, sources, fixed, edges)
+    levels, back, paths = found
     if len(levels) < 3:
         return 0
     inverse = asm('unary', 'wide r0, %d\ndiv64 r0, r1\nexit\n' % (1 << fixed.bits))
-    share = asm('binary', 'mov64 r0, r1\nmul64 r0, r2\nwide r3, %d\ndiv64 r0, r3\nexit\n' % max(1, (1 << fixed.bits) // fixed.scale))
+    share = asm('binary', 'mov64 r0, r1\nmul64 r0, r2\nwide r3, %d\ndiv64 r0, r3\nexit\n'
+                % max(1, (1 << fixed.bits) // fixed.scale))
     shares = levels[-1].apply(inverse)
-    through: Optional[M] = None
+    through: Optional[Matrix] = None
     for counts in reversed(levels[1:-1]):
         came = back(shares, counts)
         here = came.ewise_mult(counts, share)
         through = here if through is None else through.ewise_add(here, 'first')
         shares = counts.apply(inverse).ewise_add(came, 'plus')
     assert through is not None
-    at, values = read(_row(through).to_text(), 1)
-    for i, value in zip(at, values):
-        sums.numbers[i] += int(value)
+    at, values = read_vector(_row(through).to_text(), 1)
+    sums[at] += values
     return paths
 
 
-Back = Callable[[M, M], M]
-"""What the shares of a level's vertices add up to at those before them on shortest paths, of which the counts are given."""
+Back = Callable[[Matrix, Matrix], Matrix]
+"""What the shares of a level's vertices add up to at those before them on shortest paths, of which
+the counts are given."""
 
 
-def _by_edges(G: M, sources: List[Place], fixed: Fixed) -> Tuple[List[M], 'Back[M]', int]:
-    """The numbers of shortest paths from some sources, level by level, the way back, and the most paths of one source."""
+def _by_edges(G: Matrix, sources: List[Place], fixed: Fixed) -> Tuple[List[Matrix], 'Back', int]:
+    """The numbers of shortest paths from some sources, level by level, the way back, and the most
+    paths of one source."""
     levels, _, paths = _counted(Batch(G, sources, PATHS), fixed, G.nvals)
     transpose = transpose_of(G, None, False)
     return levels, lambda shares, counts: product(shares, transpose, PATHS, counts), paths
 
 
-def _by_values(G: M, sources: List[Place], fixed: Fixed, edges: 'Edges[M]') -> Tuple[List[M], 'Back[M]', int]:
-    """The same by values. A level has all vertices with a shortest path of so many edges, and for each the number of all its shortest
-    paths: what is behind a vertex doesn't depend on the level, and all of it is in the next one."""
+def _by_values(G: Matrix, sources: List[Place], fixed: Fixed,
+               edges: Edges) -> Tuple[List[Matrix], 'Back', int]:
+    """The same by values. A level has all vertices with a shortest path of so many edges, and for
+    each the number of all its shortest paths: what is behind a vertex doesn't depend on the level,
+    and all of it is in the next one."""
     search = Tight(edges, sources, G.nrows)
     levels, total, paths = _counted(search, fixed, edges.many)
     return [counts.ewise_mult(total, 'second') for counts in levels], search.back, paths
 
 
-def _row(matrix: M) -> M:
+def _row(matrix: Matrix) -> Matrix:
     """The sums of the columns."""
     ones = matrix.session.full(1, matrix.nrows)
     return ones.mxm(matrix, ('plus', 'second'))
 
 
 def _counted(search: Any, fixed: Fixed, edges: int) -> Tuple[List[Any], Any, int]:
-    """The numbers of paths that a search finds, level by level and in all, and the most of one source. ValueError where there are too
-    many."""
+    """The numbers of paths that a search finds, level by level and in all, and the most of one
+    source. ValueError where there are too many."""
     levels: List[Any] = []
     total, greatest, count = search.front, 1, search.front.ncols
     while search.front.nvals:
         if levels:
             total = total.ewise_add(search.front, 'plus')
         levels.append(search.front)
-        greatest *= min(count, max(1, edges)) + 1  # what came before, and a path along each edge that enters
+        # what came before, and a path along each edge that enters
+        greatest *= min(count, max(1, edges)) + 1
         if greatest * count >= MOST_PATHS:
             greatest = total.reduce_scalar('max') or 0
             if greatest * count >= MOST_PATHS:
-                raise ValueError('there are more than 2^62 shortest paths: they can not be counted in 64 bits')
+                raise ValueError('there are more than 2^62 shortest paths: they can not be counted '
+                                 'in 64 bits')
         search.advance()
     paths = total.reduce_rowwise('plus').reduce_scalar('max') or 0
     if paths > fixed.most:
-        raise ValueError('%d shortest paths from one vertex: shares would be rounded by more than the tolerance; '
-                         'give a greater one' % paths)
+        raise ValueError('%d shortest paths from one vertex: shares would be rounded by more than '
+                         'the tolerance; give a greater one' % paths)
     return levels, total, paths

@@ -1,4 +1,5 @@
-"""What a graph is known to be: found out by jobs where it is first asked, and kept with the matrix, so that it is paid once."""
+"""What a graph is known to be: found out by jobs where it is first asked, and kept with the matrix,
+so that it is paid once."""
 from __future__ import annotations
 
 import random
@@ -6,13 +7,13 @@ from typing import Any, Callable, Optional, Tuple, cast
 
 from ..aliases import alias, is_same
 from ..io.exporters import Held
+from ..matrix import Matrix
 from ..metadata import NOTHING, turned
 from ..operators import asm
-from ..pricing import foreseen
-from .protocols import GraphMatrix, M
 
-# Of an entry (i, j) a number that is that of (j, i) with the other sign. The thunk is an odd number drawn at random. The entries of a
-# graph whose edges all lead both ways add up to 0; those of any other but by chance.
+# Of an entry (i, j) a number that is that of (j, i) with the other sign. The thunk is an odd number
+# drawn at random. The entries of a graph whose edges all lead both ways add up to 0; those of any
+# other but by chance.
 _BOTH_WAYS = asm('index', '''add64 r2, r4
 add64 r3, r4
 mov64 r0, r2
@@ -41,17 +42,14 @@ _WITH_VALUE = 'mul64 r0, r4\nxor64 r0, r1\nmul64 r0, r4\nmov64 r5, r0\nrsh64 r5,
 # A number of each entry's place, or of its place and value; and the same of the transpose's entry.
 _PLACES = asm('index', _HASH % ''), asm('index', _TURN + _HASH % '')
 _VALUES = asm('index', _HASH % _WITH_VALUE), asm('index', _TURN + _HASH % _WITH_VALUE)
-UNDIRECTED = 'algorithms.undirected(G) is the graph without directions, weights and loops; check=False leaves this check out'
+UNDIRECTED = ('algorithms.undirected(G) is the graph without directions, weights and loops; '
+              'check=False leaves this check out')
 
 
-def found(graph: GraphMatrix, name: str, find: Callable[[], Any]) -> Any:
-    """A fact of a graph's entries: as it was found before, or as it is found now. Of a matrix another one each time, without names."""
-    if name not in graph.kept:
-        asked = foreseen.asked()
-        if asked is not None:
-            return asked.fact(graph, name, find)
-        graph.kept[name] = find()
-    fact = graph.kept[name]
+def found(graph: Matrix, name: str, find: Callable[[], Any]) -> Any:
+    """A fact of a graph's entries: as it was found before, or as it is found now. Of a matrix
+    another one each time, without names."""
+    fact = graph.session.backend.find_fact(cast(Any, graph), name, find)
     return alias(fact, NOTHING) if isinstance(fact, Held) else fact
 
 
@@ -59,62 +57,70 @@ def _odd() -> int:
     return random.SystemRandom().getrandbits(62) | 1
 
 
-def is_both_ways(graph: GraphMatrix) -> bool:
-    """Whether each edge leads both ways, whatever the values. 2 jobs (13 steps an edge and 5 a vertex), a fold of numbers that are
-    drawn at random: a graph of another kind passes by a chance of less than one in 2^30."""
+def is_both_ways(graph: Matrix) -> bool:
+    """Whether each edge leads both ways, whatever the values. 2 jobs (13 steps an edge and 5 a
+    vertex), a fold of numbers that are drawn at random: a graph of another kind passes by a chance
+    of less than one in 2^30."""
     if graph.directed is False:
         return True
-    known: bool = found(graph, 'both ways', lambda: not graph.apply(_BOTH_WAYS, _odd()).reduce_scalar('plus'))
+    known: bool = found(graph, 'both ways',
+                        lambda: not graph.apply(_BOTH_WAYS, _odd()).reduce_scalar('plus'))
     return known
 
 
-def has_loops(graph: GraphMatrix) -> bool:
+def has_loops(graph: Matrix) -> bool:
     """Whether an edge leads from a vertex to itself. 1 job (5 steps an edge)."""
     known: bool = found(graph, 'loops', lambda: graph.select('diag').nvals > 0)
     return known
 
 
-def extremes(graph: GraphMatrix) -> Tuple[int, int]:
-    """The least and the greatest value, 0 where there is none. 4 jobs (8 steps an edge and 4 a vertex)."""
+def extremes(graph: Matrix) -> Tuple[int, int]:
+    """The least and the greatest value, 0 where there is none. 4 jobs (8 steps an edge and 4 a
+    vertex)."""
     known: Tuple[int, int] = found(graph, 'extremes', lambda: (
         graph.reduce_scalar('min', raw=True) or 0, graph.reduce_scalar('max', raw=True) or 0))
     return known
 
 
-def check_undirected(graph: GraphMatrix, check: bool, loops: bool = False) -> None:
-    """A ValueError where an edge leads one way alone, or, unless they are allowed, from a vertex to itself."""
+def check_undirected(graph: Matrix, check: bool, loops: bool = False) -> None:
+    """A ValueError where an edge leads one way alone, or, unless they are allowed, from a vertex to
+    itself."""
     if not check:
         return
-    with foreseen.granted({'both ways': True, 'loops': False}):
+    with graph.session.backend.granting({'both ways': True, 'loops': False}):
         if not is_both_ways(graph):
-            raise ValueError('expected an undirected graph, but an edge leads one way alone: ' + UNDIRECTED)
+            raise ValueError('expected an undirected graph, but an edge leads one way alone: '
+                             + UNDIRECTED)
         if not loops and has_loops(graph):
-            raise ValueError('expected a graph without loops, but there is an edge from a vertex to itself: ' + UNDIRECTED)
+            raise ValueError('expected a graph without loops, but there is an edge from a vertex '
+                             'to itself: ' + UNDIRECTED)
 
 
-def is_transpose(graph: M, other: M, values: bool = False) -> bool:
-    """Whether another matrix is the transpose: its places, and where `values` is set its values. 4 jobs (up to 24 steps an edge), as
-    `is_both_ways`."""
+def is_transpose(graph: Matrix, other: Matrix, values: bool = False) -> bool:
+    """Whether another matrix is the transpose: its places, and where `values` is set its values. 4
+    jobs (up to 24 steps an edge), as `is_both_ways`."""
     if is_same(other, graph) and not values:
         return is_both_ways(graph)
     if graph.nvals != other.nvals:
         return False
     thunk, (straight, turned) = _odd(), _VALUES if values else _PLACES
-    return bool(graph.apply(straight, thunk).reduce_scalar('plus') == other.apply(turned, thunk).reduce_scalar('plus'))
+    own, theirs = graph.apply(straight, thunk), other.apply(turned, thunk)
+    return bool(own.reduce_scalar('plus') == theirs.reduce_scalar('plus'))
 
 
-def transpose_of(graph: M, given: Optional[M], check: bool, values: bool = False) -> M:
-    """The transpose: the one that is given (a ValueError where it isn't), the graph itself where each edge leads both ways, else one
-    that is made, and kept while the graph is held."""
+def transpose_of(graph: Matrix, given: Optional[Matrix], check: bool, values: bool = False) -> Matrix:
+    """The transpose: the one that is given (a ValueError where it isn't), the graph itself where
+    each edge leads both ways, else one that is made, and kept while the graph is held."""
     if given is not None:
         held = graph.kept.get('transpose')
-        if check and not ((held is not None and is_same(held, given)) or is_transpose(graph, given, values)):
-            raise ValueError('GT has to be the transpose, and is not: G.T is, and G itself where each edge leads both ways; '
-                             'check=False leaves this check out')
+        if check and not ((held is not None and is_same(held, given))
+                          or is_transpose(graph, given, values)):
+            raise ValueError('GT has to be the transpose, and is not: G.T is, and G itself where '
+                             'each edge leads both ways; check=False leaves this check out')
         return given
     if not values and is_both_ways(graph):
         return graph
     made: Any = found(graph, 'transpose', lambda: graph.T)
     made.notes = turned(cast(Any, graph).notes)
-    result: M = made
+    result: Matrix = made
     return result

@@ -1,13 +1,20 @@
-"""Distances in edges between all vertices, 64 searches to a word: eccentricities, the diameter, and how many vertices are how far.
+"""Distances in edges between all vertices, 64 searches to a word: eccentricities, the diameter, and
+how many vertices are how far.
 
-A search is a bit. A word at a vertex has the bits of the searches that came to it; a product over "or" moves 64 of them along an
-edge at once, so that all searches together cost what n / 64 of them would.
+A search is a bit. A word at a vertex has the bits of the searches that came to it; a product over
+"or" moves 64 of them along an edge at once, so that all searches together cost what n / 64 of them
+would.
 """
 from __future__ import annotations
 
+import functools
 import itertools
+from fractions import Fraction
 from typing import Callable, Dict, List, NamedTuple, Optional, Tuple
 
+import numpy
+
+from .. import units
 from ..aliases import is_same
 from ..limits import MOST_SIDE
 from ..loops import State
@@ -15,17 +22,26 @@ from ..matrix import Matrix
 from ..metadata import without_names
 from ..operators import Semiring, asm, binary
 from . import step_bounds
-from .bfs import Search, find_levels
-from .cached_properties import is_both_ways, transpose_of
-from .frontier_loop import advance_front
-from .protocols import Place
+from .all_pairs_lengths import lengths_from, reach_of
+from .bfs import NONE, Search, run_search
+from .cached_properties import extremes, is_both_ways, transpose_of
+from .server_loops import advance_front
+from .types import Array, Place
 from .registry import algorithm
+from .results import Centrality, as_centrality, unit_of
+from .traversal import find_traversal, put_all, read_column, spread
 from .triangle_counts import degrees
-from .utils import Progress, beside, column, name_of, nothing, order, rows_of, tell
+from .utils import Progress, beside, mark_rows, name_of, nothing, order, tell
 
 WORD = 64
-MOST_WORDS = 32                 # words at a vertex: more make the matrices larger, and nothing faster
-PATIENCE = 6                    # pairs of searches that may leave three quarters of the vertices, before all of these are searched from
+# words at a vertex: more make the matrices larger, and nothing faster
+MOST_WORDS = 32
+CLOSENESS_SCALE = 1 << 40
+MOST_AT_ONCE = 1 << 22           # lengths of a batch of closeness
+MOST_SUM = 1 << 62
+# pairs of searches that may leave three quarters of the vertices, before all of these are searched
+# from
+PATIENCE = 6
 NEW = asm('binary', 'mov64 r0, r2\nxor64 r0, -1\nand64 r0, r1\nexit\n', 'new_bits')
 MOVED, PUSHED = Semiring(binary.bor, binary.second), Semiring(binary.bor, binary.first)
 BITS = asm('unary', '''\
@@ -71,13 +87,15 @@ def _bits(many: int) -> List[int]:
 
 
 def _searches(G: Matrix, GT: Matrix, visit: Visit, progress: Progress) -> None:
-    """Searches from all vertices along the edges of G, a batch at a time. `visit(level, fresh)` gets a matrix of words: those
-    searches that come to a vertex (the row) with so many edges, and not with fewer."""
+    """Searches from all vertices along the edges of G, a batch at a time. `visit(level, fresh)`
+    gets a matrix of words: those searches that come to a vertex (the row) with so many edges, and
+    not with fewer."""
     count, words = G.nrows, _words(G.nrows, G.nvals)
     batch = words * WORD
     for first in range(0, count, batch):
         at = list(range(first, min(first + batch, count)))
-        front = without_names(G.session.from_coo(at, [k // WORD for k in range(len(at))], _bits(len(at)), count, words))
+        front = without_names(G.session.from_coo(at, [k // WORD for k in range(len(at))],
+                                                 _bits(len(at)), count, words))
         seen, level = G.session.full(count, words, 0).ewise_add(front, 'bor'), 0
         while True:
             moved = GT.mxm(front, MOVED)
@@ -91,10 +109,13 @@ def _searches(G: Matrix, GT: Matrix, visit: Visit, progress: Progress) -> None:
 
 
 def _farthest(G: Matrix, sources: List[Place]) -> int:
-    """How many edges lead to the vertex that is the farthest from any of some. The searches from these push along the edges, a word a row. Where
-    each edge leads both ways, what the last two levels found is all that an edge may lead back to."""
+    """How many edges lead to the vertex that is the farthest from any of some. The searches from
+    these push along the edges, a word a row. Where each edge leads both ways, what the last two
+    levels found is all that an edge may lead back to."""
     many, both_ways, levels = len(sources), is_both_ways(G), [0]
-    start = without_names(G.session.from_coo([k // WORD for k in range(many)], list(map(int, sources)), _bits(many), -(-many // WORD), G.nrows))
+    start = without_names(G.session.from_coo([k // WORD for k in range(many)],
+                                             list(map(int, sources)), _bits(many), -(-many // WORD),
+                                             G.nrows))
 
     def step(s: State) -> Dict[str, Matrix]:
         moved = s.front.mxm(G, PUSHED)
@@ -105,19 +126,49 @@ def _farthest(G: Matrix, sources: List[Place]) -> int:
 
 
 @algorithm('how many vertices are how far from each', fields=('node', 'distance', 'vertices'),
-           says='How many vertices are how far from each: vertex, number of edges, number of vertices.',
-           steps=step_bounds.distance_counts)
-def distance_counts(G: Matrix, GT: Optional[Matrix] = None, progress: Progress = None, *, check: bool = True) -> List[Matrix]:
-    """How many vertices are how far: column k - 1 has at each vertex the number of those from which the shortest path to it has k
-    edges; no entry where there are none. For those that it leads to hand in the transpose first, and G behind it.
+           says='How many vertices are how far from each: vertex, number of edges, number of '
+                'vertices.', steps=step_bounds.distance_counts)
+def distance_counts(G: Matrix, GT: Optional[Matrix] = None, progress: Progress = None, *,
+                    check: bool = True) -> List[Matrix]:
+    """How many vertices are how far from each.
 
-    `GT` is the transpose. Without it it is made once, by the client; for an undirected graph hand in G itself.
-    `progress('batch', k, n)` is called after each batch of searches.
+    Parameters
+    ----------
+    G : Matrix
+        The graph; an entry (i, j) is an edge from i to j.
+    GT : Matrix, optional
+        The transpose. Without it the client makes it, once; for an undirected graph hand in G.
+    progress : callable, optional
+        `progress('batch', k, n)` is called after each batch of searches.
+    check : bool, default True
+        Whether `GT` is checked to be the transpose, by 4 jobs, once.
 
-    Runs: 4 a level of a batch, and 3 a batch. A batch is 64 searches, or as many times 64, up to 32, as one product has room for. Steps: up to 3 an
-    edge and 40 a vertex, for each 64 searches and level. GraphBLAS: `mxm` over "or" and second. Sums of these columns are
-    networkx' `closeness_centrality`, `harmonic_centrality`, `wiener_index` and `average_shortest_path_length`. Raises ValueError where
-    GT isn't the transpose (4 jobs, once; `check=False` leaves it out).
+    Returns
+    -------
+    list of Matrix
+        Column k - 1 has at each vertex the number of those from which the shortest path to it has k
+        edges; no entry where there are none. For those that it leads to hand in the transpose
+        first, and G after it.
+
+    Raises
+    ------
+    ValueError
+        If `GT` isn't the transpose.
+
+    Notes
+    -----
+    Runs: 4 a level of a batch, and 3 a batch. A batch is 64 searches, or as many times 64, up to
+    32, as one product has room for. Steps: up to 3 an edge and 40 a vertex, for each 64 searches
+    and level.
+
+    GraphBLAS: `mxm` over "or" and second. Sums of these columns are networkx'
+    `closeness_centrality`, `harmonic_centrality`, `wiener_index` and
+    `average_shortest_path_length`.
+
+    Examples
+    --------
+    >>> [column.to_list() for column in distance_counts(G)]
+    [[2, 2, 3, 3, 2, 2], [1, 1, 2, 2, 1, 1], [2, 2, None, None, 2, 2]]
     """
     order(G, GT)
     GT = transpose_of(G, GT, check)
@@ -135,98 +186,300 @@ def distance_counts(G: Matrix, GT: Optional[Matrix] = None, progress: Progress =
 
 @algorithm('edges from each vertex to the farthest one', ranked=True,
            steps=step_bounds.eccentricity)
-def eccentricity(G: Matrix, GT: Optional[Matrix] = None, progress: Progress = None, *, check: bool = True) -> Matrix:
-    """The number of edges of the longest of the shortest paths that begin at each vertex, as a column; no entry where none does.
-    A vertex that doesn't reach all others has the greatest distance to one that it reaches (networkx refuses such graphs).
+def eccentricity(G: Matrix, GT: Optional[Matrix] = None, progress: Progress = None, *,
+                 check: bool = True) -> Matrix:
+    """The number of edges of the longest of the shortest paths from each vertex, as a column.
 
-    `GT` and `progress` are as for `distance_counts`, and so are costs; 5 runs a level of a batch. networkx: `eccentricity`.
+    Parameters
+    ----------
+    G : Matrix
+        The graph; an entry (i, j) is an edge from i to j.
+    GT : Matrix, optional
+        The transpose. Without it the client makes it, once; for an undirected graph hand in G.
+    progress : callable, optional
+        `progress('batch', k, n)` is called after each batch of searches.
+    check : bool, default True
+        Whether `GT` is checked to be the transpose, by 4 jobs, once.
+
+    Returns
+    -------
+    Matrix
+        A column; no entry where no path begins. A vertex that doesn't reach all others has the
+        greatest distance to one that it reaches (networkx refuses such graphs).
+
+    Raises
+    ------
+    ValueError
+        If `GT` isn't the transpose.
+
+    Notes
+    -----
+    Runs: 5 a level of a batch, and 3 a batch. Steps: as for `distance_counts`.
+
+    networkx: `eccentricity`. igraph: `eccentricity`.
+
+    Examples
+    --------
+    >>> eccentricity(G).to_list()
+    [3, 3, 2, 2, 3, 3]
     """
     order(G, GT)
     GT = transpose_of(G, GT, check)
     found = [nothing(G)]
 
     def visit(level: int, fresh: Matrix) -> None:
-        found[0] = found[0].ewise_add(fresh.reduce_rowwise('first').apply('second', right=level), 'max')
-    _searches(GT, G, visit, progress)              # pylint: disable=arguments-out-of-order  # along the edges
+        found[0] = found[0].ewise_add(fresh.reduce_rowwise('first').apply('second', right=level),
+                                      'max')
+    # along the edges
+    _searches(GT, G, visit, progress)              # pylint: disable=arguments-out-of-order
     return beside(G, found[0])
 
 
 @algorithm('edges between the two that are farthest apart', steps=step_bounds.diameter)
-def diameter(G: Matrix, GT: Optional[Matrix] = None, searches: Optional[int] = None, progress: Progress = None, *,
-             check: bool = True) -> Bounds:
-    """The number of edges of the longest of all shortest paths, as bounds: exact without `searches`, else what so many pairs of searches
-    tell (one each way), which is exact where both bounds are one.
+def diameter(G: Matrix, GT: Optional[Matrix] = None, searches: Optional[int] = None,
+             progress: Progress = None, *, check: bool = True) -> Bounds:
+    """The number of edges of the longest of all shortest paths, as bounds.
 
-    Each vertex whose distances are known bounds those of all others; the next search is from the vertex that may have the greatest,
-    then from the one that may have the least (Takes and Kosters). Without `searches` that goes on while it pays. Those vertices that could
-    still have a greater distance are then searched from in batches, as for `eccentricity`: on graphs of long paths few are left, on random
-    ones most. `GT` is as for `distance_counts`. `progress('search', k, searches)` is called after each pair, with 0 for no number, and
-    `progress('batch', k, n)` after each batch.
+    Parameters
+    ----------
+    G : Matrix
+        The graph; an entry (i, j) is an edge from i to j.
+    GT : Matrix, optional
+        The transpose. Without it the client makes it, once; for an undirected graph hand in G.
+    searches : int, optional
+        The bounds are what so many pairs of searches tell (one each way), which is exact where both
+        are one; without it they are exact.
+    progress : callable, optional
+        `progress('search', k, searches)` is called after each pair, with 0 for no number, and
+        `progress('batch', k, n)` after each batch.
+    check : bool, default True
+        Whether `GT` is checked to be the transpose, by 4 jobs, once.
 
-    Runs: for each pair of searches those of two `bfs_levels`, and 14; 4 a level of a batch. networkx: `diameter`. igraph: `diameter`.
-    Raises ValueError for a graph without vertices, and where some vertex doesn't reach all others.
+    Returns
+    -------
+    Bounds
+        What the number is at `least` and at `most`.
+
+    Raises
+    ------
+    ValueError
+        If the graph has no vertex, some vertex doesn't reach all others, or `GT` isn't the
+        transpose.
+
+    Notes
+    -----
+    Each vertex whose distances are known bounds those of all others; the next search is from the
+    vertex that may have the greatest, then from the one that may have the least (Takes and
+    Kosters). Without `searches` that goes on while it pays. Those vertices that could still have a
+    greater distance are then searched from in batches, as for `eccentricity`: on graphs of long
+    paths few are left, on random ones most.
+
+    Runs: for each pair of searches those of two `bfs_levels`; 4 a level of a batch, and 2. Steps:
+    those of these searches and batches.
+
+    networkx: `diameter`. igraph: `diameter`.
+
+    Examples
+    --------
+    >>> diameter(G)
+    Bounds(least=3, most=3)
     """
     if order(G, GT) == 0:
         raise ValueError('the graph has no vertex')
-    bounds = Eccentricities(G, transpose_of(G, GT, check))
-    last, least_left = 0, G.nrows + 1
-    for number in itertools.count(1):
-        left = bounds.narrow()
-        tell(progress, 'search', number, searches or 0)
-        if not left or number == searches:
-            break
-        if 4 * left < 3 * least_left:
-            last, least_left = number, left
-        if searches is None and (left <= WORD or number - last >= PATIENCE or number == step_bounds.MOST_PAIRS):
-            bounds.search_left(progress)
-            break
-    return Bounds(bounds.greatest, bounds.greatest if searches is None or not left else bounds.most.reduce_scalar('max') or 0)
+    GT = transpose_of(G, GT, check)
+    bounds = Eccentricities(_most_joined(G), G.nrows, functools.partial(_both_levels, G, GT))
+    left = bounds.narrow_while_it_pays(searches, progress)
+    if searches is None:
+        _search_left(G, bounds, progress)
+    return Bounds(bounds.greatest,
+                  int(bounds.most.max()) if searches is not None and left else bounds.greatest)
+
+
+def _most_joined(G: Matrix) -> Place:
+    """The first vertex with the most edges."""
+    many = read_column(degrees(G))
+    return Place(int(many.at[many.values.argmax()]) if len(many.at) else 0)
+
+
+def _both_levels(G: Matrix, GT: Matrix, start: Place) -> Tuple[Array, Array]:
+    """The distances from a vertex, and to it. ValueError where some vertex isn't reached, or
+    doesn't reach it."""
+    there = run_search(find_traversal(G, GT, False), Search([start]), False)
+    back = there
+    if not is_same(GT, G):
+        back = run_search(find_traversal(GT, G, False), Search([start]), False)
+    for levels, words in ((there, 'from %r to %r'), (back, 'to %r from %r')):
+        if levels.min() == NONE:
+            other = Place(int(levels.argmin()))
+            raise ValueError('a vertex does not reach all others: there is no diameter, as no '
+                             'path leads %s' % (words % (name_of(G, start), name_of(G, other))))
+    return there, back
 
 
 class Eccentricities:
-    """What is known of the greatest distance from each vertex: at the `least`, and at the `most`; and the `greatest` that was found."""
+    """What is known of the greatest distance from each vertex: at the `least`, and at the `most`;
+    and the `greatest` that was found. `levels(v)` tells the distances from a vertex, and to it."""
 
-    def __init__(self, G: Matrix, GT: Matrix) -> None:
-        self._graph, self._transpose = G, GT
-        self.least, self.most, self.greatest = column(G, 0), column(G, G.nrows - 1), 0
-        self._next, self._searched = _at(degrees(G), 'max') if G.nvals else Place(0), []  # type: Place, List[Place]
+    def __init__(self, start: Place, count: int,
+                 levels: Callable[[Place], Tuple[Array, Array]]) -> None:
+        self._levels, self._next, self._searched = levels, start, set[Place]()
+        self.least, self.most = numpy.zeros(count, numpy.int64), numpy.full(count, count - 1)
+        self.greatest = 0
 
-    def narrow(self) -> int:
-        """Narrows all bounds by the distances from one vertex and to it. How many vertices could have a greater one than was found.
-        ValueError where some vertex isn't reached, or doesn't reach it."""
-        G, GT, start = self._graph, self._transpose, self._next
-        there = find_levels(G, Search([start]), GT)
-        back = there if is_same(GT, G) else find_levels(GT, Search([start]), G)
-        for found, words in ((there, 'from %r to %r'), (back, 'to %r from %r')):
-            if found.nvals < G.nrows:
-                other = min(set(range(G.nrows)).difference(found.to_coo(arrays=False)[0]))
-                raise ValueError('a vertex does not reach all others: there is no diameter, as no path leads %s'
-                                 % (words % (name_of(G, start), name_of(G, Place(other)))))
-        far, came = there.reduce_scalar('max') or 0, back.reduce_scalar('max') or 0
-        self.greatest = max(self.greatest, far, came)
-        # a path to any vertex may go by the start; and the farthest one of it is no nearer than the triangle allows
-        self.most = self.most.ewise_mult(back.apply('plus', right=far), 'min')
-        self.least = self.least.ewise_mult(there.apply('rminus', right=far), 'max').ewise_mult(back, 'max')
-        self._searched.append(start)
-        left = self.most.select('valuegt', self.greatest).nvals
-        if left:
-            self._next = _at(self.least, 'min') if len(self._searched) % 2 == 0 else _at(self.most, 'max')
-            self._next = _at(self.most, 'max') if self._next in self._searched else self._next
+    def left(self) -> Array:
+        """The vertices that could have a greater distance than was found, those first that could
+        have the greatest."""
+        at = numpy.flatnonzero(self.most > self.greatest)
+        ranked: Array = at[numpy.argsort(-self.most[at], kind='stable')]
+        return ranked
+
+    def narrow_while_it_pays(self, searches: Optional[int], progress: Progress) -> int:
+        """Narrows the bounds by so many pairs of searches, or as long as it pays; how many vertices
+        could have a greater distance then."""
+        last, least_left = 0, len(self.most) + 1
+        for number in itertools.count(1):
+            self._narrow()
+            left = len(self.left())
+            tell(progress, 'search', number, searches or 0)
+            if not left or number == searches:
+                break
+            if 4 * left < 3 * least_left:
+                last, least_left = number, left
+            if searches is None and (left <= WORD or number - last >= PATIENCE
+                                     or number == step_bounds.MOST_PAIRS):
+                break
         return left
 
-    def search_left(self, progress: Progress) -> None:
-        """Searches from all vertices that could have a greater distance than was found, those first that could have the greatest."""
-        rows, _, values = self.most.select('valuegt', self.greatest).to_coo(arrays=False)
-        left: List[Tuple[int, int]] = sorted(zip(rows, values), key=lambda entry: -int(entry[1]))
-        size = _words(len(left), self._graph.nvals) * WORD
-        batches = -(-len(left) // size)
-        for number in range(batches):
-            batch = left[number * size:(number + 1) * size]
-            if batch[0][1] > self.greatest:
-                self.greatest = max(self.greatest, _farthest(self._graph, [Place(row) for row, _ in batch]))
-            tell(progress, 'batch', number + 1, batches)
+    def _narrow(self) -> None:
+        """Narrows all bounds by the distances from one vertex and to it, and chooses the next."""
+        there, back = self._levels(self._next)
+        far = int(there.max())
+        self.greatest = max(self.greatest, far, int(back.max()))
+        # a path to any vertex may go by the start; and the farthest one of it is no nearer than the
+        # triangle allows
+        self.most = numpy.minimum(self.most, back + far)
+        self.least = numpy.maximum(self.least, numpy.maximum(far - there, back))
+        self._searched.add(self._next)
+        self._next = Place(int(self.most.argmax()))
+        if len(self._searched) % 2 == 0 and Place(int(self.least.argmin())) not in self._searched:
+            self._next = Place(int(self.least.argmin()))
 
 
-def _at(values: Matrix, extreme: str) -> Place:
-    """The first vertex with the greatest or the least value."""
-    return rows_of(values.select('valueeq', values.reduce_scalar(extreme) or 0))[0]
+def _search_left(G: Matrix, bounds: Eccentricities, progress: Progress) -> None:
+    """Searches from all vertices that could have a greater distance than was found."""
+    left = list(map(Place, bounds.left().tolist()))
+    size = _words(len(left), G.nvals) * WORD
+    batches = -(-len(left) // size)
+    for number in range(batches):
+        batch = left[number * size:(number + 1) * size]
+        if bounds.most[int(batch[0])] > bounds.greatest:
+            bounds.greatest = max(bounds.greatest, _farthest(G, batch))
+        tell(progress, 'batch', number + 1, batches)
+
+
+# -- closeness
+
+class Reach(NamedTuple):
+    """Of each vertex, how many others reach it, and what their distances add up to."""
+    others: Array
+    total: Array
+
+
+@algorithm('how near each vertex is to those that reach it', 'weighted', scale=CLOSENESS_SCALE,
+           ranked=True, reads_unit=True, steps=step_bounds.closeness, says='How near each vertex '
+           'is to those that reach it: of r of n vertices, at distances that add up to d, (r - '
+           '1)/d times (r - 1)/(n - 1). With --weighted values of edges are lengths, 0 or more.')
+def closeness(G: Matrix, GT: Optional[Matrix] = None, scale: int = CLOSENESS_SCALE,
+              progress: Progress = None, *, weighted: bool = False,
+              check: bool = True) -> Centrality:
+    """How near each vertex is to those that reach it, as a column in units of 1/scale.
+
+    Parameters
+    ----------
+    G : Matrix
+        The graph; an entry (i, j) is an edge from i to j.
+    GT : Matrix, optional
+        The transpose. Without it the client makes it, once; for an undirected graph hand in G.
+    scale : int, default 2**40
+        The units of 1, up to 2^52.
+    progress : callable, optional
+        `progress('batch', k, n)` is called after each batch of searches.
+    weighted : bool, default False
+        Whether a distance is a sum of values, which are 0 or more; else it is a number of edges.
+    check : bool, default True
+        Whether `GT` is checked to be the transpose, by 4 jobs, once.
+
+    Returns
+    -------
+    Centrality
+        Of r of n vertices that reach a vertex (itself too), at distances that add up to d,
+        (r - 1)/d times (r - 1)/(n - 1), which is 0 where none does. No number is farther from the
+        true one than `error`, which is what rounding takes.
+
+    Raises
+    ------
+    ValueError
+        If `scale` isn't 1 to 2^52, a length is below 0, lengths could add up to 2^62, or `GT` isn't
+        the transpose.
+
+    Notes
+    -----
+    Runs: those of `distance_counts`, and so are steps; with `weighted` those of `path_lengths` from
+    all vertices to all, 4,194,304 lengths at a time, 2 runs and 8 steps a length more.
+
+    networkx: `closeness_centrality`, with `distance=` where values count. igraph: `closeness`, but
+    for the second factor.
+
+    Examples
+    --------
+    >>> closeness(G, G, 1000).by_node()
+    {0: 0.5, 1: 0.5, 2: 0.714, 3: 0.714, 4: 0.5, 5: 0.5}
+    """
+    count = order(G, GT)
+    if not 1 <= scale <= 1 << 52:
+        raise ValueError('a scale is 1 to 2^52')
+    unit = unit_of(G, GT) if weighted else Fraction(1)
+    stored = units.with_unit(G, 1)
+    G, GT = stored, stored if GT is G else None if GT is None else units.with_unit(GT, 1)
+    reach = _by_lengths(G, GT, progress, check) if weighted else _by_edges(G, GT, progress, check)
+    times, by = unit.numerator * scale, unit.denominator * max(1, count - 1)
+    found = [r ** 2 * times // (d * by) if d else 0
+             for r, d in zip(reach.others.tolist(), reach.total.tolist())]
+    if max(found, default=0) >= 1 << 63:
+        raise ValueError('a number of %.3g has no place in 64 bits in units of 1/%d: give a '
+                         'smaller scale=' % (max(found) / scale, scale))
+    return as_centrality(beside(G, put_all(G, found)), scale, 1 / scale)
+
+
+def _by_edges(G: Matrix, GT: Optional[Matrix], progress: Progress, check: bool) -> Reach:
+    """By numbers of edges."""
+    others, total = numpy.zeros((2, G.nrows), numpy.int64)
+    for level, column in enumerate(distance_counts(G, GT, progress, check=check), 1):
+        at, values = read_column(column)
+        others[at] += values
+        total[at] += level * values
+    return Reach(others, total)
+
+
+def _by_lengths(G: Matrix, GT: Optional[Matrix], progress: Progress, check: bool) -> Reach:
+    """By values. Lengths to a vertex are those from it against the edges."""
+    count, (least, most) = G.nrows, extremes(G)
+    if least < 0:
+        raise ValueError('with weighted=True values are lengths of 0 or more, and here is one of %d'
+                         % least)
+    reach = reach_of(transpose_of(G, GT, check, values=True))
+    size = max(1, MOST_AT_ONCE // max(1, count))
+    others, total = numpy.zeros((2, count), numpy.int64)
+    for first in range(0, count, size):
+        some = [Place(row) for row in range(first, min(first + size, count))]
+        lengths = lengths_from(mark_rows(G, some, 0), reach)
+        if most * count ** 2 >= MOST_SUM and (lengths.reduce_scalar('max')
+                                              or 0) * count >= MOST_SUM:
+            raise ValueError('lengths to one vertex could add up to more than 2^62: divide the '
+                             'values')
+        part = slice(first, first + len(some))
+        others[part] = spread(read_column(lengths.apply('one').reduce_rowwise('plus')),
+                              len(some)) - 1
+        total[part] = spread(read_column(lengths.reduce_rowwise('plus')), len(some))
+        tell(progress, 'batch', first // size + 1, -(-count // size))
+    return Reach(others, total)

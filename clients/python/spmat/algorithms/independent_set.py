@@ -1,47 +1,140 @@
-"""Maximal independent sets, by Luby's algorithm."""
+"""Maximal independent sets, by Luby's algorithm; and numbers that a seed draws for all vertices."""
 from __future__ import annotations
 
-from ..operators import Semiring, binary
+import random
+from typing import Any, Optional, Union
+
+import numpy
+
+from ..matrix import Matrix
+from ..operators import Semiring, asm, binary
 from . import step_bounds
-from .bfs import lines_of
 from .cached_properties import check_undirected
-from .frontier import Columns, Lines, Vector, ones_like
-from .protocols import M
-from .random_vector import Seed, drawn
+from .types import Array
 from .registry import BOTH_WAYS, algorithm
+from .traversal import Vector, find_vectors, put_column, vector_of
 from .utils import Progress, beside, order, tell
 
-THERE = Semiring(binary.first, binary.zero)      # "one of them is a neighbour", marked 0
+THERE = Semiring(binary.first, binary.zero)        # "one of them is a neighbour", marked 0
 GREATEST = Semiring(binary.max, binary.first)
+# Of place p in a row or a column the number p + 1, three times multiplied by an odd number and
+# folded: within 32 bits each of these steps can be taken back, and makes 0 of 0 alone. So no two
+# places have the same number, and none has 0.
+_MIXED = asm('index', '''mov64 r0, r2
+add64 r0, r3
+add64 r0, 1
+mul32 r0, r4
+mov64 r5, r0
+rsh64 r5, 16
+xor64 r0, r5
+rsh64 r4, 32
+or64 r4, 1
+mul32 r0, r4
+mov64 r5, r0
+rsh64 r5, 15
+xor64 r0, r5
+mul32 r0, 739982445
+mov64 r5, r0
+rsh64 r5, 16
+xor64 r0, r5
+exit
+''', 'drawn')
+
+
+Seed = Union[None, int, random.Random, Any]
+"""As networkx has it: a whole number, None for another draw at each call, a `random.Random`, or a
+`RandomState` or `Generator` of numpy."""
+
+
+def generator_of(seed: Seed) -> random.Random:
+    """What a seed draws from. TypeError for what is no seed."""
+    if isinstance(seed, random.Random):
+        return seed
+    if seed is None or (hasattr(seed, '__index__') and not isinstance(seed, bool)):
+        return random.Random(None if seed is None else int(seed))
+    # of numpy, new and old
+    draw: Optional[Any] = getattr(seed, 'integers', None) or getattr(seed, 'randint', None)
+    if draw is None:
+        raise TypeError('a seed is a whole number, None, a random.Random, or a generator of numpy, '
+                        'not %r' % (seed,))
+    return random.Random(int(draw(1 << 62)))
+
+
+def draw_numbers(vector: Matrix, seed: Seed) -> Matrix:
+    """A number from 1 to 2^32 - 1 in place of each value of a row or a column, by the seed and its
+    place, made by the session. No two places have the same. 1 job, 18 steps an entry."""
+    return vector.apply(_MIXED, right=generator_of(seed).getrandbits(62) | 1)
+
+
+def draw_on_paper(count: int, seed: int) -> Array:
+    """The same numbers, made by the client."""
+    low = (1 << 32) - 1
+    thunk = generator_of(seed).getrandbits(62) | 1
+    numbers = numpy.arange(1, count + 1, dtype=numpy.uint64)
+    for shift, factor in ((16, thunk & low), (15, thunk >> 32 | 1), (16, 739982445)):
+        numbers = numbers * numpy.uint64(factor) & numpy.uint64(low)
+        numbers ^= numbers >> numpy.uint64(shift)
+    return numbers.astype(numpy.int64)
 
 
 @algorithm('vertices of which no two are neighbours', 'seed', wanted=BOTH_WAYS,
            runs=lambda g: 7 * g.rounds + 3, steps=step_bounds.maximal_independent_set)
-def maximal_independent_set(G: M, seed: Seed = 0, progress: Progress = None, *, check: bool = True) -> M:
-    """Vertices of which no two are neighbours, and to which no other can be added, as a column of ones. The graph is undirected;
-    loops don't count. The seed decides which of the sets it is.
+def maximal_independent_set(G: Matrix, seed: Seed = 0, progress: Progress = None, *,
+                            check: bool = True) -> Matrix:
+    """Vertices of which no two are neighbours, and to which no other can be added.
 
-    `progress('round', k, 0)` is called after each round.
+    Parameters
+    ----------
+    G : Matrix
+        An undirected graph; loops don't count.
+    seed : int, None, or a generator of random or numpy, default 0
+        It decides which of the sets it is; None draws another at each call.
+    progress : callable, optional
+        `progress('round', k, 0)` is called after each round.
+    check : bool, default True
+        Whether it is checked that each edge leads both ways: 2 jobs, 3 runs, 13 steps an edge and 5
+        a vertex, once.
 
-    Runs: 7 a round, and 3. Rounds: about the logarithm of the number of vertices. Steps: up to 10 an edge and 16 a vertex, a
-    round; 5 an edge, 22 a vertex. Luby's algorithm: who has the greatest score among its neighbours is chosen. LAGraph:
-    `LAGraph_MaximalIndependentSet`. Raises ValueError where an edge leads one way alone (2 jobs, 3 runs, 13 steps an edge and 5
-    a vertex, once; `check=False` leaves it out).
+    Returns
+    -------
+    Matrix
+        A column of ones.
+
+    Raises
+    ------
+    ValueError
+        If an edge leads one way alone.
+
+    Notes
+    -----
+    Luby's algorithm: who has the greatest score among its neighbours is chosen. Rounds: about the
+    logarithm of the number of vertices.
+
+    Runs: 7 a round, and 3. Steps: up to 10 an edge and 16 a vertex, a round; 5 an edge, 22 a
+    vertex.
+
+    LAGraph: `LAGraph_MaximalIndependentSet`. networkx: `maximal_independent_set`.
+
+    Examples
+    --------
+    >>> maximal_independent_set(G).nvals
+    2
     """
     order(G)
     check_undirected(G, check, loops=True)
     graph = G.select('offdiag', 0)
-    lines: Lines[M] = lines_of(graph, graph, False)
-    left = drawn(lines.all(1), seed)
-    chosen, number = lines.put(Vector([], [])), 0
+    lines = find_vectors(graph, graph, False)
+    left = draw_numbers(lines.fill(1), seed)
+    chosen, number = lines.put(vector_of([], [])), 0
     while left.nvals:
         best = lines.step(left, GREATEST, mask=left)
-        won = left.ewise_add(best, 'gt').select('nonzero', 0)    # who has no neighbour left keeps its score, which isn't 0
+        # who has no neighbour left keeps its score, which isn't 0
+        won = left.ewise_add(best, 'gt').select('nonzero', 0)
         near = lines.step(won, THERE, mask=left)
         chosen = chosen.ewise_add(won, 'first')
         gone = won.apply('zero').ewise_add(near, 'first')
         left = left.ewise_add(gone, 'zero').select('nonzero', 0)
         number += 1
         tell(progress, 'round', number)
-    at = lines.get(chosen).at
-    return beside(G, Columns(G, G).put(Vector(at, ones_like(at))))
+    at = lines.read(chosen).at
+    return beside(G, put_column(G, Vector(at, numpy.ones_like(at))))

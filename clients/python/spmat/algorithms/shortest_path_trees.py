@@ -1,25 +1,32 @@
-"""Shortest paths as the vertices that they go through: to one vertex, to all as a tree, and the k shortest."""
+"""Shortest paths as the vertices that they go through: to one vertex, to all as a tree, and the k
+shortest."""
 from __future__ import annotations
 
 import heapq
-from typing import Any, Dict, Generic, Iterable, List, NamedTuple, Optional, Set, Tuple
+from typing import Any, Dict, Iterable, List, NamedTuple, Optional, Set, Tuple
 
-from ..io import matrix_text
+import numpy
+
 from ..io.coo import whole
 from ..io.matrix_text import Triples
+from ..matrix import Matrix
 from ..operators import Operator, Semiring, asm, binary
 from ..units import Unit, to_decimals
 from . import step_bounds
-from .bfs import LEAST, NONE, Search, find_levels, lines_of, run_search
+from .bfs import LEAST, NONE, Search, find_levels, run_search
 from .cached_properties import extremes, transpose_of
-from .frontier import Columns, FEW, Lines, Tally, Vector
-from .protocols import M, Place, Vertex
+from .graph_model import GraphModel
+from .types import Array, Place, Vertex
 from .registry import algorithm
 from .results import of_vertices
 from .single_source_paths import Query, find_lengths
+from .traversal import (Columns, Traversal, Vector, find_traversal, find_vectors, keep, put_column,
+                        put_known, vector_of)
 from .utils import Progress, beside, find_place, name_of, order, product
 
-WORD = 1 << 62                                     # what a length above the number of a vertex stays below
+# what a length above the number of a vertex stays below
+WORD = 1 << 62
+AT_ONCE = 1 << 16              # edges of a graph that the client reads at once
 IS_SUM = Semiring(binary.any, binary.eq)
 LENGTHEN = Semiring(binary.any, binary.plus)
 Route = Tuple[int, List[Place]]                    # the length of a path, and its vertices
@@ -30,8 +37,9 @@ class NoPath(ValueError):
 
 
 class Path(List[Any]):
-    """The vertices of a path in order, by their names where the graph has any. `lengths` has how far along the path each of them is: the
-    values of the edges up to there added, or their number; floats where the values have a unit."""
+    """The vertices of a path in order, by their names where the graph has any. `lengths` has how
+    far along the path each of them is: the values of the edges up to there added, or their number;
+    floats where the values have a unit."""
 
     def __init__(self, vertices: Iterable[Any], lengths: Iterable[int]) -> None:
         super().__init__(vertices)
@@ -52,17 +60,17 @@ class Path(List[Any]):
         return list(zip(self, self[1:]))
 
 
-class PathTree(Generic[M]):
-    """A shortest path from one vertex, `source`, to each that it reaches. `lengths` is a column with the length of each, and
-    `predecessors` one with the vertex before each on its path: at the source itself."""
+class PathTree:
+    """A shortest path from one vertex, `source`, to each that it reaches. `lengths` is a column
+    with the length of each, and `predecessors` one with the vertex before each on its path: at the
+    source itself."""
 
-    def __init__(self, graph: M, source: Place, lengths: Vector, parents: Tally) -> None:
+    def __init__(self, graph: Matrix, source: Place, lengths: Vector, parents: Array) -> None:
         self._graph, self._from, self._parents = graph, source, parents
         self._far = _by_vertex(lengths)
         self.source = name_of(graph, source)
-        zeros = [0] * len(lengths.at) if not matrix_text.is_array(lengths.at) else lengths.at * 0
-        self.lengths = beside(graph, graph.session.backend.keep(Triples(lengths.at, zeros, lengths.values, graph.nrows, 1)))
-        self.predecessors = of_vertices(beside(graph, parents.column(graph, NONE)))
+        self.lengths = beside(graph, put_column(graph, lengths))
+        self.predecessors = of_vertices(beside(graph, put_known(graph, parents, NONE)))
 
     def __repr__(self) -> str:
         return '<PathTree from %r to %d vertices>' % (self.source, len(self._far))
@@ -74,8 +82,8 @@ class PathTree(Generic[M]):
         return len(self._far)
 
     def path(self, target: Vertex) -> Path:
-        """The path to a vertex. Raises NoPath where none leads there, and ValueError where there is no such vertex. It asks nothing of the
-        server."""
+        """The path to a vertex. Raises NoPath where none leads there, and ValueError where there is
+        no such vertex. It asks nothing of the server."""
         at = find_place(self._graph, target)
         if at not in self._far:
             raise NoPath('no path leads from %r to %r' % (self.source, target))
@@ -89,108 +97,137 @@ class PathTree(Generic[M]):
 
 
 class Way(NamedTuple):
-    """How lengths are meant: whether by the values of edges, what is told, and what is looked at beforehand."""
+    """How lengths are meant: whether by the values of edges, what is told, and what is looked at
+    beforehand."""
     weighted: bool
     progress: Progress
     check: bool
 
 
-def _listed(many: Any) -> List[Any]:
-    found: List[Any] = many.tolist() if matrix_text.is_array(many) else many
-    return found
-
-
 def _by_vertex(vector: Vector) -> Dict[Place, int]:
-    return dict(zip(_listed(vector.at), _listed(vector.values)))
+    return dict(zip(map(Place, vector.at.tolist()), vector.values.tolist()))
 
 
-def _walk(parents: Tally, source: Place, target: Place) -> List[Place]:
+def _walk(parents: Array, source: Place, target: Place) -> List[Place]:
     """The path to a vertex, from the vertices before each."""
     found = [target]
     while found[-1] != source:
-        found.append(Place(parents.numbers[found[-1]]))
-        if found[-1] == NONE or len(found) > len(parents.numbers):
+        found.append(Place(parents[int(found[-1])]))
+        if found[-1] == NONE or len(found) > len(parents):
             raise AssertionError('the vertices before each make no path to %d' % target)
     return found[::-1]
 
 
-def _path(graph: M, vertices: List[Place], far: Dict[Place, int]) -> Path:
+def _path(graph: Matrix, vertices: List[Place], far: Dict[Place, int]) -> Path:
     return Path([name_of(graph, at) for at in vertices], [far[at] for at in vertices])
 
 
-def _lengths(G: M, source: Place, GT: Optional[M], way: Way, target: Optional[Place] = None, cutoff: Optional[int] = None) -> Vector:
+def _lengths(G: Matrix, source: Place, GT: Optional[Matrix], way: Way,
+             target: Optional[Place] = None, cutoff: Optional[int] = None) -> Vector:
     """How far the vertices are that the source reaches, by edges or by their values."""
+    if not way.weighted and cutoff is not None and cutoff < 0:
+        return vector_of([], [])                   # the source is farther
     if way.weighted:
         found = find_lengths(G, source, GT, Query(cutoff, target, way.check, way.progress))
-    elif cutoff is not None and cutoff < 0:
-        return Vector([], [])                      # the source is farther
     else:
         found = find_levels(G, Search([source], cutoff, target, way.progress), GT, way.check)
-    rows, _, values = found.to_coo(arrays=found.nvals >= FEW and matrix_text.find_numpy() is not None)
+    rows, _, values = found.to_coo()
     return Vector(rows, values)
 
 
-def _parents(lines: Lines[M], source: Place, lengths: Vector, weighted: bool) -> Tally:
-    """The vertex before each on a shortest path to it, of several the least; where edges are 0 long, or less, or lengths leave no room for
-    the number of a vertex in a word, one on a path of as few edges as any of the shortest."""
-    told = Tally(lines.count, NONE)
+def _parents(lines: Traversal, source: Place, lengths: Vector, weighted: bool) -> Array:
+    """The vertex before each on a shortest path to it, of several the least; where edges are 0
+    long, or less, or lengths leave no room for the number of a vertex in a word, one on a path of
+    as few edges as any of the shortest."""
+    parents = numpy.full(lines.count, NONE)
     if not len(lengths.at):
-        return told
+        return parents
     least, most = extremes(lines.graph) if weighted else (1, 1)
     bits = max(1, lines.count - 1).bit_length()
-    longest = int(max(lengths.values)) + most
+    longest = int(lengths.values.max()) + most
     if least <= 0 or longest << bits >= WORD:
-        return run_search(lines_of(_tight(lines.graph, lengths), None, False), Search([source]), True)
-    mask = (1 << bits) - 1
+        tight = find_vectors(_tight(lines.graph, lengths), None, False)
+        return run_search(tight, Search([source]), True)
     ring = Semiring(binary.min, _longer(bits, isinstance(lines, Columns))) if weighted else LEAST
-    if matrix_text.is_array(lengths.at):
-        got = lines.get(lines.step(lines.put(Vector(lengths.at, (lengths.values << bits) | lengths.at)), ring))
-    else:
-        got = lines.get(lines.step(lines.put(Vector(lengths.at, [x << bits | i for i, x in zip(*lengths)])), ring))
-    found = got.values & mask if matrix_text.is_array(got.values) else [value & mask for value in got.values]
-    reached = Tally(lines.count, NONE)             # with a cutoff an edge may lead to what isn't reached
-    reached.set(lengths.at, 0)
-    for at, parent in zip(_listed(got.at), _listed(found)):
-        if reached.numbers[at] == 0:
-            told.numbers[at] = parent
-    told.numbers[source] = int(source)
-    return told
+    words = lengths.values << bits | lengths.at
+    at, values = lines.read(lines.step(lines.put(Vector(lengths.at, words)), ring))
+    reached = numpy.zeros(lines.count, bool)       # with a cutoff an edge may lead to what isn't
+    reached[lengths.at] = True
+    inside = reached[at]
+    parents[at[inside]] = values[inside] & ((1 << bits) - 1)
+    parents[int(source)] = int(source)
+    return parents
 
 
 def _longer(bits: int, edge_first: bool) -> Operator:
-    """A length above the number of a vertex, longer by an edge, which is the second operand or the first."""
+    """A length above the number of a vertex, longer by an edge, which is the second operand or the
+    first."""
     edge, length = ('r1', 'r2') if edge_first else ('r2', 'r1')
     return asm('binary', 'mov64 r0, %s\nlsh64 r0, %d\nadd64 r0, %s\nexit\n' % (edge, bits, length))
 
 
-def _tight(graph: M, lengths: Vector) -> M:
+def _tight(graph: Matrix, lengths: Vector) -> Matrix:
     """The edges that stand on shortest paths: those as long as the difference of their ends."""
-    far = graph.session.backend.keep(Triples(lengths.at, lengths.at, lengths.values, graph.nrows, graph.nrows))
+    far = keep(graph, Triples(lengths.at, lengths.at, lengths.values, graph.nrows, graph.nrows))
     return product(product(far, graph, LENGTHEN), far, IS_SUM).select('nonzero')
 
 
-@algorithm('the vertices of a shortest path', 'source', 'target', 'weighted', plot='route', fields=('node', 'length'), lengths=True,
-           says='The vertices of a shortest path from one vertex to another, in order, with how far along it each '
-                'is.', steps=step_bounds.shortest_path)
-def shortest_path(G: M, source: Vertex, target: Vertex, GT: Optional[M] = None, progress: Progress = None, *, weighted: bool = False,
-                  check: bool = True) -> Path:
-    """A shortest path from one vertex to another: its vertices in order, with their `lengths` along it. Its length is the number of its
-    edges, unless `weighted=True` has their values be added, which may be negative.
+@algorithm('the vertices of a shortest path', 'source', 'target', 'weighted', plot='route',
+           fields=('node', 'length'), lengths=True, says='The vertices of a shortest path from one '
+           'vertex to another, in order, with how far along it each ' 'is.',
+           steps=step_bounds.shortest_path)
+def shortest_path(G: Matrix, source: Vertex, target: Vertex, GT: Optional[Matrix] = None,
+                  progress: Progress = None, *, weighted: bool = False, check: bool = True) -> Path:
+    """A shortest path from one vertex to another.
 
-    Of several vertices that could stand before one, the least does. The search ends as soon as the target is known.
+    Parameters
+    ----------
+    G : Matrix
+        The graph; an entry (i, j) is an edge from i to j.
+    source : vertex
+        Where the path begins.
+    target : vertex
+        Where it ends. The search ends as soon as it is known.
+    GT : Matrix, optional
+        The transpose. It serves blocks alone.
+    progress : callable, optional
+        It is called as by `bfs_levels` and `sssp`.
+    weighted : bool, default False
+        Whether a length is a sum of values, which may be negative; else it is a number of edges.
+    check : bool, default True
+        Whether `GT` is checked to be the transpose, by 4 jobs, once.
 
-    `GT` serves blocks alone, where it is made without it. `progress` is called as `bfs_levels` and `sssp` do.
+    Returns
+    -------
+    Path
+        The vertices in order, with their `lengths` along it. Of several vertices that could stand
+        before one, the least does.
 
-    Runs: those of `bfs_parents`, or with `weighted=True` those of `sssp`, and 1; 4 and those of `bfs_parents` more where an edge is 0
-    long or less, or lengths are so great that a word has no room for one and a vertex. Steps: theirs, and 4 an edge; 14 an edge there.
-    networkx: `shortest_path`, `dijkstra_path`. Raises NoPath, a ValueError, where no path leads there, and ValueError where one of them is
-    no vertex, or the source reaches a cycle of negative length.
+    Raises
+    ------
+    NoPath
+        If no path leads there; it is a ValueError.
+    ValueError
+        If one of them is no vertex, or the source reaches a cycle of negative length.
+
+    Notes
+    -----
+    Runs: those of `bfs_parents`, or with `weighted` those of `sssp`, and 1; 4 and those of
+    `bfs_parents` more where an edge is 0 long or less, or lengths are so great that a word has no
+    room for one and a vertex. Steps: theirs, and 4 an edge; 14 an edge there.
+
+    networkx: `shortest_path`, `dijkstra_path`.
+
+    Examples
+    --------
+    >>> shortest_path(G, 0, 5)
+    [0, 2, 3, 5]
     """
     order(G, GT)
     start, end = find_place(G, source), find_place(G, target)
     if not weighted:
-        parents = run_search(lines_of(G, GT, check), Search([start], None, end, progress), True)
-        if parents.numbers[end] == NONE:
+        parents = run_search(find_vectors(G, GT, check), Search([start], None, end, progress), True)
+        if parents[int(end)] == NONE:
             raise NoPath('no path leads from %r to %r' % (source, target))
         vertices = _walk(parents, start, end)
         return _path(G, vertices, {at: edges for edges, at in enumerate(vertices)})
@@ -198,61 +235,136 @@ def shortest_path(G: M, source: Vertex, target: Vertex, GT: Optional[M] = None, 
     far = _by_vertex(lengths)
     if end not in far:
         raise NoPath('no path leads from %r to %r' % (source, target))
-    return _path(G, _walk(_parents(lines_of(G, GT, check, True), start, lengths, True), start, end), far)
+    parents = _parents(find_vectors(G, GT, check, True), start, lengths, True)
+    return _path(G, _walk(parents, start, end), far)
 
 
-@algorithm('a shortest path to each vertex, as a tree', 'source', 'weighted', fields=('node', 'length', 'predecessor'), lengths=True,
-           says='A shortest path to each vertex that is reached: vertex, length, and the vertex before it; that is '
-                'the source itself there.', steps=step_bounds.shortest_paths)
-def shortest_paths(G: M, source: Vertex, GT: Optional[M] = None, progress: Progress = None, *, weighted: bool = False,
-                   cutoff: Optional[int] = None, check: bool = True) -> 'PathTree[M]':
-    """A shortest path from one vertex to each that it reaches, as a tree: `.path(target)` is one of them, `.lengths` and `.predecessors`
-    are columns. Lengths are as for `shortest_path`: numbers of edges,
-    unless `weighted=True` has values be added. `cutoff` leaves out what is farther.
+@algorithm('a shortest path to each vertex, as a tree', 'source', 'weighted',
+           fields=('node', 'length', 'predecessor'), lengths=True, says='A shortest path to each '
+           'vertex that is reached: vertex, length, and the vertex before it; that is the source '
+           'itself there.', steps=step_bounds.shortest_paths)
+def shortest_paths(G: Matrix, source: Vertex, GT: Optional[Matrix] = None,
+                   progress: Progress = None, *, weighted: bool = False,
+                   cutoff: Optional[int] = None, check: bool = True) -> PathTree:
+    """A shortest path from one vertex to each that it reaches, as a tree.
 
-    Runs: those of `bfs_levels`, or with `weighted=True` those of `sssp`, and 1; more as for `shortest_path`. Steps: theirs, and 4 an
-    edge that leaves a vertex which is reached. networkx: `single_source_shortest_path`, `single_source_dijkstra`. Raises ValueError as
-    `bfs_levels` and `sssp` do.
+    Parameters
+    ----------
+    G : Matrix
+        The graph; an entry (i, j) is an edge from i to j.
+    source : vertex
+        Where the paths begin.
+    GT : Matrix, optional
+        The transpose. It serves blocks alone.
+    progress : callable, optional
+        It is called as by `bfs_levels` and `sssp`.
+    weighted : bool, default False
+        Whether a length is a sum of values, which may be negative; else it is a number of edges.
+    cutoff : int, optional
+        What is farther is left out.
+    check : bool, default True
+        Whether `GT` is checked to be the transpose, by 4 jobs, once.
+
+    Returns
+    -------
+    PathTree
+        `.path(target)` is one of the paths; `.lengths` and `.predecessors` are columns.
+
+    Raises
+    ------
+    ValueError
+        If the source is no vertex, or reaches a cycle of negative length, or lengths could wrap.
+
+    Notes
+    -----
+    Runs: those of `bfs_levels`, or with `weighted` those of `sssp`, and 1; more as for
+    `shortest_path`. Steps: theirs, and 4 an edge that leaves a vertex which is reached.
+
+    networkx: `single_source_shortest_path`, `single_source_dijkstra`.
+
+    Examples
+    --------
+    >>> shortest_paths(W, 0, weighted=True).path(3)
+    [0, 1, 2, 3]
     """
     order(G, GT)
     at = find_place(G, source)
     lengths = _lengths(G, at, GT, Way(weighted, progress, check), cutoff=cutoff)
-    return PathTree(G, at, lengths, _parents(lines_of(G, GT, check, weighted), at, lengths, weighted))
+    return PathTree(G, at, lengths,
+                    _parents(find_vectors(G, GT, check, weighted), at, lengths, weighted))
 
 
-@algorithm('whether a path leads from one vertex to another', 'source', 'target', fields=('has_path',),
-           says='Prints yes where a path leads from one vertex to another, else no.',
-           steps=step_bounds.has_path)
-def has_path(G: M, source: Vertex, target: Vertex, GT: Optional[M] = None, *, check: bool = True) -> bool:
-    """Whether a path leads from one vertex to another. It costs what `bfs_levels` costs up to the target. networkx: `has_path`. Raises
-    ValueError where one of them is no vertex."""
+@algorithm('whether a path leads from one vertex to another', 'source', 'target',
+           fields=('has_path',), says='Prints yes where a path leads from one vertex to another, '
+           'else no.', steps=step_bounds.has_path)
+def has_path(G: Matrix, source: Vertex, target: Vertex, GT: Optional[Matrix] = None, *,
+             check: bool = True) -> bool:
+    """Whether a path leads from one vertex to another.
+
+    Parameters
+    ----------
+    G : Matrix
+        The graph; an entry (i, j) is an edge from i to j.
+    source : vertex
+        Where a path begins.
+    target : vertex
+        Where it ends.
+    GT : Matrix, optional
+        The transpose. It serves blocks alone.
+    check : bool, default True
+        Whether `GT` is checked to be the transpose, by 4 jobs, once.
+
+    Returns
+    -------
+    bool
+        Whether there is one.
+
+    Raises
+    ------
+    ValueError
+        If one of them is no vertex.
+
+    Notes
+    -----
+    Runs: those of `bfs_levels` up to the target, and so are steps. networkx: `has_path`.
+
+    Examples
+    --------
+    >>> has_path(W, 3, 0)
+    False
+    """
     order(G, GT)
     start, end = find_place(G, source), find_place(G, target)
-    return run_search(lines_of(G, GT, check), Search([start], None, end), False).numbers[end] != NONE
+    levels = run_search(find_traversal(G, GT, check), Search([start], None, end), False)
+    return int(levels[int(end)]) != NONE
 
 
-class Spurs(Generic[M]):
-    """Searches by the client for paths to one vertex around what is barred. Rows of the graph are fetched as they are met, and lengths to
-    the target that leave out what is barred say where to look first (A*)."""
+class Spurs:
+    """Searches by the client for paths to one vertex around what is barred. Rows of a large graph
+    are fetched as they are met, and lengths to the target that leave out what is barred say where
+    to look first (A*)."""
 
-    def __init__(self, lines: Lines[M], target: Place, home: Vector, weighted: bool) -> None:
+    def __init__(self, lines: Traversal, target: Place, home: Vector, weighted: bool) -> None:
         self.target, self.home = target, _by_vertex(home)
         self._lines, self._weighted = lines, weighted
         self._rows: Dict[Place, List[Tuple[Place, int]]] = {}
 
     def near(self, i: Place) -> List[Tuple[Place, int]]:
-        """Where the edges of a vertex lead, and how long they are; those alone from where the target is reached. 1 run, once."""
+        """Where the edges of a vertex lead, and how long they are; those alone from where the
+        target is reached. 1 run, once."""
         if i not in self._rows:
-            got = self._lines.get(self._lines.step(self._lines.put(Vector([i], [0])), LENGTHEN))
-            at = _listed(got.at)
-            many = _listed(got.values) if self._weighted else [1] * len(at)
-            self._rows[i] = [(j, far) for j, far in zip(at, many) if j in self.home]
+            got = self._lines.push(vector_of([i], [0]), LENGTHEN)
+            far = got.values if self._weighted else numpy.ones_like(got.at)
+            self._rows[i] = [(j, edge) for j, edge in zip(map(Place, got.at.tolist()), far.tolist())
+                             if j in self.home]
         return self._rows[i]
 
     def search(self, start: Place, barred: Set[Place], not_first: Set[Place]) -> Optional[Route]:
-        """The shortest path that enters no barred vertex, and leaves the start for none of some; with its length. None where there is
-        none."""
-        far, before, done = {start: 0}, {}, set()  # type: Dict[Place, int], Dict[Place, Place], Set[Place]
+        """The shortest path that enters no barred vertex, and leaves the start for none of some;
+        with its length. None where there is none."""
+        far: Dict[Place, int] = {start: 0}
+        before: Dict[Place, Place] = {}
+        done: Set[Place] = set()
         heap = [(self.home[start], self.home[start], start)]
         while heap:
             _, _, i = heapq.heappop(heap)
@@ -273,20 +385,58 @@ class Spurs(Generic[M]):
         return None
 
 
-@algorithm('the k shortest paths', 'source', 'target', 'k', 'weighted', fields=('path', 'node', 'length'), lengths=True,
-           says='The k shortest paths that pass no vertex twice, a line for each vertex: the number of its path, '
-                'from 1, the vertex, and how far along the path it is.',
-           steps=step_bounds.k_shortest_paths)
-def k_shortest_paths(G: M, source: Vertex, target: Vertex, k: int, GT: Optional[M] = None, *, weighted: bool = False,
-                     check: bool = True) -> List[Path]:
-    """The k shortest paths from one vertex to another that pass no vertex twice, the shortest first; fewer where there are fewer. Lengths
-    are as for `shortest_path`: numbers of edges, unless `weighted=True` has values be added.
+@algorithm('the k shortest paths', 'source', 'target', 'k', 'weighted',
+           fields=('path', 'node', 'length'), lengths=True, says='The k shortest paths that pass '
+           'no vertex twice, a line for each vertex: the number of its path, from 1, the vertex, '
+           'and how far along the path it is.', steps=step_bounds.k_shortest_paths)
+def k_shortest_paths(G: Matrix, source: Vertex, target: Vertex, k: int, GT: Optional[Matrix] = None,
+                     *, weighted: bool = False, check: bool = True) -> List[Path]:
+    """The k shortest paths from one vertex to another that pass no vertex twice.
 
-    `GT` is the transpose. Without it it is made once, by the client; for an undirected graph hand in G itself.
+    Parameters
+    ----------
+    G : Matrix
+        The graph; an entry (i, j) is an edge from i to j.
+    source : vertex
+        Where the paths begin.
+    target : vertex
+        Where they end.
+    k : int
+        How many.
+    GT : Matrix, optional
+        The transpose. Without it the client makes it, once; for an undirected graph hand in G.
+    weighted : bool, default False
+        Whether a length is a sum of values; else it is a number of edges.
+    check : bool, default True
+        Whether `GT` is checked to be the transpose, by 4 jobs, once.
 
-    Runs: those of `bfs_levels` or `sssp`, once, and 1 for each vertex that is met on the way. Yen's algorithm, by the client, with
-    lengths to the target as a bound. networkx: `shortest_simple_paths`. Raises NoPath, a ValueError, where there is none, and
-    ValueError where k is below 1, and otherwise as `shortest_path` does.
+    Returns
+    -------
+    list of Path
+        The shortest first; fewer than k where there are fewer.
+
+    Raises
+    ------
+    NoPath
+        If there is none; it is a ValueError.
+    ValueError
+        If k is below 1, or as `shortest_path` does.
+
+    Notes
+    -----
+    Yen's algorithm, by the client, with lengths to the target as a bound: networkx and igraph,
+    which have the whole graph at hand, are faster.
+
+    Runs: those of `bfs_levels` or `sssp`, once, and 1 for each vertex that is met on the way, but
+    for graphs of up to 65,536 edges, which the client reads at once.
+    Steps: theirs, and 5 an edge of these vertices.
+
+    networkx: `shortest_simple_paths`.
+
+    Examples
+    --------
+    >>> k_shortest_paths(G, 0, 3, 2)
+    [[0, 2, 3], [0, 1, 2, 3]]
     """
     order(G, GT)
     start, end, k = find_place(G, source), find_place(G, target), whole(k, 'number of paths')
@@ -294,12 +444,16 @@ def k_shortest_paths(G: M, source: Vertex, target: Vertex, k: int, GT: Optional[
         raise ValueError('a number of paths is 1 or more, not %d' % k)
     back = transpose_of(G, GT, check, values=weighted)
     home = _lengths(back, end, G, Way(weighted, None, check))
-    spurs = Spurs(lines_of(G, back, False, weighted), end, home, weighted)
+    lines = find_vectors(G, back, False, weighted)
+    if G.nvals <= AT_ONCE:
+        lines = GraphModel(G, Triples(*G.to_coo(), *G.shape))
+    spurs = Spurs(lines, end, home, weighted)
     if start not in spurs.home:
         raise NoPath('no path leads from %r to %r' % (source, target))
     first = spurs.search(start, set(), set())
     assert first is not None
-    found, waiting, seen = [first], [], {tuple(first[1])}  # type: List[Route], List[Route], Set[Tuple[Place, ...]]
+    found, seen = [first], {tuple(first[1])}
+    waiting: List[Route] = []
     while len(found) < k:
         for candidate in _aside(spurs, found):
             if tuple(candidate[1]) not in seen:
@@ -311,7 +465,7 @@ def k_shortest_paths(G: M, source: Vertex, target: Vertex, k: int, GT: Optional[
     return [_path(G, vertices, _along(spurs, vertices)) for _, vertices in found]
 
 
-def _along(spurs: Spurs[M], vertices: List[Place]) -> Dict[Place, int]:
+def _along(spurs: Spurs, vertices: List[Place]) -> Dict[Place, int]:
     """How far along a path its vertices are."""
     far = {vertices[0]: 0}
     for i, j in zip(vertices, vertices[1:]):
@@ -319,8 +473,9 @@ def _along(spurs: Spurs[M], vertices: List[Place]) -> Dict[Place, int]:
     return far
 
 
-def _aside(spurs: Spurs[M], found: List[Route]) -> Iterable[Route]:
-    """The shortest paths that leave the last one that was found at each of its vertices, and go where none did."""
+def _aside(spurs: Spurs, found: List[Route]) -> Iterable[Route]:
+    """The shortest paths that leave the last one that was found at each of its vertices, and go
+    where none did."""
     last = found[-1][1]
     far = _along(spurs, last)
     for at in range(len(last) - 1):

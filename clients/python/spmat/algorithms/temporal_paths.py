@@ -9,18 +9,21 @@ from __future__ import annotations
 
 from typing import Any, Dict, Iterable, List, NamedTuple, Optional, Tuple
 
+import numpy
+
 from ..io.arrays import is_frame, is_gap
 from ..io.coo import MOST
-from ..io.matrix_text import Triples, is_array
+from ..io.matrix_text import Triples
 from ..loops import State
 from ..matrix import Matrix
 from ..metadata import Nodes
 from ..operators import Semiring, asm, binary
 from ..session import Session
-from .frontier_loop import advance_front
+from .server_loops import advance_front
 from .moments import Clock, read_times
-from .protocols import Place, Vertex, Vertices
+from .types import Place, Vertex, Vertices
 from .single_source_paths import LESS, NOT_LESS
+from .traversal import Vector, put_column, put_row, vector_of
 from .utils import Progress, find_place, find_places, tell
 
 # The time at which an event begins, where that isn't before one is there; else the least number
@@ -74,7 +77,8 @@ class Arrivals(Dict[Any, Any]):
     def _last_events(self) -> Dict[Place, int]:
         """The event by which each vertex is reached in time, with as few before it as can be."""
         if self._before is None:
-            known = dict(zip(*self.times.to_coo(arrays=False)[::2]))
+            at, _, times = self.times.to_coo()
+            known = dict(zip(at.tolist(), times.tolist()))
             columns, leaving = self._events.columns, {}  # type: Columns, Dict[Place, List[int]]
             for event, (source, target, time, arrival) in enumerate(zip(*columns)):
                 if known.get(target) == arrival and source in known and known[source] <= time:
@@ -101,11 +105,10 @@ class Events:
     def __init__(self, session: Session, names: Nodes, columns: Columns, clock: Clock) -> None:
         self.columns, self.clock, self.nodes = columns, clock, names
         many, count, keep = len(columns.times), len(names), session.backend.keep
-        order = sorted(range(many), key=columns.sources.__getitem__)
-        self.leave = keep(Triples([columns.sources[at] for at in order], order,
-                                  [columns.times[at] for at in order], count, many))
-        at = list(range(many))
-        self.enter = keep(Triples(at, columns.targets, columns.arrivals, many, count))
+        sources, targets, times, arrivals = (numpy.array(one, numpy.int64) for one in columns)
+        order = numpy.argsort(sources, kind='stable')
+        self.leave = keep(Triples(sources[order], order, times[order], count, many))
+        self.enter = keep(Triples(numpy.arange(many), targets, arrivals, many, count))
         self.leave.notes = self.leave.notes._replace(rows=names)
         self.enter.notes = self.enter.notes._replace(columns=names)
 
@@ -164,15 +167,14 @@ class Events:
             raise ValueError('expected a vertex to begin with, or several')
         begin = min(self.columns.times) if start is None else self.clock.number(start, 'start')
         end = None if stop is None else self.clock.number(stop, 'stop')
-        keep, count = self.leave.session.backend.keep, len(self.nodes)
-        zeros = [0] * len(sources)
-        front = keep(Triples(zeros, list(sources), [begin] * len(sources), 1, count))
+        count, begins = len(self.nodes), vector_of(sources, [begin] * len(sources))
+        front = put_row(self.leave, begins)
         if end is not None:
             front = front.select('valuele', end)
         state = advance_front(lambda s: self._advance(s, end), {'front': front, 'known': front},
                               count + 1, lambda number: tell(progress, 'round', number))
-        _, at, times = state.known.to_coo(arrays=False)
-        found = keep(Triples(at, [0] * len(at), times, count, 1))
+        _, at, times = state.known.to_coo()
+        found = put_column(self.leave, Vector(at, times))
         found.notes = found.notes._replace(rows=self.nodes)
         return Arrivals(self, found, sources)
 
@@ -199,8 +201,8 @@ def events(session: Session, table: Any, source: Any = 'source', target: Any = '
     table
         (from, to, time), or (from, to, time, duration), for each event; an array of numpy with
         these as its columns; or a table of pandas, or a dict, with columns by name. Times are whole
-        numbers, or dates of Python, numpy or pandas, which want numpy. Dates with a time zone
-        become those of UTC. Durations are 0 or more: numbers in the unit of the times, or
+        numbers, or dates of Python, numpy or pandas, and come back as they were handed in.
+        Durations are 0 or more: numbers in the unit of the times, or
         timedeltas. Without them an event arrives when it begins.
     source, target, time, duration
         What the columns of a table of pandas, or of a dict, are called.
@@ -253,7 +255,7 @@ def _columns(table: Any, names: Tuple[Any, Any, Any],
             raise ValueError('no column %r: there are %s; source=, target=, time= and duration= '
                              'say which are meant' % (missing[0], ', '.join(map(repr, table))))
         columns = [table[name] for name in wanted]
-    elif is_array(table):
+    elif isinstance(table, numpy.ndarray):
         if table.ndim != 2 or table.shape[1] not in (3, 4):
             raise ValueError('an array of events has 3 columns (from, to, time), or 4 with '
                              'durations, not the shape %r' % (table.shape,))

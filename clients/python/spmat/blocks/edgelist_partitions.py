@@ -1,28 +1,31 @@
-"""Parts of lists of edges by name, as workers read them: ranges of a list, whole files, frames of pandas. A part has the names that stand in it, and
-its edges by their numbers there; the caller's process tells then which vertices these are."""
+"""Parts of lists of edges by name, as workers read them: ranges of a list, whole files, frames of
+pandas. A part has the names that stand in it, and its edges by their numbers there; the caller's
+process tells then which vertices these are."""
 from __future__ import annotations
 
 from typing import Any, List, NamedTuple, Optional, Sequence, Tuple, Union
 
+import numpy
+
 from ..errors import ReadError
-from ..io import edgelist_numpy, edgelist_text, graphml_gml_parquet, matrix_market, matrix_text, pandas
+from ..io import files, graph_formats, matrix_market, tables
+from ..io.columns import Layout
 from ..io.edge_values import Rounding
-from ..io.edgelist_header import Layout
-from ..io.factorize import Coded, ascending, factorized
-from ..io.left_out import LeftOut
+from ..io.edges import LeftOut, edges_of_frame, number_ascending, number_names
 from ..io.matrix_text import Triples
 from . import file_ranges
 from .file_ranges import Part, Range
 from .row_partition import Cut
 
 Names = Any
-"""An ascending array of whole numbers, or a list of texts and others in the order in which they first stand."""
+"""An ascending array of whole numbers, or a list of texts and others in the order in which they
+first stand."""
 
 
 class ListRange(NamedTuple):
     """Lines of a list that are read in bulk."""
     range: Range
-    shape: edgelist_numpy.Shape
+    form: tables.Form
 
     @property
     def label(self) -> str:
@@ -59,58 +62,42 @@ Source = Union[ListRange, WholeFile, Frame]
 
 
 class EdgePart(NamedTuple):
-    """Edges of a part: the numbers of sources and targets, by one list of names or, of two kinds of vertices, by two; and values or None."""
+    """Edges of a part: the numbers of sources and targets, by one list of names or, of two kinds of
+    vertices, by two; and values or None."""
     codes: List[Any]
     names: List[Names]
     values: Optional[Any]
-    told: str = ''
+    summary: str = ''
     left_out: LeftOut = LeftOut()
 
 
 def read(source: Source, bipartite: bool) -> Optional[EdgePart]:
-    """The edges of a part. None where a range has to be read line by line; ReadError, with file and line, where anything else can't be read."""
+    """The edges of a part. None where a range has to be read line by line; ReadError, with file and
+    line, where anything else can't be read."""
     if isinstance(source, ListRange):
-        found = edgelist_numpy.read(file_ranges.lines_in(source.range), 0, source.shape, Rounding(None))
-        return None if found is None else _numbered(found.sources, found.targets, found.values, bipartite)
+        found = tables.read_plain(file_ranges.lines_in(source.range), source.form, Rounding(None))
+        return None if found is None else _numbered(*found, bipartite)
     if isinstance(source, Frame):
         frame = source.frame.compute() if hasattr(source.frame, 'compute') else source.frame
-        edges = pandas.edges_of(frame, source.ends, source.value, source.layout)
+        edges = edges_of_frame(frame, source.ends, source.value, source.layout)
     elif source.parquet:
         with open(source.path, 'rb') as file:
-            edges = graphml_gml_parquet.table(source.path, file.read(), source.layout)
+            edges = graph_formats.read_table(source.path, file.read(), source.layout)
     else:
-        edges = edgelist_text.read(source.path, matrix_market.load(source.path), source.layout)
-    return _numbered(edges.sources, edges.targets, edges.values, bipartite)._replace(told=edges.told, left_out=edges.left_out)
+        edges = tables.read(source.path, files.load(source.path), source.layout)
+    part = _numbered(edges.sources, edges.targets, edges.values, bipartite)
+    return part._replace(summary=edges.summary, left_out=edges.left_out)
 
 
 def _numbered(sources: Any, targets: Any, values: Any, bipartite: bool) -> EdgePart:
-    import numpy
-    codes, names = [], []
+    codes: List[Any] = []
+    names: List[Names] = []
     for columns in ([[sources], [targets]] if bipartite else [[sources, targets]]):
-        if not all(matrix_text.is_array(column) or isinstance(column, Coded) for column in columns):
-            columns = _coded([column.tolist() if hasattr(column, 'tolist') else list(column) for column in columns])
-        if matrix_text.is_array(columns[0]):
-            found, ascend = ascending(columns)
-            codes += found
-            names.append(ascend)
-        elif bipartite:
-            found, first = factorized(columns[0].codes)
-            codes.append(found)
-            names.append([columns[0].names[at] for at in columns[0].codes[first].tolist()])
-        else:
-            codes += [column.codes for column in columns]
-            names.append(columns[0].names)
-    return EdgePart(codes, names, None if values is None else numpy.asarray(values, numpy.int64))
-
-
-def _coded(columns: Sequence[List[Any]]) -> List[Any]:
-    """Columns of names as arrays of whole numbers, where all are, else by one list of names."""
-    import numpy
-    if all(type(name) is int and abs(name) < 1 << 62 for column in columns for name in column):
-        return [numpy.array(column, numpy.int64) for column in columns]
-    places = {name: at for at, name in enumerate(dict.fromkeys(name for edge in zip(*columns) for name in edge))}
-    names = list(places)
-    return [Coded(numpy.array([places[name] for name in column], numpy.int64), names) for column in columns]
+        found, nodes = number_names(columns)
+        codes += found
+        is_whole = all(type(name) is int and abs(name) < 1 << 62 for name in nodes)
+        names.append(numpy.array(nodes, numpy.int64) if is_whole else list(nodes))
+    return EdgePart(codes, names, values)
 
 
 # -- names of all parts
@@ -118,17 +105,16 @@ def _coded(columns: Sequence[List[Any]]) -> List[Any]:
 def merged(parts: Sequence[Names]) -> Optional[Names]:
     """The names of all parts; None where some are whole numbers and some aren't."""
     parts = [names for names in parts if len(names)]
-    if all(matrix_text.is_array(names) for names in parts):
-        return ascending(parts)[1]
-    if any(matrix_text.is_array(names) for names in parts):
+    if all(isinstance(names, numpy.ndarray) for names in parts):
+        return number_ascending(parts)[1]
+    if any(isinstance(names, numpy.ndarray) for names in parts):
         return None
     return list(dict.fromkeys(name for names in parts for name in names))
 
 
 def places_in(names: Names, all_names: Names, places: Any) -> Any:
     """The number of each name of a part among all; `places` are those of texts."""
-    import numpy
-    if matrix_text.is_array(names):
+    if isinstance(names, numpy.ndarray):
         return numpy.searchsorted(all_names, names).astype(numpy.int32) if len(names) else numpy.zeros(0, numpy.int32)
     return numpy.array([places[name] for name in names], numpy.int32)
 
@@ -136,8 +122,8 @@ def places_in(names: Names, all_names: Names, places: Any) -> Any:
 # -- edges by blocks
 
 class To(NamedTuple):
-    """Where the edges of a part go: the numbers of its names among all, the sizes of the matrix, whether edges lead one way alone, and whether
-    lines have no value."""
+    """Where the edges of a part go: the numbers of its names among all, the sizes of the matrix,
+    whether edges lead one way alone, and whether lines have no value."""
     places: List[Any]
     nrows: int
     ncols: int
@@ -146,7 +132,6 @@ class To(NamedTuple):
 
 
 def _triples(part: EdgePart, to: To) -> Triples:
-    import numpy
     rows, columns = (to.places[min(at, len(to.places) - 1)][codes].astype(numpy.int64) for at, codes in enumerate(part.codes))
     values = numpy.ones(len(rows), numpy.int64) if part.values is None else part.values
     triples = Triples(rows, columns, values, to.nrows, to.ncols)
@@ -155,7 +140,6 @@ def _triples(part: EdgePart, to: To) -> Triples:
 
 def row_counts(part: EdgePart, to: To, edges: Sequence[int]) -> Any:
     """How many entries lie in the rows from each edge to below the next."""
-    import numpy
     return numpy.histogram(_triples(part, to).rows, numpy.array(edges))[0]
 
 
@@ -165,7 +149,8 @@ def split(part: EdgePart, to: To, cut: Cut) -> List[Part]:
 
 
 class Repeated(ReadError):
-    """An edge with a value is given twice: the numbers of its vertices are known, its line isn't."""
+    """An edge with a value is given twice: the numbers of its vertices are known, its line
+    isn't."""
 
     def __init__(self, row: int, column: int) -> None:
         super().__init__('the edges', None, 'the edge between %d and %d is there already' % (row, column))

@@ -1,14 +1,25 @@
-"""Errors that name the block in which they came."""
+"""Errors that name the block in which they came, and positions that repeat by the caller's own
+entries or lines: a session names the line of a text that nobody but it saw."""
 from __future__ import annotations
 
-from typing import Any, Tuple
+import contextlib
+from typing import TYPE_CHECKING, Any, Optional, Set, Tuple
+
+import numpy
 
 from ..errors import BudgetExceeded, Refused, SpmatError
+from ..io import coo, files, matrix_market
+from ..io.matrix_text import Triples
+from .row_partition import Cut
+
+if TYPE_CHECKING:
+    from .chunked_input import Spooled
 
 
 class BlockFailed(SpmatError):
-    """A block could not be computed, for another reason than a refusal: its session ended, its worker has no memory, or its
-    workers were lost again and again. `block` names it, as the words do; `__cause__` is what came."""
+    """A block could not be computed, for another reason than a refusal: its session ended, its
+    worker has no memory, or its workers were lost again and again. `block` names it, as the words
+    do; `__cause__` is what came."""
 
     def __init__(self, message: str, block: str = '') -> None:
         super().__init__(message)
@@ -20,7 +31,8 @@ class VersionMismatch(SpmatError):
 
 
 class AtBlock(Exception):
-    """What came in a task, with the block's name: how workers hand it to the caller, who gets `named` of it."""
+    """What came in a task, with the block's name: how workers hand it to the caller, who gets
+    `named` of it."""
 
     def __init__(self, label: str, fault: Exception) -> None:
         super().__init__(label, fault)
@@ -31,8 +43,9 @@ class AtBlock(Exception):
 
 
 def named(label: str, fault: BaseException) -> Exception:
-    """The exception that a caller gets: a refusal of the same class with the block in its words and as `block`, `BlockFailed` for
-    anything else; what the package raises for callers' mistakes (VersionMismatch, ValueError, TypeError) with its own words."""
+    """The exception that a caller gets: a refusal of the same class with the block in its words and
+    as `block`, `BlockFailed` for anything else; what the package raises for callers' mistakes
+    (VersionMismatch, ValueError, TypeError) with its own words."""
     if isinstance(fault, Refused):
         return worded(fault, label)
     if isinstance(fault, (ValueError, TypeError, VersionMismatch)):
@@ -49,7 +62,8 @@ def worded(fault: Refused, block: str) -> Refused:
 
 
 def in_all(fault: BudgetExceeded, spent: int) -> BudgetExceeded:
-    """A refusal for lack of steps with what all sessions have spent, as `spent_in_all` and in its words."""
+    """A refusal for lack of steps with what all sessions have spent, as `spent_in_all` and in its
+    words."""
     out = BudgetExceeded(fault.rule, fault.numbers, fault.command, fault.line,
                          _joined(fault.detail, 'all sessions have spent %d' % spent))
     out.block, out.spent_in_all = getattr(fault, 'block', ''), spent  # type: ignore[attr-defined]
@@ -58,3 +72,48 @@ def in_all(fault: BudgetExceeded, spent: int) -> BudgetExceeded:
 
 def _joined(*parts: str) -> str:
     return '; '.join(part for part in parts if part)
+
+
+# -- positions that repeat
+
+def first_repeated(triples: Triples) -> Optional[int]:
+    """The first entry whose position an earlier one has, as they were given; None where each
+    position stands once."""
+    key = triples.rows * max(triples.ncols, 1) + triples.columns
+    order = numpy.argsort(key, kind='stable')
+    again = order[1:][key[order][1:] == key[order][:-1]]
+    return int(again.min()) if len(again) else None
+
+
+def of_repeated_triples(triples: Triples, fault: Refused) -> Refused:
+    """The refusal of entries that came as lists or arrays."""
+    at = first_repeated(triples)
+    return fault if at is None else coo.repeated(triples, at)
+
+
+def _positions(spool: 'Spooled', cut: Cut) -> Set[Tuple[int, int]]:
+    """The positions that repeat, as they are found block by block; of each block one."""
+    found = set()
+    for triples in spool.blocks(cut):
+        at = first_repeated(triples)
+        if at is not None:
+            found.add((int(triples.rows[at]), int(triples.columns[at])))
+    return found
+
+
+def of_repeated_line(source: Any, start: Optional[int], spool: 'Spooled', cut: Cut,
+                     fault: Refused) -> Refused:
+    """The refusal of a file's line, which is found by reading the file once more; where it can't
+    be, of the position."""
+    again = _positions(spool, cut)
+    row, column = min(again, default=(-1, -1))
+    named = 'row %d, column %d is given twice; %s' % (row + 1, column + 1, coo.DUP_OP) if again else ''
+    with contextlib.suppress(OSError, ValueError):
+        if hasattr(source, 'read'):
+            if start is not None:
+                source.seek(start)
+                return matrix_market.find_repeated(source, again) or fault.hinting('M8', named)
+        else:
+            with files.opened(source) as file:
+                return matrix_market.find_repeated(file, again) or fault.hinting('M8', named)
+    return matrix_market.Line(1, b'').refused('M8', named)

@@ -1,8 +1,10 @@
-"""Ranges of a file that workers read by themselves: the lines that begin there, sorted out by the blocks that have their rows.
+"""Ranges of a file that workers read by themselves: the lines that begin there, sorted out by the
+blocks that have their rows.
 
-A line belongs to the range in which it begins, so ranges may end anywhere. What a range gives is lines for each block: as they stand in the file,
-where rows ascend and a session reads such lines itself, else written anew. Whatever is unusual or wrong is told as such, and left to whoever
-reads the file line by line and names the line.
+A line belongs to the range in which it begins, so ranges may end anywhere. What a range gives is
+lines for each block: as they stand in the file, where rows ascend and a session reads such lines
+itself, else written anew. Whatever is unusual or wrong is told as such, and left to whoever reads
+the file line by line and names the line.
 """
 from __future__ import annotations
 
@@ -10,14 +12,15 @@ import hashlib
 import os
 from typing import Any, List, NamedTuple, Optional, Sequence, Tuple
 
+import numpy
+
 from ..io import matrix_market, matrix_text, parse_integers
 from ..io.matrix_text import Triples
 from .row_partition import Cut
 
 MOST_DIGITS = 18                                   # of a number that is read here
 UNUSUAL = -1
-WORD, CHUNK = 8, 1 << 18                           # bytes of a word, and those that are looked at together, so that their tables stay in a cache
-LF, BLANK = 10, 32
+LF = 10
 
 
 class Stamp(NamedTuple):
@@ -63,7 +66,8 @@ class About(NamedTuple):
 
 
 class Part(NamedTuple):
-    """Lines of a block: themselves, or where they lie in a file and what tells their content; and their number."""
+    """Lines of a block: themselves, or where they lie in a file and what tells their content; and
+    their number."""
     lines: bytes
     entries: int
     path: str = ''
@@ -90,17 +94,18 @@ def digest_of(text: bytes) -> bytes:
 def stamp_of(path: str) -> Optional[Stamp]:
     """What tells a file apart, None where there is none here."""
     try:
-        told = os.stat(path)
+        status = os.stat(path)
     except OSError:
         return None
-    return Stamp(told.st_size, told.st_mtime_ns)
+    return Stamp(status.st_size, status.st_mtime_ns)
 
 
 def lines_in(part: Range) -> bytes:
-    """The lines of a range, each with its LF. ValueError where the file isn't the one that was looked at."""
+    """The lines of a range, each with its LF. ValueError where the file isn't the one that was
+    looked at."""
     with open(part.path, 'rb') as file:
-        told = os.fstat(file.fileno())
-        if Stamp(told.st_size, told.st_mtime_ns) != part.stamp:
+        status = os.fstat(file.fileno())
+        if Stamp(status.st_size, status.st_mtime_ns) != part.stamp:
             raise ValueError('the file %s has changed while it was read' % part.path)
         if part.first:
             file.seek(part.first - 1)
@@ -112,7 +117,8 @@ def lines_in(part: Range) -> bytes:
 
 
 def cut_up(path: str, stamp: Stamp, first: int, most: int, least: int) -> List[Range]:
-    """The ranges of a file from a byte on: of so many bytes at most, and at least so many of them."""
+    """The ranges of a file from a byte on: of so many bytes at most, and at least so many of
+    them."""
     many = max(least, -(-(stamp.size - first) // most))
     bounds = [first + (stamp.size - first) * k // many for k in range(many + 1)]
     return [Range(path, stamp, *both) for both in zip(bounds, bounds[1:])]
@@ -121,96 +127,53 @@ def cut_up(path: str, stamp: Stamp, first: int, most: int, least: int) -> List[R
 # -- lines by blocks
 
 def split(part: Range, about: About, cut: Cut) -> Tuple[List[Part], int]:
-    """The lines of each block, and how many lines of the file they are; `UNUSUAL` where these are to be read one by one."""
+    """The lines of each block, and how many lines of the file they are; `UNUSUAL` where these are
+    to be read one by one."""
     body = lines_in(part)
-    found = first_numbers(body) if about.is_plain and body else None
-    if found is not None and _are_rows(found.numbers, about.nrows) and bool((found.numbers[1:] >= found.numbers[:-1]).all()):
-        return _as_they_are(body, found, cut), len(found.numbers)
-    lines = body.count(b'\n')
-    triples = _triples(body, about) if found is not None else None
-    triples = matrix_market.read_quickly(about.kind, body, lines, about.nrows, about.ncols) if triples is None else triples
+    lengths = _field_lengths(body, about.kind.width) if about.is_plain and body else None
+    if lengths is not None and int(lengths[::about.kind.width].max()) <= MOST_DIGITS:
+        rows, = parse_integers.fields(body, (0,), about.kind.width)
+        if _are_rows(rows, about.nrows) and bool((rows[1:] >= rows[:-1]).all()):
+            return _as_they_are(body, rows, cut), len(rows)
+    triples = _triples(body, about) if lengths is not None and int(lengths.max()) <= MOST_DIGITS else None
+    if triples is None:
+        triples = matrix_market.read_quickly(about.kind, body, body.count(b'\n'), about.nrows, about.ncols)
     if triples is None:
         return [Part(b'', 0)] * cut.blocks, UNUSUAL if body else 0
-    return written(matrix_market.mirrored(triples, about.kind.symmetry), about.is_bare, cut), lines
-
-
-class Lines(NamedTuple):
-    """The numbers that lines begin with, and where the lines begin, with the end of the last."""
-    numbers: Any
-    starts: Any
-
-
-def first_numbers(body: bytes) -> Optional[Lines]:
-    """The number at the beginning of each line; None where a line begins with anything else, or with more than eight digits. They are read as
-    `parse_integers` has it, from their first byte on."""
-    import numpy
-    marks = numpy.frombuffer(body + bytes(WORD + 1), numpy.uint8)
-    words: Any = numpy.ndarray((len(marks) - WORD + 1,), '<u8', marks.data, 0, (1,))
-    numbers, starts, at = [], [], 0
-    while at < len(body):
-        end = body.rfind(b'\n', at, at + CHUNK) + 1 or body.find(b'\n', at) + 1
-        first = numpy.flatnonzero(marks[at:end] == LF) + (at + 1)
-        first[1:], first[:1] = first[:-1].copy(), at
-        found = _numbers(marks, words, first)
-        if found is None:
-            return None
-        numbers.append(found)
-        starts.append(first)
-        at = end
-    return Lines(numpy.concatenate(numbers), numpy.concatenate([*starts, [len(body)]]))
-
-
-def _numbers(marks: Any, words: Any, starts: Any) -> Optional[Any]:
-    import numpy
-    u64 = numpy.uint64
-    word = words[starts] ^ u64(0x3030303030303030)
-    others = ((word + u64(0x7676767676767676)) | word) & u64(0x8080808080808080)     # the bytes that are no digits
-    lowest = others & (~others + u64(1))
-    full = lowest == 0
-    if bool((lowest == 128).any()) or (bool(full.any()) and bool((marks[starts[full] + WORD] > BLANK).any())):
-        return None
-    word &= numpy.where(full, u64(2 ** 64 - 1), (lowest >> u64(7)) - u64(1))
-    word *= numpy.where(full, u64(1), (u64(1 << 63) // numpy.maximum(lowest, u64(1))) << u64(8))       # the last digit to the highest byte
-    for times, shift, bits in ((10 * 2 ** 8 + 1, 8, 0x00FF00FF00FF00FF), (100 * 2 ** 16 + 1, 16, 0x0000FFFF0000FFFF),
-                               (10000 * 2 ** 32 + 1, 32, 0xFFFFFFFF)):
-        word = ((word * u64(times)) >> u64(shift)) & u64(bits)
-    return word.view(numpy.int64)
+    return written(matrix_market.mirrored(triples, about.kind.symmetry), about.is_bare, cut), body.count(b'\n')
 
 
 def _are_rows(numbers: Any, nrows: int) -> bool:
     return len(numbers) == 0 or (int(numbers.min()) >= 1 and int(numbers.max()) <= nrows)
 
 
-def _as_they_are(body: bytes, found: Lines, cut: Cut) -> List[Part]:
+def _as_they_are(body: bytes, rows: Any, cut: Cut) -> List[Part]:
     """Lines whose rows ascend. What else stands in them a session looks at."""
-    import numpy
-    at = numpy.searchsorted(found.numbers, numpy.array(cut.bounds) + 1)
-    at[-1] = len(found.numbers)
-    starts = found.starts[at].tolist()
-    return [Part(body[first:end], int(many)) for first, end, many in zip(starts, starts[1:], numpy.diff(at))]
+    starts = numpy.append(0, numpy.flatnonzero(numpy.frombuffer(body, numpy.uint8) == LF) + 1)
+    at = numpy.searchsorted(rows, numpy.array(cut.bounds) + 1)
+    at[-1] = len(rows)
+    places = starts[at].tolist()
+    return [Part(body[first:end], int(many)) for first, end, many in zip(places, places[1:], numpy.diff(at))]
 
 
-def _is_even(body: bytes, width: int) -> bool:
-    """Whether each line has so many numbers of at most `MOST_DIGITS` digits, with one blank between two."""
-    import numpy
+def _field_lengths(body: bytes, width: int) -> Optional[Any]:
+    """The bytes of each number and of what ends it, where each line has so many, with one blank
+    between two; else None."""
     if body.translate(None, b'0123456789- \n'):
-        return False
+        return None
     if b'-' in body and (b'--' in body or b'- ' in body or b'-\n' in body or body.count(b'-') != body.count(b' -')):
-        return False
+        return None
     marks = numpy.frombuffer(body, numpy.uint8)
     ends = numpy.flatnonzero(marks < parse_integers.MINUS)
     if len(ends) % width or bool((marks[ends[width - 1::width]] != LF).any()) or len(ends) != width * body.count(b'\n'):
-        return False
+        return None
     lengths = numpy.diff(ends, prepend=-1)
-    return int(lengths.min()) > 1 and int(lengths.max()) <= MOST_DIGITS
+    return lengths if int(lengths.min()) > 1 else None
 
 
 def _triples(body: bytes, about: About) -> Optional[Triples]:
-    """The entries of lines; None where these aren't even, or one is outside of the matrix."""
-    import numpy
+    """The entries of even lines; None where one is outside of the matrix."""
     width = about.kind.width
-    if not _is_even(body, width):
-        return None
     rows, columns, *values = parse_integers.fields(body, range(width), width)
     if not _are_rows(rows, about.nrows) or not _are_rows(columns, about.ncols):
         return None
@@ -219,7 +182,6 @@ def _triples(body: bytes, about: About) -> Optional[Triples]:
 
 def written(triples: Triples, bare: bool, cut: Cut) -> List[Part]:
     """The lines of each block, in the order of the entries."""
-    import numpy
     rows, columns, values, nrows, ncols = triples
     of = numpy.searchsorted(numpy.array(cut.bounds[1:-1], numpy.int64), rows, side='right')
     order = numpy.argsort(of.astype(numpy.uint16 if cut.blocks < 1 << 16 else numpy.int64), kind='stable')

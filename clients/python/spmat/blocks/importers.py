@@ -1,57 +1,35 @@
 """Matrices in blocks from what callers have: text, files, generators."""
 from __future__ import annotations
 
+import functools
 import io
 import os
 import uuid
-from typing import TYPE_CHECKING, Any, Callable, Iterable, Iterator, List, Optional, Sequence, Tuple, Union
+from typing import Any, Callable, Iterable, Iterator, List, Optional, Sequence, Tuple, Union
+
+import numpy
 
 from .. import limits, units
 from ..errors import Refused, TextRefused, refusal
-from ..io import column_names, coo, matrix_market, matrix_text
-from ..io.graph_files import Layout, Request, name_of
+from ..io import coo, files, matrix_market
+from ..io.columns import Layout, ask_two_kinds
+from ..io.files import name_of
+from ..io.formats import Request
 from ..io.importers import DupOp, Sources
 from ..io.matrix_text import Triples
-from ..metadata import BY_POSITIONS, as_constant, without_names
+from ..metadata import BY_POSITIONS, as_constant
 from ..operators import Operator, find
-from ..pricing import foreseen
-from . import chunked_input, duplicate_errors, parallel_edgelist, parallel_read, row_partition, worker_tasks
-from .deferred_upload import HeldVector
+from . import chunked_input, errors, parallel_edgelist, parallel_read, row_partition, worker_tasks
 from .edgelist_partitions import Frame
 from .executor import Engine, Progress
+from .backend import BlockHandle, BlocksBackend
 from .matrix import BlockMatrix
 from .row_partition import Cut
 from .shared_budget import Work
 from .worker_store import Piece, Settings
 
-if TYPE_CHECKING:
-    from .sessions import Sessions
-
-SMALL = 1 << 16                                    # bytes of a text that goes with its task, where another would lie in a file
-
-
-class Sender:
-    """What keeps entries for several sessions until they are sent."""
-
-    def __init__(self, sessions: 'Sessions') -> None:
-        self._sessions = sessions
-
-    def keep(self, entries: Triples) -> BlockMatrix:
-        """A matrix of entries by ascending row and column, which aren't looked at. The client keeps those of a vector; they are sent
-        when a job wants them."""
-        if 1 not in (entries.nrows, entries.ncols):
-            return without_names(self._sessions.from_coo(*entries))
-        cut = self._sessions.cut_for(entries.nrows, None) or row_partition.evenly(entries.nrows, self._sessions.blocks)
-        return HeldVector(self._sessions, entries, cut)
-
-    def submit(self, form: str, ops: Any, operands: Any, shape: Tuple[int, int], thunk: Optional[int] = None, mask: Any = None,
-               name: Optional[str] = None, parts: bool = False) -> Any:
-        """Tells a job to who asks for a price. No other job is of all blocks at once."""
-        _ = thunk, name, parts
-        asker = foreseen.asked()
-        if asker is None:
-            raise ValueError('what stands for a matrix in a price is none')
-        return asker.foresee(self._sessions, form, ops, operands, mask, shape)
+# bytes of a text that goes with its task, where another would lie in a file
+SMALL = 1 << 16
 
 
 class Inputs(Sources[BlockMatrix]):
@@ -66,22 +44,26 @@ class Inputs(Sources[BlockMatrix]):
     batch: Callable[[Sequence[Work]], List[Any]]
     results: Callable[..., List[Any]]
     spool: Callable[[], Optional[str]]
+    _backend: 'BlocksBackend'
     engine: Engine
     settings: Settings
     turns: Iterator[int]
 
-    def from_edges(self, edges: Iterable[Any], nrows: int, ncols: int, *, cut: Optional[Sequence[int]] = None, dup_op: DupOp = None,
+    def from_edges(self, edges: Iterable[Any], nrows: int, ncols: int, *,
+                   cut: Optional[Sequence[int]] = None, dup_op: DupOp = None,
                    name: Optional[str] = None) -> BlockMatrix:
-        """A matrix from a generator of (row, column, value), or of chunks of them: arrays of numpy with these as columns. They come
-        in any order, and lie in files while they come: no more than a block of them is held. Where a position repeats it is a
-        TextRefused (M8), or with `dup_op` its values are folded by that operator in the order in which they came."""
+        """A matrix from a generator of (row, column, value), or of chunks of them: arrays of numpy
+        with these as columns. They come in any order, and lie in files while they come: no more
+        than a block of them is held. Where a position repeats it is a TextRefused (M8), or with
+        `dup_op` its values are folded by that operator in the order in which they came."""
         with chunked_input.Spool(coo.side(nrows, 0, 'nrows'), coo.side(ncols, 0, 'ncols')) as spool:
             spool.take(edges)
             spool.notes = BY_POSITIONS
             return self._spooled(spool, cut, name, dup_op)
 
     def from_text(self, text: Union[bytes, str], name: Optional[str] = None) -> BlockMatrix:
-        """A matrix from a Matrix Market text as a session reads it; see `Session.from_text`. TextRefused names the line."""
+        """A matrix from a Matrix Market text as a session reads it; see `Session.from_text`.
+        TextRefused names the line."""
         text = text.encode() if isinstance(text, str) else bytes(text)
         if len(text) > limits.MOST_TEXT:
             raise refusal('S7', detail='the text has %d bytes' % len(text))
@@ -95,18 +77,23 @@ class Inputs(Sources[BlockMatrix]):
         self.results([self.submit(0, '', worker_tasks.source, text)], [''])
         raise AssertionError('a session takes a text that was refused here')
 
-    def mmread(self, source: Any, *, values: bool = True, scale: Optional[float] = None, dup_op: DupOp = None,
+    def mmread(self, source: Any, *, values: bool = True, scale: Optional[float] = None,
+               max_bytes: Optional[int] = None, dup_op: DupOp = None,
                cut: Optional[Sequence[int]] = None, name: Optional[str] = None) -> BlockMatrix:
-        """A matrix from a Matrix Market file: a path (also .gz and .bz2), or a file opened in binary. It is read by pieces, and no more
-        than a block is held; it may be larger than one session takes. `array` files, which are small, are read at once. `values`,
-        `scale` and `dup_op` are as for `Session.mmread`. What is refused names the file and the line. `progress('read', done, of)` is
-        called after each piece, with bytes. In python-graphblas `io.mmread`."""
+        """A matrix from a Matrix Market file: a path (also .gz and .bz2), or a file opened in
+        binary. It is read by pieces, and no more than a block is held; it may be larger than one
+        session takes. `array` files, which are small, are read at once. `values`, `scale` and
+        `dup_op` are as for `Session.mmread`; `max_bytes` bounds the file, which may be packed. What
+        is refused names the file and the line. `progress('read', done, of)` is called after each
+        piece, with bytes. In python-graphblas `io.mmread`."""
         units.of_read(scale, dup_op)
+        files.check_length(source, max_bytes)
         made = None if dup_op is not None else parallel_read.read_matrix_market(self, source, matrix_market.Values(values, scale), cut, name)
         if made is not None:
             return made
         start = source.tell() if hasattr(source, 'read') and hasattr(source, 'seekable') and source.seekable() else None
-        with chunked_input.spool_of(source, matrix_market.Values(values, scale), self.progress, whole=dup_op is None) as spool:
+        limit = files.Limit(max_bytes)
+        with chunked_input.spool_of(source, matrix_market.Values(values, scale), self.progress, dup_op is None, limit) as spool:
             if dup_op is not None:
                 return self._refolded(spool, cut, name, dup_op)
             try:
@@ -114,41 +101,50 @@ class Inputs(Sources[BlockMatrix]):
             except TextRefused as fault:
                 if fault.rule != 'M8':
                     raise
-                raise duplicate_errors.of_file(source, start, spool, self._cut(spool.nrows, spool, cut), fault).of_file(name_of(source)) from None
+                found = errors.of_repeated_line(source, start, spool, self.find_cut(spool.nrows, spool, cut), fault)
+                raise found.of_file(name_of(source)) from None
 
     def _read(self, path: Any, request: Request, dup_op: DupOp, name: Optional[str]) -> BlockMatrix:
-        """The matrix of a file, or of a folder of lists or parquet, by the workers where they see it."""
+        """The matrix of a file, or of a folder of lists or parquet, by the workers where they see
+        it."""
         layout = request.layout
-        asked = parallel_edgelist.Asked(request.directed is not False, request.bipartite, dup_op, name, layout.scale)
+        files.check_length(path, request.max_bytes)
+        reading = parallel_edgelist.Reading(request.directed is not False, request.bipartite, dup_op, name, layout.scale)
         made = None if dup_op is not None or request.directed is False or request.format not in (None, 'mtx') else parallel_read.read_matrix_market(
             self, path, matrix_market.Values(layout.values, layout.scale), None, name)
         if made is None and request.format in (None, 'edges', 'csv', 'tsv', 'parquet'):
-            made = parallel_edgelist.of_file(self, path, request, asked)
+            made = parallel_edgelist.of_file(self, path, request, reading)
         return super()._read(path, request, dup_op, name) if made is None else made
 
-    def from_dask_dataframe(self, frame: Any, source: Any = 'source', target: Any = 'target', edge_attr: Any = None, *, directed: bool = True,
-                            bipartite: Optional[bool] = None, missing: Optional[str] = 'raise', unit: Optional[str] = None,
-                            date_format: Optional[str] = None, dup_op: DupOp = None, name: Optional[str] = None) -> BlockMatrix:
-        """The adjacency matrix of a `dask.dataframe`, as `from_pandas_edgelist` has it of a table of pandas: each worker takes its partitions, and
-        the caller's process gets the names alone. By `Dask` the partitions are computed by the same cluster. ValueError where edges with
-        values repeat, unless `dup_op` folds them, and where names of some partitions are whole numbers and of others aren't."""
-        question = column_names.two_kinds(str(source), str(target)) if bipartite is None else None
+    def from_dask_dataframe(self, frame: Any, source: Any = 'source', target: Any = 'target',
+                            edge_attr: Any = None, *, directed: bool = True,
+                            bipartite: Optional[bool] = None, missing: Optional[str] = 'raise',
+                            unit: Optional[str] = None, date_format: Optional[str] = None,
+                            dup_op: DupOp = None, name: Optional[str] = None) -> BlockMatrix:
+        """The adjacency matrix of a `dask.dataframe`, as `from_pandas_edgelist` has it of a table
+        of pandas: each worker takes its partitions, and the caller's process gets the names alone.
+        By `Dask` the partitions are computed by the same cluster. ValueError where edges with
+        values repeat, unless `dup_op` folds them, and where names of some partitions are whole
+        numbers and of others aren't."""
+        question = ask_two_kinds(str(source), str(target)) if bipartite is None else None
         if question is not None:
             raise ValueError(question)
         layout = Layout(missing=missing, unit=unit, date_format=date_format)
-        asked = parallel_edgelist.Asked(directed, bool(bipartite), dup_op, name)
-        return parallel_edgelist.of_frame(self, frame, Frame(None, (source, target), edge_attr, layout), asked)
+        reading = parallel_edgelist.Reading(directed, bool(bipartite), dup_op, name)
+        return parallel_edgelist.of_frame(self, frame, Frame(None, (source, target), edge_attr, layout), reading)
 
-    def _refolded(self, spool: 'chunked_input.Spooled', cut: Optional[Sequence[int]], name: Optional[str], dup_op: DupOp) -> BlockMatrix:
-        """A matrix of a file's entries, whose positions may repeat: they are folded as they stand in the file, and then the other
-        triangle of a symmetric one is added."""
+    def _refolded(self, spool: 'chunked_input.Spooled', cut: Optional[Sequence[int]],
+                  name: Optional[str], dup_op: DupOp) -> BlockMatrix:
+        """A matrix of a file's entries, whose positions may repeat: they are folded as they stand
+        in the file, and then the other triangle of a symmetric one is added."""
         with chunked_input.Spool(spool.nrows, spool.ncols) as folded:
             for triples in spool.blocks(row_partition.by_entries(spool.counts, self.blocks)):
                 folded.add(matrix_market.mirrored(self._folded(triples, dup_op), spool.symmetry))
             folded.notes = spool.notes._replace(weighted=True)
             return self._spooled(folded, cut, name)
 
-    def _market(self, file: str, text: bytes, request: Request, dup_op: DupOp, name: Optional[str]) -> BlockMatrix:
+    def _market(self, file: str, text: bytes, request: Request, dup_op: DupOp,
+                name: Optional[str]) -> BlockMatrix:
         layout = request.layout
         try:
             return self.mmread(io.BytesIO(text), values=layout.values, scale=layout.scale, dup_op=dup_op, name=name)
@@ -161,70 +157,80 @@ class Inputs(Sources[BlockMatrix]):
         op = find('binary', dup_op)
         return coo.unrepeated(triples, lambda many: self._fold(many, op))
 
-    def full(self, nrows: int, ncols: int, value: int = 1, *, name: Optional[str] = None) -> BlockMatrix:
+    def full(self, nrows: int, ncols: int, value: int = 1, *,
+             name: Optional[str] = None) -> BlockMatrix:
         """A matrix with one value everywhere, made at the workers."""
         shape = coo.side(nrows, 0, 'nrows'), coo.side(ncols, 0, 'ncols')
-        cut, value = self._cut(shape[0], None), coo.word(value, 'value')
+        cut, value = self.find_cut(shape[0], None), coo.word(value, 'value')
         return as_constant(self._each(cut, shape[1], name, lambda first, end: (worker_tasks.full, first, end, shape, value)))
 
     def ones(self, ncols: int) -> BlockMatrix:
-        """A row of ones, which folds columns."""
-        return self.full(1, ncols)
+        """A row of ones, which folds columns. It is made at a worker where a job wants it."""
+        cut = self.find_cut(1, None)
+        futures = functools.partial(self._submit_each, cut, lambda first, end: (worker_tasks.full, first, end, (1, ncols), 1))
+        handle = BlockHandle(self._backend, cut, ncols, futures)
+        handle.is_ones = True
+        return BlockMatrix(self, handle)
 
     def identity(self, n: int, value: int = 1, *, name: Optional[str] = None) -> BlockMatrix:
         """A square matrix with one value on its diagonal, made at the workers."""
         n, value = coo.side(n, 0, 'n'), coo.word(value, 'value')
-        return as_constant(self._each(self._cut(n, None), n, name, lambda first, end: (worker_tasks.identity, first, end, n, value)))
+        return as_constant(self._each(self.find_cut(n, None), n, name, lambda first, end: (worker_tasks.identity, first, end, n, value)))
 
-    def _each(self, cut: Cut, ncols: int, name: Optional[str], task: Callable[[int, int], Tuple[Any, ...]]) -> BlockMatrix:
-        futures = [self.submit(k, cut.label(k), *task(first, end)) for k, (first, end) in enumerate(cut.ranges())]
-        return BlockMatrix(self.itself(), futures, cut, ncols, name)
+    def _each(self, cut: Cut, ncols: int, name: Optional[str],
+              task: Callable[[int, int], Tuple[Any, ...]]) -> BlockMatrix:
+        return self.assemble(cut, ncols, self._submit_each(cut, task), name)
 
-    def itself(self) -> 'Sessions':
-        """These sessions."""
-        return self  # type: ignore[return-value]
+    def assemble(self, cut: Cut, ncols: int, futures: Sequence[Any],
+                 name: Optional[str]) -> BlockMatrix:
+        """A matrix of its blocks."""
+        return BlockMatrix(self, BlockHandle(self._backend, cut, ncols, futures), name)
+
+    def _submit_each(self, cut: Cut, task: Callable[[int, int], Tuple[Any, ...]]) -> List[Any]:
+        return [self.submit(block, cut.label(block), *task(first, end)) for block, (first, end) in enumerate(cut.ranges())]
 
     def cut_for(self, nrows: int, given: Union[Cut, Sequence[int], None]) -> Optional[Cut]:
-        """Where a new matrix is cut: as the caller says, or as the matrix that these sessions cut after; None where neither tells."""
+        """Where a new matrix is cut: as the caller says, or as the matrix that these sessions cut
+        after; None where neither tells."""
         if given is not None:
             return row_partition.checked(given.bounds if isinstance(given, Cut) else given, nrows)
         return self.cut if self.cut is not None and self.cut.nrows == nrows else None
 
-    def _cut(self, nrows: int, spool: Optional['chunked_input.Spooled'], given: Union[Cut, Sequence[int], None] = None) -> Cut:
+    def find_cut(self, nrows: int, spool: Optional['chunked_input.Spooled'],
+                 given: Union[Cut, Sequence[int], None] = None) -> Cut:
         """Where a new matrix is cut: as `cut_for` has it, or by entries."""
         found = self.cut_for(nrows, given)
         if found is not None:
             return found
         return row_partition.evenly(nrows, self.blocks) if spool is None else row_partition.by_entries(spool.counts, self.blocks)
 
-    def _from(self, triples: Triples, dup_op: DupOp = None, name: Optional[str] = None) -> BlockMatrix:
+    def _from(self, triples: Triples, dup_op: DupOp = None,
+              name: Optional[str] = None) -> BlockMatrix:
         folded = self._folded(triples, dup_op)
-        with chunked_input.Held(folded) as held:
+        with chunked_input.InMemory(folded) as held:
             try:
                 return self._spooled(held, None, name)
             except TextRefused as fault:
-                raise (duplicate_errors.of_triples(folded, fault) if fault.rule == 'M8' else fault) from None
+                raise (errors.of_repeated_triples(folded, fault) if fault.rule == 'M8' else fault) from None
 
     def share(self, piece: Piece) -> Any:
-        """A piece that has its text, as tasks of all places take it: by Dask from one worker, which the others get it from."""
+        """A piece that has its text, as tasks of all places take it: by Dask from one worker, which
+        the others get it from."""
         if not self.engine.forgets or len(piece.text()) < SMALL:
             return piece
-        return self.submit(next(self.turns), 'a vector', worker_tasks.given, piece)
+        return self.submit(next(self.turns), 'a vector', worker_tasks.hand_on, piece)
 
     def _fold(self, many: Triples, op: Operator) -> Any:
         label = 'values that share a position'
-        folds = self.results(self.batch([Work(0, label, worker_tasks.folded, (many, op))]), [label])[0]
-        return matrix_text.find_numpy().array(folds) if matrix_text.is_array(many.rows) else folds
+        folds = self.results(self.batch([Work(0, label, worker_tasks.fold_repeated, (many, op))]), [label])[0]
+        return numpy.array(folds)
 
-    def _spooled(self, spool: 'chunked_input.Spooled', given: Union[Cut, Sequence[int], None], name: Optional[str],
-                 dup_op: DupOp = None) -> BlockMatrix:
+    def _spooled(self, spool: 'chunked_input.Spooled', given: Union[Cut, Sequence[int], None],
+                 name: Optional[str], dup_op: DupOp = None) -> BlockMatrix:
         """A matrix of what lies in a spool, block by block."""
-        cut = self._cut(spool.nrows, spool, given)
+        cut = self.find_cut(spool.nrows, spool, given)
         fold = None if dup_op is None else lambda triples: self._folded(triples, dup_op)
-        futures = []
-        for block, text in enumerate(spool.texts(cut, fold)):
-            futures.append(self.put(block, cut.label(block), text))
-        made = BlockMatrix(self.itself(), futures, cut, spool.ncols, name).wait()
+        made = BlockMatrix(self, self._backend.spooled(spool, cut, fold), name)
         made.notes = spool.notes
         return made
 

@@ -1,14 +1,15 @@
 """Where the rows of a matrix are cut into blocks, and texts cut at rows.
 
-A cut of n blocks is n + 1 bounds: block k has the rows from bound k to below bound k + 1. Blocks may have no row. Texts are the
-server's (`show`): their entries stand by ascending row, so the lines of some rows are found by halving and are cut out as they
-are.
+A cut of n blocks is n + 1 bounds: block k has the rows from bound k to below bound k + 1. Blocks
+may have no row. Texts are the server's (`show`): their entries stand by ascending row, so the lines
+of some rows are found by halving and are cut out as they are.
 """
 from __future__ import annotations
 
 import bisect
-import itertools
 from typing import Any, Iterable, Iterator, List, NamedTuple, Sequence, Tuple
+
+import numpy
 
 from .. import limits
 from ..errors import refusal
@@ -49,7 +50,8 @@ class Cut(NamedTuple):
 
 
 def checked(bounds: Iterable[int], nrows: int) -> Cut:
-    """A cut that a caller gives, looked at. ValueError where the bounds don't ascend from 0 to the number of rows."""
+    """A cut that a caller gives, looked at. ValueError where the bounds don't ascend from 0 to the
+    number of rows."""
     cut = Cut(tuple(bounds))
     if len(cut.bounds) < 2 or cut.bounds[0] != 0 or cut.nrows != nrows or any(a > b for a, b in cut.ranges()):
         raise ValueError('a cut ascends from 0 to the %d rows, and this is %s' % (nrows, cut.bounds))
@@ -57,10 +59,10 @@ def checked(bounds: Iterable[int], nrows: int) -> Cut:
 
 
 def by_entries(counts: Sequence[int], blocks: int) -> Cut:
-    """The cut into so many blocks of about as many entries each, by the number of entries of each row. A row is never divided, so
-    a row with most of the entries has a block to itself, and others may stay without a row."""
-    numpy = matrix_text.find_numpy() if matrix_text.is_array(counts) else None
-    ends: Any = numpy.cumsum(counts) if numpy is not None else list(itertools.accumulate(counts))
+    """The cut into so many blocks of about as many entries each, by the number of entries of each
+    row. A row is never divided, so a row with most of the entries has a block to itself, and others
+    may stay without a row."""
+    ends: Any = numpy.cumsum(counts)
     total = int(ends[-1]) if len(ends) else 0
     if not total:
         return evenly(len(counts), blocks)
@@ -76,12 +78,14 @@ def _nearest(ends: Any, wanted: float) -> int:
 
 
 def evenly(nrows: int, blocks: int) -> Cut:
-    """The cut into so many blocks of about as many rows each, where nothing is known of the entries."""
+    """The cut into so many blocks of about as many rows each, where nothing is known of the
+    entries."""
     return Cut(tuple(nrows * k // blocks for k in range(blocks + 1)))
 
 
 def lines_of(text: bytes, first: int, end: int) -> Tuple[bytes, int]:
-    """The lines of the entries in the rows from `first` to below `end`, and their number, out of a text as the server writes it."""
+    """The lines of the entries in the rows from `first` to below `end`, and their number, out of a
+    text as the server writes it."""
     nrows, _, _, start = matrix_text.head_of(text)
     if first <= 0 and end >= nrows:
         lines = text[start:]
@@ -109,7 +113,8 @@ def head(nrows: int, ncols: int, count: int) -> bytes:
 
 
 def text_of(nrows: int, ncols: int, parts: Sequence[Tuple[bytes, int]]) -> bytes:
-    """One text of lines and their numbers. TooLarge where it is longer, or has more entries, than a session takes."""
+    """One text of lines and their numbers. TooLarge where it is longer, or has more entries, than a
+    session takes."""
     count, size = sum(part[1] for part in parts), sum(len(part[0]) for part in parts)
     first = head(nrows, ncols, count)
     if count > limits.MOST_SIDE:

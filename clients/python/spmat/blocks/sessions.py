@@ -10,49 +10,60 @@ import tempfile
 import weakref
 from typing import Any, Callable, Dict, Iterable, List, Optional, Sequence, Tuple, Union
 
-from .._client.pending_jobs import Budget, JobResult, Run
+from ..backends.protocol import Budget, JobResult, Run
 from .._client.server_program import Program
-from ..aliases import is_same
+from ..backends.unread import Unforeseen, backend_now, current_price
 from ..errors import BudgetExceeded, SpmatError
 from ..io import coo
 from ..limits import MOST_STEPS, MOST_WORKERS
 from ..operators import Op, Operator, diagnostics, find
-from ..pricing import budget_check, foreseen
-from . import unsupported, worker_tasks
-from .dask_direct_calls import Call
+from . import worker_tasks
+from .backend import BlockHandle, BlocksBackend
 from .errors import AtBlock, VersionMismatch, in_all, named
-from .executor import Engine, Progress
-from .importers import Inputs, Sender
-from .matrix import BlockMatrix
+from .executor import Call, Engine, Progress
+from .importers import Inputs
 from .row_partition import Cut
 from .shared_budget import Ledger, Work
 from .threads import Threads
 from .worker_store import Settings, agree
 
-MOST_WAITING = 1024                                # results that are noted until those are passed over that are there
+# results that are noted until those are passed over that are there
+MOST_WAITING = 1024
+# What one session has and blocks don't: why, and what to do instead.
+OF_ONE_SESSION: Dict[str, str] = {
+    'connect': 'the workers of blocks start their own programs: Sessions(Threads(n)) on this machine, Sessions(Dask(client)) on others',
+    'connection': 'each worker has its own connection: budget() tells what all spent, progress= what goes on',
+    'jobs': 'run() tells the jobs, each with its price and steps',
+    'runs': 'jobs of blocks run as soon as they are asked for',
+}
 
 
 class Sessions(Inputs):
     """Several sessions that hold matrices in row blocks. Use it in a `with`, or close it.
 
-    `engine` is a number of sessions of this machine, or an engine: `Threads(n)`, `Dask(client)`. `steps` is the budget, one for all
-    sessions together; of less than 2^56 steps each job waits for its end, and is refused for all blocks as one, before any is charged.
-    `workers` are the threads of each session, `program` is as for `Session`. `blocks` is how many blocks a matrix has, without it one a
-    session. `folder` is one that this process and all workers see: texts of blocks that come from here are put there, so that no
-    scheduler holds them. `associative` names operators of which the caller says that they are: products over them go by blocks of
-    B (`BlockMatrix.mxm`). `texts=True` takes each result out as text as soon as it is made (docs/scaling.md has what that costs).
+    `engine` is a number of sessions of this machine, or an engine: `Threads(n)`, `Dask(client)`.
+    `steps` is the budget, one for all sessions together; of less than 2^56 steps each job waits for
+    its end, and is refused for all blocks as one, before any is charged. `workers` are the threads
+    of each session, `program` is as for `Session`. `blocks` is how many blocks a matrix has,
+    without it one a session. `folder` is one that this process and all workers see: texts of blocks
+    that come from here are put there, so that no scheduler holds them. `associative` names
+    operators of which the caller says that they are: products over them go by blocks of B
+    (`BlockMatrix.mxm`). `texts=True` takes each result out as text as soon as it is made
+    (docs/scaling.md has what that costs).
 
-    `progress(word, done, of)` is called in long work: 'blocks' of a job, 'read' bytes of a file, and 'again' with the number of tasks
-    that were done again, because a worker or its program was lost (`again` is that number, too). `patience` is how many seconds a
-    worker may say nothing, or its program stand still, until it is taken for lost; None: for ever.
+    `progress(word, done, of)` is called in long work: 'blocks' of a job, 'read' bytes of a file,
+    and 'again' with the number of tasks that were done again, because a worker or its program was
+    lost (`again` is that number, too). `patience` is how many seconds a worker may say nothing, or
+    its program stand still, until it is taken for lost; None: for ever.
 
-    All workers have to have one version of this package and of the program, told by the SHA-256 of its file: VersionMismatch
-    otherwise, at once, and for a worker that comes later at its first task."""
+    All workers have to have one version of this package and of the program, told by the SHA-256 of
+    its file: VersionMismatch otherwise, at once, and for a worker that comes later at its first
+    task."""
 
-    def __init__(self, engine: Union[Engine, int, None] = None, *, steps: int = MOST_STEPS, workers: int = 1,
-                 program: Optional[Program] = None, blocks: Optional[int] = None, folder: Optional[str] = None,
-                 associative: Iterable[Op] = (), texts: bool = False, progress: Progress = None,
-                 patience: Optional[float] = 10) -> None:
+    def __init__(self, engine: Union[Engine, int, None] = None, *, steps: int = MOST_STEPS,
+                 workers: int = 1, program: Optional[Program] = None, blocks: Optional[int] = None,
+                 folder: Optional[str] = None, associative: Iterable[Op] = (), texts: bool = False,
+                 progress: Progress = None, patience: Optional[float] = 10) -> None:
         _check_settings(steps, workers, patience)
         self.engine = engine if isinstance(engine, Engine) else Threads() if engine is None else Threads(engine)
         self.blocks = self.engine.places if blocks is None else coo.whole(blocks, 'number of blocks')
@@ -60,11 +71,12 @@ class Sessions(Inputs):
             raise ValueError('1 block at least, not %d' % self.blocks)
         self.folder, self.progress = folder, progress
         self._spool: Optional['tempfile.TemporaryDirectory[str]'] = None
-        self._waiting: List['weakref.ref[BlockMatrix]'] = []
+        self._waiting: List['weakref.ref[BlockHandle]'] = []
         self.files: List[str] = []                 # what was written there
         self.associative = frozenset(find('binary', op) for op in associative)
         self.turns = itertools.count()             # which place is the next to join a whole
         self.cut: Optional[Cut] = None
+        self._backend = BlocksBackend(self)
         self.ledger = Ledger(int(steps))
         settings = Settings(int(steps), workers, program, texts, patience)
         self.settings = dataclasses.replace(settings, version=self._version(settings))
@@ -86,7 +98,8 @@ class Sessions(Inputs):
         return '<Sessions of %s, %d blocks>' % (type(self.engine).__name__, self.blocks)
 
     def close(self) -> None:
-        """Ends the sessions. Their matrices are gone, and so are the files that they wrote into `folder`."""
+        """Ends the sessions. Their matrices are gone, and so are the files that they wrote into
+        `folder`."""
         self.engine.close(self.settings)
         while self.files:
             with contextlib.suppress(FileNotFoundError):
@@ -94,16 +107,19 @@ class Sessions(Inputs):
         if self._spool is not None:
             self._spool.cleanup()
 
-    backend: Sender                                # made when it is asked for: these are copied for each cut
+    @property
+    def backend(self) -> Any:
+        """What takes the jobs of matrices, or while a call is priced what foresees them."""
+        return backend_now(self._backend)
 
     def __getattr__(self, name: str) -> Any:
-        if name == 'backend':
-            return Sender(self)
-        raise AttributeError(unsupported.words('Session', name, self))
+        why = OF_ONE_SESSION.get(name)
+        raise AttributeError('%r object has no attribute %r%s' % (
+            type(self).__name__, name, '' if why is None else ', as one session has: ' + why))
 
     def spool(self) -> Optional[str]:
-        """Where texts of blocks lie that come from here: in `folder`, or where all sessions are on this machine in one that `close`
-        removes; None where the engine keeps them."""
+        """Where texts of blocks lie that come from here: in `folder`, or where all sessions are on
+        this machine in one that `close` removes; None where the engine keeps them."""
         if self.folder is None and self._spool is None and isinstance(self.engine, Threads):
             self._spool = tempfile.TemporaryDirectory(prefix='spmat-')  # pylint: disable=consider-using-with
         return self.folder if self._spool is None else self._spool.name
@@ -113,7 +129,7 @@ class Sessions(Inputs):
         if cut == self.cut:
             return self
         out = copy.copy(self)
-        out.cut = cut
+        out.cut, out._backend = cut, BlocksBackend(out)  # pylint: disable=protected-access
         return out
 
     def __eq__(self, other: object) -> bool:
@@ -131,15 +147,16 @@ class Sessions(Inputs):
         return self.settings.workers
 
     def budgets(self) -> Dict[str, Budget]:
-        """What each session has reserved and spent, by the name of its worker, and what all sessions have left; of workers in one process,
-        which share a session, the first."""
+        """What each session has reserved and spent, by the name of its worker, and what all
+        sessions have left; of workers in one process, which share a session, the first."""
         workers = self._ask()
         left = self.ledger.budget.left
         return {worker: Budget(left, budget.reserved, budget.spent) for worker, (_, budget) in workers.items()}
 
     def budget(self) -> Budget:
-        """What all sessions together have left, reserved and spent, as one budget. What a worker spent that was lost since is in it as far
-        as it was told: by the last time that was asked."""
+        """What all sessions together have left, reserved and spent, as one budget. What a worker
+        spent that was lost since is in it as far as it was told: by the last time that was
+        asked."""
         self._ask()
         return self.ledger.budget
 
@@ -147,10 +164,10 @@ class Sessions(Inputs):
         """The name and the budget of each session, by the first of its workers."""
         found: Dict[str, Tuple[str, Tuple[str, Budget]]] = {}
         try:
-            told = self.engine.everywhere(self.settings, worker_tasks.budget)
+            answers = self.engine.everywhere(self.settings, worker_tasks.budget)
         except AtBlock as at:
             raise named(at.label, at.fault) from None
-        for worker, (session, budget) in told.items():
+        for worker, (session, budget) in answers.items():
             found.setdefault(session, (worker, (session, budget)))
         self.ledger.note(dict(both for _, both in found.values()))
         return dict(found.values())
@@ -161,7 +178,8 @@ class Sessions(Inputs):
         return self.engine.again(self.settings)
 
     def check(self, op: Operator) -> diagnostics.Check:
-        """What the verifier says of an operator; see `Session.check`. One of the sessions is asked."""
+        """What the verifier says of an operator; see `Session.check`. One of the sessions is
+        asked."""
         return self._one('', worker_tasks.check, op)  # type: ignore[no-any-return]
 
     def dis(self, op: Operator) -> str:
@@ -175,30 +193,34 @@ class Sessions(Inputs):
     # -- tasks
 
     def run(self) -> Run:
-        """Waits for all jobs that were asked for, which run as soon as they are: each with its price and steps at all blocks
-        together. Of a result that nobody holds any more nothing is told."""
+        """Waits for all jobs that were asked for, which run as soon as they are: each with its
+        price and steps at all blocks together. Of a result that nobody holds any more nothing is
+        told."""
         waiting, self._waiting[:] = list(self._waiting), []
-        held = [matrix for matrix in (one() for one in waiting) if matrix is not None]
-        return Run([JobResult(matrix.wait(), matrix.form, matrix.price, matrix.steps) for matrix in held])  # type: ignore[arg-type]
+        held = [handle for handle in (one() for one in waiting) if handle is not None]
+        for handle in held:
+            handle.counts()
+        return Run([JobResult(next(iter(handle.matrices()), None), handle.form, handle.price or 0, handle.steps or 0) for handle in held])
 
-    def begun(self, matrix: BlockMatrix) -> None:
+    def begun(self, handle: BlockHandle) -> None:
         """Notes the result of a job, for `run`."""
         if len(self._waiting) > MOST_WAITING:
             self._waiting[:] = [one for one in self._waiting if (held := one()) is not None and held.waits]
-        self._waiting.append(weakref.ref(matrix))
+        self._waiting.append(weakref.ref(handle))
 
-    def forget(self, matrix: BlockMatrix) -> None:
+    def forget(self, handle: BlockHandle) -> None:
         """Takes a result from those that `run` waits for."""
-        self._waiting[:] = [one for one in self._waiting if (held := one()) is not None and not is_same(held, matrix)]
+        self._waiting[:] = [one for one in self._waiting if one() not in (None, handle)]
 
     def _one(self, label: str, function: Callable[..., Any], *args: Any) -> Any:
         """What a task gives at one of the sessions, whichever."""
         return self.results([self.submit(0, label, function, *args)], [label])[0]
 
     def batch(self, works: Sequence[Work]) -> List[Any]:
-        """The futures of tasks, each of which makes one job at its block. Where the budget is small, BudgetExceeded with the price of all of
-        them before any is charged, and else they are done."""
-        foreseen.check_queued()
+        """The futures of tasks, each of which makes one job at its block. Where the budget is
+        small, BudgetExceeded with the price of all of them before any is charged, and else they are
+        done."""
+        check_queued()
         if not self.is_metered:
             self.ledger.grant(len(works))
             return [self.submit(*work[:3], *work.args) for work in works]
@@ -216,9 +238,10 @@ class Sessions(Inputs):
         return futures
 
     def asked(self, works: Sequence[Work]) -> List[Any]:
-        """What tasks give whose first argument is a piece and whose others are short, as `batch` and `results` have it, and by a shorter way
-        where there is one: nothing of it stays at the workers."""
-        foreseen.check_queued()
+        """What tasks give whose first argument is a piece and whose others are short, as `batch`
+        and `results` have it, and by a shorter way where there is one: nothing of it stays at the
+        workers."""
+        check_queued()
         labels = [work.label for work in works]
         if works and not self.is_metered:
             calls = [Call(work.args[0], work.label, work.args[1:]) for work in works]
@@ -232,13 +255,14 @@ class Sessions(Inputs):
         return self.results(self.batch(works), labels)
 
     def _check(self, price: int) -> None:
-        """BudgetExceeded where jobs of this price together are above what is left, with what the algorithm wanted that asks for them."""
+        """BudgetExceeded where jobs of this price together are above what is left, with what the
+        algorithm wanted that asks for them."""
         try:
-            with budget_check.naming_algorithm():
-                self.ledger.check(price)
-        except BudgetExceeded as fault:
+            self.ledger.check(price)
+        except BudgetExceeded as refused:
+            fault = refused.with_advice()
             fault.block, fault.spent_in_all = '', self.ledger.budget.spent  # type: ignore[attr-defined]
-            raise
+            raise fault from None
 
     @property
     def is_metered(self) -> bool:
@@ -251,7 +275,7 @@ class Sessions(Inputs):
 
     def _price(self, works: Sequence[Work], exact: bool) -> int:
         """The price of jobs together, or a bound of it."""
-        return sum(self.results([self.submit(work.block, work.label, worker_tasks.priced, work.function, list(work.args), exact) for work in works],
+        return sum(self.results([self.submit(work.block, work.label, worker_tasks.price_job, work.function, list(work.args), exact) for work in works],
                                 [work.label for work in works]))
 
     def submit(self, block: int, label: str, function: Callable[..., Any], *args: Any) -> Any:
@@ -259,8 +283,8 @@ class Sessions(Inputs):
         return self.engine.submit(self.settings, block % self.engine.places, label, function, *args)
 
     def results(self, futures: Sequence[Any], labels: Sequence[str]) -> List[Any]:
-        """What futures give. What failed in one of them is raised with its block's name; a lack of steps also with what was spent
-        in all."""
+        """What futures give. What failed in one of them is raised with its block's name; a lack of
+        steps also with what was spent in all."""
         try:
             return self.engine.results(self.settings, futures, labels, self.progress)
         except AtBlock as at:
@@ -271,7 +295,14 @@ class Sessions(Inputs):
         try:
             raise fault from (cause if cause is not fault else None)
         finally:
-            del fault, cause                       # no circle of exception and frame, which would keep futures
+            # no circle of exception and frame, which would keep futures
+            del fault, cause
+
+
+def check_queued() -> None:
+    """Raises Unforeseen where a call is priced whose jobs aren't told to the price."""
+    if current_price() is not None:
+        raise Unforeseen()
 
 
 def _check_settings(steps: int, workers: int, patience: Optional[float]) -> None:

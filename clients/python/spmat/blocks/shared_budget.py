@@ -1,17 +1,20 @@
-"""One budget over all sessions: what they have spent together, and jobs at several blocks that are refused as one.
+"""One budget over all sessions: what they have spent together, and jobs at several blocks that are
+refused as one.
 
-Each session is opened with all of the budget, and the client keeps the books. While far more is left than machines spend in a day, jobs go to
-their blocks at once. Of a smaller budget the jobs of a batch, one at each block, are looked at first: by a bound that costs nothing, and where
-that is above what is left by their prices. No server forgets a job that waits, so none is queued for that: a session without any step refuses
-each job, and says its price. Where the prices together are above what is left, BudgetExceeded has their sum, and no block was charged.
+Each session is opened with all of the budget, and the client keeps the books. While far more is
+left than machines spend in a day, jobs go to their blocks at once. Of a smaller budget the jobs of
+a batch, one at each block, are looked at first: by a bound that costs nothing, and where that is
+above what is left by their prices. No server forgets a job that waits, so none is queued for that:
+a session without any step refuses each job, and says its price. Where the prices together are above
+what is left, BudgetExceeded has their sum, and no block was charged.
 """
 from __future__ import annotations
 
 import threading
-from typing import Any, Dict, NamedTuple, Sequence, Tuple
+from typing import Any, Dict, NamedTuple, Optional, Sequence, Tuple
 
-from .._client.backend import Backend
-from .._client.pending_jobs import AMPLE, Budget, most_of
+from ..backends.protocol import AMPLE, Budget, Handle, Job, most_of
+from ..backends.server import ServerBackend
 from ..errors import BudgetExceeded, refusal
 from ..limits import MOST_PRICE
 from ..session import Session
@@ -20,7 +23,8 @@ _asked = threading.local()
 
 
 class Work(NamedTuple):
-    """A task that makes one job at a block: where, its label, the function of `worker_tasks` and its arguments."""
+    """A task that makes one job at a block: where, its label, the function of `worker_tasks` and
+    its arguments."""
     block: int
     label: str
     function: Any
@@ -32,16 +36,17 @@ class Ledger:
 
     def __init__(self, steps: int) -> None:
         self.steps = steps
-        self._spent: Dict[str, int] = {}           # by sessions, those among them that were lost since
+        # by sessions, those among them that were lost since
+        self._spent: Dict[str, int] = {}
         self._reserved = self._granted = 0
         self._lock = threading.Lock()
 
-    def note(self, told: Dict[str, Budget]) -> None:
+    def note(self, budgets: Dict[str, Budget]) -> None:
         """What the sessions tell, by their names."""
         with self._lock:
-            for name, budget in told.items():
+            for name, budget in budgets.items():
                 self._spent[name] = max(budget.spent, self._spent.get(name, 0))
-            self._reserved, self._granted = sum(budget.reserved for budget in told.values()), 0
+            self._reserved, self._granted = sum(budget.reserved for budget in budgets.values()), 0
 
     @property
     def budget(self) -> Budget:
@@ -70,15 +75,14 @@ class Ledger:
             raise refusal('S8', [price, self.budget.left])
 
 
-class MeteredBackend(Backend):
-    """What submits the jobs of a worker's session, and can be asked what they take at most without queueing them."""
+class MeteredBackend(ServerBackend):
+    """What submits the jobs of a worker's session, and can be asked what they take at most without
+    queueing them."""
 
-    def submit(self, form: str, ops: Sequence[Any], operands: Sequence[Any], shape: Tuple[int, int], *more: Any, **named: Any) -> Any:
+    def submit(self, job: Job, name: Optional[str] = None) -> Handle:
         if not getattr(_asked, 'bound', False):
-            return super().submit(form, ops, operands, shape, *more, **named)
-        mask = named.get('mask', more[1] if len(more) > 1 else None)
-        length = sum(self.length_of(op) for op in ops)
-        raise refusal('S8', [most_of(form, length, operands, mask, shape).steps, 0])
+            return super().submit(job, name)
+        raise refusal('S8', [most_of(job, sum(map(self.length_of, job.operators))).steps, 0])
 
 
 class Metered(Session):
@@ -88,7 +92,8 @@ class Metered(Session):
 
 
 def bound_of(function: Any, store: Any, args: Sequence[Any]) -> int:
-    """The most steps that the job of a task could take, by what is known of its operands. It isn't queued."""
+    """The most steps that the job of a task could take, by what is known of its operands. It isn't
+    queued."""
     _asked.bound = True
     try:
         return _refused(function, store, args)
@@ -97,7 +102,8 @@ def bound_of(function: Any, store: Any, args: Sequence[Any]) -> int:
 
 
 def price_of(function: Any, store: Any, args: Sequence[Any]) -> int:
-    """The price of the job of a task, which a session without a step tells as it refuses it. Its operands are sent there."""
+    """The price of the job of a task, which a session without a step tells as it refuses it. Its
+    operands are sent there."""
     asking = store.without_steps()
     try:
         return _refused(function, asking, args)

@@ -11,15 +11,18 @@ from ..errors import Closed
 from . import worker_tasks
 from .errors import AtBlock
 from .executor import Engine, Progress, Version
-from .worker_store import Before, Piece, Settings, Store, version_of
+from .worker_store import Ended, Piece, Settings, Store, version_of
 
-LOOK = 1.0                                         # seconds after which it is looked at what holds results up
-ATTEMPTS = 3                                       # times that a task is begun, where the program ends amid it
+# seconds after which it is looked at what holds results up
+LOOK = 1.0
+# times that a task is begun, where the program ends amid it
+ATTEMPTS = 3
 
 
 class Recipe:
-    """How a result is made: a function, and arguments that are values or other recipes. It holds no result, so that a chain of recipes
-    is small; where an argument has its text, the recipe has it and not the chain before it."""
+    """How a result is made: a function, and arguments that are values or other recipes. It holds no
+    result, so that a chain of recipes is small; where an argument has its text, the recipe has it
+    and not the chain before it."""
 
     __slots__ = ('label', 'function', 'args', 'last', '__weakref__')
 
@@ -33,7 +36,8 @@ class Task:
 
     def __init__(self, recipe: Recipe, future: 'concurrent.futures.Future[Any]') -> None:
         self.recipe, self.future = recipe, future
-        self.again: Any = None                     # the result that was made again, where the first is lost
+        # the result that was made again, where the first is lost
+        self.again: Any = None
 
     def done(self) -> bool:
         """Whether the result is there, or has failed."""
@@ -41,11 +45,13 @@ class Task:
 
 
 class Threads(Engine):
-    """Sessions of this machine: a thread and a process `spmat` each. Where one machine has the memory, one session with as many
-    `workers` is faster, as no text goes from one to another; docs/scaling.md has both.
+    """Sessions of this machine: a thread and a process `spmat` each. Where one machine has the
+    memory, one session with as many `workers` is faster, as no text goes from one to another;
+    docs/scaling.md has both.
 
-    Where a program ends by itself (the system ends what holds the memory), a session is opened anew at its next task, and what it held is
-    made again, from the texts and the tasks before. A block whose program ends so three times in one task ends as BlockFailed."""
+    Where a program ends by itself (the system ends what holds the memory), a session is opened anew
+    at its next task, and what it held is made again, from the texts and the tasks before. A block
+    whose program ends so three times in one task ends as BlockFailed."""
 
     def __init__(self, count: int = 2) -> None:
         if not 1 <= count <= 64:
@@ -53,35 +59,37 @@ class Threads(Engine):
         self._pools = [concurrent.futures.ThreadPoolExecutor(1, 'spmat-%d' % place) for place in range(count)]
         self._stores: Dict[Tuple[str, int], Store] = {}
         self._again: Dict[str, int] = {}
-        self._told: Dict[str, int] = {}
+        self._reported: Dict[str, int] = {}
         self._lock = threading.Lock()
 
     @property
     def places(self) -> int:
         return len(self._pools)
 
-    def submit(self, settings: Settings, place: int, label: str, function: Callable[..., Any], *args: Any) -> Any:
-        """Tasks of a place are done one after the other as they come, and a task waits only for earlier ones: so none waits for
-        ever."""
+    def submit(self, settings: Settings, place: int, label: str, function: Callable[..., Any],
+               *args: Any) -> Any:
+        """Tasks of a place are done one after the other as they come, and a task waits only for
+        earlier ones: so none waits for ever."""
         recipe = Recipe(label, function, _recipes(args))
         task = Task(recipe, concurrent.futures.Future())
         self._pools[place].submit(self._perform, _Maker(self, settings, place), recipe, args, task.future)
         return task
 
     @staticmethod
-    def _perform(maker: '_Maker', recipe: Recipe, args: Any, future: 'concurrent.futures.Future[Any]') -> None:
+    def _perform(maker: '_Maker', recipe: Recipe, args: Any,
+                 future: 'concurrent.futures.Future[Any]') -> None:
         if not future.set_running_or_notify_cancel():
             return
         try:
             future.set_result(maker.run(recipe, args))
-        except BaseException as fault:             # pylint: disable=broad-exception-caught  # whoever asks for the result gets it
+        except BaseException as fault:  # pylint: disable=broad-exception-caught  # whoever asks for the result gets it
             future.set_exception(fault)
 
     def store(self, settings: Settings, place: int) -> Store:
         """The session of a place, opened at its first use, and anew where its program has ended."""
         held = self._stores.get((settings.token, place))
         if held is None or held.lost():
-            self._stores[settings.token, place] = held = Store(settings, held.ended if held is not None else Before())
+            self._stores[settings.token, place] = held = Store(settings, held.ended if held is not None else Ended())
         return held
 
     def count_again(self, settings: Settings) -> None:
@@ -92,7 +100,8 @@ class Threads(Engine):
     def again(self, settings: Settings) -> int:
         return self._again.get(settings.token, 0)
 
-    def results(self, settings: Settings, futures: Sequence[Any], labels: Sequence[str], progress: Progress = None) -> List[Any]:
+    def results(self, settings: Settings, futures: Sequence[Any], labels: Sequence[str],
+                progress: Progress = None) -> List[Any]:
         out = []
         for task, label in zip(futures, labels):
             try:
@@ -109,18 +118,20 @@ class Threads(Engine):
         return out
 
     def _wait(self, settings: Settings, task: Task, progress: Progress) -> None:
-        """Waits for a task, and ends programs that stand still amid a command, so that it is done again."""
+        """Waits for a task, and ends programs that stand still amid a command, so that it is done
+        again."""
         begun = time.monotonic()
         while not task.done():
             concurrent.futures.wait([task.future], LOOK)
-            if progress is not None and self.again(settings) > self._told.get(settings.token, 0):
-                self._told[settings.token] = self.again(settings)
-                progress('again', self._told[settings.token], 0)
+            if progress is not None and self.again(settings) > self._reported.get(settings.token, 0):
+                self._reported[settings.token] = self.again(settings)
+                progress('again', self._reported[settings.token], 0)
             if settings.patience is not None and time.monotonic() - begun > settings.patience:
                 for store in [store for (token, _), store in self._stores.items() if token == settings.token]:
                     store.end_if_stopped(settings.patience)
 
-    def everywhere(self, settings: Settings, function: Callable[..., Any], *args: Any) -> Dict[str, Any]:
+    def everywhere(self, settings: Settings, function: Callable[..., Any], *args: Any) -> Dict[str,
+            Any]:
         names = ['session %d' % place for place in range(self.places)]
         futures = [self.submit(settings, place, name, function, *args) for place, name in enumerate(names)]
         return dict(zip(names, self.results(settings, futures, names)))
@@ -144,7 +155,8 @@ class _Maker:
         self._engine, self._settings, self._place = engine, settings, place
 
     def run(self, recipe: Recipe, args: Any) -> Any:
-        """The result of a recipe with arguments that hold tasks; the recipe keeps those that have their texts."""
+        """The result of a recipe with arguments that hold tasks; the recipe keeps those that have
+        their texts."""
         for attempt in range(ATTEMPTS):
             try:
                 values = self._there(args)
@@ -172,7 +184,8 @@ class _Maker:
         return type(args)(map(self._there, args)) if type(args) in (list, tuple) else args
 
     def _made_again(self, last: Recipe) -> Any:
-        """What a recipe gives, and before it what it stands on, as far back as that is lost. By a list, as a chain may be long."""
+        """What a recipe gives, and before it what it stands on, as far back as that is lost. By a
+        list, as a chain may be long."""
         made: Dict[Recipe, Any] = {}
         waiting = [last]
         while waiting:
@@ -226,7 +239,8 @@ def _filled(args: Any, made: Dict[Recipe, Any]) -> Any:
 
 
 def _cut(args: Any, values: Any) -> Any:
-    """Arguments in which vectors and other short texts stand themselves, and not how they were made."""
+    """Arguments in which vectors and other short texts stand themselves, and not how they were
+    made."""
     if isinstance(args, Recipe):
         return values if isinstance(values, Piece) and values.has_text and values.is_short else args
     if type(args) in (list, tuple):

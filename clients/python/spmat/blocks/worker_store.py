@@ -1,9 +1,11 @@
-"""What a worker keeps: one session of its own, and in it the matrices of the pieces that came there.
+"""What a worker keeps: one session of its own, and in it the matrices of the pieces that came
+there.
 
-A `Piece` is what a task gives: a block, or a whole matrix that products want at each worker. In the process that made it, it is a
-matrix of the worker's session. Where an engine hands it to another process it goes as text, which is taken out of the session
-only then; the session there takes the text in at the piece's first use, and each content once. So where a task's operands are
-there, nothing moves, and a piece is enough to compute on anywhere.
+A `Piece` is what a task gives: a block, or a whole matrix that products want at each worker. In the
+process that made it, it is a matrix of the worker's session. Where an engine hands it to another
+process it goes as text, which is taken out of the session only then; the session there takes the
+text in at the piece's first use, and each content once. So where a task's operands are there,
+nothing moves, and a piece is enough to compute on anywhere.
 """
 from __future__ import annotations
 
@@ -19,17 +21,23 @@ import weakref
 from dataclasses import dataclass, field, replace
 from typing import Any, Dict, Iterator, List, NamedTuple, Optional, Tuple
 
-from .._client.pending_jobs import Budget
+from ..backends.protocol import Budget
 from .._client.server_program import Program, program_words
 from ..errors import Closed
 from ..limits import MOST_STEPS
 from ..matrix import Matrix
-from .dask_close_worker import leave
 from .errors import VersionMismatch
 from .shared_budget import Metered
 
-SHORT = 1 << 20                                    # bytes of a text that is kept with what was made of it
-LEAST_SIZE = 64                                    # bytes that a piece counts for at least, to engines that move data
+# bytes of a text that is kept with what was made of it
+SHORT = 1 << 20
+# bytes that a piece counts for at least, to engines that move data
+LEAST_SIZE = 64
+
+
+def leave() -> None:
+    """What is done where a program has ended with what others want. An engine sets another that has
+    a process of its own for each session."""
 
 
 class Counts(NamedTuple):
@@ -43,10 +51,10 @@ class Counts(NamedTuple):
 
 @dataclass(frozen=True)
 class Settings:
-    """How each worker opens its session: the budget of steps of all, its threads, the words that start the program (without them each
-    worker finds its own, as `Session` does), the seconds after which a program that stands still is taken for lost (None: never), and
-    the version that is expected there. With `texts` each result is taken out as text
-    as soon as it is made."""
+    """How each worker opens its session: the budget of steps of all, its threads, the words that
+    start the program (without them each worker finds its own, as `Session` does), the seconds after
+    which a program that stands still is taken for lost (None: never), and the version that is
+    expected there. With `texts` each result is taken out as text as soon as it is made."""
     steps: int = MOST_STEPS
     workers: int = 1
     program: Optional[Program] = None
@@ -57,10 +65,10 @@ class Settings:
 
 
 def version_of(program: Optional[Program] = None) -> Tuple[str, str]:
-    """What tells a version here: that of this package, and the SHA-256 of the program's file, which says more than the
-    version that the program tells, since two builds of one source may differ as well. Where the program is started by several words
-    (a shell, a wrapper), each word that is a file counts, and each other word as it stands. FileNotFoundError where the first is
-    none."""
+    """What tells a version here: that of this package, and the SHA-256 of the program's file, which
+    says more than the version that the program tells, since two builds of one source may differ as
+    well. Where the program is started by several words (a shell, a wrapper), each word that is a
+    file counts, and each other word as it stands. FileNotFoundError where the first is none."""
     from .. import __version__
     said = hashlib.sha256()
     for number, word in enumerate(program_words(program)):
@@ -83,12 +91,14 @@ def _file_digest(path: str) -> bytes:
 
 
 class Piece:
-    """A block, or a whole matrix: a matrix of the session where it was made, a text elsewhere. Pickling it takes the text out."""
+    """A block, or a whole matrix: a matrix of the session where it was made, a text elsewhere.
+    Pickling it takes the text out."""
 
-    def __init__(self, counts: Counts, matrix: Optional[Matrix] = None, text: Optional[bytes] = None,
-                 digest: Optional[bytes] = None) -> None:
+    def __init__(self, counts: Counts, matrix: Optional[Matrix] = None,
+                 text: Optional[bytes] = None, digest: Optional[bytes] = None) -> None:
         self.counts, self.matrix, self._text = counts, matrix, text
         self._digest = digest
+        self._is_whole = False
 
     def text(self) -> bytes:
         """The text, out of the session where it isn't here."""
@@ -123,7 +133,8 @@ class Piece:
         return self._digest
 
     def marked(self) -> 'Piece':
-        """The same piece, told apart by a mark of its own and not by its content, which takes longer."""
+        """The same piece, told apart by a mark of its own and not by its content, which takes
+        longer."""
         self._digest = uuid.uuid4().bytes
         return self
 
@@ -134,8 +145,16 @@ class Piece:
             leave()                                # another worker asks for what this one has lost
             raise
 
+    def as_whole(self) -> 'Piece':
+        """The same piece, which goes to all workers: it seems to weigh little, so that a product's tasks
+        are done where the blocks are, and not where the whole was joined."""
+        self._is_whole = True
+        return self
+
     def __sizeof__(self) -> int:
         """About the bytes of its text, so that engines know what moving it takes."""
+        if self._is_whole:
+            return LEAST_SIZE
         return LEAST_SIZE + (len(self._text) if self._text is not None else 16 * self.counts.nvals)
 
 
@@ -143,8 +162,9 @@ def _arrived(counts: Counts, text: bytes, digest: Optional[bytes]) -> Piece:
     return Piece(counts, text=text, digest=digest)
 
 
-class Before(NamedTuple):
-    """What is known of a session that has ended here, for the next one: its name, and the steps that it had spent."""
+class Ended(NamedTuple):
+    """What is known of a session that has ended here, for the next one: its name, and the steps
+    that it had spent."""
     name: str = ''
     spent: int = 0
 
@@ -152,7 +172,7 @@ class Before(NamedTuple):
 class Store:
     """One worker's session, and which piece is which matrix in it."""
 
-    def __init__(self, settings: Settings, before: Before = Before()) -> None:
+    def __init__(self, settings: Settings, before: Ended = Ended()) -> None:
         if settings.version is not None and version_of(settings.program) != settings.version:
             raise VersionMismatch('this worker has another version than the others: %s, and %s is expected'
                                   % (_words(version_of(settings.program)), _words(settings.version)))
@@ -162,13 +182,15 @@ class Store:
         self._here: 'weakref.WeakKeyDictionary[Piece, Matrix]' = weakref.WeakKeyDictionary()
         self._contents: 'weakref.WeakValueDictionary[bytes, Matrix]' = weakref.WeakValueDictionary()
         self.uploads = 0
-        self._seen: Optional[Tuple[float, int]] = None     # when the program was first seen to have used so much of a processor
+        # when the program was first seen to have used so much of a processor
+        self._seen: Optional[Tuple[float, int]] = None
         self._known = before.spent
         self._users, self._last_use = 0, time.monotonic()
         self._made: 'weakref.WeakSet[Piece]' = weakref.WeakSet()
 
     def matrix(self, piece: Piece) -> Matrix:
-        """The piece as a matrix of this session. Its text is taken in where it isn't there, each content once."""
+        """The piece as a matrix of this session. Its text is taken in where it isn't there, each
+        content once."""
         if piece.matrix is not None and piece.matrix.session is self.session:
             return piece.matrix
         with self._lock:
@@ -192,7 +214,8 @@ class Store:
         return piece.keep_text() if self.settings.texts else piece
 
     def lost(self) -> bool:
-        """Whether the session has ended by itself: its program was killed, or the machine's memory was at its end."""
+        """Whether the session has ended by itself: its program was killed, or the machine's memory
+        was at its end."""
         return not self.session.connection.usable()
 
     @contextlib.contextmanager
@@ -207,18 +230,20 @@ class Store:
                 self._users -= 1
                 self._last_use = time.monotonic()
 
-    def is_left(self, seconds: float) -> bool:
+    def is_abandoned(self, seconds: float) -> bool:
         """Whether no task has used this session for so long, and nobody holds a piece of it."""
         with self._lock:
             return not self._users and time.monotonic() - self._last_use > seconds and not len(self._made)
 
     @property
-    def ended(self) -> Before:
-        """What the next session here has to know of this one: the steps of those before it are in it."""
-        return Before(self.name, self._known)
+    def ended(self) -> Ended:
+        """What the next session here has to know of this one: the steps of those before it are in
+        it."""
+        return Ended(self.name, self._known)
 
     def budget(self) -> Budget:
-        """What this session and those before it here have spent, and what this one has reserved and left."""
+        """What this session and those before it here have spent, and what this one has reserved and
+        left."""
         left, reserved, _ = self.session.budget()
         return Budget(left, reserved, max(0, self.settings.steps - left - reserved))
 
@@ -232,11 +257,12 @@ class Store:
             self._known = self.settings.steps - left
 
     def end_if_stopped(self, patience: float) -> bool:
-        """Ends a program that has used no processor for so many seconds while the reply to a command is awaited: it is stopped, or
-        waits for what doesn't come. What it held is made again elsewhere. Where the system doesn't tell (it does on Linux), nothing."""
+        """Ends a program that has used no processor for so many seconds while the reply to a
+        command is awaited: it is stopped, or waits for what doesn't come. What it held is made
+        again elsewhere. Where the system doesn't tell (it does on Linux), nothing."""
         process, used = self.session.connection.process, None
         if process is not None and self.session.connection.awaits:
-            used = _used(process)
+            used = _count_ticks(process)
         now = time.monotonic()
         if process is None or used is None or self._seen is None or self._seen[1] != used:
             self._seen = None if used is None else (now, used)
@@ -252,8 +278,9 @@ class Store:
         self.session.close()
 
 
-def _used(group: int) -> Optional[int]:
-    """The ticks of a processor that the processes of a group have used; None where the system doesn't tell."""
+def _count_ticks(group: int) -> Optional[int]:
+    """The ticks of a processor that the processes of a group have used; None where the system
+    doesn't tell."""
     used: Optional[int] = None
     with contextlib.suppress(OSError):
         for number in filter(str.isdigit, os.listdir('/proc')):
@@ -266,22 +293,24 @@ def _used(group: int) -> Optional[int]:
 
 
 _stores: Dict[str, Store] = {}
-_ended: Dict[str, Before] = {}                     # sessions that have ended here
+_ended: Dict[str, Ended] = {}                     # sessions that have ended here
 _lock = threading.Lock()
 _sweeper: Optional[threading.Thread] = None
-LEFT = 60.0                                        # seconds after which a session ends of which nobody holds a piece
+# seconds after which a session ends of which nobody holds a piece
+ABANDONED = 60.0
 
 
 def store_of(settings: Settings) -> Store:
-    """The store of this process, which is opened at its first use, and anew where its program has ended. What that one held is lost:
-    pieces that have their texts (`texts=True`) are taken in again, others are for the engine to make anew."""
-    global _sweeper                                # pylint: disable=global-statement  # one for the process
+    """The store of this process, which is opened at its first use, and anew where its program has
+    ended. What that one held is lost: pieces that have their texts (`texts=True`) are taken in
+    again, others are for the engine to make anew."""
+    global _sweeper  # pylint: disable=global-statement  # one for the process
     with _lock:
         held = _stores.get(settings.token)
         if held is None or held.lost():
             if held is not None:
                 _ended[settings.token] = held.ended
-            _stores[settings.token] = held = Store(settings, _ended.get(settings.token, Before()))
+            _stores[settings.token] = held = Store(settings, _ended.get(settings.token, Ended()))
         if _sweeper is None:
             _sweeper = threading.Thread(target=_sweep, name='spmat-sweeper', daemon=True)
             _sweeper.start()
@@ -289,12 +318,13 @@ def store_of(settings: Settings) -> Store:
 
 
 def _sweep() -> None:
-    """Ends sessions that nobody uses: a client that dies, or forgets to close, doesn't hold memory at workers for good. Should its
-    client live, the next task opens a session with what is left of its budget."""
+    """Ends sessions that nobody uses: a client that dies, or forgets to close, doesn't hold memory
+    at workers for good. Should its client live, the next task opens a session with what is left of
+    its budget."""
     while True:
-        time.sleep(LEFT / 12)
+        time.sleep(ABANDONED / 12)
         with _lock:
-            left = [(token, store) for token, store in _stores.items() if store.is_left(LEFT)]
+            left = [(token, store) for token, store in _stores.items() if store.is_abandoned(ABANDONED)]
             for token, store in left:
                 _ended[token] = store.ended
                 del _stores[token]
@@ -318,7 +348,8 @@ def close_store(settings: Settings) -> None:
 
 
 def agree(versions: Dict[str, Tuple[str, str]]) -> Tuple[str, str]:
-    """The version that all workers have, by their names. Raises VersionMismatch, which names them, where they differ."""
+    """The version that all workers have, by their names. Raises VersionMismatch, which names them,
+    where they differ."""
     told: Dict[Tuple[str, str], List[str]] = {}
     for worker, version in versions.items():
         told.setdefault(version, []).append(worker)

@@ -1,7 +1,7 @@
 """The command line `spmat-graph COMMAND ..`, which is `python3 -m spmat COMMAND ..`, too.
 
-A command for each algorithm of `spmat.algorithms` (`algorithm_table`, `algorithm_commands`), `spy` and `draw`, `types`, `script`
-and `completion`. Results go to standard output, progress to standard error where that is a terminal, and a fault is one line there.
+A command for each algorithm of `spmat.algorithms` (`algorithm_table`), `spy` and `draw` (`graph_commands`), `types` and `script`
+(`session_commands`), and `completion`. Results go to standard output, progress to standard error where that is a terminal, and a fault is one line there.
 `exit_status` has the exit statuses.
 """
 from __future__ import annotations
@@ -12,10 +12,11 @@ import sys
 from typing import Any, List, NoReturn, Optional
 
 from .. import __version__
+from ..io.formats import READABLE
 from ..io.matrix_market import ENDINGS
-from . import algorithm_commands, completion, draw_commands, session_script_command, verifier_types_command
+from . import graph_commands, session_commands
 from .exit_status import MEANINGS, PROGRAM, Status, finish
-from .grammar import Parser
+from .grammar import Parser, add_completion, complete
 
 DESCRIPTION = 'Graph algorithms, pictures, operators and sessions of spmat, the job server for sparse integer matrices.'
 EPILOG = """examples:
@@ -27,8 +28,8 @@ EPILOG = """examples:
   %%(prog)s types my_operator.asm --kind binary
   %%(prog)s script session.txt
 
-A graph is a file in Matrix Market format, an edge list, CSV, TSV or DIMACS (also %s), which is seen from what stands in it. An entry
-at row i and column j, or a line `i j`, is an edge from i to j. Vertices have their names in the file; those of a Matrix Market file count
+A graph is a file in Matrix Market format, %s (also %s), which is seen from
+what stands in it. An entry at row i and column j, or a line `i j`, is an edge from i to j. Vertices have their names in the file; those of a Matrix Market file count
 from 1. `%%(prog)s COMMAND --help` tells more of each command. The server itself is another program: see `spmat --help`.
 
 exit status:
@@ -39,7 +40,7 @@ FORMER = 'run'                                     # what `script` is called whe
 
 def epilog() -> str:
     """Examples, and the exit statuses."""
-    return EPILOG % (', '.join(ENDINGS), '\n'.join('  %3d  %s' % pair for pair in MEANINGS.items()))
+    return EPILOG % (READABLE, ', '.join(ENDINGS), '\n'.join('  %3d  %s' % pair for pair in MEANINGS.items()))
 
 
 def parser(program: str = PROGRAM) -> argparse.ArgumentParser:
@@ -47,10 +48,9 @@ def parser(program: str = PROGRAM) -> argparse.ArgumentParser:
     made = Parser(prog=program, description=DESCRIPTION, epilog=epilog(), formatter_class=argparse.RawDescriptionHelpFormatter)
     made.add_argument('--version', action='version', version='spmat %s, the client' % __version__, help="tell the client's version")
     commands = made.add_subparsers(dest='command', metavar='COMMAND', required=True)
-    for module in (algorithm_commands, draw_commands, verifier_types_command):
-        module.add_commands(commands)
-    session_script_command.add_commands(commands, () if program == PROGRAM else (FORMER,))
-    completion.add_commands(commands)
+    graph_commands.add_commands(commands)
+    session_commands.add_commands(commands, () if program == PROGRAM else (FORMER,))
+    add_completion(commands)
     return made
 
 
@@ -73,5 +73,6 @@ def end(*_: Any) -> NoReturn:
 
 def run(program: str = PROGRAM) -> NoReturn:
     """The command `spmat-graph`."""
+    complete(parser(program))
     signal.signal(signal.SIGTERM, end)
     sys.exit(main(None, program))

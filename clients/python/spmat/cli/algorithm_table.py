@@ -10,7 +10,7 @@ from typing import Any, Callable, Dict, Iterable, List, NamedTuple, Optional
 
 from .. import algorithms
 from .._client.connection import Progress
-from ..algorithms.label_propagation_communities import ROUNDS
+from ..algorithms.communities import ROUNDS
 from ..algorithms.page_rank import ONE
 from ..algorithms.registry import ALGORITHMS, Algorithm
 from ..io.exporters import near, told

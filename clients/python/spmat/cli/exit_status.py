@@ -12,9 +12,8 @@ import sys
 import zlib
 from typing import Iterator, Optional, Tuple, Type
 
-from ..errors import BudgetExceeded, Busy, Closed, NoThread, NotMade, OutOfMemory, ReadError, Refused, SpmatError, TextRefused
-from ..operators.clang import CompileError
-from .error_wording import spoken
+from ..errors import (BudgetExceeded, Busy, Closed, CompileError, NoThread, NotMade, OutOfMemory, ReadError, Refused,
+                      SpmatError, TextRefused, arguments_in)
 
 PROGRAM = 'spmat-graph'                            # what its lines on standard error begin with
 TRACE = 'SPMAT_TRACE'                              # a variable: a fault of the program itself is shown whole
@@ -111,14 +110,27 @@ def words_of(fault: BaseException) -> str:
         return 'interrupted'
     if isinstance(fault, MemoryError):
         return 'this machine has too little memory for it'
-    if isinstance(fault, ReadError):
-        return ' '.join(str(ReadError(fault.file, fault.at, spoken(fault.words), fault.line)).split())
     if isinstance(fault, OSError) and fault.strerror:
         return '%s: %s' % (os.fsdecode(fault.filename), fault.strerror) if fault.filename else fault.strerror
     told = ' '.join(str(fault).split()) or type(fault).__name__
     if status_of(fault) is Status.FAULT:
         return 'a fault of %s itself: %s: %s (%s=1 shows where)' % (PROGRAM, type(fault).__name__, told, TRACE)
-    return spoken(told)
+    return told + describe_flags(fault)
+
+
+# Arguments of Python whose flags have other names; '' for what the command line doesn't have.
+FLAGS = {'bipartite': '--bipartite or --one-kind', 'check': '', 'comments': '--comments or --no-comments',
+         'directed': '--both-ways', 'header': '--header or --no-header', 'missing': '--missing',
+         'name': '--function', 'tls': '--tls, --cacert, --cert or --key', 'token': '', 'values': '--pattern'}
+
+
+def describe_flags(fault: BaseException) -> str:
+    """Name the flags for the arguments that an error is about."""
+    last = list(causes(fault))[-1]
+    arguments = getattr(last, 'arguments', None) or arguments_in(getattr(last, 'words', str(last)))
+    flags = [FLAGS.get(name, '--' + name.replace('_', '-')) for name in arguments]
+    found = ', '.join(filter(None, dict.fromkeys(flags)))
+    return ' (flags: %s)' % found if found else ''
 
 
 def finish(fault: BaseException) -> int:

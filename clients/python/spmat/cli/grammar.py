@@ -1,11 +1,13 @@
-"""The grammar of the command line: a parser whose faults are one line, and which tells its own options."""
+"""The grammar of the command line: a parser whose faults are one line, and completion by argcomplete."""
 from __future__ import annotations
 
 import argparse
 import difflib
+import os
 import re
-from typing import Any, List, NoReturn, Optional
+from typing import Any, NoReturn, Optional
 
+from ..extras import import_extra
 from .exit_status import PROGRAM, Status
 
 SERVERS = ('run', 'serve')                         # words of the program spmat
@@ -27,8 +29,6 @@ class Once(argparse.Action):
 class Parser(argparse.ArgumentParser):
     """A grammar of words. What is wrong with them is told in one line; a word that is the server's as such."""
 
-    summary = ''
-
     def __init__(self, *words: Any, **settings: Any) -> None:
         super().__init__(*words, **settings)
         for action in (None, 'store'):
@@ -44,22 +44,62 @@ class Parser(argparse.ArgumentParser):
         """What is said of a word that is no command."""
         if word in SERVERS:
             return '`%s` is a command of the server, `spmat %s`; here `%s script FILE` runs a file of commands' % (word, word, self.prog)
-        names = next(tuple(action.choices or ()) for action in self.arguments if action.dest == 'command')
+        names = next(tuple(action.choices or ()) for action in self._actions if action.dest == 'command')
         near = difflib.get_close_matches(word.replace('_', '-'), names, 2)
         return 'no command %s%s' % (word, ': did you mean %s?' % ' or '.join(near) if near else '')
-
-    @property
-    def arguments(self) -> List[argparse.Action]:
-        """All options and words that were added, in order."""
-        return list(self._actions)
-
-    def repeats(self, argument: argparse.Action) -> bool:
-        """Whether an option may be given several times."""
-        return isinstance(argument, self._registry_get('action', 'append'))
 
 
 def add_command(commands: Any, name: str, summary: str, **settings: Any) -> Parser:
     """Adds a command with its help in plain lines. `summary` is what the list of commands says of it."""
-    command: Parser = commands.add_parser(name, help=summary, formatter_class=argparse.RawDescriptionHelpFormatter, **settings)
-    command.summary = summary
+    command: Parser = commands.add_parser(name, help=summary, **settings,
+                                          formatter_class=argparse.RawDescriptionHelpFormatter)
     return command
+
+
+# -- completion
+
+COMPLETION = """The packages install it. Elsewhere a line in the shell's own file does:
+
+  ~/.bashrc    eval "$(spmat-graph completion bash)"
+  ~/.zshrc     eval "$(spmat-graph completion zsh)"      below compinit
+
+Completion needs argcomplete."""
+# argcomplete 2 knows bash alone; this is what its functions do, by zsh's own completion
+ZSH = r"""#compdef %(program)s
+_spmat_graph() {
+    local IFS=$'\013'
+    local -a found
+    found=($(IFS="$IFS" COMP_LINE="${(j: :)words[1,CURRENT]}" COMP_POINT="${#${(j: :)words[1,CURRENT]}}" COMP_TYPE=9 \
+        _ARGCOMPLETE=1 _ARGCOMPLETE_SUPPRESS_SPACE=1 %(program)s 8>&1 9>/dev/null 1>/dev/null 2>&1))
+    compadd -- "${found[@]%% }" || _files
+}
+if [[ $funcstack[1] == _spmat_graph || $funcstack[1] == _%(program)s ]]; then
+    _spmat_graph "$@"
+else
+    compdef _spmat_graph %(program)s
+fi
+"""
+SHELLS = ('bash', 'zsh')
+
+
+def add_completion(commands: Any) -> None:
+    """Add `completion`, which prints what a shell reads."""
+    command = add_command(commands, 'completion', 'what makes a shell complete these words',
+                          epilog=COMPLETION, description='Prints what makes a shell complete the '
+                          'words of spmat-graph.')
+    command.add_argument('shell', choices=SHELLS, help='which shell')
+    command.set_defaults(run=print_completion, parser=command)
+
+
+def print_completion(options: argparse.Namespace) -> int:
+    """Print the text for a shell."""
+    argcomplete = import_extra('argcomplete', 'completion')
+    bash = argcomplete.shellcode([PROGRAM], shell='bash')
+    print(bash if options.shell == 'bash' else ZSH % {'program': PROGRAM}, end='')
+    return 0
+
+
+def complete(parser: argparse.ArgumentParser) -> None:
+    """Answer a shell that asks for the words which may follow, and end; else do nothing."""
+    if '_ARGCOMPLETE' in os.environ:
+        import_extra('argcomplete', 'completion').autocomplete(parser, always_complete_options=False)

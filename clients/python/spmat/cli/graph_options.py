@@ -4,33 +4,35 @@ from __future__ import annotations
 import argparse
 import contextlib
 import heapq
+import importlib.util
 import operator
 import os
 import sys
-from typing import Any, Callable, Iterable, Iterator, List, NamedTuple, Optional, TextIO, Tuple
+from typing import Any, Callable, Iterable, Iterator, List, NamedTuple, Optional, Tuple
 
 from ..algorithms import undirected
 from ..algorithms.registry import Wanted
 from ..errors import ReadError
 from ..io import matrix_market
-from ..io.compression import Loaded
-from ..io.graph_files import FORMATS, Layout, Request, format_of
+from ..io.files import Loaded
+from ..io.columns import Layout
+from ..io.formats import FORMATS, GRAPH_FORMATS, READABLE, Request, format_of
 from ..io.time_values import UNITS
 from ..matrix import Matrix, bipartite
 from ..metadata import Nodes
+from ..progress import Bar
 from ..session import Session
 from .exit_status import Ended, Status, reading
 from .output import Result, add_form_options, named
 
-BAR = 30        # characters of a progress bar
 UNDIRECTED = ': --undirected takes the graph without directions, weights and loops'
 BOTH_WAYS = ', --both-ways each edge both ways with its value'
 
 
 def add_graph_options(command: argparse.ArgumentParser) -> None:
     """What is read, and how its values are joined."""
-    command.add_argument('graph', metavar='GRAPH', help='a file in Matrix Market format, an edge list, CSV, TSV or DIMACS (also %s), or - '
-                         'for standard input' % ', '.join(matrix_market.ENDINGS))
+    command.add_argument('graph', metavar='GRAPH', help='a file in Matrix Market format, %s (also %s), or - for '
+                         'standard input' % (READABLE, ', '.join(matrix_market.ENDINGS)))
     command.add_argument('--undirected', action='store_true', help='take the graph without directions, weights and loops')
     command.add_argument('--both-ways', action='store_true',
                          help='each edge leads both ways, with its value; of two the lesser counts, or what --dup-op makes of them')
@@ -86,42 +88,18 @@ def add_output_options(command: argparse.ArgumentParser, ranked: bool = False) -
     command.add_argument('--output', metavar='FILE', help='where the result goes (default: standard output)')
 
 
-class Bar:
-    """Progress on a terminal: one line that is written over, and cleared at the end."""
-
-    def __init__(self, stream: TextIO) -> None:
-        self._stream, self._shown = stream, 0
-
-    def __call__(self, what: str, done: int, of: int) -> None:
-        if of:
-            filled = BAR * done // of
-            text = '%-9s [%s%s] %d%%' % (what, '#' * filled, '.' * (BAR - filled), 100 * done // of)
-        else:
-            text = '%s %d' % (what, done)
-        self._stream.write('\r' + text.ljust(self._shown))
-        self._stream.flush()
-        self._shown = len(text)
-
-    def clear(self) -> None:
-        """Takes the line away."""
-        if self._shown:
-            self._stream.write('\r' + ' ' * self._shown + '\r')
-            self._stream.flush()
-            self._shown = 0
-
-
 @contextlib.contextmanager
-def progress_of(options: argparse.Namespace) -> Iterator[Optional[Bar]]:
-    """A progress bar where standard error is a terminal, else none. Standard output may be the same terminal: write to it behind
-    this, or clear the bar before."""
-    if options.quiet or not sys.stderr.isatty():
+def open_progress(options: argparse.Namespace) -> Iterator[Optional[Bar]]:
+    """Show progress if standard error is a terminal and tqdm is installed. Standard output may be the
+    same terminal: write to it after this, or clear the bar before."""
+    if options.quiet or not sys.stderr.isatty() or importlib.util.find_spec('tqdm') is None:
         yield None
         return
-    drawn = Bar(sys.stderr)
+    bar = Bar(file=sys.stderr)
     try:
-        yield drawn
+        yield bar
     finally:
-        drawn.clear()
+        bar.clear()
 
 
 class Needs(NamedTuple):
@@ -167,7 +145,7 @@ def request_of(options: argparse.Namespace, text: bytes, needs: Needs) -> Reques
     columns = None if options.columns is None else [int(word) if word.isdigit() else word for word in options.columns.split(',')]
     plain = format_of(text) == 'mtx' and matrix_market.is_plain(text)
     values = not options.pattern and (plain or (needs.values and not options.undirected) or options.scale is not None or options.unit is not None)
-    two = options.bipartite if format_of(text) not in ('mtx', 'dimacs', 'graphml', 'gexf', 'gml') else False
+    two = options.bipartite if format_of(text) not in ('mtx', *GRAPH_FORMATS) else False
     layout = Layout(options.delimiter, options.header, columns, values, options.scale, two, True if options.comments is None else options.comments,
                     None if options.missing == 'keep' else options.missing, None, options.unit, options.date_format)
     directed = False if options.both_ways and options.dup_op is not None else None

@@ -15,18 +15,17 @@ from ..metadata import without_names
 from ..units import to_text
 
 if TYPE_CHECKING:
-    from .._client.pending_jobs import Budget, JobResult
+    from ..backends.protocol import Budget, JobResult
     from ..io.exporters import Held
     from ..mask import Mask
     from ..matrix import Matrix
     from ..operators import Operator, Semiring
-    from ..operators.diagnostics import Check
-    from ..operators.explanation import Listing
+    from ..operators.diagnostics import Check, Listing
 
 CORNER, CELLS, SIDE = 8, 48, 144                   # rows and columns of the corner, cells of the raster, pixels of its side
 SHADES = 8                                         # of cells of the raster
 FEW = 50_000
-CELL = 'text-align:right;padding:1px 6px;border:1px solid #ddd'
+CELL = 'text-align:right;padding:1px 6px;white-space:nowrap;border:1px solid #ddd'
 HEAD = 'text-align:right;padding:1px 6px;color:#5a6672;font-weight:normal;border:1px solid #ddd'
 Cells = Dict[Tuple[int, int], int]
 
@@ -201,8 +200,8 @@ def _runs(shades: Mapping[Tuple[int, int], int]) -> Iterator[Tuple[Tuple[int, in
 
 def operator(op: 'Operator') -> str:
     """An operator that no server was asked about: its source beside its instructions."""
-    from ..operators import explanation
-    shown = explanation.shown(op)
+    from ..operators import diagnostics
+    shown = diagnostics.shown(op)
     if shown is not None:
         return listing(shown)
     return '<div><b>%s operator</b> %s%s</div>' % (text_of(op.kind), text_of(op.name or ''), code(op.origin()[1]))
@@ -215,10 +214,10 @@ def code(text: str) -> str:
 
 def listing(shown: 'Listing') -> str:
     """An operator's source beside its instructions, with what is known of the registers before each."""
-    from ..operators import explanation
+    from ..operators import diagnostics
     heads, *rows = shown.columns()
-    known = '<div>%s%s</div>' % (table(heads, rows), '<small>%s</small>' % text_of(explanation.KNOWN))
-    about = '%s<div style="color:#1f4e79">%s</div>' % (beside(code(shown.source), known), text_of(explanation.steps(shown.operator)))
+    known = '<div>%s%s</div>' % (table(heads, rows), '<small>%s</small>' % text_of(diagnostics.KNOWN))
+    about = '%s<div style="color:#1f4e79">%s</div>' % (beside(code(shown.source), known), text_of(diagnostics.steps(shown.operator)))
     return '<div><b>%s operator</b> %s <small>from %s</small>%s</div>' % (
         text_of(shown.operator.kind), text_of(shown.operator.name or ''), text_of(shown.language), about)
 

@@ -1,29 +1,44 @@
 """Files that keep matrices with their names, so that a later session goes on with them.
 
 Such a file is a zip archive: `matrices.json` says of each matrix what it is called, the names of its vertices and what is known of it, and
-in which member its entries are, as Matrix Market text. Nothing but the standard library writes or reads it, and other programs can.
+in which member its entries are, as Matrix Market text. Other programs can write and read it, too.
 """
 from __future__ import annotations
 
+import collections
+import contextlib
 import datetime
 import importlib
+import io
 import json
+import lzma
 import os
+import re
+import struct
 import zipfile
+import zlib
 from fractions import Fraction
-from typing import Any, Dict, Iterable, List, Mapping, Optional, Tuple
+from typing import Any, Dict, Iterator, List, Mapping, NamedTuple, Optional, Sequence, Tuple
 
-from ..errors import ReadError, refusal
-from ..limits import MOST_TEXT
+import numpy
+
+from ..errors import ReadError, SpmatError, TextRefused, TooLarge
+from ..limits import MOST_SIDE, MOST_TEXT
 from ..metadata import Nodes, Notes, Unnamed
 from ..units import plain
+from . import matrix_market
+from .coo import MOST
 from .exporters import Held
-from .file_writers import replacing
+from .files import RATIO, SMALL, replacing
 
 CONTENTS = 'matrices.json'
 VERSION = 2                                        # 1 has no units, and no values that are vertices
 KINDS = (str, int, float, bool, type(None))        # of names, beside dates, and tuples and frozensets of these
 TIMES = ('date', 'datetime', 'datetime64', 'Timestamp')
+DATETIME64 = re.compile(r'[<>=|]?M8\[\d{0,4}[a-zA-Z]{1,2}\]')
+UNIT = re.compile('[1-9][0-9]{0,99}(/[1-9][0-9]{0,99})?')              # a longer one would take long to make a number of
+HEAD = 1 << 16                                     # bytes in which the sizes of a matrix stand
+FEW_CONTENTS = 1 << 22                             # bytes of `matrices.json` that may be packed as well as they like
 
 
 def save(path: Any, matrices: Mapping[str, Held]) -> None:
@@ -38,6 +53,8 @@ def save(path: Any, matrices: Mapping[str, Held]) -> None:
             'directed': matrix.notes.directed, 'weighted': matrix.notes.weighted, 'source': matrix.notes.source}
         if matrix.unit != 1:                       # a client that knows no units doesn't read the file
             contents['matrices'][name]['unit'], contents['spmat'] = str(matrix.unit), VERSION
+        if matrix.notes.sides:
+            contents['matrices'][name]['sides'] = matrix.notes.sides
         if matrix.notes.value_names is not None:
             vertices = 'rows' if matrix.notes.value_names is matrix.notes.rows else _encoded(matrix.notes.value_names, name)
             contents['matrices'][name]['values'], contents['spmat'] = vertices, VERSION
@@ -47,32 +64,108 @@ def save(path: Any, matrices: Mapping[str, Held]) -> None:
             file.writestr('%d.mtx' % number, matrix.to_text())
 
 
-def read(path: Any) -> Iterable[Tuple[str, bytes, Notes]]:
-    """The name of each matrix, its text and what is known of it. ReadError where the file is none that `save` wrote, or is damaged."""
-    name = os.fspath(path)
+class Member(NamedTuple):
+    """A matrix of a file: what it is called, which member has its entries, and what is known of it."""
+    name: str
+    entries: str
+    notes: Notes
+
+
+def read(path: Any) -> Iterator[Tuple[str, bytes, Notes]]:
+    """The name of each matrix, its text and what is known of it. ReadError where the file is none that `save` wrote, or is damaged:
+    what it says of all matrices is held against their sizes before the first of them is given."""
+    with open(path, 'rb') as plain_file, _faults_of(os.fspath(path)), zipfile.ZipFile(plain_file) as file:
+        for member in list(_members(file)):
+            text = file.read(member.entries)
+            if member.notes.value_names is not None:
+                _check_vertices(member, text)
+            yield member.name, text, member.notes
+
+
+@contextlib.contextmanager
+def _faults_of(file: str) -> Iterator[None]:
+    """Whatever is wrong with a file as a ReadError that names it."""
     try:
-        with zipfile.ZipFile(path) as file:
-            contents = json.loads(file.read(CONTENTS))
-            if contents.get('spmat') not in (1, VERSION):
-                raise ReadError(name, None, 'its version is %r, and this client reads versions 1 and %d' % (contents.get('spmat'), VERSION))
-            for called, about in contents['matrices'].items():
-                if file.getinfo(about['entries']).file_size > MOST_TEXT:
-                    raise refusal('S7', detail='%s of %s' % (called, name))
-                yield called, file.read(about['entries']), _notes(about)
+        yield
+    except (ReadError, MemoryError):
+        raise
     except ImportError as fault:
-        raise ReadError(name, None, 'the names of its vertices are those of %s, which is not installed' % fault.name) from None
-    except (zipfile.BadZipFile, KeyError, ValueError, AttributeError, TypeError, EOFError) as fault:
-        if isinstance(fault, ReadError) or getattr(fault, 'rule', None):
+        raise ReadError(file, None, 'the names of its vertices are those of %s, which is not installed' % fault.name) from None
+    except (TextRefused, TooLarge) as fault:
+        raise ReadError(file, None, str(fault)) from None
+    except (zipfile.BadZipFile, zlib.error, lzma.LZMAError, struct.error, LookupError, ValueError, AttributeError, TypeError, EOFError,
+            RuntimeError, OverflowError, OSError) as fault:
+        if isinstance(fault, SpmatError):
             raise
-        raise ReadError(name, None, 'this is no file that save() wrote, or it is damaged (%s)' % fault) from None
+        raise ReadError(file, None, 'this is no file that save() wrote, or it is damaged (%s)' % fault) from None
 
 
-def _notes(about: Dict[str, Any]) -> Notes:
-    rows = _decoded(about['rows'])
-    columns = rows if about['columns'] == 'rows' else _decoded(about['columns'])
-    vertices = rows if about.get('values') == 'rows' else _decoded(about.get('values'))
-    unnamed = [Unnamed[word.upper()] for word in about.get('unnamed', ('positions', 'positions'))]     # which older files don't say
-    return Notes(rows, columns, about['directed'], about['weighted'], about['source'], plain(Fraction(about.get('unit', 1))), vertices, *unnamed)
+def _members(file: zipfile.ZipFile) -> Iterator[Member]:
+    """What a file says of its matrices, each held against the size of its entries."""
+    _check_packed(file.getinfo(CONTENTS), FEW_CONTENTS)
+    contents = _typed(json.loads(file.read(CONTENTS)), dict, CONTENTS)
+    if contents.get('spmat') not in (1, VERSION):
+        raise ReadError(file.filename or '', None, 'its version is %r, and this client reads versions 1 and %d' % (
+            contents.get('spmat'), VERSION))
+    for called, about in _typed(contents['matrices'], dict, 'matrices').items():
+        entries = _typed(_typed(about, dict, called)['entries'], str, 'entries')
+        info = file.getinfo(entries)
+        if info.file_size > MOST_TEXT:
+            raise ValueError('the text of %s has %d bytes, and a session takes %d' % (called, info.file_size, MOST_TEXT))
+        _check_packed(info, SMALL)
+        with file.open(entries) as text:
+            sizes = matrix_market.Reader(io.BytesIO(text.read(HEAD)))
+        yield Member(called, entries, _notes(about, (sizes.nrows, sizes.ncols)))
+
+
+def _check_packed(info: zipfile.ZipInfo, few: int) -> None:
+    """ValueError for a member that is long, and far longer than it is packed."""
+    if info.file_size > few and info.file_size > RATIO * info.compress_size:
+        raise ValueError('%s unpacks to more than %d times its length' % (info.filename, RATIO))
+
+
+def _typed(thing: Any, kind: Any, what: str) -> Any:
+    """A thing of the kind that it has to be of. ValueError where it isn't."""
+    if not isinstance(thing, kind):
+        raise ValueError('%s: expected %s, got %.40r' % (what, getattr(kind, '__name__', 'another kind'), thing))
+    return thing
+
+
+def _notes(about: Dict[str, Any], shape: Tuple[int, int]) -> Notes:
+    """What is known of a matrix of these sizes. ValueError where it can't be."""
+    rows = _decoded(about['rows'], shape[0])
+    columns = _decoded(about['columns'], shape[1], rows)
+    vertices = _decoded(about.get('values'), None, rows)
+    words = _typed(about.get('unnamed', ['positions', 'positions']), list, 'unnamed')         # which older files don't say
+    unnamed = [Unnamed[_typed(word, str, 'unnamed').upper()] for word in words]
+    for what in ('directed', 'weighted'):
+        if about[what] is not None:
+            _typed(about[what], bool, what)
+    unit = about.get('unit', '1')
+    if UNIT.fullmatch(str(unit)) is None:
+        raise ValueError('a unit is a number above 0, not %.40r' % (unit,))
+    return Notes(rows, columns, about['directed'], about['weighted'], _typed(about['source'], str, 'source'), plain(Fraction(unit)),
+                 vertices, *_two(unnamed), _sides(about.get('sides', 0)))
+
+
+def _sides(given: Any) -> int:
+    if given not in (-1, 0, 1) or isinstance(given, (bool, float)):
+        raise ValueError('sides are -1, 0 or 1, not %.40r' % (given,))
+    return int(given)
+
+
+def _two(words: Sequence[Unnamed]) -> Tuple[Unnamed, Unnamed]:
+    if len(words) != 2:
+        raise ValueError('unnamed: expected two words, of rows and of columns, got %d' % len(words))
+    return words[0], words[1]
+
+
+def _check_vertices(member: Member, text: bytes) -> None:
+    """ValueError where a value that stands for a vertex is the number of none."""
+    triples, _ = matrix_market.parse(text)
+    count = len(member.notes.value_names or ())
+    if any(not 0 <= value < count for value in triples.values):
+        raise ValueError('the values of %s are vertices, and there are %d of these' % (member.name, count))
 
 
 def _encoded(names: Optional[Nodes], matrix: str) -> Any:
@@ -102,12 +195,29 @@ def _encoded_name(name: Any, matrix: str) -> Any:
     return name
 
 
-def _decoded(names: Any) -> Optional[Nodes]:
+def _decoded(names: Any, count: Optional[int], rows: Optional[Nodes] = None) -> Optional[Nodes]:
+    """Names of so many vertices, or of any number of them; those of the rows where it says so. ValueError where there are others, or
+    one stands twice."""
+    if names == 'rows':
+        if rows is not None and count not in (None, len(rows)):
+            raise ValueError('%d names for %s vertices' % (len(rows), count))
+        return rows
     if names is None:
         return None
     if isinstance(names, dict):
-        return Nodes(range(names['first'], names['first'] + names['count']))
-    return Nodes(map(_decoded_name, names))
+        first, many = names['first'], names['count']
+        if type(first) is not int or type(many) is not int:
+            raise ValueError('names are counted by whole numbers, not by %.40r' % (names,))
+        if not 0 <= many <= MOST_SIDE or abs(first) > MOST or count not in (None, many):
+            raise ValueError('%d names from %d on, for %s vertices' % (many, first, count))
+        return Nodes(range(first, first + many))
+    if count not in (None, len(_typed(names, list, 'names'))):
+        raise ValueError('%d names for %s vertices' % (len(names), count))
+    found = Nodes(map(_decoded_name, names))
+    if len(found.places) != len(found):
+        twice = next(name for name, many in collections.Counter(found).items() if many > 1)
+        raise ValueError('the name %r stands twice' % (twice,))
+    return found
 
 
 def _decoded_name(name: Any) -> Any:
@@ -123,9 +233,11 @@ def _decoded_time(name: Dict[str, str]) -> Any:
     if 'datetime' in name:
         return datetime.datetime.fromisoformat(name['datetime'])
     if 'datetime64' in name:
-        return importlib.import_module('numpy').array([name['datetime64']], name['unit'])[0]
-    time = importlib.import_module('pandas').Timestamp(name['Timestamp'])
-    return time.tz_convert(name['zone']) if 'zone' in name else time
+        if DATETIME64.fullmatch(name['unit']) is None:
+            raise ValueError('no kind of times: %.40r' % name['unit'])
+        return numpy.array([name['datetime64']], name['unit'])[0]
+    time = importlib.import_module('pandas').Timestamp(_typed(name['Timestamp'], str, 'Timestamp'))
+    return time.tz_convert(_typed(name['zone'], str, 'zone')) if 'zone' in name else time
 
 
 def chosen(named: Mapping[str, Held], given: Mapping[str, Held]) -> Dict[str, Held]:

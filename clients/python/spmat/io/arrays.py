@@ -6,7 +6,7 @@ import math
 import sys
 from typing import TYPE_CHECKING, Any, List, NamedTuple, NoReturn, Optional, Tuple
 
-from .matrix_text import is_array
+import numpy
 
 if TYPE_CHECKING:
     from ..metadata import Nodes
@@ -48,7 +48,7 @@ def plain_column(many: Any, what: str) -> Any:
     labels are. TypeError for what has no order or more than one dimension, ValueError with the place where one is missing."""
     if what in ('row', 'column') and _is_filter(many):
         raise TypeError('%ss are whole numbers, not truth values: numpy.flatnonzero(array) gives the places of a filter' % what)
-    if type(many) in (list, tuple, range) or (is_array(many) and not _is_masked(many)):
+    if type(many) in (list, tuple, range) or (isinstance(many, numpy.ndarray) and not _is_masked(many)):
         return many
     if not is_many(many):
         raise TypeError('expected a list or an array of %ss, not %r' % (what, many))
@@ -63,7 +63,6 @@ def plain_column(many: Any, what: str) -> Any:
         found = many.to_numpy()
         return found if found.dtype.kind != 'O' else found.tolist()
     if hasattr(many, '__array__'):
-        import numpy
         return numpy.asarray(many)
     return list(many)
 
@@ -118,7 +117,6 @@ def table_of(thing: Any) -> Table:
         return Table(_cells_of(thing.to_frame()), _names_of(thing.index, 'row'))
     _check_table(thing)
     if hasattr(thing, '__array__'):
-        import numpy
         array = thing if _is_masked(thing) else numpy.asarray(thing)
         if array.ndim not in (1, 2):
             raise ValueError('expected a table of one or two dimensions, got %d' % array.ndim)

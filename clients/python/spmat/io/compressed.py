@@ -1,10 +1,11 @@
 """Entries by compressed rows or columns, and as a dict for each row or column."""
 from __future__ import annotations
 
-from typing import Any, Dict, List, Optional, Tuple
+from typing import Any, Dict, Optional, Tuple
 
-from .coo import whole_list
-from .matrix_text import is_array
+import numpy
+
+from .coo import whole_array
 
 Columns = Tuple[Any, Any, Any]
 ORDERS = {'rowwise': True, 'columnwise': False}
@@ -13,40 +14,27 @@ ORDERS = {'rowwise': True, 'columnwise': False}
 def to_compressed(entries: Columns, count: int) -> Columns:
     """Where the entries of each row begin, and at last how many there are; their columns and values. Rows ascend."""
     rows, columns, values = entries
-    if is_array(rows):
-        import numpy
-        return numpy.searchsorted(rows, numpy.arange(count + 1)), columns, values
-    beginnings = [0] * (count + 1)
-    for row in rows:
-        beginnings[row + 1] += 1
-    for row in range(count):
-        beginnings[row + 1] += beginnings[row]
-    return beginnings, columns, values
+    return numpy.searchsorted(rows, numpy.arange(count + 1)), columns, values
 
 
 def by_columns(entries: Columns) -> Columns:
     """Entries by ascending column, and each column's by ascending row: columns, rows, values."""
     rows, columns, values = entries
-    if is_array(rows):
-        import numpy
-        order = numpy.argsort(columns, kind='stable')
-        return columns[order], rows[order], values[order]
-    ordered = sorted(range(len(rows)), key=columns.__getitem__)
-    return [columns[at] for at in ordered], [rows[at] for at in ordered], [values[at] for at in ordered]
+    order = numpy.argsort(columns, kind='stable')
+    return columns[order], rows[order], values[order]
 
 
-def expand(indptr: Any, others: Any, what: str) -> List[int]:
+def expand(indptr: Any, others: Any, what: str) -> Any:
     """The row (or column) of each entry, of where the rows begin."""
-    beginnings = whole_list(indptr, 'beginning')
-    if not beginnings or beginnings[0] != 0 or beginnings[-1] != len(others):
+    beginnings = whole_array(indptr, 'beginning')
+    if not len(beginnings) or beginnings[0] != 0 or beginnings[-1] != len(others):
         raise ValueError('the beginnings of the %ss go from 0 to the number of entries, %d, and not %s' % (
-            what, len(others), 'from %d to %d' % (beginnings[0], beginnings[-1]) if beginnings else 'over none'))
-    out: List[int] = []
-    for at, (first, end) in enumerate(zip(beginnings, beginnings[1:])):
-        if end < first:
-            raise ValueError('the beginnings of the %ss ascend, and %d comes after %d (entry %d)' % (what, end, first, at + 1))
-        out += [at] * (end - first)
-    return out
+            what, len(others), 'from %d to %d' % (beginnings[0], beginnings[-1]) if len(beginnings) else 'over none'))
+    counts = numpy.diff(beginnings)
+    if (counts < 0).any():
+        at = int((counts < 0).argmax())
+        raise ValueError('the beginnings of the %ss ascend, and %d comes after %d (entry %d)' % (what, beginnings[at + 1], beginnings[at], at + 1))
+    return numpy.repeat(numpy.arange(len(counts)), counts)
 
 
 def side_of(indptr: Any, given: Optional[int], what: str) -> int:
@@ -59,7 +47,7 @@ def side_of(indptr: Any, given: Optional[int], what: str) -> int:
 
 def to_dicts(entries: Columns, order: str) -> Dict[int, Dict[int, int]]:
     """A dict of the entries of each row, or column, that has some."""
-    rows, columns, values = entries if _is_rowwise(order) else by_columns(entries)
+    rows, columns, values = (part.tolist() for part in (entries if _is_rowwise(order) else by_columns(entries)))
     out: Dict[int, Dict[int, int]] = {}
     for row, column, value in zip(rows, columns, values):
         out.setdefault(row, {})[column] = value

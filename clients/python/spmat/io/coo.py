@@ -4,34 +4,36 @@ from __future__ import annotations
 import math
 import numbers
 import operator
-from typing import Any, Callable, Dict, Iterable, List, Optional, Sequence, Tuple
+from typing import Any, Callable, Iterable, List, Optional, Tuple
+
+import numpy
 
 from ..errors import Refused, refusal
 from ..limits import MOST_SIDE
 from .arrays import columns_of_frame, is_frame, is_gap, is_many, plain_column
-from .matrix_text import FEW, Triples, find_numpy, is_array
+from .matrix_text import Triples
 
 LEAST, MOST = -1 << 63, (1 << 63) - 1
 DUP_OP = 'dup_op= folds the values of a position that repeats'
 
 
 def checked(rows: Any, columns: Any, values: Any, nrows: Optional[int] = None, ncols: Optional[int] = None) -> Triples:
-    """Triples of whole numbers within 64 bits, indices within the sizes. Sizes that aren't given are the least that fit. `values`
-    may be one number for all. TypeError for what is no number, ValueError for lengths that differ, values that aren't whole, and
-    what is out of range; the place is counted from 0."""
-    rows, columns = plain_column(rows, 'row'), plain_column(columns, 'column')
-    values = plain_column(values, 'value') if is_many(values) else values
-    if is_array(rows) or is_array(columns) or is_array(values):
-        return _checked_arrays(rows, columns, values, nrows, ncols)
-    rows, columns = whole_list(rows, 'row'), whole_list(columns, 'column')
-    values = whole_list(values, 'value') if is_many(values) else [whole(values, 'value')] * len(rows)
-    _same_length(rows, columns, values)
-    nrows = side(nrows, max(0, max(rows, default=-1) + 1), 'nrows')
-    ncols = side(ncols, max(0, max(columns, default=-1) + 1), 'ncols')
-    for what, many, least, most in (('row', rows, 0, nrows - 1), ('column', columns, 0, ncols - 1), ('value', values, LEAST, MOST)):
-        if many and not (least <= min(many) and max(many) <= most):
-            at = next(at for at, number in enumerate(many) if not least <= number <= most)
-            raise _outside(what, many[at], least, most, at)
+    """Triples of whole numbers within 64 bits, as arrays, indices within the sizes. Sizes that aren't given are the least that fit.
+    `values` may be one number for all. TypeError for what is no number, ValueError for lengths that differ, values that aren't whole,
+    and what is out of range; the place is counted from 0."""
+    rows, columns = whole_array(plain_column(rows, 'row'), 'row'), whole_array(plain_column(columns, 'column'), 'column')
+    if is_many(values):
+        values = whole_array(plain_column(values, 'value'), 'value')
+    else:
+        values = numpy.full(len(rows), word(values, 'value'), numpy.int64)
+    if not len(rows) == len(columns) == len(values):
+        raise ValueError('%d rows, %d columns and %d values' % (len(rows), len(columns), len(values)))
+    nrows = side(nrows, max(0, int(rows.max()) + 1) if len(rows) else 0, 'nrows')
+    ncols = side(ncols, max(0, int(columns.max()) + 1) if len(columns) else 0, 'ncols')
+    for what, many, most in (('row', rows, nrows - 1), ('column', columns, ncols - 1)):
+        if len(many) and not (many.min() >= 0 and many.max() <= most):
+            at = int(((many < 0) | (many > most)).argmax())
+            raise _outside(what, many[at], 0, most, at)
     return Triples(rows, columns, values, nrows, ncols)
 
 
@@ -47,7 +49,7 @@ def columns_of(triples: Any) -> Tuple[Any, Any, Any]:
     its columns."""
     if is_frame(triples):
         return columns_of_frame(triples)
-    if is_array(triples) and triples.shape[1:] in ((2,), (3,)):
+    if isinstance(triples, numpy.ndarray) and triples.shape[1:] in ((2,), (3,)):
         return triples[:, 0], triples[:, 1], triples[:, 2] if triples.shape[1] == 3 else 1
     many = list(triples)
     lengths = {len(triple) for triple in many}
@@ -124,33 +126,15 @@ def side(given: Optional[int], least: int, what: str) -> int:
     return size
 
 
-def _same_length(rows: Sequence[Any], columns: Sequence[Any], values: Sequence[Any]) -> None:
-    if not len(rows) == len(columns) == len(values):
-        raise ValueError('%d rows, %d columns and %d values' % (len(rows), len(columns), len(values)))
-
-
-def _checked_arrays(rows: Any, columns: Any, values: Any, nrows: Optional[int], ncols: Optional[int]) -> Triples:
-    import numpy
-    rows, columns = whole_array(rows, 'row'), whole_array(columns, 'column')
-    values = whole_array(values, 'value') if is_many(values) else numpy.full(len(rows), word(values, 'value'), numpy.int64)
-    _same_length(rows, columns, values)
-    nrows = side(nrows, max(0, int(rows.max()) + 1) if len(rows) else 0, 'nrows')
-    ncols = side(ncols, max(0, int(columns.max()) + 1) if len(columns) else 0, 'ncols')
-    for what, many, most in (('row', rows, nrows - 1), ('column', columns, ncols - 1)):
-        if len(many) and not (many.min() >= 0 and many.max() <= most):
-            at = int(((many < 0) | (many > most)).argmax())
-            raise _outside(what, many[at], 0, most, at)
-    return Triples(rows, columns, values, nrows, ncols)
-
-
 def whole_array(many: Any, what: str) -> Any:
     """One dimension of numbers as an array of int64. TypeError for what is no number, ValueError for more dimensions, for values
     that aren't whole, and for those beyond 64 bits."""
-    import numpy
     if not hasattr(many, '__array__'):
-        many = many if hasattr(many, '__len__') else list(many)
-        if numpy.asarray(many).dtype.kind == 'f':  # numpy made floats of a list with ints that no float holds
-            many = numpy.array(whole_list(many, what), object)
+        listed = whole_list(many, what)            # not by numpy, which makes floats of a list with ints that no float holds
+        try:
+            return numpy.array(listed, numpy.int64)
+        except OverflowError:
+            many = numpy.array(listed, object)
     array = numpy.asarray(many)
     if array.ndim != 1:
         raise ValueError('expected one dimension of %ss, got %d' % (what, array.ndim))
@@ -177,10 +161,10 @@ def whole_array(many: Any, what: str) -> Any:
 def from_dense(cells: Any, missing: Any = None) -> Triples:
     """The cells of a table, an array of two dimensions or a list of lists, but for those that are `missing` (None: no cell), and masked
     ones. ValueError with its row and column for a cell that holds no value."""
-    if is_array(cells) and cells.dtype.kind != 'O':
+    if isinstance(cells, numpy.ndarray) and cells.dtype.kind != 'O':
         return _from_array(cells, missing)
-    ncols = cells.shape[1] if is_array(cells) else len(cells[0]) if cells else 0
-    rows = _unmasked(cells) if is_array(cells) else cells
+    ncols = cells.shape[1] if isinstance(cells, numpy.ndarray) else len(cells[0]) if cells else 0
+    rows = _unmasked(cells) if isinstance(cells, numpy.ndarray) else cells
     if any(len(row) != ncols for row in rows):
         raise ValueError('rows of %s cells' % ' and '.join(sorted({str(len(row)) for row in rows})))
     chosen = [(i, j, cell) for i, row in enumerate(rows) for j, cell in enumerate(row)
@@ -197,7 +181,6 @@ MASKED = object()                                  # what stands in a cell that 
 
 def _unmasked(table: Any) -> List[List[Any]]:
     """The rows of an array of objects."""
-    import numpy
     hidden: Any = numpy.ma.getmaskarray(table)                         # type: ignore[no-untyped-call]
     return [[MASKED if out else cell for cell, out in zip(row, gone)] for row, gone in zip(numpy.asarray(table).tolist(), hidden)]
 
@@ -213,7 +196,6 @@ def _gap(i: int, j: int, cell: Any) -> ValueError:
 
 
 def _from_array(table: Any, missing: Any) -> Triples:
-    import numpy
     hidden: Any = numpy.ma.getmaskarray(table)                         # type: ignore[no-untyped-call]
     values, chosen = numpy.asarray(table), ~hidden
     gaps = numpy.isnan(values) if values.dtype.kind == 'f' else numpy.zeros(values.shape, bool)
@@ -228,17 +210,14 @@ def _from_array(table: Any, missing: Any) -> Triples:
 
 
 def indices(n: int) -> Any:
-    """0 to n - 1: an array of numpy where they are many and it is there."""
-    numpy = find_numpy() if n > FEW else None
-    return range(n) if numpy is None else numpy.arange(n, dtype=numpy.int64)
+    """0 to n - 1."""
+    return numpy.arange(n, dtype=numpy.int64)
 
 
 def full(nrows: int, ncols: int, value: int) -> Triples:
     """One value everywhere."""
     at = indices(nrows * ncols)
-    if is_array(at):
-        return checked(at // ncols, at % ncols, value, nrows, ncols)
-    return checked([k // ncols for k in at], [k % ncols for k in at], value, nrows, ncols)
+    return checked(at // max(ncols, 1), at % max(ncols, 1), value, nrows, ncols)
 
 
 def from_scipy(matrix: Any) -> Tuple[Any, Any, Any, Tuple[int, int]]:
@@ -250,6 +229,8 @@ def from_scipy(matrix: Any) -> Tuple[Any, Any, Any, Tuple[int, int]]:
     coo = matrix.tocoo(copy=True)
     if coo.data.dtype.kind in 'iu' and coo.data.dtype.itemsize < 8:
         coo.data = coo.data.astype('int64')        # so that sums of short numbers don't wrap
+    elif coo.data.dtype.kind == 'u':
+        coo.data = whole_array(coo.data, 'value')  # so that two which are beyond 64 bits don't make one that isn't
     coo.sum_duplicates()
     return coo.row, coo.col, coo.data, coo.shape
 
@@ -268,25 +249,7 @@ Fold = Callable[[Triples], Any]
 def unrepeated(triples: Triples, fold: Fold) -> Triples:
     """Triples in which each position stands once. `fold` gets the values of those that stand several times as a matrix with a row
     for each such position, its values from column 0 in their order, and answers one value a row. It isn't called where there are
-    none."""
-    if is_array(triples.rows):
-        return _unrepeated_arrays(triples, fold)
-    found: Dict[Tuple[int, int], List[int]] = {}
-    for i, j, value in zip(triples.rows, triples.columns, triples.values):
-        found.setdefault((i, j), []).append(value)
-    if len(found) == len(triples.rows):
-        return triples
-    many = [position for position, had in found.items() if len(had) > 1]
-    cells = [(row, column, value) for row, position in enumerate(many) for column, value in enumerate(found[position])]
-    rows, columns, values = zip(*cells)
-    for position, value in zip(many, fold(Triples(rows, columns, values, len(many), max(columns) + 1))):
-        found[position] = [value]
-    return Triples([i for i, _ in found], [j for _, j in found], [had[0] for had in found.values()], triples.nrows, triples.ncols)
-
-
-def _unrepeated_arrays(triples: Triples, fold: Fold) -> Triples:
-    """The same of arrays: those that stand alone as they come, and behind them those that are folded."""
-    import numpy
+    none. Those that stand alone come as they do, and behind them those that are folded."""
     key = triples.rows * max(triples.ncols, 1) + triples.columns
     ordered = numpy.sort(key)
     again = numpy.unique(ordered[1:][ordered[1:] == ordered[:-1]])

@@ -8,12 +8,14 @@ from __future__ import annotations
 import re
 from typing import Any, List, NamedTuple, NoReturn, Optional, Tuple
 
+import numpy
+
 from ..errors import ReadError, refusal
 from ..limits import MOST_SIDE
 from .edge_values import scaled_array, whole_values
-from .edgelist_matrix import Edges
+from .edges import Edges
 from .matrix_market import even_lines
-from .matrix_text import FEW, find_numpy, line_at
+from .matrix_text import line_at
 
 ARCS = {'sp': b'a', 'max': b'a', 'edge': b'e', 'edges': b'e', 'col': b'e'}
 PASSED = (b'c', b'n', b'x', b'd', b'v')             # comments, and what is told of single vertices
@@ -68,11 +70,10 @@ def problem_of(file: str, text: bytes) -> Problem:
 
 def _quickly(file: str, text: bytes, problem: Problem, values: bool, scale: Optional[float]) -> Optional[Edges]:
     """All lines at once by numpy, where nothing but edges stands behind the line `p`."""
-    numpy = find_numpy() if len(text) > FEW else None
     start = _behind(text, problem.number)
     letter, body = ARCS[problem.kind], text[start:].rstrip()
     fields = 3 if problem.directed else 2
-    if numpy is None or body.translate(None, b'0123456789.eE+- \t\r\n' + letter) or re.search(rb'[0-9.]-|-(?![0-9.])', body):
+    if body.translate(None, b'0123456789.eE+- \t\r\n' + letter) or re.search(rb'[0-9.]-|-(?![0-9.])', body):
         return None
     plain, lines = re.subn(rb'(?m)^%s(?=[ \t])' % letter, b'', body)
     if even_lines(plain, fields) != lines or letter in plain:
@@ -89,7 +90,7 @@ def _quickly(file: str, text: bytes, problem: Problem, values: bool, scale: Opti
     weights = scaled_array(found[:, 2], scale) if fields == 3 and values else None
     if fields == 3 and values and weights is None:
         return None
-    return Edges(ends[0], ends[1], weights, lambda at: '%s, line %d' % (file, problem.number + 1 + at))
+    return Edges(ends[0], ends[1], weights, lambda at, words: ReadError(file, problem.number + 1 + at, words, line_at(text, problem.number + 1 + at)))
 
 
 def _behind(text: bytes, number: int) -> int:
@@ -119,8 +120,10 @@ def _slowly(file: str, text: bytes, problem: Problem, values: bool, scale: Optio
         fields.append(words[-1].decode('utf-8', 'replace'))
     weights: Any = None
     if problem.directed and values:
-        weights = whole_values(fields, scale, lambda at, words: ReadError(file, numbers[at], words, line_at(text, numbers[at])))
-    return Edges(ends[0], ends[1], weights, lambda at: '%s, line %d' % (file, numbers[at]))
+        weights = numpy.array(whole_values(
+            fields, scale, lambda at, words: ReadError(file, numbers[at], words, line_at(text, numbers[at]))), numpy.int64)
+    columns = [numpy.array(end, numpy.int64) for end in ends]
+    return Edges(columns[0], columns[1], weights, lambda at, words: ReadError(file, numbers[at], words, line_at(text, numbers[at])))
 
 
 def _wrong(file: str, text: bytes, number: int, words: str) -> NoReturn:

@@ -6,10 +6,11 @@ import numbers
 import re
 from typing import Any, Callable, List, NoReturn, Optional, Sequence, Tuple
 
+import numpy
+
 from ..errors import ReadError
 from .arrays import is_gap
 from .coo import LEAST, MOST
-from .matrix_text import is_array
 
 EXACT = float(1 << 53)                             # floats below it hold every whole number
 NEAR, HALF = float(1 << 40), 1e-3                  # products of floats below it are as near as that to the true ones
@@ -79,7 +80,7 @@ def scaled(values: Any, scale: Optional[float], what: str = 'value') -> Tuple[An
     rounding, exact = Rounding(scale), check_scale(scale)
     if exact is None:
         return values, rounding
-    if is_array(values) and values.dtype.kind in 'iuf':
+    if isinstance(values, numpy.ndarray) and values.dtype.kind in 'iuf':
         found = scaled_array(values.astype('float64'), scale, rounding)
         if found is not None:
             return found, rounding
@@ -148,7 +149,6 @@ def _out_of_range(field: str, wrong: Callable[[str], Exception]) -> NoReturn:
 
 def scaled_array(values: Any, scale: Optional[float], rounding: Optional[Rounding] = None) -> Any:
     """An array of floats as one of int64, as `whole_values` has it; None where floats can't tell that."""
-    import numpy
     scaled = values if scale is None else values * float(scale)
     rounded = numpy.rint(scaled)
     if not (numpy.abs(scaled) < (EXACT if scale is None else NEAR)).all():

@@ -3,13 +3,17 @@ from __future__ import annotations
 
 import difflib
 import heapq
-from typing import TYPE_CHECKING, Any, Dict, Iterable, List, Optional, Sequence, Set, Tuple, TypeVar
+import os
+from typing import TYPE_CHECKING, Any, Dict, Iterable, Iterator, List, Optional, Sequence, Set, Tuple, TypeVar
+
+import numpy
 
 from .. import top_k
 from ..errors import BudgetExceeded, refusal
-from ..metadata import COLUMNS, NOTHING, ROWS, Nodes, Notes, axes_of, given_axis, vertices_of
+from ..metadata import COLUMNS, NOTHING, ROWS, Nodes, Notes, axes_of, check_one_kind, given_axis, vertices_of
 from ..units import Unit, are_decimals, as_unit, rescaled, to_decimals
-from . import compressed, coo, matrix_text
+from . import compressed, coo, files, matrix_text
+from .dense import dense
 from .file_writers import Written
 
 if TYPE_CHECKING:
@@ -142,9 +146,13 @@ class Held(Written):
         raise NotImplementedError
 
     def to_coo(self, *, arrays: Optional[bool] = None, dtype: Any = None) -> Tuple[Any, Any, Any]:
-        """Rows, columns (from 0) and values, by ascending row and column: arrays of numpy where it is there, else lists; `arrays`
-        says which. Values are the stored whole numbers, with `dtype=float` what these stand for. In python-graphblas the same name."""
-        rows, columns, values = self._stored(matrix_text.find_numpy() is not None if arrays is None else arrays)
+        """Rows, columns (from 0) and values, by ascending row and column: arrays of numpy, or with `arrays=False`
+        lists. Values are the stored whole numbers, with `dtype=float` what these stand for. In python-graphblas the same name."""
+        return self.entries(arrays=arrays, dtype=dtype)
+
+    def entries(self, *, arrays: Optional[bool] = None, dtype: Any = None) -> Tuple[Any, Any, Any]:
+        """Rows, columns and values, as `Matrix.to_coo` has them, also of a vector."""
+        rows, columns, values = self._stored(arrays is not False)
         return rows, columns, self._floats(values) if are_decimals(dtype) else values
 
     def _stored(self, arrays: bool) -> Tuple[Any, Any, Any]:
@@ -173,23 +181,23 @@ class Held(Written):
     def to_dicts(self, order: str = 'rowwise') -> Dict[int, Dict[int, int]]:
         """{row: {column: value}}, with `order="columnwise"` {column: {row: value}}, of the stored whole numbers; nothing of a row without
         entries. In python-graphblas the same name."""
-        return compressed.to_dicts(self.to_coo(arrays=False), order)
+        return compressed.to_dicts(self._stored(True), order)
 
     def to_csr(self) -> Tuple[Any, Any, Any]:
         """Compressed rows: for each row where its entries begin, and at last how many there are; then their columns and their stored values.
-        Arrays of numpy where it is there, else lists. In python-graphblas the same name."""
-        return compressed.to_compressed(self.to_coo(), self.nrows)
+        All are arrays of numpy. In python-graphblas the same name."""
+        return compressed.to_compressed(self.entries(), self.nrows)
 
     def to_csc(self) -> Tuple[Any, Any, Any]:
         """Compressed columns: for each column where its entries begin, and at last how many there are; then their rows and their stored
         values. In python-graphblas the same name."""
-        return compressed.to_compressed(compressed.by_columns(self.to_coo()), self.ncols)
+        return compressed.to_compressed(compressed.by_columns(self.entries()), self.ncols)
 
     def to_list(self, missing: Any = None, dtype: Any = None) -> List[Any]:
         """The values of a column or a row, `missing` where there is no entry: the stored whole numbers, with `dtype=float` what these
         stand for. DimensionMismatch for another shape."""
         count = self._length('a column or a row')
-        rows, columns, values = self.to_coo(arrays=False, dtype=dtype)
+        rows, columns, values = self.entries(arrays=False, dtype=dtype)
         if len(values) == count:
             return list(values)
         out = [missing] * count
@@ -212,7 +220,7 @@ class Held(Written):
         without an entry are in none. DimensionMismatch for another shape. In networkx functions on components and communities have this
         form."""
         self._length('a column or a row')
-        rows, columns, values = self.to_coo(arrays=False)
+        rows, columns, values = self.entries(arrays=False)
         at, names = (rows, self.notes.rows) if self.ncols == 1 else (columns, self.notes.columns)
         found: Dict[int, Set[Any]] = {}
         for vertex, value in zip(at if names is None else map(names.__getitem__, at), values):
@@ -254,22 +262,22 @@ class Held(Written):
 
     def to_dense(self, fill: Any = 0, dtype: Any = None, *, fill_value: Any = None) -> Any:
         """An array of numpy of this shape, `fill` (also called `fill_value`) where there is no entry: int64, the stored whole numbers, or
-        with `to_dense(float)` float64, what these stand for. In python-graphblas the same name."""
-        import numpy
+        with `to_dense(float)` float64, what these stand for. One column is an array of shape (n, 1), which refuses to become n x n
+        beside one of shape (n,); a `Vector` gives the latter. In python-graphblas the same name."""
         fill = fill if fill_value is None else fill_value
         if dtype is None and (isinstance(fill, (type, str)) or hasattr(fill, 'itemsize') and not hasattr(fill, '__float__')):
             fill, dtype = 0, fill
         kind = numpy.float64 if are_decimals(dtype) else numpy.int64
         table = numpy.full(self.shape, fill if kind is numpy.float64 else coo.word(fill, 'fill'), kind)
-        rows, columns, values = self.to_coo(arrays=True, dtype=dtype)
+        rows, columns, values = self.entries(arrays=True, dtype=dtype)
         table[rows, columns] = values
-        return table
+        return dense(table)
 
     def to_scipy_sparse(self, format: str = 'csr', dtype: Any = None) -> Any:
         """A matrix of scipy.sparse, of int64, the stored whole numbers, or with `dtype=float` of float64, what these stand for. In
         python-graphblas `io.to_scipy_sparse`."""
         import scipy.sparse
-        rows, columns, values = self.to_coo(arrays=True, dtype=dtype)
+        rows, columns, values = self.entries(arrays=True, dtype=dtype)
         return scipy.sparse.coo_matrix((values, (rows, columns)), self.shape).asformat(format)
 
     def to_networkx(self, directed: Optional[bool] = None, weight: Optional[str] = 'weight',
@@ -281,6 +289,8 @@ class Held(Written):
         import networkx
         if self.nrows != self.ncols:
             raise refusal('J5', detail='expected a square matrix, got %dx%d: `spmat.bipartite` makes one of it' % self.shape)
+        if nodes is None:
+            check_one_kind(self.notes)
         given = nodes if nodes is not None else self.nodes
         labels = list(range(self.nrows) if given is None else given)
         if len(labels) != self.nrows:
@@ -297,11 +307,16 @@ class Held(Written):
 
     def mmwrite(self, target: Any) -> None:
         """Writes the text to a path, or to a file opened in binary. In python-graphblas `io.mmwrite`."""
-        if hasattr(target, 'write'):
-            target.write(self.to_text())
+        if not hasattr(target, 'write'):
+            with files.replacing(os.fspath(target)) as file:
+                self.mmwrite(file)
             return
-        with open(target, 'wb') as file:
-            file.write(self.to_text())
+        for piece in self._texts():
+            target.write(piece)
+
+    def _texts(self) -> Iterator[bytes]:
+        """The text by pieces."""
+        yield self.to_text()
 
 
 def near(node: Any, names: Sequence[Any]) -> str:

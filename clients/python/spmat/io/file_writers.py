@@ -2,13 +2,15 @@
 from __future__ import annotations
 
 import contextlib
+import io
 import itertools
 import os
+import tempfile
 from typing import IO, Any, Callable, Dict, Iterable, Iterator, List, Optional, Sequence, Tuple
 
-from ..metadata import NOTHING, Notes
+from ..metadata import NOTHING, Notes, vertices_of
 from ..units import Unit, to_decimal, to_decimals, to_text
-from . import list_writer
+from . import files, list_writer
 
 EDGE = ('source', 'target', 'weight')
 NODE = ('node', 'value')
@@ -25,7 +27,7 @@ class Written:
     ncols: int
     notes: Notes = NOTHING
 
-    def to_coo(self, *, arrays: Optional[bool] = None, dtype: Any = None) -> Tuple[Any, Any, Any]:
+    def entries(self, *, arrays: Optional[bool] = None, dtype: Any = None) -> Tuple[Any, Any, Any]:
         """Rows, columns (from 0) and values."""
         raise NotImplementedError
 
@@ -37,7 +39,7 @@ class Written:
 
     def _columns(self, scale: Optional[float], raw: bool, shown: Callable[[int, Unit], Any]) -> Tuple[List[Any], ...]:
         """Names and values, as they are shown: of a column or a row (names, values), of another matrix (sources, targets, values)."""
-        rows, columns, values = self.to_coo(arrays=False)
+        rows, columns, values = self.entries(arrays=False)
         unit, vertices = self._divisor(scale, raw), self._vertices(scale, raw)
         if vertices is not None:
             values = list(map(vertices.__getitem__, values))
@@ -73,7 +75,8 @@ class Written:
         node, value. `fields` calls them otherwise, `header=False` leaves them out. `read_graph` reads the same edges again, with
         `scale=` where the matrix has a unit: names are quoted where they need it. ValueError, before anything is written, for names that
         no list has, such as one with an end of line; a warning for names that come back as others, such as tuples, or '1', which
-        `nodetype=str` reads as text. In pandas `to_csv`."""
+        `nodetype=str` reads as text, and for vertices without an edge, which a list of edges doesn't name: `save` keeps them,
+        and `read_graph(.., nodelist=G.nodes)` has them again. In pandas `to_csv`."""
         named = self._fields(fields)
         lines = self._lines(self._columns(scale, raw, to_text), sep, named if header else None)
         if target is None:
@@ -88,10 +91,18 @@ class Written:
         lines = list_writer.Lists(sep, columns[:count], fields).lines(columns[count] if len(columns) > count else None)
         if count == 1:
             return lines
+        list_writer.warn_of_isolated(self._count_isolated(columns[0], columns[1]))
         first = list(itertools.islice(lines, SAMPLE))
         list_writer.check_reading(sep, first, fields is not None, len(columns))
         list_writer.warn_of_types(dict.fromkeys(itertools.chain(*columns[:2])))
         return itertools.chain(first, lines)
+
+    def _count_isolated(self, sources: Sequence[Any], targets: Sequence[Any]) -> int:
+        """How many vertices have no edge, so that a list of edges doesn't name them."""
+        named = set(sources), set(targets)
+        if self.nrows == self.ncols and vertices_of(self.notes) is not None:
+            return self.nrows - len(named[0] | named[1])
+        return self.nrows + self.ncols - len(named[0]) - len(named[1])
 
     def write_edgelist(self, target: Any, delimiter: str = ' ', *, values: bool = True, scale: Optional[float] = None,
                        raw: bool = False) -> None:
@@ -119,7 +130,7 @@ class Written:
         """A table of pandas with a row an entry: the names of its row and its column, and its value as `edge_attr`, unless that is None.
         `from_pandas_edgelist` takes it again. In networkx the same name."""
         import pandas
-        rows, columns, values = self.to_coo(arrays=True)
+        rows, columns, values = self.entries(arrays=True)
         table: Dict[str, Any] = {}
         for called, names, at in ((source, self.notes.rows, rows), (target, self.notes.columns, columns)):
             table[called] = at if names is None else _taken(names, at)
@@ -130,9 +141,17 @@ class Written:
         return pandas.DataFrame(table)
 
     def to_parquet(self, path: Any, *, scale: Optional[float] = None, raw: bool = False) -> None:
-        """Writes what `to_pandas` gives as a parquet file, by pandas with pyarrow or fastparquet. In pandas the same name."""
+        """Writes what `to_pandas` gives as a parquet file, by pandas with pyarrow or fastparquet. It warns of vertices without
+        an edge as `to_csv` does. In pandas the same name."""
         table = self.to_pandas(scale=scale, raw=raw)
-        (table.to_frame().reset_index() if self._is_vector() else table).to_parquet(path, index=False)
+        if not self._is_vector():
+            list_writer.warn_of_isolated(self._count_isolated(table.iloc[:, 0], table.iloc[:, 1]), 3)
+        table = table.to_frame().reset_index() if self._is_vector() else table
+        path = os.path.abspath(os.fspath(path))
+        with tempfile.TemporaryDirectory(dir=os.path.dirname(path)) as folder:     # as fastparquet writes to paths alone
+            part = os.path.join(folder, 'part')
+            table.to_parquet(part, index=False)
+            os.replace(part, path)
 
 
 def _taken(names: Sequence[Any], at: Any) -> Any:
@@ -147,25 +166,6 @@ def _opened(target: Any) -> Iterator[IO[str]]:
     if hasattr(target, 'write'):
         yield target
         return
-    path = os.fspath(target)
-    with replacing(path) as part, open(part, 'w', encoding='utf-8', newline='') as file:
+    with files.replacing(os.fspath(target)) as binary, io.TextIOWrapper(binary, 'utf-8', newline='') as file:
         yield file
-
-
-@contextlib.contextmanager
-def replacing(path: str) -> Iterator[str]:
-    """The path of a file beside another one, which takes its place at the end; nothing is left of it where something fails. What is no
-    plain file, as a pipe, is written itself."""
-    if os.path.exists(path) and not os.path.isfile(path):
-        yield path
-        return
-    part = '%s.%d.part' % (path, os.getpid())
-    try:
-        yield part
-        os.replace(part, path)
-    except BaseException as fault:
-        with contextlib.suppress(OSError):
-            os.remove(part)
-        if isinstance(fault, OSError) and fault.filename == part:
-            fault.filename = os.path.dirname(path) or os.curdir      # the folder is what is missing, or closed
-        raise
+        file.flush()

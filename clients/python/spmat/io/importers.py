@@ -5,16 +5,16 @@ import abc
 from typing import Any, Dict, Generic, Iterable, Optional, Sequence, TypeVar
 
 from .. import units
-from ..errors import ReadError
+from ..errors import ReadError, TextRefused, TooLarge
 from ..metadata import NOTHING, Axes, axes_of, sizes_of
 from ..operators import Op
-from . import archive, arrays, column_names, compressed, coo, matrix_market, networkx_adjacency, pandas
-from .comment_lines import Comments
-from .detect_format import OF_LISTS, check_format, check_layout, from_edges
+from . import archive, arrays, compressed, coo, matrix_market, networkx_adjacency
+from .columns import Column, Comments, Layout, ask_two_kinds
 from .edge_values import Rounding, scaled
-from .edgelist_header import Column
+from .edges import Graph, How, edges_of_frame, graph_of, graph_of_list
 from .exporters import Held
-from .graph_files import Graph, How, Layout, Request, name_of, read
+from .files import name_of
+from .formats import OF_LISTS, Request, check_format, check_layout, read
 from .matrix_text import Triples
 
 Made = TypeVar('Made', bound=Held)
@@ -140,7 +140,7 @@ class Sources(abc.ABC, Generic[Made]):
             _check_kinds(frame.columns[:2], bipartite)
             edges = arrays.edges_of_frame(frame)
         layout = Layout(values=values, scale=scale, missing=missing, unit=unit, date_format=date_format)
-        return self._graph(from_edges(edges, How(directed, nodelist, bool(bipartite), dup_op is not None), layout), scale, dup_op, name)
+        return self._graph(graph_of_list(edges, How(directed, nodelist, bool(bipartite), dup_op is not None), layout), scale, dup_op, name)
 
     def from_pandas_edgelist(self, frame: Any, source: Any = 'source', target: Any = 'target', edge_attr: Any = None, *,
                              scale: Optional[float] = None, directed: bool = True, nodelist: Optional[Sequence[Any]] = None,
@@ -151,58 +151,172 @@ class Sources(abc.ABC, Generic[Made]):
         `missing` and `unit` among it, is as `from_edgelist` has it, but that `bipartite=` has to be said where the columns are called by two
         kinds of vertices, such as user and item. In networkx the same name."""
         _check_kinds((source, target), bipartite)
-        edges = pandas.edges_of(frame, (source, target), edge_attr, Layout(scale=scale, missing=missing, unit=unit, date_format=date_format))
-        return self._graph(pandas.graph_of(edges, How(directed, nodelist, bool(bipartite), dup_op is not None)), scale, dup_op, name)
+        edges = edges_of_frame(frame, (source, target), edge_attr, Layout(scale=scale, missing=missing, unit=unit, date_format=date_format))
+        return self._graph(graph_of(edges, How(directed, nodelist, bool(bipartite), dup_op is not None)), scale, dup_op, name)
 
     def read_edgelist(self, path: Any, *, delimiter: Optional[str] = None, header: Optional[bool] = None,
                       columns: Optional[Sequence[Column]] = None, values: bool = True, scale: Optional[float] = None,
                       directed: bool = True, nodelist: Optional[Sequence[Any]] = None, bipartite: Optional[bool] = None,
                       comments: Comments = True, missing: Optional[str] = 'raise', nodetype: Optional[type] = None, unit: Optional[str] = None,
-                      date_format: Optional[str] = None, dup_op: DupOp = None, name: Optional[str] = None) -> Made:
-        """The adjacency matrix of a list of edges: a path (also .gz and .bz2), or a file opened in binary, with an edge a line: two names
-        and perhaps a value, parted by commas, tabs, semicolons or blanks (CSV, TSV, edge list).
+                      date_format: Optional[str] = None, max_bytes: Optional[int] = None, dup_op: DupOp = None,
+                      name: Optional[str] = None) -> Made:
+        """Read a list of edges as an adjacency matrix.
 
-        Lines above the first row that begin with # or % are comments, unless they are written as the rows are; `notes.source` counts them.
-        `comments="#"`, or several such texts, begins a comment in any line, but for quoted fields, as in networkx and pandas; with None nothing
-        is a comment. A missing name or value is a ReadError; `missing="skip"` leaves its line out, and `notes.source` counts these. Names
-        are missing where pandas takes them to be (nan, NA, null, nothing), unless they are quoted or `missing` is None.
-        Names are whole numbers where all are, else text; `nodetype=str` takes text, `int` refuses any other.
+        A line is an edge: two names and perhaps a value, parted by commas, tabs, semicolons, bars or blanks.
 
-        What isn't given is seen from the first lines: the `delimiter`; whether the first line is a `header` (it has known words, or no
-        number where the columns below have numbers); and the `columns` of the two names and of the value, by the header's words (source
-        and target, from and to, payer and payee, origin_id and dest_id, and others like these, in whatever columns; weight, value, w,
-        amount), or without such words the first two of two columns, or of three with numbers in the third. What they leave open is a
-        ReadError that says which argument tells it; `notes.source` has what was taken. `columns` are given by words, or from 0.
-        `values=False` reads no values. Values are whole numbers; with `scale` they are multiplied by it and rounded. Where the header names
-        two kinds of vertices, such as user and item, `bipartite=` has to say whether they are kept apart.
+        Parameters
+        ----------
+        path : path or file
+            A path, also of a packed file (gzip, bzip2, xz, zip, zstd), or a file opened in binary.
+        delimiter : str, optional
+            What parts the fields; without it the first lines tell.
+        header : bool, optional
+            Whether the first line names columns. Without it that is seen: it has known words, or no number where the
+            columns below have numbers.
+        columns : sequence of str or int, optional
+            The columns of the two names, and of the value, by the header's words or from 0. Without them the header's words
+            tell (source and target, from and to, payer and payee, and others like these; weight, value, w, amount), or two
+            columns are names, and a third one with numbers the value. A header of some hundred columns needs known words.
+        values : bool
+            False reads no values.
+        scale : number, optional
+            Values are multiplied by it and rounded. Without it they have to be whole.
+        directed : bool
+            False makes each edge lead both ways.
+        nodelist : sequence, optional
+            The vertices, in order; edges that leave it are left out.
+        bipartite : bool, optional
+            Whether rows and columns are two kinds of vertices. It has to be said where the header names two kinds, such as
+            user and item.
+        comments : bool, str or sequence of str
+            True: lines above the first row that begin with # or %, unless they are written as the rows are. A text, or
+            several, begins a comment in any line, but for quoted fields; with None nothing is a comment.
+        missing : str, optional
+            "raise" refuses missing names and values, "skip" leaves their lines out. Names are missing where pandas takes
+            them to be (nan, NA, null, nothing), unless they are quoted or this is None.
+        nodetype : type, optional
+            str takes names as text, int refuses others than whole numbers. Without it names are whole numbers where all are.
+        unit, date_format : str, optional
+            Values are times, as `from_edgelist` has it.
+        max_bytes : int, optional
+            The most bytes that the file may have, once it is unpacked. Without it a packed file of more than 256 MiB may
+            have at most 100 times its packed length.
+        dup_op : operator, optional
+            Folds the values of an edge that is given several times.
+        name : str, optional
+            A name for the matrix.
 
-        Names, `directed`, `nodelist`, `bipartite`, `unit`, `date_format` and `dup_op` are as for `from_edgelist`. ReadError, a ValueError, names the file and
-        the line. In networkx `read_edgelist`, in pandas `read_csv`."""
+        Returns
+        -------
+        Matrix
+            A square matrix, of two kinds of vertices a rectangular one. `notes.source` says what was taken of the file, and
+            counts what was left out.
+
+        Raises
+        ------
+        ReadError
+            Where the file isn't such a list, or leaves open what is meant: it names the file, the line, and the argument
+            that tells. It is a ValueError.
+        ImportError
+            Where pandas is missing (extra `files`).
+
+        Notes
+        -----
+        In networkx `read_edgelist`, in pandas `read_csv`.
+        """
         layout = Layout(delimiter, header, columns, values, scale, bipartite, comments, missing, nodetype, unit, date_format)
-        return self._read(path, Request('edges', layout, directed, nodelist), dup_op, name)
+        return self._read(path, Request('edges', layout, directed, nodelist, max_bytes), dup_op, name)
 
     def read_graph(self, path: Any, format: Optional[str] = None, *, values: bool = True, scale: Optional[float] = None,
                    directed: Optional[bool] = None, bipartite: Optional[bool] = None, dup_op: DupOp = None, name: Optional[str] = None,
                    **layout: Any) -> Made:
-        """The matrix of a file of any format: 'mtx' (Matrix Market, see `mmread`), 'edges', 'csv' or 'tsv' (see `read_edgelist`, whose
-        `delimiter`, `header`, `columns`, `comments`, `missing`, `nodetype`, `unit`, `date_format` and `nodelist` it takes),
-        'dimacs' (.gr, .max, .col; vertices are named from 1), 'graphml', 'gexf'
-        and 'gml' by networkx, 'parquet' by pandas. Without a format the content says. `directed` None is as the file
-        has it: a DIMACS graph of edges `e` is undirected, the edges of a list lead one way. `values`, `scale`, `bipartite` and `dup_op` are as for `read_edgelist`."""
-        nodelist = layout.pop('nodelist', None)
-        return self._read(path, Request(format, Layout(values=values, scale=scale, bipartite=bipartite, **layout), directed, nodelist), dup_op, name)
+        """Read a file of any format as an adjacency matrix.
+
+        Parameters
+        ----------
+        path : path or file
+            A path, also of a packed file, or a file opened in binary.
+        format : str, optional
+            'mtx' (Matrix Market, see `mmread`), 'edges', 'csv' or 'tsv' (see `read_edgelist`), 'dimacs' (.gr, .max, .col;
+            vertices are named from 1), 'graphml', 'gexf' and 'gml' (by networkx), or 'parquet' (by pandas). Without it the
+            content tells.
+        values, scale, bipartite, dup_op, name
+            As for `read_edgelist`.
+        directed : bool, optional
+            Without it the file tells: a DIMACS graph of edges `e` is undirected, the edges of a list lead one way.
+        **layout
+            `delimiter`, `header`, `columns`, `comments`, `missing`, `nodetype`, `unit`, `date_format`, `nodelist` and
+            `max_bytes` of `read_edgelist`. A packed Matrix Market file has at most 268,435,456 bytes once it is unpacked,
+            unless `max_bytes` says otherwise.
+
+        Returns
+        -------
+        Matrix
+            The matrix, with the names of its vertices.
+
+        Raises
+        ------
+        ReadError
+            Where the file is of no such format, or damaged: it names the file and the line. It is a ValueError.
+        TextRefused
+            Where a Matrix Market file breaks a rule of these.
+        """
+        nodelist, max_bytes = layout.pop('nodelist', None), layout.pop('max_bytes', None)
+        known = Layout(values=values, scale=scale, bipartite=bipartite, **layout)
+        return self._read(path, Request(format, known, directed, nodelist, max_bytes), dup_op, name)
 
     def save(self, path: Any, **matrices: Made) -> None:
-        """Writes matrices with the names of their vertices into one file: those that are given, as `save(path, G=G, ranks=ranks)`, or all
-        that were made with a `name=` and are still held. `load` reads them in this session or a later one. A file that is there is
-        replaced once the new one is whole. The file is a zip archive of Matrix Market texts with a `matrices.json`."""
+        """Write matrices with the names of their vertices into one file.
+
+        A file that is there is replaced once the new one is whole.
+
+        Parameters
+        ----------
+        path : path
+            The file to write.
+        **matrices : Matrix
+            The matrices by name, as in ``save(path, G=G, ranks=ranks)``. Without any, all that were made with a `name=` and
+            are still held.
+
+        Raises
+        ------
+        TypeError
+            Where a name of a vertex is no text, number or date, or tuple or frozenset of these; nothing is written then.
+        ValueError
+            Where there is no matrix to save.
+
+        Notes
+        -----
+        The file is a zip archive of Matrix Market texts and a `matrices.json`. `load` reads it.
+        """
         archive.save(path, archive.chosen(self._named(), matrices))
 
     def load(self, path: Any) -> Dict[str, Made]:
-        """The matrices of a file that `save` wrote, by name, with the names of their vertices. ReadError where it is no such file."""
+        """Read the matrices of a file that `save` wrote.
+
+        What the file says is held against the sizes of its matrices before the first of them is made.
+
+        Parameters
+        ----------
+        path : path
+            The file to read.
+
+        Returns
+        -------
+        dict
+            The matrices by name, with the names of their vertices.
+
+        Raises
+        ------
+        ReadError
+            Where `save` didn't write the file, or it is damaged.
+        """
         found = {}
         for called, text, known in archive.read(path):
-            found[called] = self._market('%s of %s' % (called, name_of(path)), text, Request('mtx'), None, called)
+            try:
+                found[called] = self._market('%s of %s' % (called, name_of(path)), text, Request('mtx'), None, called)
+            except (TextRefused, TooLarge) as fault:
+                raise ReadError(name_of(path), None, 'the entries of %s: %s' % (called, fault)) from None
             found[called].notes = known
         return found
 
@@ -211,7 +325,7 @@ class Sources(abc.ABC, Generic[Made]):
         return {}
 
     def _read(self, path: Any, request: Request, dup_op: DupOp, name: Optional[str]) -> Made:
-        file, text = name_of(path), matrix_market.load(path)
+        file, text = name_of(path), matrix_market.load(path, request.max_bytes)
         format = check_format(file, text, request.format)
         if format not in OF_LISTS:
             check_layout(file, format, request)
@@ -224,7 +338,7 @@ class Sources(abc.ABC, Generic[Made]):
         """A matrix whose entries lead both ways, though its file is `general`. ReadError where an edge has two values and nothing folds them."""
         if matrix.nrows != matrix.ncols:
             raise ReadError(file, None, 'directed=False is of a square matrix, and this one is %dx%d' % matrix.shape)
-        lower = matrix_market.lowered(Triples(*matrix.to_coo(), *matrix.shape), 'symmetric')
+        lower = matrix_market.lowered(Triples(*matrix.entries(), *matrix.shape), 'symmetric')
         try:
             made = self._both_ways(self._folded(lower, dup_op), name)
         except ValueError as fault:
@@ -241,7 +355,7 @@ class Sources(abc.ABC, Generic[Made]):
 
     def adopt(self, matrix: Held, *, name: Optional[str] = None) -> Made:
         """A copy of a matrix of another session, with its names, also where that one's budget is spent: reading takes no step."""
-        rows, columns, values = matrix.to_coo()
+        rows, columns, values = matrix.entries()
         made = self._from(Triples(rows, columns, values, *matrix.shape), name=name)
         made.notes = matrix.notes
         return made
@@ -263,7 +377,7 @@ class Sources(abc.ABC, Generic[Made]):
 
 def _check_kinds(ends: Sequence[Any], bipartite: Optional[bool]) -> None:
     """ValueError where columns are called by two kinds of vertices, and nobody said what they are."""
-    question = column_names.two_kinds(*map(str, ends)) if bipartite is None and len(ends) == 2 else None
+    question = ask_two_kinds(*map(str, ends)) if bipartite is None and len(ends) == 2 else None
     if question is not None:
         raise ValueError(question)
 

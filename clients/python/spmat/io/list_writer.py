@@ -6,10 +6,12 @@ import warnings
 from typing import Any, Dict, Iterable, Iterator, List, Optional, Sequence
 
 from ..errors import ReadError
-from . import edgelist_text, graphml_gml_parquet, unsupported_files
-from .detect_format import format_of
+from . import tables
+from .columns import Layout
 from .edge_values import is_missing
-from .edgelist_header import Layout
+from .edges import WHOLE
+from .formats import describe_other, format_of
+from .graph_formats import has_dictionaries
 
 MARKS = ('#', '%', '\ufeff')                       # what a line begins with that is no row
 OTHERWISE = 'save() keeps such names, or set others, as G.nodes = names'
@@ -77,19 +79,19 @@ def check_reading(sep: str, lines: Sequence[str], header: bool, width: int) -> N
     if not lines or (sep not in '\t;,| '):
         return
     format = format_of(text)
-    taken = 'a file of the format ' + format if format != 'edges' else unsupported_files.other_kind(text)
-    taken = taken or ('a dictionary of attributes' if graphml_gml_parquet.has_dictionaries(text, True) else None)
-    parted = edgelist_text.delimiter_of(text) or ' '
+    taken = 'a file of the format ' + format if format != 'edges' else describe_other(text)
+    taken = taken or ('a dictionary of attributes' if has_dictionaries(text, True) else None)
+    parted = tables.find_delimiter(text) or ' '
     if taken is None and parted != sep:
-        taken = 'fields parted by %s' % edgelist_text.NAMES.get(parted, 'blanks')
+        taken = 'fields parted by %s' % tables.CALLED.get(parted, 'blanks')
     if taken is None:
         try:
-            table = edgelist_text.laid_out('', text, Layout())
+            table = tables.lay_out('', text, Layout())
         except ReadError:                          # which asks, and says what to answer
             return
         if (table.skipped, table.ends, table.value) == (int(header), (0, 1), 2 if width > 2 else None):
             return
-        taken = table.told.partition(': ')[2]
+        taken = table.summary.partition(': ')[2]
     raise ValueError('this list would be taken for something else (%s): to_csv() with its own fields, which has a header, is read as it is' % taken)
 
 
@@ -99,8 +101,15 @@ def warn_of_types(names: Iterable[Any]) -> None:
     if not kinds or kinds == {int}:
         return
     if kinds == {str}:
-        if all(edgelist_text.is_whole(name) for name in names):
+        if all(map(WHOLE.fullmatch, names)):
             warnings.warn('the names are text such as %r, which is read as numbers: nodetype=str reads it as text' % (next(iter(names)),), stacklevel=4)
         return
     odd = next(name for name in names if type(name) is not str)
     warnings.warn('names such as %r are read as text: save() keeps them as they are' % (odd,), stacklevel=4)
+
+
+def warn_of_isolated(count: int, depth: int = 4) -> None:
+    """Warns where vertices have no edge, and so no line, so that a list read back lacks them."""
+    if count:
+        warnings.warn('%d vert%s no edge, and a list of edges doesn\'t name them: save() keeps them, and nodelist=G.nodes reads the list with them'
+                      % (count, 'ex has' if count == 1 else 'ices have'), stacklevel=depth)

@@ -1,13 +1,13 @@
 """Matrix text as the server reads and writes it: `coordinate integer general`, from triples and back.
 
-Triples are three sequences of one length, indices from 0: lists, or arrays of numpy (int64), which are written and read without a
-step of Python for an entry.
+Triples are three arrays of numpy (int64) of one length, indices from 0, which are written and read without a step of Python for an entry.
 """
 from __future__ import annotations
 
 import functools
-import sys
-from typing import Any, Iterator, List, NamedTuple, Optional, Tuple
+from typing import Any, Iterator, List, NamedTuple, Tuple
+
+import numpy
 
 from .. import limits
 from . import parse_integers
@@ -16,7 +16,7 @@ BANNER = b'%%MatrixMarket matrix coordinate integer general\n'
 HEAD_LINES = 2                                     # lines before the first entry in a text of ours
 PATTERN = b'%%MatrixMarket matrix coordinate pattern general\n'
 EMPTY = BANNER + b'0 0 0\n'
-FEW = 1 << 16                                      # shorter texts are read without numpy, which takes longer to import
+FEW_LINES = 256                                    # fewer are written in less time from lists than from arrays
 _LINES = 1 << 15                                   # lines that are written at a time, so that their table stays in a cache
 
 
@@ -30,34 +30,30 @@ class Triples(NamedTuple):
 
 
 def is_array(thing: Any) -> bool:
-    """Whether this is an array of numpy; numpy isn't imported for it, and may be half imported by another thread."""
-    array = getattr(sys.modules.get('numpy'), 'ndarray', None)
-    return array is not None and isinstance(thing, array)
+    """Whether this is an array of numpy."""
+    return isinstance(thing, numpy.ndarray)
 
 
-def find_numpy() -> Any:
-    """numpy, or None where it isn't there."""
-    try:
-        import numpy
-    except ImportError:
-        return None
-    return numpy
+def as_arrays(triples: Triples) -> Triples:
+    """The same entries as new arrays of numpy, which the caller may change."""
+    rows, columns, values = (numpy.array(many, numpy.int64) for many in triples[:3])
+    return Triples(rows, columns, values, triples.nrows, triples.ncols)
 
 
 def write(triples: Triples, ones: bool = False, symmetric: bool = False) -> bytes:
-    """The text of triples, in their order. Arrays have to be of int64. With `ones` a text without values, each of which is 1, is written
+    """The text of triples, in their order. With `ones` a text without values, each of which is 1, is written
     as `pattern`: a third shorter, and sooner read. With `symmetric` an entry off the diagonal stands for its mirror, too."""
-    rows, columns, values, nrows, ncols = triples
-    bare = ones and len(values) > 0 and (bool((values == 1).all()) if is_array(values) else values.count(1) == len(values))
+    rows, columns, values = (numpy.asarray(many, numpy.int64) for many in triples[:3])
+    nrows, ncols = triples[3:]
+    bare = ones and len(values) > 0 and bool((values == 1).all())
     head = (PATTERN if bare else BANNER) + b'%d %d %d\n' % (nrows, ncols, len(rows))
     head = head.replace(b'general', b'symmetric') if symmetric else head
-    if is_array(rows):
+    if len(rows) >= FEW_LINES:
         return head + _written(rows, columns, None if bare else values, limits.MOST_TEXT - len(head))
+    at = (rows + 1).tolist(), (columns + 1).tolist()
     if bare:
-        line = b'%d %d\n'
-        return head + b''.join([line % (i + 1, j + 1) for i, j in zip(rows, columns)])
-    line = b'%d %d %d\n'
-    return head + b''.join([line % (i + 1, j + 1, value) for i, j, value in zip(rows, columns, values)])
+        return head + b''.join([b'%d %d\n' % line for line in zip(*at)])
+    return head + b''.join([b'%d %d %d\n' % line for line in zip(*at, values.tolist())])
 
 
 def _written(rows: Any, columns: Any, values: Any, room: int) -> bytes:
@@ -65,11 +61,10 @@ def _written(rows: Any, columns: Any, values: Any, room: int) -> bytes:
     Where that is too long for a body, the zeros are taken out again. Values of None are left out."""
     if len(rows) == 0:
         return b''
-    import numpy
     least, most = (int(values.min()), int(values.max())) if values is not None else (0, 0)
     widths = [_width(int(rows.max()) + 1), _width(int(columns.max()) + 1)]
     widths += [_width(max(most, -least))] if values is not None else []
-    table = _Table(numpy, widths, signed=least < 0)
+    table = _Table(widths, signed=least < 0)
     bare = len(rows) * table.line > room
     pieces = []
     for at in range(0, len(rows), _LINES):
@@ -86,21 +81,19 @@ def _width(number: int) -> int:
 @functools.lru_cache(maxsize=None)
 def _four_digits() -> Any:
     """The digits of 0 to 9999, four each, as a word. Made once, at the first use."""
-    import numpy
     return numpy.frombuffer(b''.join(b'%04d' % k for k in range(10000)), numpy.uint32)
 
 
 class _Table:
     """Lines of one width: two or three numbers of so many digits, the last with a sign where one is wanted, blanks between them, LF."""
 
-    def __init__(self, numpy: Any, widths: List[int], signed: bool) -> None:
-        self._numpy, self._widths, self._signed = numpy, widths, signed
+    def __init__(self, widths: List[int], signed: bool) -> None:
+        self._widths, self._signed = widths, signed
         self._four = _four_digits()
         self.line = sum(widths) + len(widths) + signed
 
     def fill(self, rows: Any, columns: Any, values: Any, bare: bool) -> bytes:
         """So many lines; `bare` takes the leading zeros out."""
-        numpy = self._numpy
         out = numpy.full((len(rows), self.line), 32, numpy.uint8)
         keep = numpy.ones(out.shape, bool) if bare else None
         at = self._digits(rows, self._widths[0], out, 0, keep) + 1
@@ -116,13 +109,12 @@ class _Table:
 
     def _digits(self, numbers: Any, width: int, out: Any, at: int, keep: Any) -> int:
         """Writes numbers that aren't negative into columns of the table, four digits at a time; the place behind them."""
-        numpy = self._numpy
         end = at + width
         for part, left in self._eights(numbers, width):
             for step in range(left // 4):
                 end -= 4
                 above = part // numpy.uint32(10000) if step + 1 < left // 4 else numpy.uint32(0)
-                place = numpy.ndarray((len(out),), numpy.uint32, buffer=out.data, offset=end, strides=(self.line,))
+                place: Any = numpy.ndarray((len(out),), numpy.uint32, buffer=out.data, offset=end, strides=(self.line,))
                 place[:] = self._four.take((part - above * numpy.uint32(10000)).astype(numpy.intp))
                 part = above
         if keep is not None:
@@ -132,7 +124,6 @@ class _Table:
 
     def _eights(self, numbers: Any, width: int) -> Iterator[Tuple[Any, int]]:
         """Numbers by eight digits, the lowest first, as 32-bit words, with how many digits are left of them."""
-        numpy = self._numpy
         while width > 8:
             numbers = numbers.astype(numpy.uint64, copy=False)
             above = numbers // numpy.uint64(10 ** 8)
@@ -141,19 +132,15 @@ class _Table:
         yield numbers.astype(numpy.uint32), width
 
 
-def read(text: bytes, arrays: Optional[bool] = None) -> Triples:
-    """The triples of a text as the server writes it. `arrays` says whether as arrays of numpy or as lists; without it lists."""
+def read(text: bytes, arrays: bool = True) -> Triples:
+    """The triples of a text as the server writes it, as arrays of int64, or as lists."""
     nrows, ncols, _, start = head_of(text)
+    rows, columns, values = parse_integers.fields(text[start:], (0, 1, 2))
+    rows -= 1
+    columns -= 1
     if arrays:
-        rows, columns, values = parse_integers.fields(text[start:], (0, 1, 2))
-        rows -= 1
-        columns -= 1
         return Triples(rows, columns, values, nrows, ncols)
-    if len(text) > FEW and find_numpy() is not None:
-        rows, columns, values, nrows, ncols = read(text, True)
-        return Triples(rows.tolist(), columns.tolist(), values.tolist(), nrows, ncols)
-    words = list(map(int, text[start:].split()))
-    return Triples([i - 1 for i in words[0::3]], [j - 1 for j in words[1::3]], words[2::3], nrows, ncols)
+    return Triples(rows.tolist(), columns.tolist(), values.tolist(), nrows, ncols)
 
 
 class Head(NamedTuple):
@@ -174,7 +161,7 @@ def head_of(text: bytes) -> Head:
 
 def swapped(text: bytes) -> bytes:
     """The text of the transpose, from a text as the server writes it."""
-    rows, columns, values, nrows, ncols = read(text, len(text) > FEW and find_numpy() is not None)
+    rows, columns, values, nrows, ncols = read(text)
     return write(Triples(columns, rows, values, ncols, nrows))
 
 

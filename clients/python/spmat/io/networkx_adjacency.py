@@ -5,13 +5,14 @@ import itertools
 import operator
 from typing import Any, Callable, Dict, Iterator, List, NamedTuple, NoReturn, Optional, Sequence, Tuple
 
+import numpy
+
 from ..errors import refusal
 from ..limits import MOST_SIDE
 from ..metadata import Nodes, Notes
-from . import matrix_text
 from .coo import LEAST, MOST, checked, whole
 from .edge_values import Rounding, check_scale, scaled_one
-from .matrix_text import FEW, Triples
+from .matrix_text import Triples
 
 Neighbours = Dict[Any, Any]
 
@@ -28,10 +29,7 @@ def neighbourhoods(graph: Any) -> Dict[Any, Neighbours]:
 
 
 def row_numbers(counts: List[int]) -> Any:
-    """Each row's number, as often as the row has entries: an array of numpy where it is there, else a list."""
-    numpy = matrix_text.find_numpy()
-    if numpy is None:
-        return [row for row, count in enumerate(counts) for _ in range(count)]
+    """Each row's number, as often as the row has entries."""
     return numpy.repeat(numpy.arange(len(counts), dtype=numpy.int64), counts)
 
 
@@ -105,13 +103,9 @@ def _one_by_one(blocks: List[Neighbours], nodes: Nodes, folds: bool) -> _Rows:
 
 
 def _triples(rows: _Rows, nodes: Nodes, weight: Optional[str], rounding: Rounding) -> Triples:
-    numpy = matrix_text.find_numpy() if len(rows.ends) > FEW // 16 else None
     plain = all(type(node) is int for node in nodes) and nodes == list(range(len(nodes)))
     ends = rows.ends if plain else list(map(nodes.places.__getitem__, rows.ends))
     values: Any = 1 if weight is None else _weights(rows, nodes, weight, rounding)
-    if numpy is None:
-        firsts = [row for row, count in enumerate(rows.counts) for _ in range(count)]
-        return checked(firsts, ends, values, len(nodes), len(nodes))
     firsts = row_numbers(rows.counts)
     values = values if weight is None else numpy.fromiter(values, numpy.int64, len(values))
     return checked(firsts, numpy.fromiter(ends, numpy.int64, len(ends)), values, len(nodes), len(nodes))

@@ -9,6 +9,8 @@ from __future__ import annotations
 import functools
 from typing import Any, List, Sequence
 
+import numpy
+
 CHUNK = 1 << 17                                    # bytes that are looked at together, so that their tables stay in a cache
 SHORT = 1 << 14                                    # bytes that numpy's own reader takes in less time than it takes to set this up
 WORD, LONGEST = 8, 24                              # digits of a word, and the bytes of the three words that a number may have
@@ -18,39 +20,36 @@ MINUS = 45
 def fields(text: bytes, wanted: Sequence[int] = (1, 2), per_line: int = 3) -> List[Any]:
     """Arrays of int64: the wanted fields (from 0) of all lines. Each line has so many whole numbers of 64 bits, without a sign but `-`,
     with one blank between two, and ends in LF; as the server writes its matrices."""
-    import numpy
     if len(text) < SHORT:
         numbers = numpy.fromstring(text, numpy.int64, sep=' ') if text else numpy.zeros(0, numpy.int64)
         return [numbers[field::per_line].copy() for field in wanted]
     if len(text) <= 2 * CHUNK:
-        return _fields(numpy, memoryview(text), wanted, per_line)
+        return _fields(memoryview(text), wanted, per_line)
     parts, at = [], 0
     while at < len(text):
         end = text.rfind(b'\n', at, at + CHUNK) + 1 if len(text) - at > CHUNK else len(text)
-        parts.append(_fields(numpy, memoryview(text)[at:end], wanted, per_line))
+        parts.append(_fields(memoryview(text)[at:end], wanted, per_line))
         at = end
     return [numpy.concatenate(some) for some in zip(*parts)]
 
 
-def _fields(numpy: Any, text: memoryview, wanted: Sequence[int], per_line: int) -> List[Any]:
+def _fields(text: memoryview, wanted: Sequence[int], per_line: int) -> List[Any]:
     padded = numpy.empty(len(text) + LONGEST, numpy.uint8)             # so that three words stand before each end
     padded[:LONGEST] = 32
     padded[LONGEST:] = numpy.frombuffer(text, numpy.uint8)
     ends = numpy.flatnonzero(padded[LONGEST - 1:] < MINUS) + LONGEST - 1     # the first is the byte before the text
-    words = numpy.ndarray((len(padded) - WORD + 1,), numpy.uint64, buffer=padded.data, strides=(1,))
+    words: Any = numpy.ndarray((len(padded) - WORD + 1,), numpy.uint64, buffer=padded.data, strides=(1,))
     return [_numbers(padded, words, ends[field:-1:per_line], ends[field + 1::per_line]) for field in wanted]
 
 
 @functools.lru_cache(maxsize=None)
 def _digits() -> Any:
     """The bits of the digits, by how many of the last bytes of a word are digits."""
-    import numpy
     return numpy.array([(0x0F0F0F0F0F0F0F0F << 8 * (WORD - many)) % (1 << 64) for many in range(WORD + 1)], numpy.uint64)
 
 
 def _word(words: Any, ends: Any, many: Any) -> Any:
     """The numbers of so many digits (0 to 8) before these places. The first digit is the lowest byte."""
-    import numpy
     got = words[ends - WORD]
     got &= _digits()[many]
     for times, shift, bits in ((10 * 2 ** 8 + 1, 8, 0x00FF00FF00FF00FF), (100 * 2 ** 16 + 1, 16, 0x0000FFFF0000FFFF),
@@ -63,7 +62,6 @@ def _word(words: Any, ends: Any, many: Any) -> Any:
 
 def _numbers(padded: Any, words: Any, before: Any, ends: Any) -> Any:
     """The numbers between two places each, at which blanks stand."""
-    import numpy
     lengths = ends - before - 1
     minus = padded[before + 1] == MINUS
     signed = bool(minus.any())

@@ -5,6 +5,8 @@ import datetime
 import re
 from typing import Any, Callable, Optional, Sequence, List
 
+import numpy
+
 from .coo import LEAST, MOST, whole
 
 UNITS = {'D': 86400 * 10 ** 9, 's': 10 ** 9, 'ms': 10 ** 6, 'us': 10 ** 3, 'ns': 1}      # in nanoseconds
@@ -74,7 +76,6 @@ def nanoseconds(value: Any, date_format: Optional[str] = None) -> Optional[int]:
     if isinstance(value, datetime.date):
         return _of_datetime(datetime.datetime(value.year, value.month, value.day))
     if type(value).__name__ == 'datetime64':
-        import numpy
         if numpy.datetime_data(value.dtype)[0] in ('Y', 'M', 'W'):
             value = value.astype('datetime64[D]')
         unit, step = numpy.datetime_data(value.dtype)

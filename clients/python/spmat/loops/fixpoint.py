@@ -1,28 +1,27 @@
 """A step that is made until it changes nothing."""
 from __future__ import annotations
 
-from typing import Any, Callable, Dict, Optional, Sequence, TypeVar
+from typing import Any, Callable, Dict, Optional, Sequence
 
-from ..algorithms.protocols import GraphMatrix
-from ..algorithms.utils import Progress, repeated, tell
+from ..algorithms.utils import Progress, iterate, tell
+from ..backends.unread import current_price
 from ..errors import NotSettled
 from ..io.coo import whole
-from ..pricing.foreseen import asked
+from ..matrix import Matrix
 from . import Loop, NotAlike, NotTraced, Until
 
 NOT_SETTLED = ('it still changes after %d rounds: most= allows more, such as most=10**6. By default a fixpoint has one round more than there are rows '
                'or columns, which lengths of paths need at most; they fall for ever along a cycle of negative length')
-M = TypeVar('M', bound=GraphMatrix)
 
 
-def fixpoint(matrix: M, step: Callable[[M], M], most: Optional[int] = None, progress: Progress = None) -> M:
+def fixpoint(matrix: Matrix, step: Callable[[Matrix], Matrix], most: Optional[int] = None, progress: Progress = None) -> Matrix:
     """`step(matrix)`, `step(step(matrix))` and so on, until two that follow are the same, which is the answer.
 
         lengths = spmat.fixpoint(start, lambda d: d.ewise_add(d.mxm(W, 'min_plus'), 'min'))
 
     Parameters
     ----------
-    matrix : Matrix or BlockMatrix
+    matrix : Matrix
         What the first round works on.
     step : callable
         Makes a matrix of the same shape. It is called once for each round, ahead of it, as that of `spmat.loop`. One that looks at entries,
@@ -34,7 +33,7 @@ def fixpoint(matrix: M, step: Callable[[M], M], most: Optional[int] = None, prog
 
     Returns
     -------
-    Matrix or BlockMatrix
+    Matrix
         What `step` leaves as it is.
 
     Raises
@@ -47,9 +46,9 @@ def fixpoint(matrix: M, step: Callable[[M], M], most: Optional[int] = None, prog
     Runs: those of the step, and 3 a round, of which 2 where the number of entries stays as it was. GraphBLAS: the loop around `GrB_mxm` that
     ends where nothing changes."""
     limit = max(matrix.shape) + 1 if most is None else whole(most, 'number of rounds')
-    asker = asked()
-    if asker is not None:
-        state = asker.repeat(lambda _, now: {'now': _compared(step, now['now'])['now']}, {'now': matrix}, limit, min(1, limit))
+    price = current_price()
+    if price is not None:
+        state = price.repeat(lambda _, now: {'now': _compared(step, now['now'])['now']}, {'now': matrix}, limit, min(1, limit))
         return state['now']  # type: ignore[no-any-return]
     made, number = matrix, 0
 
@@ -60,14 +59,14 @@ def fixpoint(matrix: M, step: Callable[[M], M], most: Optional[int] = None, prog
     try:
         if loop is not None:
             if loop.rounds(SAME, limit, heard):
-                answer: M = loop.state.now
+                answer: Matrix = loop.state.now
                 return answer
             raise NotSettled(NOT_SETTLED % limit)
     except (NotTraced, NotAlike):                  # in a later round: what is left is made by the step
         assert loop is not None
         made, number = loop.state.now, loop.number
     try:
-        return repeated(made, step, lambda before, now: now.isequal(before), lambda word, k, of: tell(progress, word, number + k, most or 0),
+        return iterate(made, step, lambda before, now: now.isequal(before), lambda word, k, of: tell(progress, word, number + k, most or 0),
                         limit - number)
     except NotSettled:
         raise NotSettled(NOT_SETTLED % limit) from None
@@ -76,14 +75,14 @@ def fixpoint(matrix: M, step: Callable[[M], M], most: Optional[int] = None, prog
 SAME = Until(('now', 'both', 'differ'), lambda counts, before: counts['both'] == counts['now'] == before['now'] and not counts['differ'])
 
 
-def _compared(step: Callable[[M], M], before: M) -> Dict[str, M]:
+def _compared(step: Callable[[Matrix], Matrix], before: Matrix) -> Dict[str, Matrix]:
     """What a step makes, and where that differs from what was before."""
     now = step(before)
     both = now.ewise_mult(before, 'ne')
     return {'now': now, 'both': both, 'differ': both.select('nonzero')}
 
 
-def _traced(matrix: M, step: Callable[[M], M]) -> Optional[Loop]:
+def _traced(matrix: Matrix, step: Callable[[Matrix], Matrix]) -> Optional[Loop]:
     """The loop of a step; None where it can't be traced."""
     try:
         return Loop(lambda state: _compared(step, state.now), {'now': matrix}) if matrix.in_one_place else None

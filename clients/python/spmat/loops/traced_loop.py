@@ -12,16 +12,17 @@ from __future__ import annotations
 import time
 from typing import TYPE_CHECKING, Any, Callable, Dict, List, Mapping, NamedTuple, Optional, Sequence, Set, Tuple, Union, cast
 
+from ..backends.trace import TraceHandle
 from ..errors import NotSettled, Refused
 from ..io.coo import whole
-from ..pricing.foreseen import Asked, Unread, asked
-from .followed_rounds import Rounds
-from .pipelined_rounds import Counts, Round, Trips
-from .round_results import Body, Shown
-from .tracing import State, TracedMatrix, of_two, results
+from ..backends.unread import Unread, current_price
+from .rounds import Rounds, State, of_two, results
+from .shown import Body, Shown
+from .trips import Counts, Round, Trips
 
 if TYPE_CHECKING:
     from ..algorithms.utils import Progress
+    from ..pricing.call_price import Price
 
 FIRST = 4                                          # rounds of the first trip
 QUICK, LONG = .002, .05                            # seconds of a trip: those that may be in vain grow to the one, others to the other
@@ -71,7 +72,7 @@ class Loop:
         self._results: Optional[Set[str]] = None   # of the step, as far as it was called
         self._trips: Optional[Trips] = None
         first = next(iter(begun.values()))
-        if asked() is None and all(matrix.in_one_place for matrix in begun.values()):
+        if current_price() is None and all(matrix.in_one_place for matrix in begun.values()):
             rounds = Rounds(first.session, self._step, begun, self._show, alike)
             self.shown.update((name, Shown(shape)) for name, shape in rounds.shown.items())
             self._results = set(rounds.first.traced.out)
@@ -95,10 +96,10 @@ class Loop:
     @property
     def state(self) -> State:
         """The matrices behind the last round. Where an end was met amid a trip, the trip's rounds up to it are made again for this."""
-        asker = asked()
-        if asker is not None:
-            self._foresee(asker, 0, 0)
-            return State(asker.loops[id(self)][1])
+        price = current_price()
+        if price is not None:
+            self._foresee(price, 0, 0)
+            return State(price.loops[id(self)][1])
         self._catch_up()
         if self._trips is None:
             return State(self._state)
@@ -119,7 +120,7 @@ class Loop:
         if not self.rounds(end, most, _tells(each, progress, 0)):
             raise NotSettled('did not converge after %d rounds: most= allows more, and advance() makes rounds without an end; the state is that '
                              'behind them' % most)
-        made: Any = self.number - begun if asked() is None else Unread()
+        made: Any = self.number - begun if current_price() is None else Unread()
         return cast(int, made)
 
     def advance(self, rounds: int = 1, each: Optional[Each] = None, progress: 'Progress' = None) -> None:
@@ -130,9 +131,9 @@ class Loop:
 
     def rounds(self, end: Optional[Until], most: int, heard: Callable[[int, List[Round]], Any]) -> bool:
         """Makes rounds until an end is met, or so many; whether it was met. `heard(first, rounds)` is told of all rounds of a trip."""
-        asker = asked()
-        if asker is not None:
-            self._foresee(asker, most, most if end is None else min(1, most))
+        price = current_price()
+        if price is not None:
+            self._foresee(price, most, most if end is None else min(1, most))
             return True
         rests = end is None or self._rests(end)
         goal, size = self.number + most, FIRST if rests else 1
@@ -156,18 +157,18 @@ class Loop:
 
     # -- rounds
 
-    def _foresee(self, asker: Asked, most: int, least: int) -> None:
+    def _foresee(self, price: 'Price', most: int, least: int) -> None:
         """Tells who asks what so many rounds would ask for, or fewer but so many at the least. The loop stays where it is."""
         number = self.number
 
         def made(round_: int, now: State) -> State:
             got = results(self._step, State(now), number + round_)
             return State((name, got[name]) for name in now)
-        if id(self) not in asker.loops:
+        if id(self) not in price.loops:
             again = 0 if self._end is None or self._trips is None else self._end - self._trips.place.number
             begun = State(self._state) if self._trips is None else self._trips.matrices()
-            asker.loops[id(self)] = self, asker.repeat(made, begun, again, again)
-        asker.loops[id(self)] = self, asker.repeat(made, asker.loops[id(self)][1], most, least)
+            price.loops[id(self)] = self, price.repeat(made, begun, again, again)
+        price.loops[id(self)] = self, price.repeat(made, price.loops[id(self)][1], most, least)
 
     def _rests(self, end: Until) -> bool:
         """Whether rounds behind an end cost next to nothing: the next ones work on what is empty then."""
@@ -246,7 +247,7 @@ class Loop:
 
     def _catch_up(self) -> None:
         """Makes the rounds again that came before an end amid a trip."""
-        if asked() is not None:
+        if current_price() is not None:
             return
         end, self._end = self._end, None
         if end is not None:
@@ -260,7 +261,7 @@ class Loop:
     def _resumed(self) -> int:
         """The number of rounds that are made, whose state is there to go on from."""
         self._catch_up()
-        if self._trips is not None and asked() is None:
+        if self._trips is not None and current_price() is None:
             self._trips.resume()
         return self.number
 
@@ -306,7 +307,7 @@ def _checked(state: Mapping[str, Any]) -> State:
     if not isinstance(state, Mapping) or not state:
         raise TypeError('the state of a loop is its matrices by name, such as {"front": F}, not %r' % (state,))
     for name, matrix in state.items():
-        if not hasattr(type(matrix), 'mxm') or isinstance(matrix, TracedMatrix):
+        if not hasattr(type(matrix), 'mxm') or isinstance(getattr(matrix, 'handle', None), TraceHandle):
             raise TypeError('%r of the state is no matrix of a session, but %s' % (name, type(matrix).__name__))
     sessions = {matrix.session for matrix in state.values()}
     if len(sessions) > 1:

@@ -13,9 +13,8 @@ from networkx import NetworkXError, NetworkXPointlessConcept
 from .. import algorithms
 from ..limits import MOST_SIDE
 from ..matrix import Matrix
-from .backend_info import MUCH, PRODUCTS, WALK
 from .components import all_reached, connected
-from .registry import SIGNED, SIMPLE_UNDIRECTED, Terms, UNDIRECTED, serves
+from .backend import SIGNED, SIMPLE_UNDIRECTED, Terms, UNDIRECTED, serves
 from .single_source_lengths import Lengths, NEGATIVE, check_method, divided, from_one, lengths, need
 from .spmat_graph import SpmatGraph
 from .weight_scaling import limit, told
@@ -73,22 +72,20 @@ def _pairs(G: SpmatGraph, parts: Blocks, first: Optional[Tuple[int, Matrix]], mo
         first = next(parts, None)
 
 
-@serves(pays=PRODUCTS)
 def all_pairs_shortest_path_length(G: SpmatGraph, cutoff: Any = None) -> Iterator[Tuple[Any, Lengths]]:
     return pairs(G, cutoff=cutoff, whole=math.ceil)    # by edges a cutoff of 2.5 is one of 3 in networkx, by weights one of 2
 
 
-@serves(pays=MUCH)
 def all_pairs_dijkstra_path_length(G: SpmatGraph, cutoff: Any = None, weight: Any = 'weight') -> Iterator[Tuple[Any, Lengths]]:
     return pairs(G, weight, cutoff)
 
 
-@serves(SIGNED, pays=MUCH)
+@serves(SIGNED)
 def all_pairs_bellman_ford_path_length(G: SpmatGraph, weight: Any = 'weight') -> Iterator[Tuple[Any, Lengths]]:
     return pairs(G, weight, signed=True)
 
 
-@serves(SIGNED, pays=MUCH)
+@serves(SIGNED)
 def floyd_warshall(G: SpmatGraph, weight: Any = 'weight') -> Dict[Any, Dict[Any, Any]]:
     never = float('inf')
     try:
@@ -97,7 +94,6 @@ def floyd_warshall(G: SpmatGraph, weight: Any = 'weight') -> Dict[Any, Dict[Any,
         raise NotImplementedError('a cycle of negative length, which networkx passes over') from None
 
 
-@serves(pays=WALK)
 def shortest_path_length(G: SpmatGraph, source: Any = None, target: Any = None, weight: Any = None,
                          method: str = 'dijkstra') -> Any:
     check_method(method)
@@ -113,14 +109,14 @@ def shortest_path_length(G: SpmatGraph, source: Any = None, target: Any = None, 
     return from_one(G, source, target, weight, signed)
 
 
-@serves(SIMPLE_UNDIRECTED, pays=MUCH)
+@serves(SIMPLE_UNDIRECTED)
 def power(G: SpmatGraph, k: int) -> Any:
     if k <= 0:
         raise ValueError('k must be a positive integer')
     H = nx.Graph()
     H.add_nodes_from(G)
     for first, far in blocks(G):
-        rows, columns, _ = far.select('valuele', k).to_coo(arrays=False)
+        rows, columns, _ = far.select('valuele', k).entries(arrays=False)
         H.add_edges_from((G.nodes[first + i], G.nodes[j]) for i, j in zip(rows, columns) if first + i < j)
     return H
 
@@ -150,7 +146,6 @@ def length_sums(G: SpmatGraph, weight: Any, signed: bool = False) -> Tuple[List[
 METHODS = (None, 'unweighted', 'dijkstra', 'bellman-ford', 'floyd-warshall', 'floyd-warshall-numpy')
 
 
-@serves(pays=MUCH)
 def average_shortest_path_length(G: SpmatGraph, weight: Any = None, method: Optional[str] = None) -> float:
     if method not in METHODS:
         raise ValueError('method not supported: %s' % method)
@@ -170,7 +165,6 @@ def _totals(G: SpmatGraph, weight: Any, signed: bool = False) -> List[int]:
     return (distance_sums(G) if weight is None else length_sums(G, weight, signed))[1]
 
 
-@serves(pays=MUCH)
 def wiener_index(G: SpmatGraph, weight: Any = None) -> float:
     if not len(G):
         raise NetworkXPointlessConcept('Connectivity is undefined for the null graph.')
@@ -181,7 +175,6 @@ def wiener_index(G: SpmatGraph, weight: Any = None) -> float:
     return length if G.is_directed() else total / (2 * (unit or 1))
 
 
-@serves(pays=MUCH)
 def closeness_centrality(G: SpmatGraph, u: Any = None, distance: Any = None, wf_improved: bool = True) -> Any:
     if u is not None:
         need(G, u, 'Source %s is not in G')
@@ -199,7 +192,6 @@ def _closeness(reached: int, total: float, count: int, wf_improved: bool) -> flo
     return found * ((reached - 1.0) / (count - 1)) if wf_improved else found
 
 
-@serves(pays=MUCH)
 def harmonic_centrality(G: SpmatGraph, nbunch: Any = None, distance: Any = None, sources: Any = None) -> Dict[Any, Any]:
     wanted, starts = set(G.nbunch_iter(nbunch)), set(G.nbunch_iter(sources))
     found: Dict[Any, Any] = dict.fromkeys(wanted, 0)
@@ -216,7 +208,7 @@ def harmonic_centrality(G: SpmatGraph, nbunch: Any = None, distance: Any = None,
     return found
 
 
-@serves(UNDIRECTED, pays=MUCH)
+@serves(UNDIRECTED)
 def global_efficiency(G: SpmatGraph) -> float:
     n = len(G)
     shares = sum((counts.reduce_scalar('plus') or 0) / level
@@ -248,7 +240,7 @@ def _given(arguments: Mapping[str, Any]) -> Optional[str]:
     return 'some nodes, if not all are reached, of a directed graph' if v is not None and graph.is_directed() else None
 
 
-@serves(Terms(unless=_given), pays=MUCH)
+@serves(Terms(unless=_given))
 def eccentricity(G: SpmatGraph, v: Any = None, sp: Any = None, weight: Any = None) -> Any:
     nodes = list(G.nbunch_iter(v))
     if v is None:
@@ -260,12 +252,10 @@ def eccentricity(G: SpmatGraph, v: Any = None, sp: Any = None, weight: Any = Non
     return found[v] if v in G else {node: found[node] for node in nodes}
 
 
-@serves(pays=MUCH)
 def diameter(G: SpmatGraph, e: Any = None, usebounds: bool = False, weight: Any = None) -> Any:
     return max((eccentricities(G, weight) if e is None else e).values())
 
 
-@serves(pays=MUCH)
 def radius(G: SpmatGraph, e: Any = None, usebounds: bool = False, weight: Any = None) -> Any:
     return min((eccentricities(G, weight) if e is None else e).values())
 
@@ -274,12 +264,12 @@ def _some_node(arguments: Mapping[str, Any]) -> Optional[str]:
     return None if len(arguments['G']) else 'no node'
 
 
-@serves(Terms(unless=_some_node), pays=MUCH)
+@serves(Terms(unless=_some_node))
 def periphery(G: SpmatGraph, e: Any = None, usebounds: bool = False, weight: Any = None) -> List[Any]:
     return _those(eccentricities(G, weight) if e is None else e, max)
 
 
-@serves(Terms(unless=_some_node), pays=MUCH)
+@serves(Terms(unless=_some_node))
 def center(G: SpmatGraph, e: Any = None, usebounds: bool = False, weight: Any = None) -> List[Any]:
     return _those(eccentricities(G, weight) if e is None else e, min)
 

@@ -1,10 +1,9 @@
-"""What networkx asks when it is imported: which functions are served, and the settings with their defaults. `settings` is imported
-here, and nothing else of spmat."""
+"""What networkx asks when it is imported: the functions that are served, and the settings with their defaults. It imports nothing
+else of spmat that it needn't."""
 from __future__ import annotations
 
 import os
-import re
-from typing import Any, Dict, NamedTuple
+from typing import Any, Callable, Dict, List, NamedTuple
 
 DEFAULTS: Dict[str, Any] = {'program': '', 'connect': '', 'steps': 0, 'workers': 0, 'least_edges': -1, 'scale': 0,
                             'compare_weights': True}
@@ -19,8 +18,8 @@ NEVER = 1 << 62
 
 
 class Pays(NamedTuple):
-    """From how many edges on it pays to hand a function over: a graph that has to be converted, and one that is on the server. `work` says
-    of which functions that is so; `tools/networkx_table` writes it all into docs/networkx.md."""
+    """From how many edges on it pays to hand a function over: for a graph that has to be converted, and for one that is on the server.
+    `work` says of which functions that is so; `tools/networkx_table` writes all of it into docs/networkx.md."""
     first: int
     again: int
     work: str
@@ -32,43 +31,195 @@ WEIGHTS = Pays(100_000, 8_000, 'paths by weights, spanning trees, forests')
 ROUNDS = Pays(100_000, 50_000, 'rounds in which few nodes change at a time')
 WALK = Pays(1_000_000, 40_000, 'one walk over the edges, as a conversion is')
 KNOWN = Pays(NEVER, 10_000, 'known from the conversion, or paths node by node')
-LITTLE = Pays(NEVER, NEVER, 'networkx has it at hand, or ends early')
-
-CLASSES = {'MUCH': MUCH, 'PRODUCTS': PRODUCTS, 'WEIGHTS': WEIGHTS, 'ROUNDS': ROUNDS, 'WALK': WALK, 'KNOWN': KNOWN, 'LITTLE': LITTLE}
-DECORATED = re.compile(r'^@serves\((?:.*, )?pays=([A-Z]+)\)\ndef (\w+)\(', re.M)
+CLASSES = (MUCH, PRODUCTS, WEIGHTS, ROUNDS, WALK, KNOWN)
 
 
-def _served() -> Dict[str, Pays]:
-    """What the decorators of the modules beside this one say. They are read and not run: that would import all of spmat and numpy."""
-    found: Dict[str, Pays] = {}
-    folder = os.path.dirname(os.path.abspath(__file__))
-    for name in sorted(os.listdir(folder)):
-        if name.endswith('.py'):
-            with open(os.path.join(folder, name), encoding='utf-8') as file:
-                found.update((function, CLASSES[pays]) for pays, function in DECORATED.findall(file.read()))
-    return found
+class Served(NamedTuple):
+    """Where a function is, and when it pays."""
+    module: str
+    pays: Pays
 
 
-SERVED = _served()
-"""Each function, and when it pays."""
+# the functions of each module, by when they pay
+_TABLE: Dict[str, Dict[Pays, str]] = {
+    'all_pairs_lengths': {
+        PRODUCTS: 'all_pairs_shortest_path_length',
+        MUCH: 'all_pairs_dijkstra_path_length all_pairs_bellman_ford_path_length floyd_warshall '
+              'power average_shortest_path_length wiener_index closeness_centrality '
+              'harmonic_centrality global_efficiency eccentricity diameter radius periphery center',
+        WALK: 'shortest_path_length'},
+    'centrality': {
+        PRODUCTS: 'pagerank',
+        MUCH: 'betweenness_centrality'},
+    'clustering': {
+        MUCH: 'triangles transitivity clustering average_clustering generalized_degree '
+              'square_clustering'},
+    'components': {
+        WALK: 'connected_components number_connected_components is_connected '
+              'node_connected_component weakly_connected_components '
+              'number_weakly_connected_components is_weakly_connected',
+        ROUNDS: 'strongly_connected_components number_strongly_connected_components '
+                'is_semiconnected attracting_components',
+        KNOWN: 'is_tree is_arborescence',
+        WEIGHTS: 'is_forest is_branching'},
+    'dag': {
+        MUCH: 'transitive_closure',
+        PRODUCTS: 'transitive_closure_dag transitive_reduction number_of_walks',
+        ROUNDS: 'dag_longest_path_length'},
+    'degree': {
+        KNOWN: 'degree_centrality in_degree_centrality out_degree_centrality isolates '
+               'number_of_isolates number_of_selfloops',
+        PRODUCTS: 's_metric',
+        WEIGHTS: 'average_neighbor_degree',
+        MUCH: 'overall_reciprocity reciprocity'},
+    'k_core': {
+        ROUNDS: 'core_number k_shell k_crust k_corona onion_layers maximal_independent_set',
+        PRODUCTS: 'k_core k_truss'},
+    'shortest_paths': {
+        KNOWN: 'single_source_shortest_path single_target_shortest_path predecessor dijkstra_path '
+               'bellman_ford_path all_shortest_paths',
+        WEIGHTS: 'multi_source_dijkstra multi_source_dijkstra_path single_source_dijkstra '
+                 'single_source_dijkstra_path dijkstra_predecessor_and_distance '
+                 'single_source_bellman_ford single_source_bellman_ford_path '
+                 'bellman_ford_predecessor_and_distance'},
+    'single_source_lengths': {
+        WALK: 'single_source_shortest_path_length single_target_shortest_path_length descendants '
+              'ancestors bfs_layers',
+        WEIGHTS: 'single_source_dijkstra_path_length multi_source_dijkstra_path_length '
+                 'single_source_bellman_ford_path_length bellman_ford_path_length '
+                 'negative_edge_cycle',
+        KNOWN: 'dijkstra_path_length'},
+    'spanning_tree': {
+        WEIGHTS: 'minimum_spanning_edges maximum_spanning_edges minimum_spanning_tree '
+                 'maximum_spanning_tree'},
+}
+SERVED: Dict[str, Served] = {
+    name: Served(module, pays) for module, classes in _TABLE.items()
+    for pays, names in classes.items() for name in names.split()}
+"""Each function that is served."""
 
 
 def info() -> Dict[str, Any]:
-    """The entry point networkx.backend_info."""
+    """Answer the entry point networkx.backend_info.
+
+    Returns
+    -------
+    dict
+        The functions that are served, each with a line for its docstring, and the settings.
+    """
     return {'backend_name': 'spmat', 'project': 'spmat', 'package': 'spmat.networkx',
             'short_summary': 'Sparse matrices of 64-bit integers by verified operators, within a budget of steps.',
-            'functions': {name: {'additional_docs': _told(pays)} for name, pays in SERVED.items()},
-            'default_config': _settings()}
+            'functions': {name: {'additional_docs': _describe(served.pays)} for name, served in SERVED.items()},
+            'default_config': _settings_class()(**DEFAULTS)}
 
 
-def _settings() -> Any:
-    from .settings import Settings
-    return Settings(**DEFAULTS)
-
-
-def _told(pays: Pays) -> str:
-    if pays.again == NEVER:
-        return 'Taken where backend="spmat" is given, and for a graph that is on the server.'
+def _describe(pays: Pays) -> str:
+    """Say when networkx hands a function over."""
+    if pays.first == NEVER:
+        return ('Taken by itself from %d edges on for a graph that was converted before, and wherever backend="spmat" is given.'
+                % pays.again)
     return ('Taken by itself from %d edges on, from %d on for a graph that was converted before, and wherever backend="spmat" is given.'
-            % (pays.first, pays.again) if pays.first < NEVER else
-            'Taken by itself from %d edges on for a graph that was converted before, and wherever backend="spmat" is given.' % pays.again)
+            % (pays.first, pays.again))
+
+
+# -- settings
+
+_classes: List[Any] = []                           # the class of the settings, once it is defined
+
+
+def _settings_class() -> Any:
+    """Define the class of the settings. It waits for the first use: networkx imports this module while it is imported itself, and has the
+    base class from 3.3 on."""
+    from networkx.utils.configs import Config      # pylint: disable=import-error
+    if _classes:                                   # importing networkx may have called this
+        return _classes[0]
+
+    class Settings(Config):                         # type: ignore[misc]  # networkx has no types
+        """The settings as networkx holds them. Setting one raises ValueError if no session could be opened with it."""
+        program: Any
+        connect: str
+        steps: int
+        workers: int
+        least_edges: int
+        scale: Any
+        compare_weights: bool
+
+        def _on_setattr(self, key: str, value: Any) -> Any:
+            return check_setting(key, value)
+    Settings.__qualname__ = 'Settings'             # by which pickle finds it here
+    _classes.append(Settings)
+    return Settings
+
+
+def __getattr__(name: str) -> Any:
+    if name == 'Settings':
+        return _settings_class()
+    raise AttributeError('module %r has no attribute %r' % (__name__, name))
+
+
+def check_setting(name: str, value: Any) -> Any:
+    """Check a setting, and bring it into one form. ValueError if no session can be opened with it."""
+    default = DEFAULTS.get(name)
+    if name not in CHECKS or (type(value) is type(default) and value == default):
+        return value
+    return CHECKS[name](value)
+
+
+def _program(value: Any) -> Any:
+    if isinstance(value, (str, os.PathLike)):
+        return os.fspath(value)
+    if isinstance(value, (list, tuple)) and value and all(isinstance(word, (str, os.PathLike)) for word in value):
+        return tuple(map(os.fspath, value))
+    raise ValueError('program is the path of the program, or the words that start it, as a text or a list; not %r' % (value,))
+
+
+def _connect(value: Any) -> str:
+    if isinstance(value, str) and ('/' in value or not value):
+        return value
+    host, colon, port = value.rpartition(':') if isinstance(value, str) else ('', '', '')
+    if not colon or not port.isdigit() or not 1 <= int(port) <= 65535:
+        raise ValueError('connect is HOST:PORT, as "127.0.0.1:7171", or the path of a socket file, with a slash; not %r' % (value,))
+    return '%s:%s' % (host, port)
+
+
+def _steps(value: Any) -> int:
+    from ..limits import MOST_STEPS
+    return _within('steps', value, 0, MOST_STEPS, '0 (as many as there can be) to 2^62, also 1e9')
+
+
+def _workers(value: Any) -> int:
+    from ..limits import MOST_WORKERS
+    return _within('workers', value, 0, MOST_WORKERS, '0 (one for each processor) to %d' % MOST_WORKERS)
+
+
+def _least_edges(value: Any) -> int:
+    return _within('least_edges', value, -1, 1 << 62, '0 or more, or -1 (a number for each function)')
+
+
+def _scale(value: Any) -> int:
+    return _within('scale', value, 0, 1 << 62, '0 (weights are whole multiples of a power of ten or two) or more, also 1e6')
+
+
+def _compare_weights(value: Any) -> bool:
+    if isinstance(value, str) and value.lower() in ('true', 'false'):
+        return value.lower() == 'true'
+    if value in (True, False):
+        return bool(value)
+    raise ValueError('compare_weights is True or False, not %r' % (value,))
+
+
+def _within(name: str, value: Any, least: int, most: int, said: str) -> int:
+    """A whole number, also as a word as the command line takes it."""
+    from ..io.coo import whole, whole_of_word
+    try:
+        number = whole_of_word(value) if isinstance(value, str) else whole(value)
+    except (TypeError, ValueError):
+        raise ValueError('%s: a whole number, %s; not %r' % (name, said, value)) from None
+    if not least <= number <= most:
+        raise ValueError('%s: %s; not %r' % (name, said, value))
+    return number
+
+
+CHECKS: Dict[str, Callable[[Any], Any]] = {
+    'program': _program, 'connect': _connect, 'steps': _steps, 'workers': _workers, 'least_edges': _least_edges,
+    'scale': _scale, 'compare_weights': _compare_weights}

@@ -8,8 +8,7 @@ from typing import Any, Dict, Mapping, Optional
 
 from .. import algorithms
 from ..algorithms.page_rank import ONE
-from .backend_info import MUCH, PRODUCTS
-from .registry import Terms, serves
+from .backend import Terms, serves
 from .spmat_graph import SpmatGraph
 
 ROUNDS = 100                                       # networkx' own max_iter
@@ -40,7 +39,7 @@ def _by_place(G: SpmatGraph, given: Optional[Mapping[Any, Any]]) -> Optional[Dic
     return found
 
 
-@serves(Terms(unless=_odd), pays=PRODUCTS)
+@serves(Terms(unless=_odd))
 def pagerank(G: SpmatGraph, alpha: float = 0.85, personalization: Any = None, max_iter: int = ROUNDS, tol: float = 1.0e-6,
              nstart: Any = None, weight: Any = 'weight', dangling: Any = None) -> Dict[Any, float]:
     if not len(G):
@@ -71,7 +70,7 @@ def _other_paths(arguments: Mapping[str, Any]) -> Optional[str]:
     return None
 
 
-@serves(Terms(unless=_other_paths), pays=MUCH)
+@serves(Terms(unless=_other_paths))
 def betweenness_centrality(G: SpmatGraph, k: Any = None, normalized: bool = True, weight: Any = None, endpoints: bool = False,
                            seed: Any = None) -> Dict[Any, float]:
     count = len(G)

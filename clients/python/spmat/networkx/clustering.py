@@ -11,9 +11,8 @@ from networkx import NetworkXNotImplemented
 
 from .. import algorithms
 from ..algorithms.utils import product
-from .backend_info import MUCH
 from .degree import one_or_all
-from .registry import Terms, UNDIRECTED, serves
+from .backend import Terms, UNDIRECTED, serves
 from .spmat_graph import SpmatGraph
 
 
@@ -34,14 +33,14 @@ def _simple_degree(G: SpmatGraph) -> List[int]:
     return found
 
 
-@serves(UNDIRECTED, pays=MUCH)
+@serves(UNDIRECTED)
 def triangles(G: SpmatGraph, nodes: Any = None) -> Any:
     if nodes is not None:
         _no_multigraph(G)
     return one_or_all(G, nodes, algorithms.triangles(G.near, check=False).to_list(0))
 
 
-@serves(UNDIRECTED, pays=MUCH)
+@serves(UNDIRECTED)
 def transitivity(G: SpmatGraph) -> float:
     _no_multigraph(G)
     closed = 6 * algorithms.triangle_count(G.simple, check=False)
@@ -52,7 +51,7 @@ def _weighted(arguments: Mapping[str, Any]) -> Optional[str]:
     return None if arguments['weight'] is None else 'weights are folded by cube roots'
 
 
-@serves(Terms(unless=_weighted), pays=MUCH)
+@serves(Terms(unless=_weighted))
 def clustering(G: SpmatGraph, nodes: Any = None, weight: Any = None) -> Any:
     _no_multigraph(G)
     if G.is_directed():
@@ -71,7 +70,7 @@ def _directed_clustering(G: SpmatGraph) -> List[float]:
     return [t / ((d * (d - 1) - 2 * b) * 2) if t else 0 for t, d, b in zip(three, total, both)]
 
 
-@serves(Terms(unless=_weighted), pays=MUCH)
+@serves(Terms(unless=_weighted))
 def average_clustering(G: SpmatGraph, nodes: Any = None, weight: Any = None, count_zeros: bool = True) -> float:
     shares: List[float] = list(clustering(G, nodes).values())
     if not count_zeros:
@@ -79,10 +78,10 @@ def average_clustering(G: SpmatGraph, nodes: Any = None, weight: Any = None, cou
     return sum(shares) / len(shares)
 
 
-@serves(UNDIRECTED, pays=MUCH)
+@serves(UNDIRECTED)
 def generalized_degree(G: SpmatGraph, nodes: Any = None) -> Any:
     _no_multigraph(G)
-    rows, _, values = product(G.simple, G.simple, 'plus_pair', G.simple).to_coo(arrays=False)
+    rows, _, values = product(G.simple, G.simple, 'plus_pair', G.simple).entries(arrays=False)
     found: List[Dict[int, int]] = [Counter() for _ in G]
     for i, many in zip(rows, values):
         found[i][many] += 1
@@ -92,7 +91,7 @@ def generalized_degree(G: SpmatGraph, nodes: Any = None) -> Any:
     return one_or_all(G, nodes, found)
 
 
-@serves(UNDIRECTED, pays=MUCH)
+@serves(UNDIRECTED)
 def square_clustering(G: SpmatGraph, nodes: Any = None) -> Any:
     A, d, closed = G.simple, _simple_degree(G), _twice_triangles(G)
     squares = algorithms.squares(A, check=False).to_list(0)

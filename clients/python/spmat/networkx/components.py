@@ -3,15 +3,13 @@ from __future__ import annotations
 
 from typing import Any, Dict, Iterator, List, Set, Tuple
 
-from networkx import NetworkXError
+import numpy
 
 from .. import algorithms
-from ..io import matrix_text
 from ..matrix import Matrix
-from .backend_info import KNOWN, LITTLE, ROUNDS, WALK, WEIGHTS
 from .degree import degree, need_nodes
 from .process_session import session
-from .registry import DIRECTED, UNDIRECTED, serves
+from .backend import DIRECTED, UNDIRECTED, serves
 from .spmat_graph import SpmatGraph
 
 
@@ -26,21 +24,10 @@ def strong_labels(G: SpmatGraph) -> List[int]:
 
 
 def parts(G: SpmatGraph, found: List[int]) -> List[Set[Any]]:
-    """Sets of nodes by their labels, in the order of their first nodes."""
-    if len(found) > matrix_text.FEW // 16 and matrix_text.find_numpy() is not None:
-        return _by_sorting(G, found)
-    out: Dict[int, Set[Any]] = {}
-    for node, label in zip(G.nodes, found):
-        out.setdefault(label, set()).add(node)
-    return list(out.values())
-
-
-def _by_sorting(G: SpmatGraph, found: List[int]) -> List[Set[Any]]:
-    """The same by numpy: labels are the first nodes', so they are in order."""
-    import numpy
-    labels = numpy.array(found, numpy.int64)
-    order = labels.argsort(kind='stable')
-    ends = numpy.flatnonzero(numpy.diff(labels[order], append=-1)) + 1
+    """Sets of nodes by their labels, in the order of their first nodes, which are the labels."""
+    array = numpy.array(found, numpy.int64)
+    order = array.argsort(kind='stable')
+    ends = numpy.flatnonzero(numpy.diff(array[order], append=-1)) + 1
     at, nodes, out, start = order.tolist(), G.nodes, [], 0
     for end in ends.tolist():
         out.append(set(map(nodes.__getitem__, at[start:end])))
@@ -52,40 +39,40 @@ def connected(G: SpmatGraph) -> bool:
     return not any(labels(G))                      # all of them are node 0's
 
 
-@serves(UNDIRECTED, pays=WALK)
+@serves(UNDIRECTED)
 def connected_components(G: SpmatGraph) -> Iterator[Set[Any]]:
     return iter(parts(G, labels(G)))
 
 
-@serves(UNDIRECTED, pays=WALK)
+@serves(UNDIRECTED)
 def number_connected_components(G: SpmatGraph) -> int:
     return len(set(labels(G)))
 
 
-@serves(UNDIRECTED, pays=WALK)
+@serves(UNDIRECTED)
 def is_connected(G: SpmatGraph) -> bool:
     need_nodes(G)
     return connected(G)
 
 
-@serves(UNDIRECTED, pays=WALK)
+@serves(UNDIRECTED)
 def node_connected_component(G: SpmatGraph, n: Any) -> Set[Any]:
     found = labels(G)
     mine = found[G.index[n]]
     return {node for node, label in zip(G.nodes, found) if label == mine}
 
 
-@serves(DIRECTED, pays=WALK)
+@serves(DIRECTED)
 def weakly_connected_components(G: SpmatGraph) -> Iterator[Set[Any]]:
     return iter(parts(G, labels(G)))
 
 
-@serves(DIRECTED, pays=WALK)
+@serves(DIRECTED)
 def number_weakly_connected_components(G: SpmatGraph) -> int:
     return len(set(labels(G)))
 
 
-@serves(DIRECTED, pays=WALK)
+@serves(DIRECTED)
 def is_weakly_connected(G: SpmatGraph) -> bool:
     need_nodes(G)
     return connected(G)
@@ -106,22 +93,16 @@ def condensed(G: SpmatGraph) -> Tuple[List[Set[Any]], Matrix]:
     return parts(G, found), between.select('offdiag')
 
 
-@serves(DIRECTED, pays=ROUNDS)
+@serves(DIRECTED)
 def strongly_connected_components(G: SpmatGraph) -> Iterator[Set[Any]]:
     found, between = condensed(G)
     level: List[int] = algorithms.topological_levels(between).to_list()
     return iter([found[at] for at in sorted(range(len(found)), key=level.__getitem__, reverse=True)])
 
 
-@serves(DIRECTED, pays=ROUNDS)
+@serves(DIRECTED)
 def number_strongly_connected_components(G: SpmatGraph) -> int:
     return len(set(strong_labels(G)))
-
-
-@serves(DIRECTED, pays=LITTLE)
-def is_strongly_connected(G: SpmatGraph) -> bool:
-    need_nodes(G)
-    return all_reached(G)
 
 
 def all_reached(G: SpmatGraph) -> bool:
@@ -132,7 +113,7 @@ def all_reached(G: SpmatGraph) -> bool:
     return there.nvals == len(G) and algorithms.bfs_levels(G.AT, 0, check=False).nvals == len(G)
 
 
-@serves(DIRECTED, pays=ROUNDS)
+@serves(DIRECTED)
 def is_semiconnected(G: SpmatGraph) -> bool:
     need_nodes(G)
     found, between = condensed(G)
@@ -140,61 +121,30 @@ def is_semiconnected(G: SpmatGraph) -> bool:
     return longest == len(found) - 1               # a path by way of all components
 
 
-@serves(DIRECTED, pays=ROUNDS)
+@serves(DIRECTED)
 def attracting_components(G: SpmatGraph) -> Iterator[Set[Any]]:
     found, between = condensed(G)
-    leaves = set(between.reduce_rowwise('first').to_coo(arrays=False)[0])
+    leaves = set(between.reduce_rowwise('first').entries(arrays=False)[0])
     return iter([part for at, part in enumerate(found) if at not in leaves])
 
 
 # -- trees
 
-@serves(pays=KNOWN)
 def is_tree(G: SpmatGraph) -> bool:
     need_nodes(G, 'G has no nodes.')
     return G.number_of_edges() == len(G) - 1 and connected(G)
 
 
-@serves(pays=WEIGHTS)
 def is_forest(G: SpmatGraph) -> bool:
     need_nodes(G, 'G has no nodes.')
     return G.number_of_edges() < len(G) and G.number_of_edges() == len(G) - len(set(labels(G)))
 
 
-@serves(DIRECTED, pays=KNOWN)
+@serves(DIRECTED)
 def is_arborescence(G: SpmatGraph) -> bool:
     return is_tree(G) and max(degree(G, back=True)) <= 1
 
 
-@serves(DIRECTED, pays=WEIGHTS)
+@serves(DIRECTED)
 def is_branching(G: SpmatGraph) -> bool:
     return is_forest(G) and max(degree(G, back=True)) <= 1
-
-
-def colours(G: SpmatGraph) -> Dict[Any, int]:
-    """networkx' two colours: 1 for the first node of each component that has an edge out; 0 for a node without edges."""
-    if G.loops:
-        raise NetworkXError('Graph is not bipartite.')
-    try:
-        side = algorithms.bipartite_sides(G.A, G.AT, check=False).to_list(0)
-    except ValueError:
-        raise NetworkXError('Graph is not bipartite.') from None
-    first: Dict[int, int] = {}
-    for at, (label, out) in enumerate(zip(labels(G), G.at.lengths)):
-        if out and label not in first:
-            first[label] = side[at]
-    return {node: 1 - (one ^ first[label]) if label in first else 0 for node, one, label in zip(G.nodes, side, labels(G))}
-
-
-@serves(pays=LITTLE)
-def color(G: SpmatGraph) -> Dict[Any, int]:
-    return colours(G)
-
-
-@serves(pays=LITTLE)
-def is_bipartite(G: SpmatGraph) -> bool:
-    try:
-        colours(G)
-        return True
-    except NetworkXError:
-        return False

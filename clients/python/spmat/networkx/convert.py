@@ -7,9 +7,9 @@ from __future__ import annotations
 import contextlib
 from typing import Any, Dict, Iterator, List, Optional, Set, Tuple
 
+import numpy
 import networkx as nx
 
-from ..io import matrix_text
 from . import graph_arrays, process_session
 from .graph_arrays import Values
 from .spmat_graph import SpmatGraph
@@ -87,8 +87,28 @@ def read_values(graph: Any, attribute: Any, default: Any, fold: str) -> Values:
 def convert_from_nx(graph: Any, *, edge_attrs: Optional[Dict[str, Any]] = None, node_attrs: Optional[Dict[str, Any]] = None,
                     preserve_edge_attrs: bool = False, preserve_node_attrs: bool = False, preserve_graph_attrs: bool = False,
                     name: Optional[str] = None, graph_name: Optional[str] = None) -> SpmatGraph:
-    """A networkx graph as a SpmatGraph: the one that networkx keeps with the graph, where it has one, with what is asked for
-    added to it. NotImplementedError, upon which networkx does the work itself, for what isn't networkx' own kind of graph."""
+    """Convert a networkx graph, as networkx asks a backend to.
+
+    Parameters
+    ----------
+    graph : networkx.Graph or SpmatGraph
+        The graph. If networkx keeps a SpmatGraph with it, that one is taken.
+    edge_attrs, node_attrs : dict, optional
+        Attributes that the function reads, with their defaults.
+    preserve_edge_attrs, preserve_node_attrs, preserve_graph_attrs : bool
+        Whether to convert all attributes.
+    name, graph_name : str, optional
+        The names of the function and of its argument.
+
+    Returns
+    -------
+    SpmatGraph
+
+    Raises
+    ------
+    NotImplementedError
+        If this is no graph of networkx' own kinds; networkx does the work itself then.
+    """
     if isinstance(graph, SpmatGraph):
         return graph
     made = held(graph)
@@ -106,7 +126,15 @@ def convert_from_nx(graph: Any, *, edge_attrs: Optional[Dict[str, Any]] = None, 
 
 
 def convert_to_nx(thing: Any, *, name: Optional[str] = None) -> Any:
-    """A SpmatGraph as a networkx graph with the attributes that were converted, as `G.copy()` gives it; anything else as it is."""
+    """Convert a SpmatGraph back, with the attributes that were converted, as `G.copy()` gives it.
+
+    Parameters
+    ----------
+    thing : object
+        A SpmatGraph, or anything else, which is returned as it is.
+    name : str, optional
+        The name of the function that gave it.
+    """
     return copied(thing) if isinstance(thing, SpmatGraph) else thing
 
 
@@ -125,26 +153,20 @@ def copied(G: SpmatGraph, keep: Optional[Set[Any]] = None, links: Optional[Tuple
 def _chosen(G: SpmatGraph, flags: Optional[List[bool]], links: Optional[Tuple[List[int], List[int]]]) -> List[int]:
     """The entries that become edges: of an undirected edge the one whose row is less."""
     rows, columns, count = G.at.rows, G.at.columns, len(G)
-    if matrix_text.is_array(rows):
-        import numpy
-        chosen = numpy.ones(len(rows), bool) if G.is_directed() else rows <= columns
-        if flags is not None:
-            kept = numpy.array(flags, bool)
-            chosen &= kept[rows] & kept[columns]
-        if links is not None:
-            chosen &= numpy.isin(rows * count + columns, numpy.array(links[0], int) * count + numpy.array(links[1], int))
-        found: List[int] = numpy.flatnonzero(chosen).tolist()
-        return found
-    wanted = None if links is None else set(zip(*links))
-    return [at for at, (i, j) in enumerate(zip(rows, columns))
-            if (G.is_directed() or i <= j) and (flags is None or (flags[i] and flags[j])) and (wanted is None or (i, j) in wanted)]
+    chosen = numpy.ones(len(rows), bool) if G.is_directed() else rows <= columns
+    if flags is not None:
+        is_in = numpy.array(flags, bool)
+        chosen &= is_in[rows] & is_in[columns]
+    if links is not None:
+        i, j = (numpy.array(ends, int) for ends in links)
+        chosen &= numpy.isin(rows * count + columns, i * count + j)
+    found: List[int] = numpy.flatnonzero(chosen).tolist()
+    return found
 
 
 def _edges(G: SpmatGraph, chosen: List[int]) -> Iterator[Tuple[Any, ...]]:
     """What `add_edges_from` takes for each of these entries."""
-    rows, columns = G.at.rows, G.at.columns
-    if matrix_text.is_array(rows):
-        rows, columns = rows.tolist(), columns.tolist()
+    rows, columns = G.at.rows.tolist(), G.at.columns.tolist()
     nodes, data, many = G.nodes, G.edge_data, G.is_multigraph()
     for at in chosen:
         u, v = nodes[rows[at]], nodes[columns[at]]

@@ -12,10 +12,9 @@ from networkx import NetworkXError, NetworkXUnfeasible
 from .. import algorithms
 from ..algorithms.utils import product
 from ..matrix import Matrix
-from .backend_info import LITTLE, MUCH, PRODUCTS, ROUNDS
 from .convert import copied
 from .process_session import session
-from .registry import DIRECTED, Terms, serves
+from .backend import DIRECTED, Terms, serves
 from .spmat_graph import SpmatGraph
 from .weight_scaling import told
 
@@ -31,30 +30,17 @@ def cyclic(G: SpmatGraph) -> bool:
         return True
 
 
-@serves(pays=LITTLE)
-def has_cycle(G: SpmatGraph) -> bool:
-    if not G.is_directed():
-        raise NetworkXError('Topological sort not defined on undirected graphs.')
-    return cyclic(G)
-
-
-@serves(pays=LITTLE)
-def is_directed_acyclic_graph(G: SpmatGraph) -> bool:
-    return G.is_directed() and not cyclic(G)
-
-
 def _with_edges(G: SpmatGraph, matrix: Matrix) -> Any:
     """A copy of the networkx graph with an edge at each entry that it hasn't one at."""
     closed = copied(G)
     had: Set[Tuple[int, int]] = set(zip(map(int, G.at.rows), map(int, G.at.columns)))
-    rows, columns, _ = matrix.to_coo(arrays=False)
+    rows, columns, _ = matrix.entries(arrays=False)
     nodes = G.nodes
     closed.add_edges_from([(nodes[i], nodes[j]) for i, j in zip(rows, columns)
                            if (i, j) not in had and (G.is_directed() or i <= j)])
     return closed
 
 
-@serves(pays=MUCH)
 def transitive_closure(G: SpmatGraph, reflexive: Any = False) -> Any:
     if reflexive not in {None, True, False}:
         raise NetworkXError('Incorrect value for the parameter `reflexive`')
@@ -70,26 +56,25 @@ def _in_order(arguments: Mapping[str, Any]) -> Optional[str]:
     return None if arguments['topo_order'] is None else 'an order that is given decides what is closed'
 
 
-@serves(Terms(undirected=False, unless=_in_order), pays=PRODUCTS)
+@serves(Terms(undirected=False, unless=_in_order))
 def transitive_closure_dag(G: SpmatGraph, topo_order: Any = None) -> Any:
     if cyclic(G):
         raise NetworkXUnfeasible(UNFEASIBLE)
     return _with_edges(G, algorithms.transitive_closure(G.A))
 
 
-@serves(DIRECTED, pays=PRODUCTS)
+@serves(DIRECTED)
 def transitive_reduction(G: SpmatGraph) -> Any:
     if cyclic(G):
         raise NetworkXError('Directed Acyclic Graph required for transitive_reduction')
     longer = product(G.A, algorithms.transitive_closure(G.A), 'any_pair', G.A)
-    rows, columns, _ = G.A.without(longer).to_coo(arrays=False)
+    rows, columns, _ = G.A.without(longer).entries(arrays=False)
     reduced = nx.DiGraph()
     reduced.add_nodes_from(G)
     reduced.add_edges_from((G.nodes[i], G.nodes[j]) for i, j in zip(rows, columns))
     return reduced
 
 
-@serves(pays=PRODUCTS)
 def number_of_walks(G: SpmatGraph, walk_length: int) -> Dict[Any, Dict[Any, int]]:
     if walk_length < 0:
         raise ValueError('`walk_length` cannot be negative: %s' % walk_length)
@@ -104,7 +89,7 @@ def _one_edge_each(arguments: Mapping[str, Any]) -> Optional[str]:
     return 'parallel edges' if arguments['G'].is_multigraph() else 'no node' if not len(arguments['G']) else None
 
 
-@serves(Terms(undirected=False, unless=_one_edge_each, negative=True), pays=ROUNDS)
+@serves(Terms(undirected=False, unless=_one_edge_each, negative=True))
 def dag_longest_path_length(G: SpmatGraph, weight: Any = 'weight', default_weight: Any = 1) -> Any:
     try:
         far = algorithms.longest_paths(G.matrix(weight, default_weight, 'max')).reduce_scalar('max') or 0

@@ -6,13 +6,12 @@ from __future__ import annotations
 
 from typing import Any, Dict, Iterator, List, Mapping, Optional
 
+import numpy
 from networkx import NetworkXError, NetworkXPointlessConcept
 
-from ..algorithms.frontier import column_of
-from ..io import matrix_text
+from ..algorithms.traversal import put_all
 from ..matrix import Matrix
-from .backend_info import KNOWN, LITTLE, MUCH, PRODUCTS, WEIGHTS
-from .registry import DIRECTED, Terms, UNDIRECTED, serves
+from .backend import DIRECTED, Terms, UNDIRECTED, serves
 from .spmat_graph import SpmatGraph
 
 
@@ -50,14 +49,8 @@ def degree(G: SpmatGraph, back: bool = False) -> List[int]:
 
 def _came(G: SpmatGraph) -> List[int]:
     """How many edges come to each node, none of them parallel."""
-    if matrix_text.is_array(G.at.columns):
-        import numpy
-        counts: List[int] = numpy.bincount(G.at.columns, minlength=len(G)).tolist()
-        return counts
-    found = [0] * len(G)
-    for j in G.at.columns:
-        found[j] += 1
-    return found
+    counts: List[int] = numpy.bincount(G.at.columns, minlength=len(G)).tolist()
+    return counts
 
 
 def total_degree(G: SpmatGraph) -> List[int]:
@@ -72,51 +65,36 @@ def _centrality(G: SpmatGraph, degrees: List[int]) -> Dict[Any, Any]:
     return dict(zip(G, [d * share for d in degrees]))
 
 
-@serves(pays=KNOWN)
 def degree_centrality(G: SpmatGraph) -> Dict[Any, Any]:
     return _centrality(G, total_degree(G))
 
 
-@serves(DIRECTED, pays=KNOWN)
+@serves(DIRECTED)
 def in_degree_centrality(G: SpmatGraph) -> Dict[Any, Any]:
     return _centrality(G, degree(G, back=True))
 
 
-@serves(DIRECTED, pays=KNOWN)
+@serves(DIRECTED)
 def out_degree_centrality(G: SpmatGraph) -> Dict[Any, Any]:
     return _centrality(G, degree(G))
 
 
-@serves(pays=KNOWN)
 def isolates(G: SpmatGraph) -> Iterator[Any]:
     return iter([node for node, d in zip(G, total_degree(G)) if d == 0])
 
 
-@serves(pays=KNOWN)
 def number_of_isolates(G: SpmatGraph) -> int:
     return total_degree(G).count(0)
 
 
-@serves(pays=LITTLE)
-def is_regular(G: SpmatGraph) -> bool:
-    need_nodes(G, 'Graph has no nodes.')
-    return len(set(degree(G))) == 1 and (not G.is_directed() or len(set(degree(G, back=True))) == 1)
-
-
-@serves(UNDIRECTED, pays=LITTLE)
-def is_k_regular(G: SpmatGraph, k: int) -> bool:
-    return all(d == k for d in degree(G))
-
-
-@serves(pays=KNOWN)
 def number_of_selfloops(G: SpmatGraph) -> int:
     return sum(G.loops.values())
 
 
-@serves(UNDIRECTED, pays=PRODUCTS)
+@serves(UNDIRECTED)
 def s_metric(G: SpmatGraph) -> float:
     near, many = degree(G), G.many()
-    column = column_of(many, near)
+    column = put_all(many, near)
     flow = many.mxv(column, 'plus_times').ewise_mult(column, 'times').to_list(0)
     return float((sum(flow) + sum(near[i] ** 2 * loops for i, loops in G.loops.items())) // 2)
 
@@ -130,7 +108,7 @@ def _sides(arguments: Mapping[str, Any]) -> Optional[str]:
     return None
 
 
-@serves(Terms(unless=_sides, negative=True), pays=WEIGHTS)
+@serves(Terms(unless=_sides, negative=True))
 def average_neighbor_degree(G: SpmatGraph, source: str = 'out', target: str = 'out', nodes: Any = None,
                             weight: Any = None) -> Dict[Any, Any]:
     if not G.is_directed() and (source, target) != ('out', 'out'):
@@ -141,7 +119,7 @@ def average_neighbor_degree(G: SpmatGraph, source: str = 'out', target: str = 'o
     ways: List[Matrix] = [G.matrix(weight, back=back) for back, side in ((False, 'out'), (True, 'in')) if side in source]
     found = [0] * len(G)
     for way in ways:
-        for i, near in enumerate(way.mxv(column_of(way, target_degree), 'plus_times').to_list(0)):
+        for i, near in enumerate(way.mxv(put_all(way, target_degree), 'plus_times').to_list(0)):
             found[i] += near
     own = _side_degree(G, source) if weight is None else _weighted_degree(G, weight)
     return {node: found[i] / own[i] if own[i] else 0.0 for node, i in ((node, G.index[node]) for node in G.nbunch_iter(nodes))}
@@ -165,14 +143,14 @@ def _simply_directed(arguments: Mapping[str, Any]) -> Optional[str]:
     return None if graph.is_directed() and not graph.is_multigraph() else 'of a DiGraph alone'
 
 
-@serves(Terms(unless=_simply_directed), pays=MUCH)
+@serves(Terms(unless=_simply_directed))
 def overall_reciprocity(G: SpmatGraph) -> float:
     if not G.entries:
         raise NetworkXError('Not defined for empty graphs')
     return G.simple.ewise_mult(G.AT, 'pair').nvals / G.entries
 
 
-@serves(Terms(unless=_simply_directed), pays=MUCH)
+@serves(Terms(unless=_simply_directed))
 def reciprocity(G: SpmatGraph, nodes: Any = None) -> Any:
     if nodes is None:
         return overall_reciprocity(G)
@@ -183,9 +161,3 @@ def reciprocity(G: SpmatGraph, nodes: Any = None) -> Any:
             raise NetworkXError('Not defined for isolated nodes.')
         return shares[nodes]
     return {node: shares[node] for node in G.nbunch_iter(nodes)}
-
-
-@serves(Terms(unless=_simply_directed), pays=LITTLE)
-def is_tournament(G: SpmatGraph) -> bool:
-    n = len(G)
-    return not G.loops and G.entries == n * (n - 1) // 2 and G.A.ewise_mult(G.AT, 'pair').nvals == 0

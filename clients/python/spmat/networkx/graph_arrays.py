@@ -4,7 +4,9 @@ from __future__ import annotations
 import itertools
 from typing import Any, Dict, Iterable, List, NamedTuple, Optional, Tuple
 
-from ..io import coo, matrix_text
+import numpy
+
+from ..io import coo
 from ..io.networkx_adjacency import neighbourhoods, row_numbers
 from ..metadata import Nodes
 from . import process_session, weight_scaling
@@ -13,7 +15,7 @@ from . import process_session, weight_scaling
 class Positions(NamedTuple):
     """Where a graph has edges: node i of `nodes` has `lengths[i]` neighbours, and entry k leads from `rows[k]` to `columns[k]`.
     An undirected edge stands both ways, a loop once; parallel edges are one entry, `counts` of them at each (None: one each).
-    Arrays of numpy where it is there, else lists. `loops` has the edges from i to i by i."""
+    `rows` and `columns` are arrays. `loops` has the edges from i to i by i."""
     nodes: Nodes
     lengths: List[int]
     rows: Any
@@ -31,7 +33,7 @@ def key_of(name: Any, default: Any, fold: Optional[str]) -> Key:
 
 
 class Values(NamedTuple):
-    """An edge attribute at each entry: whole numbers as an array of numpy or a list, the least and the greatest of them, and how many
+    """An edge attribute at each entry: whole numbers as an array, the least and the greatest of them, and how many
     of them are 1: None where all were whole numbers, 1 where one was a float. `read` is what stood in the graph."""
     many: Any
     least: int
@@ -41,9 +43,8 @@ class Values(NamedTuple):
 
 
 def sequence(items: Iterable[int], count: int) -> Any:
-    """So many whole numbers as an array of numpy where it is there, else as a list."""
-    numpy = matrix_text.find_numpy()
-    return list(items) if numpy is None else numpy.fromiter(items, numpy.int64, count)
+    """So many whole numbers as an array."""
+    return numpy.fromiter(items, numpy.int64, count)
 
 
 def positions(graph: Any) -> Positions:
@@ -57,16 +58,9 @@ def positions(graph: Any) -> Positions:
     columns = sequence(ends, sum(lengths))
     counts = [len(keys) for near in adjacency.values() for keys in near.values()] if graph.is_multigraph() else None
     rows = row_numbers(lengths)
-    found = _loops(rows, columns)
+    found = rows[rows == columns].tolist()
     loops = dict.fromkeys(found, 1) if counts is None else {i: len(adjacency[nodes[i]][nodes[i]]) for i in found}
     return Positions(nodes, lengths, rows, columns, counts if counts and max(counts) > 1 else None, loops)
-
-
-def _loops(rows: Any, columns: Any) -> List[int]:
-    if matrix_text.is_array(rows):
-        at: List[int] = rows[rows == columns].tolist()
-        return at
-    return [i for i, j in zip(rows, columns) if i == j]
 
 
 def edge_data(graph: Any) -> List[Any]:
@@ -95,8 +89,7 @@ def values(data: List[Any], name: str, default: Any, fold: Optional[str], scale:
             each = iter(whole)
             whole = [FOLDS[fold](itertools.islice(each, len(keys))) for keys in data]
         many = sequence(whole, len(whole))
-        least, most = (int(many.min()), int(many.max())) if matrix_text.is_array(many) and len(many) else (
-            min(whole, default=0), max(whole, default=0))
+        least, most = (int(many.min()), int(many.max())) if len(many) else (0, 0)
         if not (coo.LEAST <= least and most <= coo.MOST):
             raise ValueError('a weight beyond 64 bits')
     except (TypeError, ValueError, OverflowError) as fault:

@@ -4,16 +4,15 @@ from __future__ import annotations
 # networkx has the docstrings of what is served
 # pylint: disable=missing-function-docstring
 
-from typing import Any, Callable, Dict, Iterable, List, Optional, Set
+from typing import Any, Callable, Dict, Iterable, List, Optional
 
 from networkx import NetworkXNotImplemented, NetworkXUnfeasible
 
 from .. import algorithms
 from ..algorithms.core_decomposition import Peeling
-from ..algorithms.utils import as_many, product, repeated
-from .backend_info import LITTLE, PRODUCTS, ROUNDS
+from ..algorithms.utils import as_many, product, iterate
 from .convert import copied
-from .registry import SIMPLE, SIMPLE_UNDIRECTED, UNDIRECTED, serves
+from .backend import SIMPLE, SIMPLE_UNDIRECTED, UNDIRECTED, serves
 from .spmat_graph import SpmatGraph
 
 NO_LOOPS = ('Input graph %s self loops which is not permitted; '
@@ -39,13 +38,13 @@ def _cores(G: SpmatGraph) -> List[int]:
     core, k, left = [0] * len(G), 0, G.full()
     while left.nvals:
         k += 1
-        left = repeated(left, lambda had: near.mxv(had, 'plus_first', mask=had.S).select('valuege', k), as_many)
-        for i in left.to_coo(arrays=False)[0]:
+        left = iterate(left, lambda had: near.mxv(had, 'plus_first', mask=had.S).select('valuege', k), as_many)
+        for i in left.entries(arrays=False)[0]:
             core[i] = k
     return core
 
 
-@serves(SIMPLE, pays=ROUNDS)
+@serves(SIMPLE)
 def core_number(G: SpmatGraph) -> Cores:
     return dict(zip(G, cores(G)))
 
@@ -58,14 +57,14 @@ def _part(G: SpmatGraph, core: Optional[Cores], k: Optional[int], keep: Callable
     return copied(G, {node for node in found if keep(node, wanted, found)})
 
 
-@serves(SIMPLE, pays=PRODUCTS)
+@serves(SIMPLE)
 def k_core(G: SpmatGraph, k: Optional[int] = None, core_number: Optional[Cores] = None) -> Any:
     if core_number is None and k is not None and k >= 1 and not G.is_directed() and not G.loops:
         return copied(G, set(G.named(algorithms.k_core(G.A, k, check=False)).by_node()))
     return _part(G, core_number, k, lambda v, k, core: core[v] >= k)
 
 
-@serves(SIMPLE, pays=ROUNDS)
+@serves(SIMPLE)
 def k_shell(G: SpmatGraph, k: Optional[int] = None, core_number: Optional[Cores] = None) -> Any:
     return _part(G, core_number, k, lambda v, k, core: core[v] == k)
 
@@ -74,12 +73,12 @@ def _below_greatest(values: Iterable[int]) -> int:
     return max(values) - 1
 
 
-@serves(SIMPLE, pays=ROUNDS)
+@serves(SIMPLE)
 def k_crust(G: SpmatGraph, k: Optional[int] = None, core_number: Optional[Cores] = None) -> Any:
     return _part(G, core_number, k, lambda v, k, core: core[v] <= k, _below_greatest)
 
 
-@serves(SIMPLE, pays=ROUNDS)
+@serves(SIMPLE)
 def k_corona(G: SpmatGraph, k: int, core_number: Optional[Cores] = None) -> Any:
     core: Cores = dict(zip(G, cores(G))) if core_number is None else core_number
     inside = G.spots([v for v in core if core[v] >= k])
@@ -87,20 +86,20 @@ def k_corona(G: SpmatGraph, k: int, core_number: Optional[Cores] = None) -> Any:
     return _part(G, core, k, lambda v, k, core: bool(core[v] == k == near.get(v, 0)))
 
 
-@serves(SIMPLE_UNDIRECTED, pays=PRODUCTS)
+@serves(SIMPLE_UNDIRECTED)
 def k_truss(G: SpmatGraph, k: int) -> Any:
     _check_loops(G)
     left = algorithms.k_truss(G.A, k, check=False) if k >= 3 else G.A
-    rows, columns, _ = left.to_coo(arrays=False)
+    rows, columns, _ = left.entries(arrays=False)
     nodes = G.nodes
     return copied(G, {nodes[i] for i in rows}, (rows, columns))
 
 
-@serves(SIMPLE_UNDIRECTED, pays=ROUNDS)
+@serves(SIMPLE_UNDIRECTED)
 def onion_layers(G: SpmatGraph) -> Dict[Any, int]:
     _check_loops(G, 'contains')
     peeling = Peeling(G.A, None)
-    found = {node: 1 for node, many in zip(G, peeling.left.numbers) if not many}
+    found = {node: 1 for node, many in zip(G, peeling.left.tolist()) if not many}
     layer = 1 if found else 0
     while True:
         core = peeling.least()
@@ -108,28 +107,10 @@ def onion_layers(G: SpmatGraph) -> Dict[Any, int]:
             return found
         for fallen in peeling.peel(core + 1):
             layer += 1
-            found.update((G.nodes[i], layer) for i in fallen)
+            found.update((G.nodes[i], layer) for i in fallen.tolist())
 
 
-@serves(pays=LITTLE)
-def is_dominating_set(G: SpmatGraph, nbunch: Any) -> bool:
-    some = {node for node in nbunch if node in G}
-    if not some:
-        return not len(G)
-    row = G.spots_row(some)
-    return row.ewise_add(row.mxm(G.A, 'any_pair'), 'any').nvals == len(G)
-
-
-@serves(pays=LITTLE)
-def node_boundary(G: SpmatGraph, nbunch1: Any, nbunch2: Any = None) -> Set[Any]:
-    inside = {node for node in nbunch1 if node in G}
-    if not inside:
-        return set()
-    edge = set(G.named(G.spots_row(inside).mxm(G.A, 'any_pair')).by_node()) - inside
-    return edge if nbunch2 is None else edge & set(nbunch2)
-
-
-@serves(UNDIRECTED, pays=ROUNDS)
+@serves(UNDIRECTED)
 def maximal_independent_set(G: SpmatGraph, nodes: Any = None, seed: Any = None) -> List[Any]:
     chosen = set(nodes) if nodes else {seed.choice(G.nodes)}
     if not chosen.issubset(G.index):

@@ -13,8 +13,7 @@ from .._client.server_program import Program
 from ..errors import SpmatError
 from ..limits import MOST_STEPS
 from ..session import Session
-from .backend_info import DEFAULTS
-from .settings import checked
+from .backend_info import DEFAULTS, check_setting
 
 MOST_WORKERS = 8
 SECONDS = 30.0                                     # how long a session that couldn't be opened isn't tried again by priority
@@ -52,7 +51,7 @@ _open: Dict[Tuple[int, Settings], Session] = {}
 
 def setting(name: str) -> Any:
     """A value of `nx.config.backends.spmat`, or the default where networkx doesn't know the backend's settings."""
-    return checked(name, getattr(getattr(nx.config.backends, 'spmat', None), name, DEFAULTS[name]))
+    return check_setting(name, getattr(getattr(nx.config.backends, 'spmat', None), name, DEFAULTS[name]))
 
 
 def settings() -> Settings:
@@ -66,9 +65,21 @@ def _processors() -> int:
 
 
 def session() -> Session:
-    """This process's session. A new one is opened at the first call, after a change of the settings, where the last one has ended
-    or its program died, and in a process that was forked off. Raises NoSession, a RuntimeError, where there is no program, or one
-    that isn't spmat, and where nobody listens, or a server has no seat left."""
+    """Return the one session of this process that the backend uses.
+
+    A new one is opened at the first call, after a change of the settings, after the last one has ended or
+    its program died, and in a process that was forked off.
+
+    Returns
+    -------
+    Session
+
+    Raises
+    ------
+    NoSession
+        If there is no program, or one that isn't spmat, or nobody listens, or a server has no seat left.
+        It is a RuntimeError.
+    """
     with _lock:
         key = (os.getpid(), settings())
         held = _open.get(key)

@@ -10,13 +10,12 @@ import itertools
 import math
 from typing import Any, Dict, Iterator, List, Mapping, NamedTuple, Optional, Sequence, Tuple
 
+import numpy
 from networkx import NetworkXNoPath, NetworkXUnbounded
 
-from ..io import matrix_text
 from ..matrix import Matrix
 from . import weight_scaling
-from .backend_info import KNOWN, LITTLE, WEIGHTS
-from .registry import SIGNED, Terms, serves
+from .backend import SIGNED, Terms, serves
 from .single_source_lengths import NEGATIVE, check_method, check_weights, level_column, need, need_some, shortest
 from .spmat_graph import SpmatGraph
 
@@ -76,19 +75,13 @@ def _tight(G: SpmatGraph, far: Dict[int, int], query: Query) -> Dict[int, List[i
     """Of each node that was found those that edges lead to which are as long as their ends are apart, in the graph's order."""
     rows, columns = (G.at.columns, G.at.rows) if query.back and G.is_directed() else (G.at.rows, G.at.columns)
     many = 1 if query.weight is None else G.values(query.weight).many
-    if matrix_text.is_array(rows):
-        import numpy
-        length = numpy.full(len(G), -1 << 63, numpy.int64)
-        length[list(far)] = list(far.values())
-        known = length != -1 << 63
-        keep = known[rows] & known[columns]
-        keep &= numpy.where(keep, length[rows], 0) + many == length[columns]
-        pairs: Any = zip(rows[keep].tolist(), columns[keep].tolist())
-    else:
-        values = itertools.repeat(many) if isinstance(many, int) else many
-        pairs = ((i, j) for i, j, edge in zip(rows, columns, values) if i in far and j in far and far[i] + edge == far[j])
+    length = numpy.full(len(G), -1 << 63, numpy.int64)
+    length[list(far)] = list(far.values())
+    known = length != -1 << 63
+    keep = known[rows] & known[columns]
+    keep &= numpy.where(keep, length[rows], 0) + many == length[columns]
     near: Dict[int, List[int]] = {}
-    for i, j in pairs:
+    for i, j in zip(rows[keep].tolist(), columns[keep].tolist()):
         near.setdefault(i, []).append(j)
     return near
 
@@ -133,30 +126,20 @@ def between(G: SpmatGraph, source: Any, target: Any, query: Query, said: str) ->
 
 # -- by edges
 
-@serves(pays=KNOWN)
 def single_source_shortest_path(G: SpmatGraph, source: Any, cutoff: Any = None) -> Paths:
     need(G, source, 'Source %s not in G')
     return paths_of(G, search(G, [source], Query(cutoff=cutoff)), [source])
 
 
-@serves(pays=KNOWN)
 def single_target_shortest_path(G: SpmatGraph, target: Any, cutoff: Any = None) -> Paths:
     need(G, target, 'Target %s not in G')
     return paths_of(G, search(G, [target], Query(cutoff=cutoff, back=True)), [target], forth=False)
-
-
-@serves(pays=LITTLE)
-def bidirectional_shortest_path(G: SpmatGraph, source: Any, target: Any) -> List[Any]:
-    need(G, source, 'Source %s is not in G')
-    need(G, target, 'Target %s is not in G')
-    return between(G, source, target, Query(), 'No path between %s and %%s.' % _quoted(source))[1]
 
 
 def _quoted(node: Any) -> str:
     return str(node).replace('%', '%%')
 
 
-@serves(pays=KNOWN)
 def predecessor(G: SpmatGraph, source: Any, target: Any = None, cutoff: Any = None, return_seen: Any = None) -> Any:
     need(G, source, 'Source %s not in G')
     found = search(G, [source], Query(cutoff=max(1, cutoff) if cutoff else None))
@@ -174,7 +157,6 @@ def _longest(cutoff: Any) -> Any:
     return cutoff if cutoff is None or math.isinf(cutoff) else math.floor(cutoff)
 
 
-@serves(pays=WEIGHTS)
 def multi_source_dijkstra(G: SpmatGraph, sources: Any, target: Any = None, cutoff: Any = None, weight: Any = 'weight') -> Any:
     need_some(G, sources)
     if target in sources:
@@ -191,45 +173,31 @@ def multi_source_dijkstra(G: SpmatGraph, sources: Any, target: Any = None, cutof
     return found.length(at), paths_of(G, found, starts)[target]
 
 
-@serves(pays=WEIGHTS)
 def multi_source_dijkstra_path(G: SpmatGraph, sources: Any, cutoff: Any = None, weight: Any = 'weight') -> Paths:
     paths: Paths = multi_source_dijkstra(G, sources, cutoff=cutoff, weight=weight)[1]
     return paths
 
 
-@serves(pays=WEIGHTS)
 def single_source_dijkstra(G: SpmatGraph, source: Any, target: Any = None, cutoff: Any = None, weight: Any = 'weight') -> Any:
     return multi_source_dijkstra(G, [source], target, cutoff, weight)
 
 
-@serves(pays=WEIGHTS)
 def single_source_dijkstra_path(G: SpmatGraph, source: Any, cutoff: Any = None, weight: Any = 'weight') -> Paths:
     return multi_source_dijkstra_path(G, [source], cutoff, weight)
 
 
-@serves(pays=KNOWN)
 def dijkstra_path(G: SpmatGraph, source: Any, target: Any, weight: Any = 'weight') -> List[Any]:
     path: List[Any] = multi_source_dijkstra(G, [source], target, weight=weight)[1]
     return path
 
 
-@serves(pays=WEIGHTS)
 def dijkstra_predecessor_and_distance(G: SpmatGraph, source: Any, cutoff: Any = None, weight: Any = 'weight') -> Any:
     need(G, source, 'Node %s is not found in the graph')
     found = search(G, [source], Query(weight, cutoff=cutoff if weight is not None else _longest(cutoff)))
     return predecessors_of(G, found), lengths_of(G, found)
 
 
-@serves(pays=LITTLE)
-def bidirectional_dijkstra(G: SpmatGraph, source: Any, target: Any, weight: Any = 'weight') -> Tuple[Any, List[Any]]:
-    need(G, source, 'Source %s is not in G')
-    need(G, target, 'Target %s is not in G')
-    if source == target:
-        return 0, [source]
-    return between(G, source, target, Query(weight), 'No path between %s and %%s.' % _quoted(source))
-
-
-@serves(SIGNED, pays=WEIGHTS)
+@serves(SIGNED)
 def single_source_bellman_ford(G: SpmatGraph, source: Any, target: Any = None, weight: Any = 'weight') -> Any:
     need(G, source, 'Node %s is not found in the graph' if source == target else 'Source %s not in G')
     if source == target:
@@ -240,13 +208,13 @@ def single_source_bellman_ford(G: SpmatGraph, source: Any, target: Any = None, w
     return lengths_of(G, found), paths_of(G, found, [source])
 
 
-@serves(SIGNED, pays=WEIGHTS)
+@serves(SIGNED)
 def single_source_bellman_ford_path(G: SpmatGraph, source: Any, weight: Any = 'weight') -> Paths:
     paths: Paths = single_source_bellman_ford(G, source, weight=weight)[1]
     return paths
 
 
-@serves(SIGNED, pays=KNOWN)
+@serves(SIGNED)
 def bellman_ford_path(G: SpmatGraph, source: Any, target: Any, weight: Any = 'weight') -> List[Any]:
     path: List[Any] = single_source_bellman_ford(G, source, target, weight)[1]
     return path
@@ -256,11 +224,13 @@ def _one_target(arguments: Mapping[str, Any]) -> Optional[str]:
     return 'one target, of which networkx gives more' if arguments['target'] is not None else None
 
 
-@serves(Terms(negative=True, unless=_one_target), pays=WEIGHTS)
+@serves(Terms(negative=True, unless=_one_target))
 def bellman_ford_predecessor_and_distance(G: SpmatGraph, source: Any, target: Any = None, weight: Any = 'weight',
                                           heuristic: bool = False) -> Any:
     need(G, source, 'Node %s is not found in the graph')
     _check_loops(G, weight)
+    if len(G) == 1:                                # of which networkx reads no edge, not even one of length 0
+        return {source: []}, {source: 0}
     found = search(G, [source], Query(weight, True))
     return predecessors_of(G, found), lengths_of(G, found)
 
@@ -273,25 +243,7 @@ def _check_loops(G: SpmatGraph, weight: Any) -> None:
 
 # -- by either
 
-def _between_all(arguments: Mapping[str, Any]) -> Optional[str]:
-    return 'paths between all nodes' if arguments['source'] is None and arguments['target'] is None else None
-
-
-@serves(Terms(negative=True, unless=_between_all), pays=LITTLE)
-def shortest_path(G: SpmatGraph, source: Any = None, target: Any = None, weight: Any = None, method: str = 'dijkstra') -> Any:
-    check_method(method)
-    signed = method == 'bellman-ford'
-    if source is not None and target is not None:
-        if weight is not None and signed:
-            return bellman_ford_path(G, source, target, weight)
-        return bidirectional_shortest_path(G, source, target) if weight is None else bidirectional_dijkstra(G, source, target, weight)[1]
-    node = target if source is None else source
-    need(G, node, 'Source %s not in G' if weight is None or signed else 'Node %s not found in graph')
-    found = search(G, [node], Query(weight, signed and weight is not None, back=source is None))
-    return paths_of(G, found, [node], forth=source is not None)
-
-
-@serves(SIGNED, pays=KNOWN)
+@serves(SIGNED)
 def all_shortest_paths(G: SpmatGraph, source: Any, target: Any, weight: Any = None, method: str = 'dijkstra') -> Iterator[List[Any]]:
     return _all_paths(G, source, target, weight, method)
 

@@ -6,8 +6,7 @@ from __future__ import annotations
 
 import bisect
 import math
-import operator
-from typing import Any, Dict, Iterable, Iterator, List, Mapping, Optional, Sequence, Set
+from typing import Any, Dict, Iterator, List, Optional, Sequence, Set
 
 import networkx as nx
 from networkx import NetworkXNoPath, NodeNotFound
@@ -15,13 +14,9 @@ from networkx import NetworkXNoPath, NodeNotFound
 from .. import algorithms
 from ..algorithms.utils import loops, settle
 from ..errors import NotSettled
-from ..io import matrix_text
 from ..matrix import Matrix
-from .backend_info import KNOWN, LITTLE, WALK, WEIGHTS
-from .components import labels
-from .convert import copied
 from .degree import need_node
-from .registry import SIGNED, Terms, UNDIRECTED, serves
+from .backend import SIGNED, serves
 from .spmat_graph import SpmatGraph
 from .weight_scaling import limit, told
 
@@ -44,11 +39,9 @@ def need_some(G: SpmatGraph, sources: Any) -> None:
 
 def nearest_first(G: SpmatGraph, column: Matrix) -> Lengths:
     """A column as {node: value} by ascending values."""
-    if column.nvals > matrix_text.FEW // 16 and matrix_text.find_numpy() is not None:
-        rows, _, values = column.to_coo(arrays=True)
-        order = values.argsort(kind='stable')
-        return dict(zip(map(G.nodes.__getitem__, rows[order].tolist()), values[order].tolist()))
-    return dict(sorted(G.named(column).by_node().items(), key=operator.itemgetter(1)))
+    rows, _, values = column.entries(arrays=True)
+    order = values.argsort(kind='stable')
+    return dict(zip(map(G.nodes.__getitem__, rows[order].tolist()), values[order].tolist()))
 
 
 def _depth(cutoff: Any) -> Optional[int]:
@@ -77,7 +70,7 @@ def length_to(G: SpmatGraph, source: Any, target: Any, weight: Any, signed: bool
     """The length of the shortest path between two nodes, None where no path leads."""
     check_weights(G, weight, signed)
     column = level_column(G, [source], target=target) if weight is None else shortest(G, [source], weight, False, target)
-    rows, _, values = column.to_coo(arrays=False)
+    rows, _, values = column.entries(arrays=False)
     at, place = G.index[target], bisect.bisect_left(rows, G.index[target])
     if place == len(rows) or rows[place] != at:
         return None
@@ -119,13 +112,11 @@ def shortest(G: SpmatGraph, sources: Sequence[Any], weight: Any, back: bool, tar
 
 # -- by edges
 
-@serves(pays=WALK)
 def single_source_shortest_path_length(G: SpmatGraph, source: Any, cutoff: Any = None) -> Lengths:
     need(G, source, 'Source %s is not in G')
     return levels(G, [source], cutoff)
 
 
-@serves(pays=WALK)
 def single_target_shortest_path_length(G: SpmatGraph, target: Any, cutoff: Any = None) -> Lengths:
     need(G, target, 'Target %s is not in G')
     return levels(G, [target], cutoff, back=True)
@@ -136,17 +127,14 @@ def _others(G: SpmatGraph, source: Any, back: bool) -> Set[Any]:
     return set(G.named(level_column(G, [source], back=back)).by_node()) - {source}
 
 
-@serves(pays=WALK)
 def descendants(G: SpmatGraph, source: Any) -> Set[Any]:
     return _others(G, source, False)
 
 
-@serves(pays=WALK)
 def ancestors(G: SpmatGraph, source: Any) -> Set[Any]:
     return _others(G, source, True)
 
 
-@serves(pays=WALK)
 def bfs_layers(G: SpmatGraph, sources: Any) -> Iterator[List[Any]]:
     sources = [sources] if sources in G else list(sources)
     for source in sources:
@@ -157,69 +145,19 @@ def bfs_layers(G: SpmatGraph, sources: Any) -> Iterator[List[Any]]:
     return iter(list(layers.values()))
 
 
-@serves(pays=LITTLE)
-def descendants_at_distance(G: SpmatGraph, source: Any, distance: int) -> Set[Any]:
-    need_node(G, source)
-    if distance < 0 or distance != int(distance):
-        return set()
-    found = level_column(G, [source], distance).select('valueeq', int(distance))
-    return set(G.named(found).by_node())
-
-
-def _both_ways(arguments: Mapping[str, Any]) -> Optional[str]:
-    if arguments['undirected'] and arguments['distance'] is not None and arguments['G'].is_directed():
-        return 'weights of a directed graph that is taken as undirected'
-    return None
-
-
-@serves(Terms(unless=_both_ways), pays=LITTLE)
-def ego_graph(G: SpmatGraph, n: Any, radius: Any = 1, center: bool = True, undirected: bool = False, distance: Any = None) -> Any:
-    if distance is not None:
-        need(G, n)
-        near: Iterable[Any] = lengths(G, [n], distance, cutoff=radius)
-    else:
-        need(G, n, 'Source %s is not in G')
-        both = undirected and G.is_directed()
-        found = algorithms.bfs_levels(G.around, G.index[n], depth=_depth(radius), check=False) if both else level_column(G, [n], radius)
-        near = G.named(found).by_node()
-    part = copied(G, set(near))
-    if not center:
-        part.remove_node(n)
-    return part
-
-
-@serves(pays=LITTLE)
-def has_path(G: SpmatGraph, source: Any, target: Any) -> bool:
-    for node in (source, target):
-        need(G, node, 'Node %s is not in G')
-    if not G.is_directed():
-        return labels(G)[G.index[source]] == labels(G)[G.index[target]]
-    return length_to(G, source, target, None) is not None
-
-
-@serves(UNDIRECTED, pays=LITTLE)
-def efficiency(G: SpmatGraph, u: Any, v: Any) -> float:
-    for node in (u, v):
-        need(G, node, 'Node %s is not in G')
-    far: Optional[int] = length_to(G, u, v, None)
-    return 0 if far is None else 1 / far
-
-
 # -- by weights
 
-@serves(pays=WEIGHTS)
 def single_source_dijkstra_path_length(G: SpmatGraph, source: Any, cutoff: Any = None, weight: Any = 'weight') -> Lengths:
     need(G, source)
     return lengths(G, [source], weight, cutoff=cutoff)
 
 
-@serves(pays=WEIGHTS)
 def multi_source_dijkstra_path_length(G: SpmatGraph, sources: Any, cutoff: Any = None, weight: Any = 'weight') -> Lengths:
     need_some(G, sources)
     return lengths(G, list(sources), weight, cutoff=cutoff)
 
 
-@serves(SIGNED, pays=WEIGHTS)
+@serves(SIGNED)
 def single_source_bellman_ford_path_length(G: SpmatGraph, source: Any, weight: Any = 'weight') -> Lengths:
     need(G, source, 'Source %s not in G')
     return lengths(G, [source], weight, signed=True)
@@ -235,19 +173,18 @@ def _far(G: SpmatGraph, source: Any, target: Any, weight: Any, said: str, signed
     return far
 
 
-@serves(pays=KNOWN)
 def dijkstra_path_length(G: SpmatGraph, source: Any, target: Any, weight: Any = 'weight') -> Any:
     need(G, source)
     return _far(G, source, target, weight, 'Node %s not reachable from %s')
 
 
-@serves(SIGNED, pays=WEIGHTS)
+@serves(SIGNED)
 def bellman_ford_path_length(G: SpmatGraph, source: Any, target: Any, weight: Any = 'weight') -> Any:
     need(G, source, 'Source %s not in G')
     return _far(G, source, target, weight, 'node %s not reachable from %s', signed=True)
 
 
-@serves(SIGNED, pays=WEIGHTS)
+@serves(SIGNED)
 def negative_edge_cycle(G: SpmatGraph, weight: Any = 'weight', heuristic: bool = True) -> bool:
     if not G.entries or weight is None or G.values(weight).least >= 0:
         return False

@@ -6,17 +6,17 @@ from __future__ import annotations
 
 from typing import Any, Iterator, List, Mapping, NamedTuple, Optional, Tuple
 
+import numpy
+
 from .. import algorithms
-from ..io import matrix_text
-from .backend_info import WEIGHTS
 from .process_session import session
-from .registry import Terms, serves
+from .backend import Terms, serves
 from .spmat_graph import SpmatGraph
 
 
 class Ordered(NamedTuple):
     """The entries of a graph's edges in the order of their weights, those of one weight as the graph has them: positions among all
-    entries, rows and columns. Lists, or arrays of numpy."""
+    entries, rows and columns, as arrays."""
     at: Any
     rows: Any
     columns: Any
@@ -26,17 +26,11 @@ def _ordered(G: SpmatGraph, weight: Any, least_first: bool) -> Ordered:
     """Each edge once, without loops."""
     rows, columns = G.at.rows, G.at.columns
     values = None if weight is None else G.values(weight).many
-    if matrix_text.is_array(rows):
-        import numpy
-        chosen = numpy.flatnonzero(rows < columns)
-        if values is not None:
-            keys = numpy.asarray(values)[chosen]
-            chosen = chosen[(keys if least_first else -keys).argsort(kind='stable')]
-        return Ordered(chosen, rows[chosen], columns[chosen])
-    places = [at for at, (i, j) in enumerate(zip(rows, columns)) if i < j]
+    chosen = numpy.flatnonzero(rows < columns)
     if values is not None:
-        places.sort(key=values.__getitem__, reverse=not least_first)
-    return Ordered(places, [rows[at] for at in places], [columns[at] for at in places])
+        keys = values[chosen]
+        chosen = chosen[(keys if least_first else -keys).argsort(kind='stable')]
+    return Ordered(chosen, rows[chosen], columns[chosen])
 
 
 def _spanning(G: SpmatGraph, weight: Any, least_first: bool) -> List[Tuple[int, int, int]]:
@@ -44,17 +38,14 @@ def _spanning(G: SpmatGraph, weight: Any, least_first: bool) -> List[Tuple[int, 
     in that order is its weight here, so that no two weigh the same, and there is one such forest."""
     edges = _ordered(G, weight, least_first)
     count, many = len(G), len(edges.at)
-    if matrix_text.is_array(edges.at):
-        import numpy
-        ends, order = (edges.rows, edges.columns), numpy.arange(many)
-        graph = session().from_coo(numpy.concatenate(ends), numpy.concatenate(ends[::-1]), numpy.concatenate((order, order)), count, count)
-    else:
-        graph = session().from_coo(edges.rows + edges.columns, edges.columns + edges.rows, list(range(many)) * 2, count, count)
+    ends, order = (edges.rows, edges.columns), numpy.arange(many)
+    graph = session().from_coo(numpy.concatenate(ends), numpy.concatenate(ends[::-1]),
+                               numpy.concatenate((order, order)), count, count)
     try:
         forest = algorithms.minimum_spanning_forest(graph, check=False)
     except ValueError as fault:                    # more edges and nodes than 62 bits tell apart
         raise NotImplementedError(str(fault)) from fault
-    rows, columns, places = forest.to_coo(arrays=False)
+    rows, columns, places = forest.entries(arrays=False)
     taken = sorted((place, i, j) for i, j, place in zip(rows, columns, places) if i < j)
     return [(i, j, int(edges.at[place])) for place, i, j in taken]
 
@@ -80,23 +71,23 @@ def _kruskal(arguments: Mapping[str, Any]) -> Optional[str]:
 TERMS = Terms(directed=False, multigraph=False, negative=True, unless=_kruskal)
 
 
-@serves(TERMS, pays=WEIGHTS)
+@serves(TERMS)
 def minimum_spanning_edges(G: SpmatGraph, algorithm: str = 'kruskal', weight: Any = 'weight', keys: bool = True, data: bool = True,
                            ignore_nan: bool = False) -> Iterator[Tuple[Any, ...]]:
     return iter(list(_edges(G, weight, True, data)))
 
 
-@serves(TERMS, pays=WEIGHTS)
+@serves(TERMS)
 def maximum_spanning_edges(G: SpmatGraph, algorithm: str = 'kruskal', weight: Any = 'weight', keys: bool = True, data: bool = True,
                            ignore_nan: bool = False) -> Iterator[Tuple[Any, ...]]:
     return iter(list(_edges(G, weight, False, data)))
 
 
-@serves(TERMS, pays=WEIGHTS)
+@serves(TERMS)
 def minimum_spanning_tree(G: SpmatGraph, weight: Any = 'weight', algorithm: str = 'kruskal', ignore_nan: bool = False) -> Any:
     return _tree(G, weight, True)
 
 
-@serves(TERMS, pays=WEIGHTS)
+@serves(TERMS)
 def maximum_spanning_tree(G: SpmatGraph, weight: Any = 'weight', algorithm: str = 'kruskal', ignore_nan: bool = False) -> Any:
     return _tree(G, weight, False)

@@ -6,7 +6,6 @@ from typing import Any, Callable, Dict, Iterable, Iterator, List, Optional, Tupl
 import networkx as nx
 
 from .. import algorithms
-from ..io import matrix_text
 from ..matrix import Matrix
 from ..metadata import Notes
 from ..session import Session
@@ -14,14 +13,20 @@ from . import graph_arrays
 from .graph_arrays import Key, Positions, Values
 from .process_session import session
 
-FEW = 4096                                         # entries from which on text is written from arrays
 BOUND = 1 << 61                                    # what a weight times the nodes stays below: networkx' integers don't wrap
 
 
 class SpmatGraph:
-    """A graph that networkx' functions run with spmat. Its matrices have a row and a column for each node, in the graph's order.
+    """A graph that networkx' functions run with spmat.
 
-    It doesn't change with the graph that it was made of. Pickled or copied it leaves its matrices behind, and makes them anew."""
+    Its matrices have a row and a column for each node, in the graph's order. It doesn't change with the
+    graph that it was made of. If it is pickled or copied, it leaves its matrices out, and makes them anew.
+
+    Parameters
+    ----------
+    graph : networkx.Graph
+        The graph to read.
+    """
     __networkx_backend__ = 'spmat'
 
     def __init__(self, graph: Any) -> None:
@@ -159,17 +164,36 @@ class SpmatGraph:
 
     def _sent(self, now: Session, values: Any, back: bool) -> Matrix:
         rows, columns = (self.at.columns, self.at.rows) if back else (self.at.rows, self.at.columns)
-        if matrix_text.is_array(rows) and self.entries < FEW:
-            rows, columns = rows.tolist(), columns.tolist()
-            values = values.tolist() if matrix_text.is_array(values) else values
-        elif matrix_text.is_array(rows) and isinstance(values, list):
+        if isinstance(values, list):
             values = graph_arrays.sequence(values, self.entries)
         made = now.from_coo(rows, columns, values, len(self), len(self))
         made.notes = Notes(directed=self.is_directed())
         return made
 
     def matrix(self, weight: Optional[Any] = None, default: Any = 1, fold: str = 'min', back: bool = False) -> Matrix:
-        """The adjacency matrix: at (i, j) 1, or an edge attribute of the edges from node i to node j; `back` turns edges round."""
+        """Return the adjacency matrix.
+
+        Parameters
+        ----------
+        weight : str, optional
+            The edge attribute whose values the matrix has; ones without it.
+        default : int
+            The value of an edge without that attribute.
+        fold : {'min', 'max', 'plus'}
+            What makes one value of those of parallel edges.
+        back : bool
+            Whether to turn edges round.
+
+        Returns
+        -------
+        Matrix
+            At (i, j) the value of the edges from node i to node j.
+
+        Raises
+        ------
+        NotImplementedError
+            If a value is no multiple of a unit, or lengths of paths could pass 64 bits.
+        """
         back = back and self._directed
         if weight is None:
             return self._kept((None, back), lambda now: self._sent(now, 1, back))
@@ -235,7 +259,7 @@ class SpmatGraph:
 
     def rows_of(self, matrix: Matrix, first: int = 0) -> Iterator[Tuple[Any, Dict[Any, int]]]:
         """A matrix as (node, {node: value}), a pair for each row; row 0 is node `first`."""
-        rows, columns, values = matrix.to_coo(arrays=False)
+        rows, columns, values = matrix.entries(arrays=False)
         ends = list(map(self.nodes.__getitem__, columns))
         at = 0
         for i in range(matrix.nrows):
@@ -246,7 +270,29 @@ class SpmatGraph:
 
 
 def graph(G: Any) -> SpmatGraph:
-    """A networkx graph on the server, with all its attributes, for networkx' functions in its place. NotImplementedError for what
-    isn't networkx' own kind of graph."""
+    """Put a graph on the server, to be handed to networkx' functions in its place.
+
+    Parameters
+    ----------
+    G : networkx.Graph
+        A graph, also directed, or a multigraph. It is read at once, with all its attributes.
+
+    Returns
+    -------
+    SpmatGraph
+        The graph on the server. It doesn't change with `G`.
+
+    Raises
+    ------
+    NotImplementedError
+        If G is no graph of networkx' own kinds.
+
+    Examples
+    --------
+    >>> import networkx as nx, spmat.networkx
+    >>> H = spmat.networkx.graph(nx.karate_club_graph())
+    >>> nx.number_connected_components(H)
+    1
+    """
     from .convert import convert_from_nx
     return convert_from_nx(G, preserve_edge_attrs=True, preserve_node_attrs=True, preserve_graph_attrs=True)

@@ -1,28 +1,98 @@
-"""Assembly text of operators: its mnemonics and their operands, and labels, which the client turns into numbers before it is sent.
+"""Assembly text of operators: operations and mnemonics, labels, and the text of code.
 
-docs/bpf.md has the language. A label is a word and a colon before an instruction, or on a line of its own; a jump may name it in
-place of its offset. Lines stay where they are, so that refusals name the line that was written.
+docs/bpf.md has the language. A label is a word and a colon before an instruction, or on a line of
+its own; a jump may name it in place of its offset. The client turns labels into numbers before it
+sends a text. Lines stay where they are, so that refusals name the line that was written.
+
+The operations of arithmetic and the conditions of jumps are those of RFC 9669, section 4. What the
+compiler of functions knows of an operation it has from here.
 """
 from __future__ import annotations
 
 import re
-from typing import Dict, Iterator, List, NamedTuple, Optional, Tuple
+import struct
+from typing import Callable, Dict, Iterator, List, NamedTuple, Optional, Tuple
 
-from .operations import CONDITIONS, OPERATIONS
+WORDS = 1 << 64
+
+Meaning = Callable[[int, int], int]
+
+
+class Operation(NamedTuple):
+    """An operation: its code in an opcode, what it gives of two signed words before it wraps, and
+    its sign in Python. A `signed` one has the code of the operation on words without sign, and 1 in
+    the offset.
+
+    The others are laws of all words, by which expressions become simpler. x op `neutral` is x.
+    Where it `commutes`, x op y is y op x, and it associates. Where it is `bitwise`, each bit
+    depends on the same bit of both. x op x is x where it is `idempotent`, and 0 where it `cancels`.
+    x op y is z for no x but `undone(z, y)`."""
+    code: int
+    value: Meaning
+    sign: str = ''
+    neutral: Optional[int] = None
+    commutes: bool = False
+    bitwise: bool = False
+    idempotent: bool = False
+    cancels: bool = False
+    undone: Optional[Meaning] = None
+    signed: bool = False
+
+
+def truncated(a: int, b: int) -> int:
+    """The quotient rounded toward 0, and 0 of a division by 0."""
+    return 0 if b == 0 else abs(a) // abs(b) * (1 if (a < 0) == (b < 0) else -1)
+
+
+OPERATIONS: Dict[str, Operation] = {
+    'add': Operation(0, lambda a, b: a + b, '+', neutral=0, commutes=True,
+                     undone=lambda a, b: a - b),
+    'sub': Operation(1, lambda a, b: a - b, '-', neutral=0, cancels=True,
+                     undone=lambda a, b: a + b),
+    'mul': Operation(2, lambda a, b: a * b, '*', neutral=1, commutes=True),
+    'div': Operation(3, lambda a, b: a % WORDS // (b % WORDS) if b else 0, neutral=1),
+    'sdiv': Operation(3, truncated, neutral=1, signed=True),
+    'or': Operation(4, lambda a, b: a | b, '|', neutral=0, commutes=True, bitwise=True,
+                    idempotent=True),
+    'and': Operation(5, lambda a, b: a & b, '&', neutral=-1, commutes=True, bitwise=True,
+                     idempotent=True),
+    'lsh': Operation(6, lambda a, b: a << (b & 63), '<<', neutral=0),
+    'rsh': Operation(7, lambda a, b: a % WORDS >> (b & 63), neutral=0),
+    'mod': Operation(9, lambda a, b: a % WORDS % (b % WORDS) if b else a),
+    'smod': Operation(9, lambda a, b: a - b * truncated(a, b), signed=True),
+    'xor': Operation(10, lambda a, b: a ^ b, '^', neutral=0, commutes=True, bitwise=True,
+                     cancels=True, undone=lambda a, b: a ^ b),
+    'mov': Operation(11, lambda a, b: b),
+    'arsh': Operation(12, lambda a, b: a >> (b & 63), '>>', neutral=0),
+}
+CONDITIONS = {1: 'jeq', 2: 'jgt', 3: 'jge', 4: 'jset', 5: 'jne', 6: 'jsgt', 7: 'jsge', 10: 'jlt',
+              11: 'jle', 12: 'jslt', 13: 'jsle'}
+"""Jumps by the codes of their conditions."""
+
+
+# -- text
 
 ENDS = tuple(name + bits for name in ('le', 'be', 'swap') for bits in ('16', '32', '64'))
 SIGNED = ('movs8_32', 'movs16_32', 'movs8_64', 'movs16_64', 'movs32_64')
 LOADS = ('ldx8', 'ldx16', 'ldx32', 'ldx64', 'ldsx8', 'ldsx16', 'ldsx32')
-# What stands behind each mnemonic: D and S registers, R a register that is read and written, V a register or a number, N a number,
-# J a place to jump to, B the register of a base.
+WIDTHS = ('64', '32')
+# What follows each mnemonic: D and S registers, R a register that is read and written, V a register
+# or a number, N a number, J where to jump, B the register of a base.
 OPERANDS: Dict[str, str] = {
-    **{name + bits: 'DV' if name == 'mov' else 'RV' for name in OPERATIONS for bits in ('64', '32')},
-    **{name: 'R' for name in ('neg64', 'neg32') + ENDS}, **{name: 'DS' for name in SIGNED}, 'ja': 'J', 'ja32': 'J',
-    **{name + bits: 'SVJ' for name in CONDITIONS.values() for bits in ('64', '32')}, 'exit': '', **{name: 'DBN' for name in LOADS},
-    **{'stx' + bits: 'BNS' for bits in ('8', '16', '32', '64')}, **{'st' + bits: 'BNN' for bits in ('8', '16', '32', '64')}, 'wide': 'DN'}
-FORMS = {'DV': 'rD, rS or rD, NUMBER', 'RV': 'rD, rS or rD, NUMBER', 'R': 'rD', 'DS': 'rD, rS', 'J': 'OFFSET or LABEL',
-         'SVJ': 'rD, rS or NUMBER, OFFSET or LABEL', '': '', 'DBN': 'rD, rBASE, OFFSET', 'BNS': 'rBASE, OFFSET, rS',
-         'BNN': 'rBASE, OFFSET, NUMBER', 'DN': 'rD, NUMBER'}
+    **{name + bits: 'DV' if name == 'mov' else 'RV' for name in OPERATIONS for bits in WIDTHS},
+    **{name: 'R' for name in ('neg64', 'neg32') + ENDS},
+    **{name: 'DS' for name in SIGNED},
+    'ja': 'J', 'ja32': 'J',
+    **{name + bits: 'SVJ' for name in CONDITIONS.values() for bits in WIDTHS},
+    'exit': '',
+    **{name: 'DBN' for name in LOADS},
+    **{'stx' + bits: 'BNS' for bits in ('8', '16', '32', '64')},
+    **{'st' + bits: 'BNN' for bits in ('8', '16', '32', '64')},
+    'wide': 'DN'}
+FORMS = {'DV': 'rD, rS or rD, NUMBER', 'RV': 'rD, rS or rD, NUMBER', 'R': 'rD', 'DS': 'rD, rS',
+         'J': 'OFFSET or LABEL', 'SVJ': 'rD, rS or NUMBER, OFFSET or LABEL', '': '',
+         'DBN': 'rD, rBASE, OFFSET', 'BNS': 'rBASE, OFFSET, rS', 'BNN': 'rBASE, OFFSET, NUMBER',
+         'DN': 'rD, NUMBER'}
 _LABEL = re.compile(r'([ \t]*)([A-Za-z_][A-Za-z0-9_]*):')
 _WORD = re.compile(r'[A-Za-z_][A-Za-z0-9_]*')
 _REGISTER = re.compile(r'r[0-9]+')
@@ -52,13 +122,14 @@ def lines_of(text: str) -> Iterator[Line]:
     for number, line in enumerate(text.split('\n'), 1):
         words = bare(line).split(None, 1)
         if words:
-            operands = [operand.strip() for operand in words[1].split(',')] if len(words) > 1 else []
-            yield Line(number, slot, words[0], operands)
+            operands = words[1].split(',') if len(words) > 1 else []
+            yield Line(number, slot, words[0], [operand.strip() for operand in operands])
             slot += 2 if words[0] == 'wide' else 1
 
 
 def without_labels(text: str) -> str:
-    """The text with labels as numbers. ValueError, with the line, where one stands twice, or none of a name is there."""
+    """The text with labels as numbers. ValueError, with the line, where one stands twice, or none
+    of a name is there."""
     if ':' not in text:
         return text
     lines, places = _cut(text)
@@ -82,7 +153,8 @@ def _cut(text: str) -> Tuple[List[str], Dict[str, int]]:
             if found is None:
                 break
             if found.group(2) in places:
-                raise ValueError('line %d: the label %s: stands in the text already' % (number, found.group(2)))
+                raise ValueError('line %d: the label %s: is in the text already' % (
+                    number, found.group(2)))
             places[found.group(2)] = slot
             line = found.group(1) + line[found.end():]
         lines.append(line)
@@ -95,11 +167,100 @@ def _numbered(line: str, jump: Line, places: Dict[str, int]) -> str:
     """A jump's line with the number of slots in place of its label."""
     label = jump.operands[-1]
     if label not in places:
-        raise ValueError('line %d: no label %s: in the text; there %s' % (jump.number, label, 'are ' + ', '.join(sorted(places))))
-    code, comment = line[:len(line) - len(line.lstrip())] + bare(line), line[line.find(bare(line)) + len(bare(line)):]
+        raise ValueError('line %d: no label %s: in the text; there are %s' % (
+            jump.number, label, ', '.join(sorted(places))))
+    end = line.find(bare(line)) + len(bare(line))
+    code, comment = line[:end], line[end:]
     return code[:code.rindex(label)] + str(places[label] - jump.slot - 1) + comment
 
 
 def form_of(mnemonic: str) -> Optional[str]:
     """A mnemonic with its operands in words, None where there is no such mnemonic."""
-    return None if mnemonic not in OPERANDS else ('%s %s' % (mnemonic, FORMS[OPERANDS[mnemonic]])).strip()
+    if mnemonic not in OPERANDS:
+        return None
+    return ('%s %s' % (mnemonic, FORMS[OPERANDS[mnemonic]])).strip()
+
+
+# -- the text of code, for people: what has no mnemonic is written as its bytes
+
+# names of operations, by their codes and whether they are of signed words
+ARITHMETIC = {(each.code, each.signed): name for name, each in OPERATIONS.items()}
+SIZES = ('32', '16', '8', '64')
+NEG, END, MOV, WIDE, EXIT = 8, 13, 11, 0x18, 0x95
+
+
+class Slot(NamedTuple):
+    """The fields of eight bytes of code."""
+    opcode: int
+    target: int
+    source: int
+    offset: int
+    immediate: int
+
+
+def lines_of_code(code: bytes) -> List[Tuple[int, str]]:
+    """The slot of each instruction, and its text."""
+    whole = code[:len(code) // 8 * 8]
+    slots = [Slot(opcode, registers & 15, registers >> 4, offset, immediate)
+             for opcode, registers, offset, immediate in struct.iter_unpack('<BBhi', whole)]
+    out: List[Tuple[int, str]] = []
+    at = 0
+    while at < len(slots):
+        if slots[at].opcode == WIDE and at + 1 < len(slots):
+            number = (slots[at + 1].immediate << 32) + slots[at].immediate % (1 << 32)
+            out.append((at, 'wide r%d, %d' % (slots[at].target, number)))
+            at += 2
+        else:
+            out.append((at, _text(slots[at]) or code[8 * at:8 * at + 8].hex()))
+            at += 1
+    return out
+
+
+def _text(slot: Slot) -> Optional[str]:
+    """The text of an instruction of one slot, None where it has none."""
+    family = slot.opcode & 7
+    if family in (4, 7):
+        return _arithmetic(slot, '64' if family == 7 else '32')
+    if family in (5, 6):
+        return _jump(slot, '64' if family == 5 else '32')
+    return _access(slot, family)
+
+
+def _arithmetic(slot: Slot, width: str) -> Optional[str]:
+    code, by_register = slot.opcode >> 4, slot.opcode & 8
+    if code == NEG:
+        return 'neg%s r%d' % (width, slot.target)
+    if code == END:
+        name = 'swap' if width == '64' else 'be' if by_register else 'le'
+        return '%s%d r%d' % (name, slot.immediate, slot.target)
+    if slot.offset and code == MOV:
+        return 'movs%d_%s r%d, r%d' % (slot.offset, width, slot.target, slot.source)
+    found = ARITHMETIC.get((code, slot.offset != 0)) or ARITHMETIC.get((code, False))
+    if found is None:
+        return None
+    right = 'r%d' % slot.source if by_register else str(slot.immediate)
+    return '%s%s r%d, %s' % (found, width, slot.target, right)
+
+
+def _jump(slot: Slot, width: str) -> Optional[str]:
+    code = slot.opcode >> 4
+    if slot.opcode == EXIT:
+        return 'exit'
+    if code == 0:
+        return 'ja %d' % slot.offset if width == '64' else 'ja32 %d' % slot.immediate
+    if code not in CONDITIONS:
+        return None
+    other = 'r%d' % slot.source if slot.opcode & 8 else '%d' % slot.immediate
+    return '%s%s r%d, %s, %d' % (CONDITIONS[code], width, slot.target, other, slot.offset)
+
+
+def _access(slot: Slot, family: int) -> Optional[str]:
+    size, mode = SIZES[slot.opcode >> 3 & 3], slot.opcode >> 5
+    if family == 1 and mode in (3, 4):
+        name = 'ldx' if mode == 3 else 'ldsx'
+        return '%s%s r%d, r%d, %d' % (name, size, slot.target, slot.source, slot.offset)
+    if family == 3 and mode == 3:
+        return 'stx%s r%d, %d, r%d' % (size, slot.target, slot.offset, slot.source)
+    if family == 2 and mode == 3:
+        return 'st%s r%d, %d, %d' % (size, slot.target, slot.offset, slot.immediate)
+    return None

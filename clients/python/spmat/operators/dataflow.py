@@ -1,7 +1,9 @@
-"""What registers hold before each instruction of an operator, and by which way they came to hold it.
+"""What registers hold before each instruction of an operator, and by which way they came to hold
+it.
 
-The verifier decides; this tells why it refuses a register that some path leaves unset (V11), or that two paths set differently (V12),
-and what is known up to there of an operator that was refused. Jumps go forward only, so one walk over the slots is enough.
+The verifier decides; this tells why it refuses a register that some path leaves unset (V11), or
+that two paths set differently (V12), and what is known up to there of an operator that was refused.
+Jumps go forward only, so one walk over the slots is enough.
 """
 from __future__ import annotations
 
@@ -13,7 +15,7 @@ from . import assembly
 STACK_TOP, REGISTERS = 10, 11
 GIVEN = {'unary': (1,), 'binary': (1, 2), 'index': (1, 2, 3, 4)}
 UNSET, NUMBER = 'u', 'n'
-MOST_KINDS = 8                                     # of one register at one place: more are as good as these
+MOST_KINDS = 8                                     # of one register at one slot: more help nobody
 
 Way = Tuple[Tuple[int, bool], ...]
 """The conditional jumps on a way: their slots, and whether each was taken."""
@@ -22,8 +24,9 @@ State = List[Dict[str, Way]]
 
 
 class Step(NamedTuple):
-    """An instruction: its slot, the slots that may follow, the registers that it reads, the one that it writes, what it leaves there
-    (a register whose content it copies, with what is added to it, or None for a number), its text, and whether it is a choice."""
+    """An instruction: its slot, the slots that may follow, the registers that it reads, the one
+    that it writes, what it leaves there (a register whose content it copies, with what is added to
+    it, or None for a number), its text, and whether it is a choice."""
     slot: int
     next: Tuple[int, ...]
     reads: Tuple[int, ...]
@@ -59,11 +62,13 @@ def _after(step: Step, state: State) -> State:
     if step.copies is None or step.copies[0] >= REGISTERS:
         out[step.writes] = {NUMBER: min(state[step.writes].values(), key=len, default=())}
     else:
-        out[step.writes] = {_moved(kind, step.copies[1]): way for kind, way in state[step.copies[0]].items()}
+        source, more = step.copies
+        out[step.writes] = {_add(kind, more): way for kind, way in state[source].items()}
     return out
 
 
-def _moved(kind: str, by: int) -> str:
+def _add(kind: str, by: int) -> str:
+    """What a register holds to which a number is added."""
     return 'p%d' % (int(kind[1:]) + by) if kind.startswith('p') else kind
 
 
@@ -77,8 +82,8 @@ def _meet(before: Dict[int, State], slot: int, after: State, choice: Way) -> Non
 
 
 def tag(kinds: Dict[str, Way]) -> str:
-    """What the verifier says of a register that may hold these: `u` where some path leaves it unset, `m` where paths set it
-    differently, else what it holds."""
+    """What the verifier says of a register that may hold these: `u` where some path leaves it
+    unset, `m` where paths set it differently, else what it holds."""
     return UNSET if UNSET in kinds or not kinds else next(iter(kinds)) if len(kinds) == 1 else 'm'
 
 
@@ -90,7 +95,8 @@ def steps_of_text(text: str) -> List[Step]:
 
 
 def _step_of_line(line: assembly.Line) -> Step:
-    form, after = assembly.OPERANDS.get(line.mnemonic, ''), line.slot + (2 if line.mnemonic == 'wide' else 1)
+    form = assembly.OPERANDS.get(line.mnemonic, '')
+    after = line.slot + (2 if line.mnemonic == 'wide' else 1)
     reads: List[int] = []
     writes: Optional[int] = None
     jump: Optional[int] = None
@@ -105,10 +111,11 @@ def _step_of_line(line: assembly.Line) -> Step:
     copies = None
     if line.mnemonic == 'mov64' and reads:
         copies = reads[0], 0
-    elif line.mnemonic == 'add64' and len(reads) == 1 and writes is not None and line.operands[1].lstrip('+-').isdigit():
-        copies = writes, int(line.operands[1])
-    return Step(line.slot, _following(line.mnemonic, after, jump), tuple(reads if line.mnemonic != 'exit' else [0]), writes, copies,
-                line.text)
+    elif line.mnemonic == 'add64' and len(reads) == 1 and writes is not None:
+        number = line.operands[1]
+        copies = (writes, int(number)) if number.lstrip('+-').isdigit() else None
+    return Step(line.slot, _following(line.mnemonic, after, jump),
+                tuple(reads if line.mnemonic != 'exit' else [0]), writes, copies, line.text)
 
 
 def _following(mnemonic: str, after: int, jump: Optional[int]) -> Tuple[int, ...]:
@@ -145,16 +152,19 @@ def _jump(at: int, opcode: int, target: int, source: int, by: int, text: str) ->
         return Step(at, (), (0,), None, None, text)
     if opcode in (0x05, 0x06):
         return Step(at, (at + 1 + by,), (), None, None, text)
-    return Step(at, (at + 1, at + 1 + by), (target, source) if opcode & 8 else (target,), None, None, text)
+    reads = (target, source) if opcode & 8 else (target,)
+    return Step(at, (at + 1, at + 1 + by), reads, None, None, text)
 
 
 def _used(opcode: int, target: int, source: int, immediate: int,
           offset: int) -> Tuple[Tuple[int, ...], Optional[int], Optional[Tuple[int, int]]]:
-    """The registers that arithmetic, a load or a store reads, the one that it writes, and what it copies."""
+    """The registers that arithmetic, a load or a store reads, the one that it writes, and what it
+    copies."""
     family = opcode & 7
     if family in (4, 7):
         by_register, operation = opcode & 8, opcode >> 4
-        reads = ((source,) if by_register and operation != 13 else ()) + ((target,) if operation != 11 else ())
+        reads = (*((source,) if by_register and operation != 13 else ()),
+                 *((target,) if operation != 11 else ()))
         if opcode == 0xbf and not offset:
             return reads, target, (source, 0)
         return reads, target, (target, immediate) if opcode == 0x07 else None

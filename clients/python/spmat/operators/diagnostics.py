@@ -1,21 +1,42 @@
-"""What is told of an operator that a server looked at: how it may be mended, and what is known at each instruction."""
+"""An operator for people: what a server's check says of it, how one that is refused may be mended,
+and what it was written as, its instructions and its price.
+
+What registers hold before each instruction is what the verifier finds, reckoned here (`dataflow`);
+only `Session.check` asks a server.
+"""
 from __future__ import annotations
 
 import difflib
+import re
 from dataclasses import dataclass
-from typing import List, Optional
+from typing import Any, Dict, List, Optional
 
 from ..errors import OperatorRefused
-from . import Operator, assembly, dataflow
+from . import KINDS, Op, Operator, READY, assembly, dataflow, find
 
 COMMENTS = 'comments begin with ; or #'
+HEADS = ['slot', 'instruction'] + ['R%d' % number for number in range(dataflow.REGISTERS)]
+UNREACHED = 'no way leads here'
+BOTH = 'each position at which both have an entry (row by row, the fewer of both)'
+# Of each method the calls that its price counts, as docs/protocol.md has them.
+CALLS = {
+    'unary': {'apply': 'each entry'},
+    'index': {'apply, select': 'each entry'},
+    'binary': {'ewise_mult': BOTH, 'ewise_add': BOTH,
+               'reduce_rowwise': 'each entry of a row but its first',
+               'mxm': 'each multiplication, be it MUL or ADD (which takes one call less for each '
+                      'entry of the result)'}}
+KNOWN = 'before each instruction: - unset, n a number, pK the stack\'s top plus K'
 
+
+# -- checked by a server
 
 @dataclass(frozen=True)
 class Check:
-    """What a server says of an operator. `accepted`; `instructions`, the most steps that a call takes; `refusal`, where it is refused;
-    `rows`, of each instruction the slot, the text and what R0 to R10 hold before it (- for nothing), up to the one that is refused.
-    It prints as a table. True where it is accepted."""
+    """What a server says of an operator. `accepted`; `instructions`, the most steps that a call
+    takes; `refusal`, where it is refused; `rows`, of each instruction the slot, the text and what
+    R0 to R10 hold before it (- for nothing), up to the one that is refused. It prints as a table.
+    True where it is accepted."""
     operator: Operator
     refusal: Optional[OperatorRefused]
     rows: List[List[str]]
@@ -34,9 +55,11 @@ class Check:
         return self.accepted
 
     def __str__(self) -> str:
-        said = '%s: %d instructions, so a call takes at most %d steps' % (self.operator.kind, len(self.rows), len(self.rows)) \
-            if self.refusal is None else str(self.refusal)
-        return '\n'.join([*table(self.rows), said])
+        count = len(self.rows)
+        said = '%s: %d instructions, so a call takes at most %d steps' % (
+            self.operator.kind, count, count)
+        last = said if self.refusal is None else str(self.refusal)
+        return '\n'.join([*table(self.rows), last])
 
     __repr__ = __str__
 
@@ -47,27 +70,43 @@ class Check:
 
 def table(rows: List[List[str]]) -> List[str]:
     """Instructions beside what is known before each, in columns."""
-    heads = ['slot', 'instruction'] + ['R%d' % number for number in range(dataflow.REGISTERS)]
-    whole = [heads] + [row for row in rows if len(row) == len(heads)]
-    widths = [max(len(row[at]) for row in whole) for at in range(len(heads))]
+    if not rows:
+        return []
+    whole = [HEADS] + [row for row in rows if len(row) == len(HEADS)]
+    widths = [max(len(row[at]) for row in whole) for at in range(len(HEADS))]
     widths[1] = max([widths[1]] + [len(row[1]) for row in rows])
-    return ['  '.join(cell.ljust(width) for cell, width in zip(row, widths)).rstrip() for row in [heads] + rows] if rows else []
+    return _aligned([HEADS] + rows, widths)
+
+
+def _aligned(rows: List[List[str]], widths: List[int]) -> List[str]:
+    return ['  '.join(cell.ljust(width) for cell, width in zip(row, widths)).rstrip()
+            for row in rows]
 
 
 def rows_of(lines: List[str], types: List[str]) -> List[List[str]]:
     """The rows of an operator that is accepted, from what `dis` and `types` answer."""
-    known = [told.split() for told in types]
-    return [[tags[0], line] + (['no way leads here'] if tags[1:] == ['-'] else [tag.replace('u', '-') for tag in tags[1:]])
-            for line, tags in zip(lines, known)]
+    out = []
+    for line, known in zip(lines, types):
+        slot, *tags = known.split()
+        is_reached = tags != ['-']
+        out.append([slot, line, *([tag.replace('u', '-') for tag in tags] if is_reached else
+                                  [UNREACHED])])
+    return out
 
 
 def rows_before(operator: Operator, slot: int) -> List[List[str]]:
-    """The rows of one that is refused, up to the instruction of a slot, as the client reckons them."""
+    """The rows of one that is refused, up to the instruction of a slot, as the client reckons
+    them."""
     steps = steps_of(operator)
     before = dataflow.walk(operator.kind, steps)
-    return [[str(step.slot), step.text] + (['no way leads here'] if step.slot not in before else
-                                           [dataflow.tag(kinds).replace('u', '-') for kinds in before[step.slot]])
-            for step in steps if step.slot <= slot]
+    out = []
+    for step in steps:
+        if step.slot <= slot:
+            held = before.get(step.slot)
+            tags = [UNREACHED] if held is None else [dataflow.tag(kinds).replace('u', '-')
+                                                     for kinds in held]
+            out.append([str(step.slot), step.text, *tags])
+    return out
 
 
 def steps_of(operator: Operator) -> List[dataflow.Step]:
@@ -79,18 +118,21 @@ def steps_of(operator: Operator) -> List[dataflow.Step]:
 
 def _one_of_two(text: str) -> str:
     """Which of the two faults of rule A6 a text has."""
-    return 'more than 4,096 slots' if any(map(assembly.bare, text.split('\n'))) else 'no instruction at all'
+    has_some = any(map(assembly.bare, text.split('\n')))
+    return 'more than 4,096 slots' if has_some else 'no instruction at all'
 
 
 def mended(operator: Operator, refused: OperatorRefused) -> OperatorRefused:
-    """A refusal with what can be told of this operator: the line, the register and the way of V11 and V12, and how to mend a line."""
+    """A refusal with what can be told of this operator: the line, the register and the way of V11
+    and V12, and how to mend a line."""
     if refused.at is None or refused.detail:
         return refused
     number, detail = None, ''
     if refused.rule in ('V11', 'V12'):
         detail = register_of(operator, refused.rule, refused.at)
     if refused.rule.startswith('V') and operator.text is not None:
-        number = next((line.number for line in assembly.lines_of(operator.text) if line.slot == refused.at), None)
+        number = next((line.number for line in assembly.lines_of(operator.text)
+                       if line.slot == refused.at), None)
     if refused.rule.startswith('A') and operator.text is not None:
         detail = how_to_mend(operator.text, refused.rule, refused.at)
     said = _one_of_two(operator.text) if refused.rule == 'A6' and operator.text is not None else ''
@@ -100,7 +142,8 @@ def mended(operator: Operator, refused: OperatorRefused) -> OperatorRefused:
 
 
 def register_of(operator: Operator, rule: str, slot: int) -> str:
-    """The register that is read there and unset on some path, or set differently on two, with the paths."""
+    """The register that is read there and unset on some path, or set differently on two, with the
+    paths."""
     steps = steps_of(operator)
     step = next((step for step in steps if step.slot == slot), None)
     state = dataflow.walk(operator.kind, steps).get(slot)
@@ -113,20 +156,24 @@ def register_of(operator: Operator, rule: str, slot: int) -> str:
             return 'r%d is unset %s' % (register, _way(kinds[dataflow.UNSET], texts))
         if rule == 'V12' and dataflow.UNSET not in kinds and len(kinds) > 1:
             (one, first), (other, second) = list(kinds.items())[:2]
-            return 'r%d is %s %s, and %s %s' % (register, _content(one), _way(first, texts), _content(other), _way(second, texts))
+            return 'r%d is %s %s, and %s %s' % (register, _content(one), _way(first, texts),
+                                                _content(other), _way(second, texts))
     return ''
 
 
 def _content(kind: str) -> str:
-    return 'a number' if kind == dataflow.NUMBER else "the stack's top" if kind == 'p0' else "the stack's top less %d" % -int(kind[1:])
+    if kind == dataflow.NUMBER:
+        return 'a number'
+    return "the stack's top" if kind == 'p0' else "the stack's top less %d" % -int(kind[1:])
 
 
 def _way(way: dataflow.Way, texts: 'dict[int, str]') -> str:
     """A way in words: by its last few jumps."""
     if not way:
         return 'on each way that leads here'
-    told = ["'%s' (slot %d) %s" % (texts.get(slot, ''), slot, 'jumps' if taken else "doesn't jump") for slot, taken in way[-3:]]
-    return 'where ' + ('.. ' if len(way) > 3 else '') + ' and '.join(told)
+    jumps = ["'%s' (slot %d) %s" % (texts.get(slot, ''), slot, 'jumps' if taken else "doesn't jump")
+             for slot, taken in way[-3:]]
+    return 'where ' + ('.. ' if len(way) > 3 else '') + ' and '.join(jumps)
 
 
 def how_to_mend(text: str, rule: str, at: int) -> str:
@@ -138,17 +185,20 @@ def how_to_mend(text: str, rule: str, at: int) -> str:
     if '//' in line and rule in ('A2', 'A3'):
         return 'to mend it: ' + COMMENTS
     if rule == 'A2':
-        near = _near(mnemonic)
-        return 'to mend it: mnemonics are in lower case and end in their width%s' % (', as ' + ' or '.join(near) if near else ', as mov64, add32')
+        near = ' or '.join(_near(mnemonic)) or 'mov64, add32'
+        return 'to mend it: mnemonics are in lower case and end in their width, as ' + near
     if rule == 'A3':
-        return 'to mend it: it is written `%s`%s' % (assembly.form_of(mnemonic), _odd_operand(words))
+        return 'to mend it: it is written `%s`%s' % (assembly.form_of(mnemonic),
+                                                     _odd_operand(words))
     if rule == 'A4':
         return 'to mend it: registers are r0 to r10'
     if rule == 'A5':
-        return 'to mend it: offsets are -32768 to 32767, other numbers -2147483648 to 2147483647; `wide rD, NUMBER` takes 64 bits'
+        return ('to mend it: offsets are -32768 to 32767, other numbers -2147483648 to 2147483647; '
+                '`wide rD, NUMBER` takes 64 bits')
     if rule == 'A6':
-        return 'an instruction is a slot, and a `wide` takes two' if any(map(assembly.bare, lines)) else \
-            'to mend it: `exit` ends each operator, with its value in r0'
+        if any(map(assembly.bare, lines)):
+            return 'an instruction is a slot, and a `wide` takes two'
+        return 'to mend it: `exit` ends each operator, with its value in r0'
     return 'to mend it: put the comment on lines of its own' if rule == 'A1' else ''
 
 
@@ -164,8 +214,172 @@ def _odd_operand(words: List[str]) -> str:
         if len(operand.split()) > 1:
             return '; commas part operands'
         if operand[:2].lower() == '0x':
-            return '; numbers are decimal: %d' % int(operand, 16) if all(c in '0123456789abcdefABCDEF' for c in operand[2:]) and operand[2:] \
-                else '; numbers are decimal'
+            is_number = re.fullmatch('[0-9a-fA-F]+', operand[2:])
+            return '; numbers are decimal' + (': %d' % int(operand, 16) if is_number else '')
         if operand[:1].isalpha() and not (operand[:1] == 'r' and operand[1:].isdigit()):
-            return '; a label is a line `%s:`, and only a jump may name it' % operand if operand.isidentifier() else ''
+            label = '; a label is a line `%s:`, and only a jump may name it' % operand
+            return label if operand.isidentifier() else ''
     return ''
+
+
+# -- listed and priced, without a server
+
+@dataclass(frozen=True)
+class Listing:
+    """An operator beside its source: `language` and `source` as it was written, `rows` of its
+    instructions (slot, text, what R0 to R10 hold before it). It prints as both, one below the
+    other, and shows them side by side in a notebook."""
+    operator: Operator
+    language: str
+    source: str
+    rows: List[List[str]]
+
+    @property
+    def assembly(self) -> str:
+        """The instructions, a line each."""
+        return ''.join(row[1] + '\n' for row in self.rows)
+
+    def columns(self) -> List[List[str]]:
+        """The rows without registers that hold nothing anywhere, under a row of heads."""
+        whole = [[*row, *[''] * (len(HEADS) - len(row))] for row in self.rows]
+        used = [0, 1] + [at for at in range(2, len(HEADS) - 1)
+                         if any(row[at] not in ('-', '') for row in whole)]
+        return [[row[at] for at in used] for row in [HEADS, *whole]]
+
+    def __str__(self) -> str:
+        source = self.source.rstrip('\n') + '\n\n' if self.language != 'assembly' else ''
+        cells = self.columns()
+        widths = [max(len(row[at]) for row in cells) for at in range(len(cells[0]))]
+        return '%s%s\n%s' % (source, '\n'.join(_aligned(cells, widths)), steps(self.operator))
+
+    __repr__ = __str__
+
+    def _repr_html_(self) -> str:
+        from ..display import html
+        return html.listing(self)
+
+
+def given(op: Op, kind: Optional[str] = None) -> Operator:
+    """An operator that is given as itself, as a function, or by name. Without a kind a function is
+    looked at for its number of parameters, and a name in all kinds."""
+    if isinstance(op, Operator):
+        return op
+    if kind is not None:
+        if kind not in KINDS:
+            raise ValueError('a kind is unary, binary or index, not %r' % (kind,))
+        return find(kind, op)
+    if isinstance(op, str):
+        kinds = ('binary', 'unary', 'index')
+        return find(next((kind for kind in kinds if op in READY[kind]), 'binary'), op)
+    from .compiler import kind_by_parameters
+    return find(kind_by_parameters(op), op)
+
+
+def code_of(op: Op, kind: Optional[str] = None) -> Listing:
+    """Show what an operator was written as, and its instructions.
+
+    Parameters
+    ----------
+    op : Operator, callable or str
+        An operator, a function, or the name of a ready operator.
+    kind : {'unary', 'binary', 'index'}, optional
+        Which kind of operator is meant; by default a function's number of parameters says so, and a
+        name is looked for in all kinds.
+
+    Returns
+    -------
+    Listing
+        The source (Python, C or assembly), the instructions, and what is known of the registers
+        before each. It prints, and a notebook shows it.
+
+    Raises
+    ------
+    CompileError
+        If the function can't be an operator.
+
+    Examples
+    --------
+    >>> print(spmat.code_of("plus").assembly)
+    mov64 r0, r1
+    add64 r0, r2
+    exit
+    """
+    found = given(op, kind)
+    language, source = found.origin()
+    slots = [slot for slot, _ in found.lines()]
+    texts: Dict[str, str] = {str(slot): text for slot, text in found.lines()}
+    rows = rows_before(found, slots[-1]) if slots else []
+    return Listing(found, language, source,
+                   [[row[0], texts.get(row[0], row[1]), *row[2:]] for row in rows])
+
+
+def longest_way(op: Operator) -> int:
+    """The steps of an operator's longest way, whatever its conditions say."""
+    most: Dict[int, int] = {}
+    for step in reversed(steps_of(op)):
+        most[step.slot] = 1 + max((most.get(slot, 0) for slot in step.next), default=0)
+    return most.get(0, 0)
+
+
+def steps(op: Operator) -> str:
+    """An operator's length and its longest way, in a line."""
+    count, longest = len(op.lines()), longest_way(op)
+    return '%d instructions: a price counts %d steps a call, and a call takes at most %d' % (
+        count, count, longest)
+
+
+@dataclass(frozen=True)
+class Explained:
+    """What an operator costs: `instructions`, the steps that a price counts for a call; `longest`,
+    the most that a call takes; and in words which calls each method's price counts."""
+    operator: Operator
+    instructions: int
+    longest: int
+
+    def __str__(self) -> str:
+        counted = CALLS[self.operator.kind]
+        rows = ['%-15s %d steps for %s' % (methods, self.instructions, calls)
+                for methods, calls in counted.items()]
+        name = ' ' + self.operator.name if self.operator.name else ''
+        first = '%s operator%s, %s' % (self.operator.kind, name, steps(self.operator))
+        return '\n'.join([first, *rows])
+
+    __repr__ = __str__
+
+
+def explain(op: Op, kind: Optional[str] = None) -> Explained:
+    """Tell what an operator costs. What a job costs is its result's `price`, before it runs.
+
+    Parameters
+    ----------
+    op : Operator, callable or str
+        An operator, a function, or the name of a ready operator.
+    kind : {'unary', 'binary', 'index'}, optional
+        Which kind of operator is meant, as for `code_of`.
+
+    Returns
+    -------
+    Explained
+        The steps of its longest way, those that a price counts for a call, and for which calls each
+        method counts them. It prints.
+
+    Raises
+    ------
+    CompileError
+        If the function can't be an operator.
+
+    Examples
+    --------
+    >>> spmat.explain("plus").instructions
+    3
+    """
+    found = given(op, kind)
+    return Explained(found, len(found.lines()), longest_way(found))
+
+
+def shown(op: Operator) -> Any:
+    """The listing of an operator, or None where its text stands for no program."""
+    try:
+        return code_of(op)
+    except (ValueError, IndexError, KeyError):
+        return None

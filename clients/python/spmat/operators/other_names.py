@@ -1,5 +1,5 @@
-"""Names that other libraries give to operators: functions of numpy, and names of python-graphblas, that mean a ready one exactly; and
-what to write for those that don't."""
+"""Names that other libraries give to operators: functions of numpy, and names of python-graphblas,
+that mean a ready one exactly; and what to write for those that don't."""
 from __future__ import annotations
 
 from typing import Any, Dict, NamedTuple, Optional
@@ -7,26 +7,32 @@ from typing import Any, Dict, NamedTuple, Optional
 # Words for ready operators, where the meaning is the same for all words of 64 bits.
 ALIASES: Dict[str, Dict[str, str]] = {
     'unary': {},
-    'binary': {'isgt': 'gt', 'isge': 'ge', 'islt': 'lt', 'isle': 'le', 'bitand': 'band', 'bitor': 'bor', 'bitxor': 'bxor', 'bitxnor': 'bxnor'},
+    'binary': {'isgt': 'gt', 'isge': 'ge', 'islt': 'lt', 'isle': 'le', 'bitand': 'band',
+               'bitor': 'bor', 'bitxor': 'bxor', 'bitxnor': 'bxnor'},
     'index': {}}
 
 UFUNCS: Dict[str, Dict[str, str]] = {
-    'unary': {'absolute': 'abs', 'negative': 'ainv', 'positive': 'identity', 'invert': 'bnot', 'logical_not': 'lnot', 'sign': 'sgn',
-              'conjugate': 'identity'},
-    'binary': {'add': 'plus', 'subtract': 'minus', 'multiply': 'times', 'minimum': 'min', 'maximum': 'max', 'fmin': 'min', 'fmax': 'max',
-               'floor_divide': 'floordiv', 'bitwise_and': 'band', 'bitwise_or': 'bor', 'bitwise_xor': 'bxor', 'logical_and': 'land',
-               'logical_or': 'lor', 'logical_xor': 'lxor', 'equal': 'eq', 'not_equal': 'ne', 'less': 'lt', 'less_equal': 'le',
-               'greater': 'gt', 'greater_equal': 'ge'},
-    'index': {'equal': 'valueeq', 'not_equal': 'valuene', 'less': 'valuelt', 'less_equal': 'valuele', 'greater': 'valuegt',
-              'greater_equal': 'valuege'}}
+    'unary': {'absolute': 'abs', 'negative': 'ainv', 'positive': 'identity', 'invert': 'bnot',
+              'logical_not': 'lnot', 'sign': 'sgn', 'conjugate': 'identity'},
+    'binary': {'add': 'plus', 'subtract': 'minus', 'multiply': 'times', 'minimum': 'min',
+               'maximum': 'max', 'fmin': 'min', 'fmax': 'max', 'floor_divide': 'floordiv',
+               'bitwise_and': 'band', 'bitwise_or': 'bor', 'bitwise_xor': 'bxor',
+               'logical_and': 'land', 'logical_or': 'lor', 'logical_xor': 'lxor', 'equal': 'eq',
+               'not_equal': 'ne', 'less': 'lt', 'less_equal': 'le', 'greater': 'gt',
+               'greater_equal': 'ge'},
+    'index': {'equal': 'valueeq', 'not_equal': 'valuene', 'less': 'valuelt',
+              'less_equal': 'valuele', 'greater': 'valuegt', 'greater_equal': 'valuege'}}
 
 _DIVISION = 'values are whole numbers: "cdiv" rounds toward 0 and "floordiv" down'
 _REMAINDER = '"cmod" has the sign of x, and lambda x, y: x % y that of y; both give x where y is 0'
-_POWER = 'lambda x: x ** 3 has a power that is known beforehand; A.power(n) multiplies a matrix with itself'
-_POSITION = ('positions come from "rowindex" and "colindex", as in A.apply("rowindex"), and in products from "any_firsti", "any_firstj", '
-             '"any_secondi" and "any_secondj"')
-_SHIFT = '"lsh" shifts left, "arsh" right, by the low 6 bits of y; lambda x, y: x << y gives 0 for 64 and above'
-_AGGREGATE = 'A.reduce_rowwise(%r) and reduce_columnwise(%r) take it as an aggregator, other methods do not'
+_POWER = ('lambda x: x ** 3 has a power that is known beforehand; A.power(n) multiplies a matrix '
+          'with itself')
+_POSITION = ('positions come from "rowindex" and "colindex", as in A.apply("rowindex"), and in '
+             'products from "any_firsti", "any_firstj", "any_secondi" and "any_secondj"')
+_SHIFT = ('"lsh" shifts left, "arsh" right, by the low 6 bits of y; lambda x, y: x << y gives 0 '
+          'for 64 and above')
+_AGGREGATE = ('A.reduce_rowwise(%r) and reduce_columnwise(%r) take it as an aggregator, other '
+              'methods do not')
 
 # What to write for names that mean what no ready operator does, or that are called otherwise here.
 INSTEAD: Dict[str, str] = {
@@ -34,18 +40,24 @@ INSTEAD: Dict[str, str] = {
     'rfloordiv': 'lambda x, y: y // x',
     **dict.fromkeys(('mod', 'remainder', 'fmod', 'modulo'), _REMAINDER),
     **dict.fromkeys(('pow', 'rpow', 'power', 'square'), _POWER),
-    **dict.fromkeys(('firsti', 'firstj', 'secondi', 'secondj', 'firsti1', 'firstj1', 'secondi1', 'secondj1', 'positioni', 'positionj',
-                     'positioni1', 'positionj1'), _POSITION),
+    **dict.fromkeys(('firsti', 'firstj', 'secondi', 'secondj', 'firsti1', 'firstj1', 'secondi1',
+                     'secondj1', 'positioni', 'positionj', 'positioni1', 'positionj1'), _POSITION),
     **dict.fromkeys(('bshift', 'left_shift', 'right_shift', 'shl', 'shr'), _SHIFT),
-    'bget': 'lambda x, y: x >> y & 1', 'bset': 'lambda x, y: x | 1 << y', 'bclr': 'lambda x, y: x & ~(1 << y)',
-    'sum': 'it is "plus"', 'add': 'it is "plus"', 'prod': 'it is "times"', 'product': 'it is "times"', 'mul': 'it is "times"',
-    'multiply': 'it is "times"', 'sub': 'it is "minus"', 'subtract': 'it is "minus"', 'neg': 'it is "ainv"', 'negative': 'it is "ainv"',
-    'absolute': 'it is "abs"', 'sign': 'it is "sgn"', 'and': 'it is "land", or "band" for bits', 'or': 'it is "lor", or "bor" for bits',
-    'not': 'it is "lnot", or "bnot" for bits', 'maximum': 'it is "max"', 'minimum': 'it is "min"',
+    'bget': 'lambda x, y: x >> y & 1', 'bset': 'lambda x, y: x | 1 << y',
+    'bclr': 'lambda x, y: x & ~(1 << y)',
+    **dict.fromkeys(('sum', 'add'), 'it is "plus"'),
+    **dict.fromkeys(('prod', 'product', 'mul', 'multiply'), 'it is "times"'),
+    **dict.fromkeys(('sub', 'subtract'), 'it is "minus"'),
+    **dict.fromkeys(('neg', 'negative'), 'it is "ainv"'),
+    'absolute': 'it is "abs"', 'sign': 'it is "sgn"', 'and': 'it is "land", or "band" for bits',
+    'or': 'it is "lor", or "bor" for bits', 'not': 'it is "lnot", or "bnot" for bits',
+    'maximum': 'it is "max"', 'minimum': 'it is "min"',
     **{name: _AGGREGATE % (name, name) for name in ('argmin', 'argmax')},
-    'count': _AGGREGATE % ('count', 'count') + '; dup_op="plus" counts edges that are read with values=False',
+    'count': _AGGREGATE % ('count', 'count') +
+             '; dup_op="plus" counts edges that are read with values=False',
     'last': _AGGREGATE % ('last', 'last') + '; dup_op="second" keeps the last of edges that repeat',
-    'mean': _AGGREGATE % ('mean', 'mean') + '; dup_op="plus" adds up, and of values=False it counts',
+    'mean': _AGGREGATE % ('mean', 'mean') +
+            '; dup_op="plus" adds up, and of values=False it counts',
     'average': '"mean" is an aggregator: A.reduce_rowwise("mean")'}
 
 
@@ -61,15 +73,17 @@ def is_ufunc(thing: Any) -> bool:
 
 
 def ready_of(kind: str, ufunc: Any) -> Named:
-    """The ready operator that a function of numpy is: of a kind, or of the kind of its operands where that one has none. TypeError
-    where no ready operator has its meaning for all words."""
+    """The ready operator that a function of numpy is: of a kind, or of the kind of its operands
+    where that one has none. TypeError where no ready operator has its meaning for all words."""
     own = 'unary' if ufunc.nin == 1 else 'binary'
     for wanted in (kind, own):
         name = UFUNCS[wanted].get(ufunc.__name__)
         if name is not None:
             return Named(wanted, name)
-    raise TypeError('np.%s is no operator on whole numbers of 64 bits: %s' % (ufunc.__name__, INSTEAD.get(
-        ufunc.__name__, 'write a function of x%s, such as lambda %s: ..' % (('', 'x') if own == 'unary' else (' and y', 'x, y')))))
+    write = 'write a function of x%s, such as lambda %s: ..' % (
+        ('', 'x') if own == 'unary' else (' and y', 'x, y'))
+    raise TypeError('np.%s is no operator on whole numbers of 64 bits: %s' % (
+        ufunc.__name__, INSTEAD.get(ufunc.__name__, write)))
 
 
 def words_for(name: str) -> Optional[str]:

@@ -1,20 +1,23 @@
-"""What a call costs, at the least and at the most, before it does any work."""
+"""What a call costs, at the least and at the most, before it does any work; and what is said where a budget is too small for a call."""
 from __future__ import annotations
 
 import contextlib
-from typing import TYPE_CHECKING, Any, Callable, Dict, List, NamedTuple, Optional, Sequence, Tuple
+import functools
+import warnings
+from typing import Any, Callable, Dict, Iterator, List, NamedTuple, Optional, Sequence, Tuple, TypeVar, cast
 
-from .._client.protocol import Places
+from ..backends.estimate import EstimateBackend, EstimateHandle, Size, least_taken, most_taken, size_of, stand_for_result
+from ..backends.protocol import AMPLE, Backend, Job
+from ..backends.unread import Unforeseen, Unread, current_price, pricing
+from ..errors import MORE_STEPS, BudgetExceeded, BudgetWarning
 from ..matrix import Matrix
 from ..operators import Operator
+from ..vector import as_matrix, as_vector
 from .call_sizes import CallSizes
-from .foreseen import Asked, Stand, Unforeseen, Unread, asking, root, stand, stand_for
-from .job_bounds import Job, Least, Size, least_taken, most_taken, size_of
-
-if TYPE_CHECKING:
-    from ..session import Session
 
 ROUNDS = 64                                        # rounds that are foreseen one by one
+AN_ENTRY = 1 << 14                                 # steps for each entry of a graph, which no call is certain to take
+F = TypeVar('F', bound=Callable[..., Any])
 
 
 class Foreseen(NamedTuple):
@@ -31,20 +34,23 @@ class Bound(NamedTuple):
     words: str = ''
 
 
-class Price(Asked):
+class Price:
     """What a call costs. It takes `least` steps, or more, and `most`, or fewer; `most` is None where no bound is known, as where the caller's
     own code looks at a result and goes on by it. On a budget with `steps` left none of its jobs is refused: that is `most`, but for jobs under
     a mask, which reserve more than they take. `jobs` are those that can be foreseen, and `complete` says whether these are all."""
 
     def __init__(self, sends: bool = True) -> None:
-        super().__init__()
-        self.sends = sends
+        self.sends = sends                         # whether matrices go to the server, and entries come from there
+        self.found: Dict[Tuple[int, str], Tuple[Any, Any]] = {}        # by graphs, which keep their numbers meanwhile, and facts
+        self.loops: Dict[int, Tuple[Any, Any]] = {}                    # loops, and the states that they would have
         self.jobs: List[Foreseen] = []
         self.complete = True
         self.least = self.needed = 0
         self.most: Optional[int] = 0
         self._reserved: Optional[int] = 0
         self._words: List[str] = []
+        self._granted: Dict[str, Any] = {}
+        self._backends: Dict[int, EstimateBackend] = {}
         self.is_inside = False                     # an algorithm, of which no call of its own is looked at
 
     @property
@@ -68,46 +74,72 @@ class Price(Asked):
 
     # -- jobs
 
-    def foresee(self, session: Any, form: str, ops: Sequence[Operator], operands: Sequence[Matrix], mask: Optional[Matrix],
-                shape: Tuple[int, int]) -> Matrix:
+    def backend_in_place_of(self, own: Backend) -> EstimateBackend:
+        """What takes the jobs of a session meanwhile."""
+        if id(own) not in self._backends:
+            self._backends[id(own)] = EstimateBackend(own, self)
+        return self._backends[id(own)]
+
+    def add_job(self, backend: EstimateBackend, job: Job) -> EstimateHandle:
         """Notes the least and the most that a job comes to. Its price has to be left, and of the jobs before it what they take."""
-        job, sizes = Job(form, ops, operands, mask, shape), [self._size(session, op) for op in ops]
+        sizes = [self._size(backend, op) for op in job.operators]
         least, most = least_taken(job, sizes, self), most_taken(job, sizes, self.sends)
         self.needed = max(self.needed, self.least + least.price)
         self.least += least.steps
-        self.jobs.append(Foreseen(form, most.steps))
+        self.jobs.append(Foreseen(job.form, most.steps))
         self._add(most.steps, most.steps)
-        return self._result(job, least, most.entries)
+        return stand_for_result(backend, job, least, most.entries)
 
-    def _size(self, session: Any, op: Operator) -> Size:
+    def _size(self, backend: EstimateBackend, op: Operator) -> Size:
         try:
             return size_of(op)
         except Unforeseen:
             if not self.sends:
                 raise
-            return Size(session.backend.length_of(op), 1)      # which says why it is none
-
-    def _result(self, job: Job, least: Least, most: int) -> Stand:
-        made = stand(job.operands[0].session, job.shape, least.entries, most)
-        if job.places in (Places.ALL, Places.ANY) and len({id(root(matrix).kept) for matrix in job.many}) == 1:
-            made.within, made.whole = job.operands[0], True
-        elif job.mask is not None or job.places in (Places.ALL, Places.CHOSEN):
-            made.within = job.mask if job.mask is not None else job.operands[0]
-        return made
+            return Size(backend.length_of(op), 1)  # which says why it is none
 
     def _add(self, most: Optional[int], reserved: Optional[int]) -> None:
         self.most = None if self.most is None or most is None else self.most + most
         self._reserved = None if self._reserved is None or reserved is None else self._reserved + reserved
 
-    # -- facts, which the client looks up where it may
+    # -- facts of graphs, which the client looks up where it may
 
-    def look_up(self, graph: Any, name: str) -> Any:
-        if name in self._granted or not self.sends or isinstance(graph, Stand):
-            return super().look_up(graph, name)
-        degrees = CallSizes(graph, {}, self.knows, True).degrees
-        facts = {} if degrees is None else {
-            'both ways': degrees.both_ways, 'loops': degrees.loops > 0, 'extremes': (degrees.least, degrees.greatest)}
-        return facts[name] if name in facts else super().look_up(graph, name)
+    def knows(self, graph: Any, name: str) -> bool:
+        """Whether a fact of a graph is known, or was found out by what was foreseen."""
+        return name in graph.kept or (id(graph.kept), name) in self.found
+
+    def find_fact(self, graph: Any, name: str, find: Callable[[], Any]) -> Any:
+        """A fact of a graph that isn't known yet, once. The jobs that find it out are counted; what only their result would tell is looked
+        up, or granted, or ends what is foreseen."""
+        key = (id(graph.kept), name)
+        if key not in self.found:
+            try:
+                fact = find()
+                fact = self._look_up(graph, name) if isinstance(fact, Unread) else fact
+            except Unforeseen:
+                fact = self._look_up(graph, name)
+            self.found[key] = graph, fact
+        return self.found[key][1]
+
+    def _look_up(self, graph: Any, name: str) -> Any:
+        if name in self._granted:
+            return self._granted[name]
+        if self.sends and not isinstance(getattr(graph, 'handle', None), EstimateHandle):
+            degrees = CallSizes(graph, {}, self.knows, True).degrees
+            facts = {} if degrees is None else {
+                'both ways': degrees.both_ways, 'loops': degrees.loops > 0, 'extremes': (degrees.least, degrees.greatest)}
+            if name in facts:
+                return facts[name]
+        raise Unforeseen()
+
+    @contextlib.contextmanager
+    def granting(self, facts: Dict[str, Any]) -> Iterator[None]:
+        """Takes facts for what they have to be, as a call on any other graph ends in an error."""
+        before, self._granted = self._granted, facts
+        try:
+            yield
+        finally:
+            self._granted = before
 
     # -- calls of algorithms, and loops
 
@@ -141,7 +173,6 @@ class Price(Asked):
     def repeat(self, step: Callable[[int, Any], Any], state: Any, rounds: Optional[int], least: int) -> Any:
         """Foresees rounds one by one, as long as each can come to more than the one before it; the others take as much as the last of them. Of
         rounds that end by what they come to some are made twice, where the state is wanted."""
-        state = {name: stand_for(matrix) for name, matrix in state.items()}
         if self.is_inside:                         # what follows depends on what the first round comes to
             step(1, state)
             raise Unforeseen()
@@ -166,13 +197,13 @@ class Price(Asked):
 
 def _most_entries(state: Any) -> Dict[str, int]:
     """The most entries of each matrix of a state."""
-    return {name: matrix.handle.most for name, matrix in state.items()}
+    return {name: matrix.handle.most if hasattr(matrix, 'handle') else matrix.nvals for name, matrix in state.items()}
 
 
-def sizes_of(function: Callable[..., Any], args: Sequence[Any], named: Dict[str, Any], asker: Asked) -> Optional[CallSizes]:
+def sizes_of(function: Callable[..., Any], args: Sequence[Any], named: Dict[str, Any], price_: Price) -> Optional[CallSizes]:
     """The sizes that a call's cost grows with; None where its arguments are wrong, as the call itself says."""
     try:
-        return CallSizes.of(function, args, named, asker.knows, asker.sends)
+        return CallSizes.of(function, args, named, price_.knows, price_.sends)
     except (AttributeError, TypeError):
         return None
 
@@ -197,7 +228,7 @@ def price(call: Callable[[], Any]) -> Price:
     In this thread; other threads go on. Of matrices in row blocks no entries are read, and bounds are as for any graph of so many vertices
     and edges."""
     made = Price()
-    with asking(made):
+    with pricing(made):
         try:
             call()
         except Unforeseen:
@@ -209,7 +240,7 @@ def price(call: Callable[[], Any]) -> Price:
 def needed_by(call: Callable[[], Any]) -> int:
     """The steps that have to be left for a call to end in an answer, as far as that is known before it begins: no fewer do."""
     certain = Price(sends=False).inside()
-    with asking(certain):
+    with pricing(certain):
         try:
             call()
         except Unforeseen:
@@ -217,4 +248,80 @@ def needed_by(call: Callable[[], Any]) -> int:
     return certain.needed
 
 
-__all__ = ['Bound', 'Foreseen', 'Price', 'Unread', 'bound_of', 'needed_by', 'price']
+# -- algorithms on a small budget
+
+def guarded(function: F) -> F:
+    """An algorithm that raises BudgetExceeded before its first job where the budget is known to have too little left for it, and warns where
+    it may have."""
+    @functools.wraps(function)
+    def call(*args: Any, **named: Any) -> Any:
+        priced = current_price()
+        if priced is not None:
+            return _with_vectors(priced.call(function.__name__, *_listed(args, named)))
+        graph = args[0] if args else next(iter(named.values()), None)
+        left = _left(graph)
+        if left < AMPLE and not any(isinstance(one, Matrix) and one.session.backend.takes_others for one in (*args, *named.values())):
+            args, named = _listed(args, named)
+            _check_budget(function, args, named, left)
+        args, named = tuple(map(as_matrix, args)), {name: as_matrix(one) for name, one in named.items()}
+        try:
+            return _with_vectors(function(*args, **named))
+        except BudgetExceeded as fault:
+            if not fault.algorithm and len(fault.numbers) >= 2:
+                fault.name_algorithm(function.__name__)
+            raise
+    return cast(F, call)
+
+
+def _with_vectors(result: Any) -> Any:
+    """What an algorithm gives, with its columns and rows as vectors."""
+    return tuple(map(as_vector, result)) if type(result) is tuple else as_vector(result)
+
+
+def _listed(args: Tuple[Any, ...], named: Any) -> Tuple[Tuple[Any, ...], Any]:
+    """Arguments that can be looked at more than once."""
+    if not any(hasattr(one, '__next__') for one in (*args, *named.values())):
+        return args, named
+    return tuple(_list(one) for one in args), {name: _list(one) for name, one in named.items()}
+
+
+def _list(one: Any) -> Any:
+    return list(one) if hasattr(one, '__next__') else one
+
+
+def _left(graph: Any) -> int:
+    """What a graph's session, or those of its blocks, can have left at the most; all there can be of what is no graph."""
+    return int(graph.session.backend.ceiling) if hasattr(graph, 'session') else AMPLE
+
+
+def _check_budget(function: Callable[..., Any], args: Tuple[Any, ...], named: Any, left: int) -> None:
+    graph = args[0] if args else next(iter(named.values()))
+    if isinstance(graph, Matrix) and left < AN_ENTRY * (graph.handle.most + sum(graph.shape) + 1):
+        try:
+            needed = needed_by(lambda: function(*args, **named))
+        except Exception:                          # pylint: disable=broad-exception-caught  # the call itself raises it
+            return
+        if needed > left:
+            raise BudgetExceeded('S8', (needed, left)).of_call(function.__name__)
+    most = _most(function, args, named, left)
+    if most is not None and most > left:
+        warnings.warn('%s may take up to %s steps, and %s are left: it may be refused amid its work; %s' % (
+            function.__name__, format(most, ','), format(left, ','), MORE_STEPS), BudgetWarning, stacklevel=3)
+
+
+def _most(function: Callable[..., Any], args: Tuple[Any, ...], named: Any, left: int) -> Optional[int]:
+    """The most that has to be left, by the sizes of the graph; where that may be too much, what `price` tells by its entries. None where that
+    isn't known, or the call itself raises an error."""
+    from ..algorithms.registry import ALGORITHMS  # which want matrices
+    steps = ALGORITHMS[function.__name__].steps
+    try:
+        sizes = CallSizes.of(function, args, named, lambda graph, name: name in graph.kept, False)
+        bound = None if steps is None else bound_of(steps, sizes)
+        if bound is not None and bound.reserved <= left:
+            return bound.reserved
+        priced = Price()
+        with pricing(priced):
+            priced.call(function.__name__, args, named)
+        return None if priced.most is None else priced.steps
+    except Exception:                              # pylint: disable=broad-exception-caught  # the call itself raises it
+        return None

@@ -6,16 +6,18 @@ import math
 from functools import cached_property
 from typing import Any, Callable, Dict, List, NamedTuple, Optional, Sequence, Tuple
 
-from .._client.pending_jobs import AMPLE
+import numpy
+
+from ..backends.protocol import AMPLE
 from ..aliases import is_same
-from ..io.matrix_text import find_numpy, is_array
-from .job_bounds import most_halvings
+from ..backends.estimate import most_halvings
 
 
 class Degrees(NamedTuple):
     """What a graph's entries tell: the edges that leave and enter each vertex, the least and greatest value, whether each edge leads both
     ways, how many are loops, and sums over edges: `triangles` of the lesser of the edges that leave the one end and enter the other, `lower`
-    the same below the diagonal, `lower_paths` the paths of two edges there; `ascending` are the values, of edges each once."""
+    the same below the diagonal, `lower_paths` the paths of two edges there; `ascending` are the values, of edges each once, and `heaviest` is the
+    most that the values of edges that enter a vertex add up to."""
     leaving: Sequence[int]
     entering: Sequence[int]
     least: int
@@ -26,6 +28,7 @@ class Degrees(NamedTuple):
     lower: int
     lower_paths: int
     ascending: Sequence[int]
+    heaviest: int = 0
 
 
 class CallSizes:
@@ -56,7 +59,7 @@ class CallSizes:
         if not self.reads:
             return None
         if 'degrees' not in self.graph.kept:
-            rows, columns, values = self.graph.to_coo(arrays=find_numpy() is not None)
+            rows, columns, values = self.graph.to_coo()
             self.graph.kept['degrees'] = _degrees_of(rows, columns, values, self.vertices)
         found: Degrees = self.graph.kept['degrees']
         return found
@@ -204,27 +207,6 @@ def rounds_to(aim: float, rate: float) -> int:
 
 
 def _degrees_of(rows: Any, columns: Any, values: Any, count: int) -> Degrees:
-    if is_array(rows):
-        return _degrees_by_numpy(rows, columns, values, count)
-    leaving, entering, below, above = ([0] * count for _ in range(4))
-    places, loops = set(zip(rows, columns)), 0
-    for i, j in zip(rows, columns):
-        leaving[i] += 1
-        entering[j] += 1
-        loops += i == j
-        if i > j:
-            below[i] += 1                          # edges to lesser vertices
-            above[j] += 1                          # .. and from greater ones
-    triangles = sum(min(leaving[i], entering[j]) for i, j in zip(rows, columns))
-    lower = sum(min(below[i], above[j]) for i, j in zip(rows, columns) if i > j)
-    both = all((j, i) in places for i, j in places)
-    ascending = sorted(value for i, j, value in zip(rows, columns, values) if not both or i < j)
-    return Degrees(leaving, entering, min(values, default=0), max(values, default=0), both, loops, triangles, lower,
-                   sum(a * b for a, b in zip(below, above)), ascending)
-
-
-def _degrees_by_numpy(rows: Any, columns: Any, values: Any, count: int) -> Degrees:
-    import numpy
     leaving, entering = (numpy.bincount(at, minlength=count) for at in (rows, columns))
     is_lower = rows > columns
     low, high = rows[is_lower], columns[is_lower]
@@ -234,4 +216,5 @@ def _degrees_by_numpy(rows: Any, columns: Any, values: Any, count: int) -> Degre
     chosen = values[rows < columns] if both else values
     return Degrees(leaving.tolist(), entering.tolist(), int(values.min()) if len(values) else 0, int(values.max()) if len(values) else 0, both,
                    int((rows == columns).sum()), int(numpy.minimum(leaving[rows], entering[columns]).sum()),
-                   int(numpy.minimum(below[low], above[high]).sum()), int((below * above).sum()), numpy.sort(chosen).tolist())
+                   int(numpy.minimum(below[low], above[high]).sum()), int((below * above).sum()), numpy.sort(chosen).tolist(),
+                   math.ceil(numpy.max(numpy.bincount(columns, values.astype(float), count), initial=0) * (1 + 1e-9)))

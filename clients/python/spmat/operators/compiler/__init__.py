@@ -1,11 +1,14 @@
 """Operators from Python functions.
 
-A function is called with words that are no numbers yet (`symbolic_words`). Each operation makes a shared expression (`expressions`, `simplifier`),
-and each truth of a condition forks the run (`path_exploration`), with what is known by then answered (`value_ranges`). What two ways have in common is
-merged (`branch_merging`). The expression's decision graph becomes blocks and forward jumps (`block_placement`, `codegen`), on registers and then the
-stack (`register_allocation`), and assembly text (`peephole`). Before its first use the code is called beside the function (`sample_check`).
+A function is called with words that are no numbers yet (`words`, `operands`). Each operation makes
+a shared, simplified expression (`expressions`), and each truth of a condition forks the run, with
+what is known by then answered (`exploration`). The expression's decision graph becomes blocks and
+forward jumps (`emission`), on registers and then the stack, and assembly text (`registers`). Before
+its first use the code is called beside the function (`check`). `compile_function` goes through
+these steps, and `cache` knows when a function has to be compiled again.
 
-No source is needed, so a function may come from a file, a notebook, `python3 -c` or the prompt, and what it calls may be any Python.
+No source is needed, so a function may come from a file, a notebook, `python3 -c` or the prompt, and
+what it calls may be any Python.
 """
 from __future__ import annotations
 
@@ -17,26 +20,28 @@ from typing import Any, Callable, Optional, Tuple
 
 from ...errors import CompileError
 from .. import Operator, READY
+from ..ready_digests import name_of_text
 from .cache import code_of
 from .compile_function import NAMES, name_of, positional
-from .emulator import Machine
-from .symbolic_operands import Operand, whole
-from .three_address_code import Instruction
+from .check import Machine
+from .exploration import call
+from .operands import Operand, whole
+from .registers import Instruction
 
-UNASKED = ('any', 'oneb', 'iseq', 'isne')          # ready operators that are others by a second name
 
 
 @dataclass(frozen=True, repr=False, eq=False)
 class FromFunction(Operator):
-    """An operator from a function, which stays callable: of ints it gives what the server's operator does, and in another operator's
-    function it is a part of that one. A pickle has the operator alone."""
+    """An operator from a function, which stays callable: of ints it gives what the server's
+    operator does, and in another operator's function it is a part of that one. A pickle has the
+    operator alone."""
     function: Callable[..., Any] = field(default=lambda: None, repr=False)
     instructions: Tuple[Instruction, ...] = field(default=(), repr=False)
 
     def __call__(self, *operands: Any) -> Any:
         numbers = [None if isinstance(each, Operand) else whole(each) for each in operands]
         if None in numbers or len(numbers) != len(NAMES[self.kind]):
-            return self.function(*operands)
+            return call(self.function, operands)
         return Machine(self.instructions).call([number or 0 for number in numbers])
 
     def origin(self) -> Tuple[str, str]:
@@ -47,24 +52,29 @@ class FromFunction(Operator):
         return Operator, (self.kind, self.text, self.code, self.name)
 
 
-def operator_of(kind: str, function: Callable[..., Any], name: Optional[str] = None, check: bool = True) -> Operator:
-    """The operator of a kind from a function. An operator that is given is given back, where it is of this kind."""
+def operator_of(kind: str, function: Callable[..., Any], name: Optional[str] = None,
+                check: bool = True) -> Operator:
+    """The operator of a kind from a function. An operator that is given is given back, where it is
+    of this kind."""
     if isinstance(function, Operator):
         if function.kind != kind:
-            raise CompileError('expected %s %s operator, got %r' % ('an' if kind == 'index' else 'a', kind, function))
+            raise CompileError('expected %s %s operator, got %r' % (
+                'an' if kind == 'index' else 'a', kind, function))
         return function
     if not callable(function):
         raise TypeError('expected a function, got %r' % (function,))
     made = code_of(kind, function, name, check)
-    ready = _ready_texts(kind).get(made.text)
     called = name or (None if name_of(function) == '<lambda>' else name_of(function))
-    if ready is not None:                          # so that what is known of it is known of this one
-        return FromFunction(kind, text=READY[kind][ready].text, name=called or ready, function=function, instructions=made.instructions)
-    return FromFunction(kind, text=made.text, name=called, function=function, instructions=made.instructions)
+    text, ready = made.text, name_of_text(kind, made.text)
+    if ready is not None and READY[kind][ready].bare_text == text:
+        # what is known of the ready one is known of this one, too
+        text, called = READY[kind][ready].body.decode(), called or ready
+    return FromFunction(kind, text=text, name=called, function=function,
+                        instructions=made.instructions)
 
 
 def source_of(function: Callable[..., Any]) -> str:
-    """The source of a function, as far as it is known: that of a lambda is the statement in which it stands."""
+    """The source of a function, as far as it is known: that of a lambda is its statement's."""
     while isinstance(function, functools.partial):
         function = function.func
     try:
@@ -73,29 +83,20 @@ def source_of(function: Callable[..., Any]) -> str:
         return ''
 
 
-_TEXTS: 'dict[str, dict[str, str]]' = {}
-
-
-def _ready_texts(kind: str) -> 'dict[str, str]':
-    """The ready operators of a kind by their text without comments."""
-    if kind not in _TEXTS:
-        names = [name for name in READY[kind].ready() if name not in UNASKED]
-        _TEXTS[kind] = {''.join(line + '\n' for _, line in READY[kind][name].slots()): name for name in names}
-    return _TEXTS[kind]
-
-
 def kind_by_parameters(function: Callable[..., Any]) -> str:
-    """The kind of operator that a function's parameters make it: of one, of two, and of three or four."""
+    """The kind of operator that a function's parameters make it: of one, of two, and of three or
+    four."""
     own = positional(function)
     if own is None:
         return 'binary'
     names, least, more = own
-    return {1: 'unary', 2: 'binary'}.get(min(len(names), max(least, 1)) if not more or names else 2, 'index')
+    count = min(len(names), max(least, 1)) if not more or names else 2
+    return {1: 'unary', 2: 'binary'}.get(count, 'index')
 
 
 def kind_of(function: Callable[..., Any], bound: bool) -> str:
-    """The kind of operator that a function is wanted as by `apply`: unary, or where an operand is bound binary; of three or four
-    parameters (x, row, column, thunk) index."""
+    """The kind of operator that a function is wanted as by `apply`: unary, or where an operand is
+    bound binary; of three or four parameters (x, row, column, thunk) index."""
     own = positional(function)
     if own is None:
         return 'binary' if bound else 'unary'

@@ -1,8 +1,10 @@
-"""Code that was made of a function, kept as long as the function is there and says the same.
+"""Compiled functions, as long as the function is there and says the same.
 
-A function's code, defaults, attributes, closure and what it names decide what it is as an operator: globals, what is named in modules and
-submodules, attributes of classes. Where all of these are known, and are as they were, its code is made once. Where one can't be known (an
-object with attributes, a name that is looked up by text, an import inside, a clock), it is made anew at each use.
+A function's code, defaults, attributes, closure and what it names decide what it is as an operator:
+globals, what is named in modules and submodules, attributes of classes. Where all of these are
+known, and are as they were, it is compiled once. Where one can't be known (an object with
+attributes, a name that is looked up by text, an import inside, a clock), it is compiled at each
+use.
 """
 from __future__ import annotations
 
@@ -17,18 +19,21 @@ import weakref
 from typing import Any, Callable, Dict, List, Optional, Set, Tuple
 
 from .. import Operator
-from .compile_function import Made, made
+from .compile_function import Compiled, compile_function
 
 Function = Callable[..., Any]
 PLAIN = (int, bool, str, bytes, float, complex, type(None))
-MOST_ITEMS = 1024                                  # of a table: a larger one is not looked at at each use
-# builtin functions of these modules give the same of the same arguments; those of others may tell the time
+MOST_ITEMS = 1024                                  # of a table: more are too many for each use
+# builtin functions of these modules give the same of the same arguments; those of others may tell
+# the time
 PURE = frozenset((builtins.__name__, math.__name__, operator.__name__, '_operator'))
 # .. but these reach what no name shows
-DYNAMIC = frozenset(('eval', 'exec', 'globals', 'locals', 'vars', 'getattr', 'dir', '__import__', 'open', 'input', 'id', 'hash'))
-HEAP_TYPE = 1 << 9                                 # Py_TPFLAGS_HEAPTYPE: a class whose attributes can be set
+DYNAMIC = frozenset(('eval', 'exec', 'globals', 'locals', 'vars', 'getattr', 'dir', '__import__',
+                     'open', 'input', 'id', 'hash'))
+HEAP_TYPE = 1 << 9                                 # Py_TPFLAGS_HEAPTYPE: attributes can be set
 
-_kept: 'weakref.WeakKeyDictionary[Function, Dict[str, Tuple[Any, Made]]]' = weakref.WeakKeyDictionary()
+_cache: 'weakref.WeakKeyDictionary[Function, Dict[str, Tuple[Any, Compiled]]]' = (
+    weakref.WeakKeyDictionary())
 _lock = threading.Lock()
 
 
@@ -36,25 +41,28 @@ class _Unknown(Exception):
     """What a function does depends on something that can change unseen."""
 
 
-def code_of(kind: str, function: Function, name: Optional[str] = None, check: bool = True) -> Made:
-    """The code of a function as an operator of a kind: made once for each function, kind, and values of the variables that it names."""
+def code_of(kind: str, function: Function, name: Optional[str] = None,
+            check: bool = True) -> Compiled:
+    """The code of a function as an operator of a kind: compiled once for each function, kind, and
+    values of the variables that it names."""
     try:
         seen = _seen(function, set())
-        held = _kept.setdefault(function, {})
-    except (_Unknown, TypeError):                  # TypeError of what has no hash, or can't be referred to weakly
-        return made(kind, function, name, check)
+        held = _cache.setdefault(function, {})
+    except (_Unknown, TypeError):                  # TypeError: no hash, or no weak reference
+        return compile_function(kind, function, name, check)
     with _lock:
         found = held.get(kind)
     if found is None or found[0] != seen:
-        found = seen, made(kind, function, name, check)
+        found = seen, compile_function(kind, function, name, check)
         with _lock:
             held[kind] = found
     return found[1]
 
 
 def _seen(value: Any, met: Set[int]) -> Any:
-    """What decides what a function does, as something that can be compared; of what it names too. Raises _Unknown."""
-    kind = type(value)                             # a subclass may have attributes that change, and items of its own
+    """What decides what a function does, as something that can be compared; of what it names too.
+    Raises _Unknown."""
+    kind = type(value)                             # a subclass may have attributes that change
     if kind in PLAIN:
         return kind, value
     if isinstance(value, types.FunctionType):
@@ -65,12 +73,12 @@ def _seen(value: Any, met: Set[int]) -> Any:
         return kind, [_seen(each, met) for each in value]
     if kind is dict and len(value) <= MOST_ITEMS:
         return [(_seen(key, met), _seen(each, met)) for key, each in value.items()]
-    if kind is types.BuiltinFunctionType and value.__module__ in PURE and value.__name__ not in DYNAMIC:
-        return value
+    if kind is types.BuiltinFunctionType and value.__module__ in PURE:
+        return value if value.__name__ not in DYNAMIC else _unknown()
     if isinstance(value, type):
         return _class(value, met)
     again = getattr(value, 'function', None) if isinstance(value, Operator) else None
-    if isinstance(again, types.FunctionType):      # of an operator from a function, which is a part of this one
+    if isinstance(again, types.FunctionType):      # an operator that is a part of this one
         return _function(again, met)
     raise _Unknown
 
@@ -80,8 +88,11 @@ def _class(kind: type, met: Set[int]) -> Any:
     if not kind.__flags__ & HEAP_TYPE or id(kind) in met:
         return kind
     met.add(id(kind))
-    own = [(name, _attribute(each, met)) for name, each in vars(kind).items() if not isinstance(each, types.GetSetDescriptorType)]
-    return [kind, type(kind) is type or _unknown(), own, [_class(above, met) for above in kind.__bases__]]
+    if type(kind) is not type:
+        raise _Unknown
+    own = [(name, _attribute(each, met)) for name, each in vars(kind).items()
+           if not isinstance(each, types.GetSetDescriptorType)]
+    return [kind, own, [_class(above, met) for above in kind.__bases__]]
 
 
 def _attribute(value: Any, met: Set[int]) -> Any:
@@ -103,8 +114,8 @@ def _function(function: types.FunctionType, met: Set[int]) -> Any:
     met.add(id(function))
     if _imports(function.__code__):
         raise _Unknown
-    parts: List[Any] = [function.__code__, _seen(function.__defaults__, met), _seen(function.__kwdefaults__, met),
-                        _seen(vars(function), met)]
+    parts: List[Any] = [function.__code__, *(_seen(each, met) for each in (
+        function.__defaults__, function.__kwdefaults__, vars(function)))]
     for cell in function.__closure__ or ():
         try:
             parts.append(_seen(cell.cell_contents, met))
@@ -123,7 +134,8 @@ def _imports(code: types.CodeType) -> bool:
 
 def _names(code: types.CodeType) -> List[str]:
     """The names that code refers to, and the code inside it."""
-    inner = [name for each in code.co_consts if isinstance(each, types.CodeType) for name in _names(each)]
+    inner = [name for each in code.co_consts if isinstance(each, types.CodeType)
+             for name in _names(each)]
     return [*code.co_names, *inner]
 
 
@@ -143,4 +155,6 @@ def _module(module: types.ModuleType, names: List[str], met: Set[int]) -> Any:
         return module.__name__
     met.add(id(module))
     beside = [vars(module)[each] for each in names if each in vars(module)]
-    return [module.__name__, *(_module(each, names, met) if isinstance(each, types.ModuleType) else _seen(each, met) for each in beside)]
+    return [module.__name__, *(
+        _module(each, names, met) if isinstance(each, types.ModuleType) else _seen(each, met)
+        for each in beside)]

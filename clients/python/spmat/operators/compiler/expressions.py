@@ -1,18 +1,24 @@
 """Expressions of 64-bit words: what a function makes of its operands before it is code.
 
-A node is an operand, a number, an operation of the machine, a choice (`select`) or a condition, which stands in choices alone.
-Operations are those of RFC 9669, section 4: they are total, so an expression may be computed before it is known to be needed.
+A node is an operand, a number, an operation of the machine, a choice (`select`) or a condition,
+which is used in choices alone. Operations are those of RFC 9669, section 4: they are total, so an
+expression may be computed before it is known to be needed. A `Graph` makes each node once, and
+simplifies it by what is true of all words. What two arms of a choice have in common is made once:
+f(x) or f(y) by a condition is f(x or y by it), so conditions after one another don't double the
+code.
 """
 from __future__ import annotations
 
-from typing import Callable, Dict, List, Optional, Sequence, Set, Tuple
+from typing import Any, Callable, Dict, List, Optional, Sequence, Set, Tuple
 
-from ..operations import OPERATIONS, WORDS
+from ..assembly import OPERATIONS, WORDS
 
 LEAST, MOST = -1 << 63, (1 << 63) - 1
 CONDITIONS = ('eq', 'slt', 'ult', 'set')
 COMMUTE = (*(op for op, each in OPERATIONS.items() if each.commutes), 'eq', 'set')
 LEAVES = ('arg', 'const')
+SHIFTS = ('lsh', 'rsh', 'arsh')
+MOST_HOLES = 3                                     # in which arms may differ and still be merged
 
 
 def wrap(number: int) -> int:
@@ -31,13 +37,16 @@ FOLD: Dict[str, Callable[[int, int], int]] = {
 
 
 class Node:
-    """An operation on other nodes. `number` is that of a `const`, and of an `arg` which operand it is. `at` counts nodes as they are
-    made, so that operands have a lower one than what is made of them. `flag` says that it is seen to be 0 or 1."""
+    """An operation on other nodes. `number` is that of a `const`, and of an `arg` which operand it
+    is. `at` counts nodes as they are made, so that operands have a lower one than what is made of
+    them. `flag` says that it is seen to be 0 or 1."""
     __slots__ = ('op', 'args', 'number', 'at', 'flag')
 
     def __init__(self, op: str, args: Tuple[Node, ...], number: int, at: int) -> None:
         self.op, self.args, self.number, self.at = op, args, number, at
-        self.flag: bool = args[1].flag and args[2].flag if op == 'select' else op == 'const' and number in (0, 1)
+        self.flag = op == 'const' and number in (0, 1)
+        if op == 'select':
+            self.flag = args[1].flag and args[2].flag
 
     def __repr__(self) -> str:
         if self.op in LEAVES:
@@ -49,12 +58,12 @@ Condition = Tuple[Optional[Node], bool]
 """A condition, and whether it has to hold; without a node, whether it does."""
 
 
-def turned(condition: Condition) -> Condition:
+def negated(condition: Condition) -> Condition:
     """The condition that holds where this one doesn't."""
     return condition[0], not condition[1]
 
 
-def based(n: Node) -> Tuple[Optional[Node], int]:
+def split_sum(n: Node) -> Tuple[Optional[Node], int]:
     """A node as another one and a number that is added to it; a number as no node and itself."""
     if n.op == 'const':
         return None, n.number
@@ -90,7 +99,8 @@ def size(root: Node) -> int:
     return total
 
 
-SIGNS = {**{op: each.sign for op, each in OPERATIONS.items() if each.sign}, 'eq': '==', 'slt': '<', 'set': '&'}
+SIGNS = {**{op: each.sign for op, each in OPERATIONS.items() if each.sign},
+         'eq': '==', 'slt': '<', 'set': '&'}
 
 
 def text_of(n: Node, names: Sequence[str], deep: int = 3) -> str:
@@ -100,4 +110,266 @@ def text_of(n: Node, names: Sequence[str], deep: int = 3) -> str:
     parts = [text_of(each, names, deep - 1) if deep else '..' for each in n.args]
     if n.op == 'select':
         return '(%s if %s else %s)' % (parts[1], parts[0], parts[2])
-    return '(%s %s %s)' % (parts[0], SIGNS[n.op], parts[1]) if n.op in SIGNS else '%s(%s)' % (n.op, ', '.join(parts))
+    if n.op in SIGNS:
+        return '(%s %s %s)' % (parts[0], SIGNS[n.op], parts[1])
+    return '%s(%s)' % (n.op, ', '.join(parts))
+
+
+# -- nodes, simplified
+
+class Graph:
+    """Makes nodes, each once."""
+
+    def __init__(self) -> None:
+        self._made: Dict[Any, Node] = {}
+        # ways that are run again ask the same
+        self._simplified: Dict[Tuple[str, Node, Node], Node] = {}
+        self._chosen: Dict[Tuple[Condition, Node, Node], Node] = {}
+
+    def node(self, op: str, *args: Node) -> Node:
+        """The node of an operation, as it is."""
+        made = self._made.get((op, args))
+        if made is None:
+            made = self._made[op, args] = Node(op, args, 0, len(self._made))
+        return made
+
+    def leaf(self, op: str, number: int) -> Node:
+        """The node of an operand (`arg`), or of a number that fits in a word (`const`)."""
+        made = self._made.get((op, number))
+        if made is None:
+            made = self._made[op, number] = Node(op, (), number, len(self._made))
+        return made
+
+    def const(self, number: int) -> Node:
+        """A number, wrapped."""
+        return self.leaf('const', wrap(int(number)))
+
+    # -- operations
+
+    def make(self, op: str, a: Node, b: Node) -> Node:
+        """An operation, simplified."""
+        key = op, a, b
+        found = self._simplified.get(key)
+        if found is None:
+            found = self._simplified[key] = self._make(op, a, b)
+        return found
+
+    def _make(self, op: str, a: Node, b: Node) -> Node:
+        if a.op == b.op == 'const':
+            return self.const(FOLD[op](a.number, b.number))
+        if op in COMMUTE and (a.op == 'const' or b.op != 'const' and a.at > b.at):
+            a, b = b, a
+        if op == 'sub' and b.op == 'const':
+            return self.make('add', a, self.const(-b.number))
+        if b.op == 'const' and _of_numbers(a):
+            return self.select(a.args[0], *(self.make(op, arm, b) for arm in a.args[1:]))
+        if a.op == 'const' and _of_numbers(b):
+            return self.select(b.args[0], *(self.make(op, a, arm) for arm in b.args[1:]))
+        simpler = self._by_number(op, a, b.number) if b.op == 'const' else self._of_two(op, a, b)
+        return simpler or self.node(op, a, b)
+
+    def _by_number(self, op: str, a: Node, k: int) -> Optional[Node]:
+        """An operation with a number at its right, where it is something simpler."""
+        law = OPERATIONS[op]
+        if k == law.neutral or op == 'and' and k == 1 and a.flag:
+            return a
+        if op in SHIFTS and not 0 <= k < 64:
+            return self.make(op, a, self.const(k & 63))
+        if k == 0 and op in ('mul', 'and'):
+            return self.const(0)
+        if op == 'mul' and k == -1:
+            return self.make('sub', self.const(0), a)
+        before = a.args[1].number if a.op == op and a.args[1].op == 'const' else None
+        if before is not None and (law.commutes or op == 'arsh'):
+            both = min(63, before + k) if op == 'arsh' else FOLD[op](before, k)
+            return self.make(op, a.args[0], self.const(both))
+        return None
+
+    def _of_two(self, op: str, a: Node, b: Node) -> Optional[Node]:
+        """An operation of two nodes of which the right one is no number, where it is something
+        simpler: numbers are added last, and choices of 0 swallow operations."""
+        law = OPERATIONS[op]
+        masks = b.op == 'and' and b.args[1].op == 'const'
+        if op in SHIFTS and masks and b.args[1].number & 63 == 63:
+            return self.make(op, a, b.args[0])
+        if a is b and (law.idempotent or law.cancels):
+            return a if law.idempotent else self.const(0)
+        if law.bitwise and a.flag and b.flag:
+            return self.select(a.args[0], *(self.make(op, arm, b) for arm in a.args[1:]))
+        if op in ('add', 'sub') and 'add' in (a.op, b.op):
+            (left, more), (right, less) = split_sum(a), split_sum(b)
+            if less and left is None:
+                return self.make(op, self.const(more - less), right or b)
+            if less or left is not None and more:
+                rest = self.make(op, left or a, right or b)
+                return self.make('add', rest, self.const(FOLD[op](more, less)))
+        for one, other in ((a, b), (b, a)):
+            if _of_numbers(one, zero=True) and (law.commutes or op == 'sub' and one is b):
+                arms = [self._with_arm(op, other, arm) for arm in one.args[1:]]
+                return self.select(one.args[0], *arms)
+        return None
+
+    def _with_arm(self, op: str, n: Node, k: Node) -> Node:
+        """An operation with a number that was an arm. A choice stays one node, to which the number
+        is added."""
+        if n.op == 'select' and op in ('add', 'sub') and k.number:
+            return self.node('add', n, k if op == 'add' else self.const(-k.number))
+        return self.make(op, n, k)
+
+    # -- conditions
+
+    def condition(self, op: str, a: Node, b: Node) -> Condition:
+        """A condition of two words in its one form: numbers stand at the right."""
+        if op in COMMUTE and (a.op == 'const' or b.op != 'const' and a.at > b.at):
+            a, b = b, a
+        if a.op == b.op == 'const':
+            return None, bool(FOLD[op](a.number, b.number))
+        if a is b and op != 'set':
+            return None, op == 'eq'
+        if a.op == 'const':                        # k < b where not b < k + 1
+            if a.number == (MOST if op == 'slt' else -1):
+                return None, False
+            return negated(self.condition(op, b, self.const(a.number + 1)))
+        if b.op != 'const':
+            if a is not b:
+                return self.node(op, a, b), True
+            return negated(self.condition('eq', a, self.const(0)))
+        return self._of_number(op, a, b)
+
+    def _of_number(self, op: str, a: Node, b: Node) -> Condition:
+        """A condition of a word and a number."""
+        k = b.number
+        if a.op == 'select' and a.args[1].op == a.args[2].op == 'const':
+            yes, no = (bool(FOLD[op](arm.number, k)) for arm in a.args[1:])
+            return (None, yes) if yes == no else (a.args[0], yes)
+        if op == 'slt' and k == LEAST or op in ('ult', 'set') and k == 0:
+            return None, False
+        one_bit = k > 0 and k & (k - 1) == 0
+        if op == 'eq' and a.op == 'and' and (k == 0 or one_bit and a.args[1] is b):
+            return self.node('set', *a.args), k != 0
+        undone = OPERATIONS[a.op].undone if op == 'eq' and a.op in OPERATIONS else None
+        if undone is not None and a.args[1].op == 'const':
+            return self.condition(op, a.args[0], self.const(undone(k, a.args[1].number)))
+        return self.node(op, a, b), True
+
+    # -- choices
+
+    def select(self, c: Node, yes: Node, no: Node) -> Node:
+        """`yes` where a condition holds, else `no`."""
+        yes = yes.args[1] if yes.op == 'select' and yes.args[0] is c else yes
+        no = no.args[2] if no.op == 'select' and no.args[0] is c else no
+        return yes if yes is no else self.node('select', c, yes, no)
+
+    def choice(self, condition: Condition, yes: Node, no: Node) -> Node:
+        """`select` by a condition that may be negated or decided. What both arms have in common is
+        made once, where that is shorter."""
+        c, sense = condition
+        if c is None or yes is no:
+            return yes if sense else no
+        key = condition, yes, no
+        found = self._chosen.get(key)
+        if found is None:
+            found = self._chosen[key] = self._choice(c, *((yes, no) if sense else (no, yes)))
+        return found
+
+    def _choice(self, c: Node, yes: Node, no: Node) -> Node:
+        best = self.select(c, yes, no)
+        if yes.op in LEAVES and no.op in LEAVES:
+            return best
+        least = size(best)
+        for apart in (True, False):
+            try:
+                made = merged(self, c, yes, no, apart)
+            except (Different, RecursionError):
+                continue
+            if size(made) < least:
+                best, least = made, size(made)
+        return best
+
+    def test(self, value: Node, yes: Node, no: Node) -> Node:
+        """`yes` where a word isn't 0, else `no`."""
+        if value.op == 'select' and value.flag:
+            return self.choice((value.args[0], True), self.test(value.args[1], yes, no),
+                               self.test(value.args[2], yes, no))
+        return self.choice(negated(self.condition('eq', value, self.const(0))), yes, no)
+
+
+def _of_numbers(n: Node, zero: bool = False) -> bool:
+    """Whether this is a choice of numbers, or of such choices; with `zero`, of two numbers of which
+    one is 0."""
+    if n.op != 'select':
+        return False
+    arms = n.args[1:]
+    if zero:
+        return all(arm.op == 'const' for arm in arms) and any(arm.number == 0 for arm in arms)
+    return all(arm.op == 'const' or
+               arm.op == 'select' and arm.args[1].op == arm.args[2].op == 'const' for arm in arms)
+
+
+# -- two expressions as one
+
+class Different(Exception):
+    """Two expressions differ in too many places."""
+
+
+def merged(graph: Graph, c: Node, yes: Node, no: Node, apart: bool) -> Node:
+    """`yes` where a condition holds, else `no`, as one expression. Numbers may stay `apart` from
+    the choice: 8 or 5 is 5 and (3 or 0). Raises Different."""
+    return _Merge(graph, c, apart).of(yes, no)
+
+
+class _Merge:
+    """One merge: the choices that it has made, and the pairs that it has merged."""
+
+    def __init__(self, graph: Graph, c: Node, apart: bool) -> None:
+        self.graph, self.c, self.apart = graph, c, apart
+        self.holes: Set[Node] = set()
+        self.known: Dict[Tuple[Node, Node], Node] = {}
+
+    def of(self, a: Node, b: Node) -> Node:
+        """Two nodes as one."""
+        if a is b:
+            return a
+        if (a, b) not in self.known:
+            self.known[a, b] = self._made(a, b)
+        return self.known[a, b]
+
+    def _made(self, a: Node, b: Node) -> Node:
+        (base, more), (other, less) = split_sum(a), split_sum(b)
+        if base is other:
+            hole = self._hole(self.graph.const(more - less), self.graph.const(0))
+            if base is None and self.apart and less:
+                return self.graph.node('add', hole, b)
+            return self.graph.make('add', b, hole)
+        if a.op != b.op or a.op in LEAVES:
+            return self._hole(a, b)
+        if a.op != 'select':
+            return self.graph.make(a.op, *self._pairs(a, b))
+        return self._choices(a, b)
+
+    def _choices(self, a: Node, b: Node) -> Node:
+        """Two choices as one, by conditions of one form."""
+        one, two = a.args[0], b.args[0]
+        if one.op != two.op:
+            raise Different
+        c, sense = (one, True) if one is two else self.graph.condition(
+            one.op, *self._pairs(one, two))
+        arms = self.of(a.args[1], b.args[1]), self.of(a.args[2], b.args[2])
+        if c is None:
+            return arms[0 if sense else 1]
+        return self.graph.select(c, *(arms if sense else arms[::-1]))
+
+    def _pairs(self, a: Node, b: Node) -> List[Node]:
+        """The operands of two operations, pair by pair; crosswise where that leaves one as it
+        is."""
+        cross = (a.op in COMMUTE and set(a.args) & set(b.args) and
+                 a.args[0] is not b.args[0] and a.args[1] is not b.args[1])
+        others = b.args[::-1] if cross else b.args
+        return [self.of(one, other) for one, other in zip(a.args, others)]
+
+    def _hole(self, a: Node, b: Node) -> Node:
+        made = self.graph.select(self.c, a, b)
+        self.holes.add(made)
+        if len(self.holes) > MOST_HOLES:
+            raise Different
+        return made

@@ -1,19 +1,17 @@
 """Other forms of choices between numbers, which may be shorter than a search by jumps.
 
-A look-up by a word of few values, `(3, 1, 4, 1)[x % 4]`, is a shift of one number that holds all answers. Answers that are sums of bits,
-as the states of an automaton are, are made one bit behind the other.
+A look-up by a word of few values, `(3, 1, 4, 1)[x % 4]`, is a shift of one number that holds all
+answers. Answers that are sums of bits, as the states of an automaton are, are made bit by bit.
 """
 from __future__ import annotations
 
-from typing import Callable, Dict, Iterator, List, Optional, Set
+from typing import Dict, Iterator, List, Optional, Set
 
-from .expressions import FOLD, Node
-from .simplifier import Graph
-from .value_ranges import Ranges
+from .exploration import Ranges
+from .expressions import FOLD, Graph, Node
 
-Leaf = Callable[[Node], Node]
 WORD = 64
-MOST_GROUPS = 4                                    # of bits that are made one behind the other
+MOST_GROUPS = 4                                    # of bits that come together
 
 
 def other_forms(graph: Graph, root: Node) -> Iterator[Node]:
@@ -26,7 +24,8 @@ def other_forms(graph: Graph, root: Node) -> Iterator[Node]:
 
 
 def _leaves(root: Node) -> Optional[Set[int]]:
-    """The numbers between which an expression chooses; None where it is no choice of numbers alone."""
+    """The numbers between which an expression chooses; None where it is no choice of numbers
+    alone."""
     if root.op != 'select':
         return None
     found: Set[int] = set()
@@ -45,7 +44,8 @@ def _leaves(root: Node) -> Optional[Set[int]]:
 
 
 def _packed(graph: Graph, root: Node) -> Optional[Node]:
-    """A look-up by one word as a shift of a number; None where another word is asked too, or the answers don't fit."""
+    """A look-up by one word as a shift of a number; None where another word is asked too, or the
+    answers don't fit."""
     word = root.args[0].args[0]
     low, high = Ranges().of(word)
     if low != 0 or high >= WORD:
@@ -67,11 +67,12 @@ def _packed(graph: Graph, root: Node) -> Optional[Node]:
         return None
     packed = sum(answer - least << width * value for value, answer in enumerate(answers))
     shifted = graph.make('rsh', graph.const(packed), graph.make('mul', word, graph.const(width)))
-    return graph.make('add', graph.make('and', shifted, graph.const((1 << width) - 1)), graph.const(least))
+    answer = graph.make('and', shifted, graph.const((1 << width) - 1))
+    return graph.make('add', answer, graph.const(least))
 
 
 def _by_bits(graph: Graph, root: Node, numbers: Set[int]) -> Optional[Node]:
-    """The bits that come together in all answers, group behind group."""
+    """The bits that come together in all answers, group after group."""
     groups: Dict[tuple, int] = {}  # type: ignore[type-arg]
     for at in range(WORD - 1):
         pattern = tuple(number >> at & 1 for number in sorted(numbers))
@@ -81,13 +82,14 @@ def _by_bits(graph: Graph, root: Node, numbers: Set[int]) -> Optional[Node]:
         return None
     made = graph.const(0)
     for bits in groups.values():
-        made = _behind(graph, root, made, bits)
+        made = _with_bits(graph, root, made, bits)
     return made
 
 
-def _behind(graph: Graph, root: Node, made: Node, bits: int) -> Node:
+def _with_bits(graph: Graph, root: Node, made: Node, bits: int) -> Node:
     """What is made so far, with these bits where the answer has them."""
-    more = graph.node('or', made, graph.const(bits)) if made.op != 'const' else graph.const(made.number | bits)
+    more = (graph.const(made.number | bits) if made.op == 'const' else
+            graph.node('or', made, graph.const(bits)))
     known: Dict[Node, Node] = {}
 
     def form(n: Node) -> Node:

@@ -1,4 +1,4 @@
-; x without its sign; the least number is its own
+; x without its sign; the least number stays as it is
 mov64 r0, r1
 jsge64 r0, 0, 1
 neg64 r0

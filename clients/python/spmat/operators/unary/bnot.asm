@@ -1,4 +1,4 @@
-; each bit of x turned
+; bitwise complement of x
 mov64 r0, r1
 xor64 r0, -1
 exit

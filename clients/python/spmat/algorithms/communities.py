@@ -1,0 +1,461 @@
+"""Communities by label propagation and by Louvain's method, and the modularity of any."""
+from __future__ import annotations
+
+from fractions import Fraction
+from typing import Any, Dict, Hashable, Iterable, List, Mapping, NamedTuple, Tuple, Union
+
+import numpy
+
+from ..io.coo import whole
+from ..io.matrix_text import Triples
+from ..matrix import Matrix
+from ..metadata import VERTICES, joined
+from ..operators import asm
+from . import step_bounds
+from .cached_properties import check_undirected, extremes, has_loops, is_both_ways
+from .independent_set import Seed, draw_on_paper, generator_of
+from .types import Array, Place
+from .registry import BOTH_WAYS, algorithm
+from .results import Communities, as_result, keep_partial
+from .traversal import keep, put_all, read_column
+from .utils import Progress, beside, find_place, name_of, order, product, tell
+
+ROUNDS = 10                            # of label propagation
+BATCHES = 8                            # parts of the vertices that decide one after the other
+LEAST = 1e-7                           # what a level has to gain
+ENOUGH = 1e-4                          # .. and a sweep, for that another one follows
+SWEEPS = 20                            # of one level, at most
+MOST_WEIGHT = 1 << 53                  # of all edges: weights are compared as floats
+MOST_SUM = 1 << 62                     # of all edges: loops count twice
+SHOWN = 3                              # vertices without a community that are named
+Partition = Union[Matrix, Mapping[Any, Hashable], Iterable[Iterable[Any]]]
+"""A column with any number for each vertex' community, as `louvain` gives it; {vertex: community},
+or a Series of pandas by vertex; or a list of sets, or lists, of vertices."""
+
+
+@algorithm('communities, by a vertex of each', 'rounds', are_vertices=True, wanted=BOTH_WAYS,
+           steps=step_bounds.label_propagation)
+def label_propagation(G: Matrix, rounds: int = ROUNDS, progress: Progress = None, *,
+                      check: bool = True) -> Matrix:
+    """The community of each vertex of an undirected graph, as a column of labels.
+
+    Each vertex begins with itself as its label, and in each round all take the label that most of
+    their neighbours have, of several the least. It ends when no label changes.
+
+    Parameters
+    ----------
+    G : Matrix
+        An undirected graph; loops don't count.
+    rounds : int, default 10
+        The most rounds.
+    progress : callable, optional
+        `progress('round', k, rounds)` is called after each round.
+    check : bool, default True
+        Whether it is checked that each edge leads both ways: 2 jobs, 3 runs, 13 steps an edge and 5
+        a vertex, once.
+
+    Returns
+    -------
+    Matrix
+        A column with a vertex for each; `.sets()` has the communities.
+
+    Raises
+    ------
+    ValueError
+        If `rounds` is below 1, or an edge leads one way alone.
+    BudgetExceeded
+        If the budget ends amid the work; `partial` has the labels of the last round.
+
+    Notes
+    -----
+    Runs: 3 a round, more where the product is made by parts, and 1. Steps: up to 5 an edge, and 9
+    for each label among a vertex' neighbours, a round; 4 an edge.
+
+    GraphBLAS: G times a matrix with a one at each vertex' label, over plus and first of ones; the
+    greatest of each row. LAGraph: `LAGraph_cdlp`, as LDBC Graphalytics defines it. networkx:
+    `label_propagation_communities` has another rule for ties.
+
+    Examples
+    --------
+    >>> label_propagation(G).to_list()
+    [0, 0, 0, 2, 2, 2]
+    """
+    count, rounds = order(G), whole(rounds, 'number of rounds')
+    if rounds < 1:
+        raise ValueError('expected 1 round or more')
+    check_undirected(G, check, loops=True)
+    graph, own = G.select('offdiag', 0), numpy.arange(count)
+    # how many have a label, and of those with as many the least label, in one number
+    best = asm('index', 'mov64 r0, r1\nmul64 r0, %d\nadd64 r0, %d\nsub64 r0, r3\nexit\n'
+               % (max(count, 1), count - 1))
+
+    def next_labels(labels: Array) -> Array:
+        have = keep(G, Triples(own, labels, numpy.ones_like(own), count, count))
+        words = product(graph, have, 'plus_pair').apply(best, right=0).reduce_rowwise('max')
+        at, values = read_column(words)
+        taken = labels.copy()
+        taken[at] = count - 1 - values % count
+        return taken
+    labels = own
+    for number in range(1, rounds + 1):
+        with keep_partial(lambda: None if labels is own else beside(G, put_all(G, labels))):
+            before, labels = labels, next_labels(labels)
+        tell(progress, 'round', number, rounds)
+        if numpy.array_equal(before, labels):
+            break
+    return beside(G, put_all(G, labels))
+
+
+# -- modularity
+
+def _doubled(graph: Matrix, weighted: bool) -> Matrix:
+    """The values that count, those of loops twice, as both ends of a loop are at its vertex."""
+    values = graph if weighted else graph.apply('one')
+    return values.ewise_add(values.select('diag'), 'plus') if has_loops(graph) else values
+
+
+def _gather(graph: Matrix, labels: Array, many: int) -> Matrix:
+    """The graph whose vertices are the communities: values of edges between two of them added."""
+    count, own = len(labels), numpy.arange(len(labels))
+    at, ones = numpy.argsort(labels, kind='stable'), numpy.ones_like(own)
+    gather = keep(graph, Triples(labels[at], at, ones, many, count))
+    spread = keep(graph, Triples(own, labels, ones, count, many))
+    return product(product(gather, graph, 'plus_second'), spread, 'plus_first')
+
+
+def _number(labels: Array) -> Tuple[Array, int]:
+    """Labels as numbers from 0 on, by their first vertices, and how many there are."""
+    _, first, which = numpy.unique(labels, return_index=True, return_inverse=True)
+    ranks = numpy.empty(len(first), numpy.int64)
+    ranks[numpy.argsort(first)] = numpy.arange(len(first))
+    return ranks[which.reshape(-1)], len(first)
+
+
+@algorithm('how many more edges lie within communities than by chance', command=False,
+           steps=step_bounds.modularity)
+def modularity(G: Matrix, labels: Partition, resolution: float = 1.0, *,
+               weighted: bool = False) -> float:
+    """The modularity of communities.
+
+    That is the share of edges that lie inside one, less the share that would if edges were drawn at
+    random between vertices of the same degrees, times the resolution.
+
+    Parameters
+    ----------
+    G : Matrix
+        The graph. Loops count as networkx has them.
+    labels : Matrix, dict, or list of sets
+        The communities: what `louvain` gives, or another column with any number for each vertex'
+        community; {vertex: community}; or sets, or lists, of vertices.
+    resolution : float, default 1.0
+        How much the share by chance counts.
+    weighted : bool, default False
+        Whether values count; else each edge counts as 1.
+
+    Returns
+    -------
+    float
+        Exact up to the last rounding.
+
+    Raises
+    ------
+    ValueError
+        If a vertex is in no community, or in two, or isn't one of the graph's, and if values add up
+        to nothing, or could pass 2^62.
+    TypeError
+        If communities have another form.
+
+    Notes
+    -----
+    Runs: 12. Steps: up to 22 an edge. networkx: `modularity`.
+
+    Examples
+    --------
+    >>> round(modularity(G, [{0, 1, 2}, {3, 4, 5}]), 3)
+    0.357
+    """
+    order(G)
+    numbers, many = number_communities(G, labels)
+    least, most = extremes(G) if weighted else (1, 1)
+    if max(most, -least) * max(1, G.nvals) >= MOST_SUM:
+        raise ValueError('weights add up to less than 2^62: here %d are %d to %d; divide them'
+                         % (G.nvals, least, most))
+    graph = _doubled(G, weighted) if is_both_ways(G) else G if weighted else G.apply('one')
+    rows, columns, values = _gather(graph, numbers, many).to_coo()
+    out, come = (_add_up(ends, values, many) for ends in (rows, columns))
+    total, inside = sum(out), int(values[rows == columns].sum())
+    return float(_modularity(inside, total, sum(a * b for a, b in zip(out, come)), resolution))
+
+
+def _add_up(at: Array, values: Array, count: int) -> List[int]:
+    sums = numpy.zeros(count, numpy.int64)
+    numpy.add.at(sums, at, values)
+    found: List[int] = sums.tolist()
+    return found
+
+
+def _modularity(inside: int, total: int, drawn: int, resolution: float) -> Fraction:
+    """Of what lies inside communities, of all, and of the products of what leaves and enters each,
+    added up."""
+    if total <= 0:
+        raise ValueError('modularity is of graphs whose edges weigh something: here all of them '
+                         'add ' 'up to %d' % total)
+    return Fraction(inside, total) - Fraction(resolution) * Fraction(drawn, total * total)
+
+
+def number_communities(graph: Matrix, partition: Partition) -> Tuple[Array, int]:
+    """The community of each vertex as a number from 0 on, and how many there are. ValueError where
+    a vertex has none, or several, or isn't one of the graph's; TypeError for what has none of the
+    forms."""
+    found = _read_communities(graph, partition)
+    missing = [at for at in range(graph.nrows) if at not in found]
+    if missing:
+        some = ', '.join(repr(name_of(graph, Place(at))) for at in missing[:SHOWN])
+        raise ValueError('%d of %d vertices are in no community (%s%s): each has to be in one' % (
+            len(missing), graph.nrows, some, ', ..' if len(missing) > SHOWN else ''))
+    numbers: Dict[Any, int] = {}
+    labels = [numbers.setdefault(found[at], len(numbers)) for at in range(graph.nrows)]
+    return numpy.array(labels, numpy.int64), len(numbers)
+
+
+def _read_communities(graph: Matrix, partition: Any) -> Dict[int, Any]:
+    """The community of each vertex that has one, by its row."""
+    if hasattr(partition, 'to_coo') and hasattr(partition, 'nodes'):
+        return _read_column(graph, partition)
+    if hasattr(partition, 'items'):                # a mapping, or a Series
+        return _find_rows(graph, partition.items())
+    if isinstance(partition, (str, bytes)) or not hasattr(partition, '__iter__'):
+        raise _wrong_form(partition)
+    pairs: List[Tuple[Any, int]] = []
+    for number, vertices in enumerate(partition):
+        if isinstance(vertices, (str, bytes)) or not hasattr(vertices, '__iter__'):
+            raise _wrong_form(vertices)
+        pairs.extend((vertex, number) for vertex in vertices)
+    return _find_rows(graph, pairs)
+
+
+def _wrong_form(given: Any) -> TypeError:
+    return TypeError('communities are a column as louvain gives it, {vertex: community}, or a list '
+                     'of sets of vertices: %r is no such set' % (given,))
+
+
+def _read_column(graph: Matrix, column: Any) -> Dict[int, Any]:
+    """Of a column by row; by name where its vertices have other names than the graph's, or another
+    order."""
+    rows, _, values = (numbers.tolist() for numbers in column.to_coo())
+    names, others = column.nodes, graph.nodes
+    if names is not None and others is not None and column.ncols == 1 and [*names] != [*others]:
+        return _find_rows(graph, ((names[at], value) for at, value in zip(rows, values)))
+    if column.shape != (graph.nrows, 1):
+        raise ValueError('labels are a column with a community for each of %d vertices, and this '
+                         'one is %dx%d' % (graph.nrows, *column.shape))
+    joined(graph.notes, column.notes, VERTICES)
+    return dict(zip(rows, values))
+
+
+def _find_rows(graph: Matrix, pairs: Iterable[Tuple[Any, Any]]) -> Dict[int, Any]:
+    """By row, from vertices and their communities."""
+    found: Dict[int, Any] = {}
+    for vertex, community in pairs:
+        at = int(find_place(graph, vertex))
+        if at in found:
+            raise ValueError('the vertex %r is in a community twice: each has to be in one'
+                             % (vertex,))
+        found[at] = community
+    return found
+
+
+# -- Louvain's method
+
+class _Edges(NamedTuple):
+    """Edges by the vertices that they leave, ascending, without loops."""
+    rows: Array
+    columns: Array
+    values: Array
+
+    def select(self, some: Array) -> '_Edges':
+        """Those for which a flag is set."""
+        return _Edges(self.rows[some], self.columns[some], self.values[some])
+
+
+class _Level:
+    """One level: a graph whose vertices move between communities. The client has its edges."""
+
+    def __init__(self, graph: Matrix, resolution: float) -> None:
+        rows, columns, values = graph.to_coo()
+        self.count, self.resolution, self.total = graph.nrows, resolution, int(values.sum())
+        self.weights = numpy.bincount(rows, values, self.count)
+        self._loops = int(values[rows == columns].sum())
+        self.edges = _Edges(rows, columns, values.astype(float)).select(rows != columns)
+        self.labels = numpy.arange(self.count)
+        self._sums, self._sizes = self.weights.copy(), numpy.ones(self.count, numpy.int64)
+
+    def modularity(self) -> float:
+        """That of the communities, exact up to the last rounding."""
+        rows, columns, values = self.edges
+        inside = int(values[self.labels[rows] == self.labels[columns]].sum()) + self._loops
+        drawn = sum(int(many) ** 2 for many in self._sums.tolist())
+        return float(_modularity(inside, self.total, drawn, self.resolution))
+
+    def settle(self, seed: int) -> float:
+        """Sweeps while these gain; the modularity of the best communities, which are kept."""
+        turns = draw_on_paper(self.count, seed)[self.edges.rows] % BATCHES
+        batches = [self.edges.select(turns == number) for number in range(BATCHES)]
+        best, labels = self.modularity(), self.labels.copy()
+        moves = numpy.ones(self.count, bool)
+        for _ in range(SWEEPS):
+            moves = self._sweep(batches, moves)
+            if not moves.any():
+                break
+            found = self.modularity()
+            gained = found - best
+            if gained > 0:
+                best, labels = found, self.labels.copy()
+            if gained < ENOUGH:
+                break
+        self.labels = labels
+        return best
+
+    def _sweep(self, batches: List[_Edges], moves: Array) -> Array:
+        """Lets each vertex that may move go where it gains most, batch after batch. Which may move
+        next: those beside one that went."""
+        before = self.labels.copy()
+        for batch in batches:
+            some = batch if moves.all() else batch.select(moves[batch.rows])
+            if len(some.rows):
+                self._move(some)
+        went = self.labels != before
+        beside_ = numpy.zeros(self.count, bool)
+        beside_[self.edges.columns[went[self.edges.rows]]] = True
+        return beside_
+
+    def _move(self, edges: _Edges) -> None:
+        """Moves the vertices that some edges leave, all at once."""
+        keys = edges.rows * self.count + self.labels[edges.columns]
+        ranks = numpy.argsort(keys, kind='stable')
+        keys = keys[ranks]
+        starts = _find_starts(keys)
+        near = numpy.add.reduceat(edges.values[ranks], starts)    # of a vertex to a community
+        at, label = numpy.divmod(keys[starts], self.count)
+        firsts = _find_starts(at)
+        counts = numpy.diff(numpy.append(firsts, len(at)))
+        weight, is_own = self.weights[at], label == self.labels[at]
+        scale = self.resolution / self.total
+        gains = near - scale * weight * (self._sums[label] - weight * is_own)
+        best = numpy.maximum.reduceat(gains, firsts)
+        vertices = at[firsts]
+        own = self.labels[vertices]
+        stays = -scale * weight[firsts] * (self._sums[own] - weight[firsts])
+        stays[numpy.repeat(numpy.arange(len(firsts)), counts)[is_own]] = gains[is_own]
+        tops = numpy.flatnonzero(gains == numpy.repeat(best, counts))
+        tops = tops[_find_starts(at[tops])]        # of several best the least label
+        self._go(vertices, label[tops], best > stays + 1e-12)
+
+    def _go(self, vertices: Array, labels: Array, gains: Array) -> None:
+        """Moves vertices that gain by it. Of two that are alone and want to join each other one
+        stays."""
+        own = self.labels[vertices]
+        alone = (self._sizes[own] == 1) & (self._sizes[labels] == 1)
+        goes = gains & ~(alone & (labels > own))
+        vertices, labels, own = vertices[goes], labels[goes], own[goes]
+        weights = self.weights[vertices]
+        for change, community in ((-1, own), (1, labels)):
+            self._sums += change * numpy.bincount(community, weights, self.count)
+            self._sizes += change * numpy.bincount(community, minlength=self.count)
+        self.labels[vertices] = labels
+
+
+def _find_starts(ascending: Array) -> Array:
+    """Where each number of an ascending array, which isn't empty, begins."""
+    differ = numpy.ones(len(ascending), bool)
+    numpy.not_equal(ascending[1:], ascending[:-1], out=differ[1:])
+    return numpy.flatnonzero(differ)
+
+
+class _Reached(NamedTuple):
+    """The best communities that were found: a number for each vertex, their modularity, and after
+    how many levels."""
+    labels: Array
+    modularity: float
+    levels: int
+
+    def communities(self, G: Matrix) -> Communities:
+        """The same, each by its least vertex."""
+        _, first, which = numpy.unique(self.labels, return_index=True, return_inverse=True)
+        return as_result(Communities, beside(G, put_all(G, first[which.reshape(-1)])),
+                         modularity=self.modularity, levels=self.levels)
+
+
+@algorithm('communities of great modularity, by a vertex of each', 'resolution', 'seed', 'weighted',
+           are_vertices=True, wanted=BOTH_WAYS, says='Communities by Louvain\'s method; their '
+           'modularity is told on standard error.', steps=step_bounds.louvain)
+def louvain(G: Matrix, resolution: float = 1.0, seed: Seed = 0, progress: Progress = None, *,
+            weighted: bool = False, check: bool = True) -> Communities:
+    """Communities of an undirected graph whose modularity is great, by Louvain's method.
+
+    Parameters
+    ----------
+    G : Matrix
+        An undirected graph. Loops count.
+    resolution : float, default 1.0
+        A greater one gives smaller communities.
+    seed : int, None, or a generator of random or numpy, default 0
+        It draws the order in which vertices go; None draws another at each call.
+    progress : callable, optional
+        `progress('level', k, 0)` is called after each level.
+    weighted : bool, default False
+        Whether values count, which are 0 or more; else each edge counts as 1.
+    check : bool, default True
+        Whether it is checked that each edge leads both ways: 2 jobs, 13 steps an edge, once.
+
+    Returns
+    -------
+    Communities
+        A column of labels with their `modularity`; a label is the least vertex of its community,
+        and `.sets()` has the communities.
+
+    Raises
+    ------
+    ValueError
+        If an edge leads one way alone, a value is below 0, or the values add up to nothing, or to
+        2^53 or more.
+    BudgetExceeded
+        If the budget ends amid the work; `partial` has the best communities by then, with their
+        modularity.
+
+    Notes
+    -----
+    Vertices go where the modularity gains most, an eighth of them at a time, which the seed draws;
+    the client, which has the edges, moves them. What a sweep didn't gain is taken back. Then the
+    session adds up the edges between two communities, which become the vertices of the next level.
+    There are up to 16 levels of up to 20 sweeps.
+
+    Runs: 3 a level, and 6. Steps: up to 20 an edge of the level, a level.
+
+    networkx: `louvain_communities`. igraph: `community_multilevel`.
+
+    Examples
+    --------
+    >>> louvain(G).sets()
+    [{0, 1, 2}, {3, 4, 5}]
+    """
+    count = order(G)
+    check_undirected(G, check, loops=True)
+    least, most = extremes(G) if weighted else (1, 1)
+    if least < 0 or most * max(1, G.nvals) >= MOST_WEIGHT:
+        raise ValueError('weights are 0 or more, and add up to less than 2^53: here they are %d to '
+                         '%d' % (least, most))
+    graph, chance = _doubled(G, weighted), generator_of(seed)
+    level = _Level(graph, resolution)
+    now = _Reached(numpy.arange(count), level.modularity(), 0)
+    with keep_partial(lambda: now.communities(G) if now.levels else None):
+        while now.levels < step_bounds.LOUVAIN_LEVELS:
+            found = level.settle(chance.getrandbits(32))
+            numbers, many = _number(level.labels)
+            tell(progress, 'level', now.levels + 1)
+            if found <= now.modularity + LEAST:
+                return now._replace(levels=now.levels + 1).communities(G)
+            now = _Reached(numbers[now.labels], found, now.levels + 1)
+            graph = _gather(graph, numbers, many)
+            level = _Level(graph, resolution)
+    return now.communities(G)

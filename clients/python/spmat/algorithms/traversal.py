@@ -1,0 +1,386 @@
+"""The one policy of traversal: how what flows along edges gets from vertex to vertex.
+
+An algorithm says what a step is: a semiring, a front or a full vector, and whether values matter.
+This module decides by the sizes and by where the graph is how the step is made:
+
+- One session has the graph: vectors are rows, and a front is *pushed*. A row times a graph costs
+  what the edges cost that leave the row's vertices, however many vertices there are.
+- In blocks a row would bring the whole graph to one block. There the client has the front, and
+  each step is one trip to the blocks that have to do with it; full vectors are columns, which are
+  *pulled* along the rows of the transpose.
+- A full vector that flows through a large graph round after round is a column, too, where many
+  workers share a product: they share its rows.
+
+In one session a search always pushes. Under a mask of the vertices that weren't seen both ways take
+the same steps, and on graphs of 65,536 vertices and a million edges pulling took 1.1 to 1.8 times
+as long by the clock: a pull looks at all rows, and wants the front as a column, which is sent.
+"""
+from __future__ import annotations
+
+import abc
+from typing import Any, Dict, List, NamedTuple, Optional, Sequence, Tuple, cast
+
+import numpy
+
+from ..backends.protocol import AMPLE
+from ..io import matrix_text, parse_integers
+from ..io.matrix_text import Triples
+from ..loops.shown import Push
+from ..matrix import Matrix
+from ..operators import Semiring, binary
+from .cached_properties import found, is_both_ways, transpose_of
+from .types import Array
+
+# From so many on a full column takes less time than a full row by the clock. With three entries at
+# a vertex it takes 1.7 times a row's time of processors, which three workers share.
+MANY_WORKERS, MANY_ENTRIES, MANY_AT_A_VERTEX = 3, 500_000, 3
+# Of fewer vertices all that a front reaches is read in less time than a mask is made.
+SMALL = 1 << 12
+SWAPPED = {binary.first: binary.second, binary.second: binary.first}
+
+
+class Vector(NamedTuple):
+    """Vertices, ascending, and a value for each."""
+    at: Array
+    values: Array
+
+
+def vector_of(at: Sequence[Any], values: Sequence[int]) -> Vector:
+    """A vector of a few numbers."""
+    return Vector(numpy.array(at, numpy.int64), numpy.array(values, numpy.int64))
+
+
+class Traversal(abc.ABC):
+    """Vectors beside a graph, and how they move along its edges."""
+
+    has_matrices = True                            # whether the session keeps vectors
+
+    def __init__(self, graph: Matrix) -> None:
+        self.graph, self.count = graph, graph.nrows
+
+    @abc.abstractmethod
+    def put(self, vector: Vector) -> Matrix:
+        """A matrix of a vector."""
+
+    @abc.abstractmethod
+    def fill(self, value: int) -> Matrix:
+        """A matrix with a value for every vertex."""
+
+    @abc.abstractmethod
+    def step(self, front: Matrix, ring: Semiring, mask: Optional[Matrix] = None) -> Matrix:
+        """What comes to each vertex j along the edges (i, j) from the front's vertices i.
+
+        The terms are `mul(front(i), edge)`, folded by `add`. `mul` is `first`, `second`, or
+        commutative."""
+
+    @abc.abstractmethod
+    def read(self, matrix: Matrix, values: bool = True) -> Vector:
+        """The vector that a matrix is. Without `values` there may be none."""
+
+    @abc.abstractmethod
+    def number(self, vector: Matrix, more: int = 0) -> Matrix:
+        """A vector whose values are the vertices' own numbers, plus `more`."""
+
+    def push(self, front: Vector, ring: Semiring, values: bool = True) -> Vector:
+        """`step`, from entries to entries; `values` says whether those are wanted."""
+        return self.read(self.step(self.put(front), ring), values)
+
+    def ones(self) -> Matrix:
+        """A vector of ones, kept with the graph."""
+        held: Matrix = found(self.graph, type(self).__name__ + ' of ones', lambda: self.fill(1))
+        return held
+
+    def pays_scan(self, front: int, part: int = 4) -> bool:
+        """Whether a front of so many vertices has so many edges that jobs over all vertices pay.
+
+        They do from a `part`-th of the vertices on, by the mean degree. They take less steps than
+        pushes, and of a small graph more time: where nobody counts steps it always pushes."""
+        if not self.has_matrices or part * front * self.graph.nvals < self.count * self.count:
+            return False
+        return self.count >= SMALL or not is_ample(self.graph)
+
+    def may_loop(self) -> bool:
+        """Whether a long search may go on in a loop at the server."""
+        return False
+
+    def wants_full(self, vector: Matrix) -> bool:  # pylint: disable=unused-argument
+        """Whether a vector that isn't full had better have zeros for the other vertices."""
+        return False
+
+
+class Rows(Traversal):
+    """Vectors as rows, which push."""
+
+    def __init__(self, graph: Matrix) -> None:
+        super().__init__(graph)
+        self._pushes: Dict[Semiring, Push] = {}
+
+    def put(self, vector: Vector) -> Matrix:
+        return put_row(self.graph, vector)
+
+    def fill(self, value: int) -> Matrix:
+        return self.graph.session.full(1, self.count, value)
+
+    def step(self, front: Matrix, ring: Semiring, mask: Optional[Matrix] = None) -> Matrix:
+        return front.mxm(self.graph, ring, mask=None if mask is None else mask.S)
+
+    def number(self, vector: Matrix, more: int = 0) -> Matrix:
+        return vector.apply('colindex', right=more)
+
+    def read(self, matrix: Matrix, values: bool = True) -> Vector:
+        return read_vector(matrix.to_text(), 1, values)
+
+    def push(self, front: Vector, ring: Semiring, values: bool = True) -> Vector:
+        """By one trip; as jobs where it is refused, so that the error is that of a job."""
+        if self.graph.session.backend.is_estimate:
+            return super().push(front, ring, values)
+        if ring not in self._pushes:
+            self._pushes[ring] = Push(self.graph, ring)
+        row = Triples(numpy.zeros_like(front.at), front.at, front.values, 1, self.count)
+        got = self._pushes[ring](row, values)
+        return super().push(front, ring, values) if got is None else Vector(got.places, got.values)
+
+    def may_loop(self) -> bool:
+        return is_ample(self.graph) and is_both_ways(self.graph)
+
+
+class Columns(Traversal):
+    """Vectors as columns, which pull along the rows of the transpose."""
+
+    def __init__(self, graph: Matrix, transpose: Optional[Matrix] = None) -> None:
+        super().__init__(graph)
+        self.transpose = graph if transpose is None else transpose
+
+    def put(self, vector: Vector) -> Matrix:
+        return put_column(self.graph, vector)
+
+    def fill(self, value: int) -> Matrix:
+        return self.graph.session.full(self.count, 1, value)
+
+    def step(self, front: Matrix, ring: Semiring, mask: Optional[Matrix] = None) -> Matrix:
+        return self.transpose.mxv(front, swap(ring), mask=None if mask is None else mask.S)
+
+    def number(self, vector: Matrix, more: int = 0) -> Matrix:
+        return vector.apply('rowindex', right=more)
+
+    def wants_full(self, vector: Matrix) -> bool:
+        """The server prices a product with a column that isn't full by a walk along the graph."""
+        if not self.graph.in_one_place:
+            return False
+        return self.graph.session.backend.is_estimate or bool(vector.nvals < self.count)
+
+    def read(self, matrix: Matrix, values: bool = True) -> Vector:
+        return read_vector(matrix.to_text(), 0, values)
+
+
+class BlockFronts(Traversal):
+    """Vectors that the client has, beside a graph in blocks: each step is one trip to the blocks
+    that have to do with it. Without a transpose all fronts are pushed."""
+
+    has_matrices = False
+
+    def __init__(self, graph: Matrix, transpose: Optional[Matrix]) -> None:
+        super().__init__(graph)
+        self.transpose = transpose
+
+    def push(self, front: Vector, ring: Semiring, values: bool = True) -> Vector:
+        graph, backend = self.graph, cast(Any, self.graph.session.backend)
+        is_large = 4 * len(front.at) * graph.nvals >= self.count * self.count
+        rings = ring, swap(ring)
+        reached: Vector = backend.step_front(graph, self.transpose, front, rings, is_large)
+        return reached
+
+    def put(self, vector: Vector) -> Any:
+        return _Front(vector)
+
+    def fill(self, value: int) -> Any:
+        return _Front(Vector(numpy.arange(self.count), numpy.full(self.count, value)))
+
+    def step(self, front: Any, ring: Semiring, mask: Optional[Matrix] = None) -> Any:
+        return _Front(self.push(front.vector, ring))
+
+    def number(self, vector: Any, more: int = 0) -> Any:
+        return _Front(Vector(vector.vector.at, vector.vector.at + more))
+
+    def read(self, matrix: Any, values: bool = True) -> Vector:
+        vector: Vector = matrix.vector
+        return vector
+
+
+class _Front(NamedTuple):
+    """A vector that the client has, where a matrix is expected."""
+    vector: Vector
+
+    def reduce_scalar(self, op: str) -> Optional[int]:
+        """The greatest value ('max'), None where there is none."""
+        assert op == 'max'
+        return int(self.vector.values.max()) if len(self.vector.at) else None
+
+
+# -- which way to go
+
+def find_traversal(G: Matrix, GT: Optional[Matrix], check: bool, values: bool = False) -> Traversal:
+    """How a search goes through a graph. `GT` is the transpose, with `values` if these matter.
+
+    A transpose that is given is looked at, also where none is needed."""
+    if G.in_one_place:
+        if GT is not None:
+            transpose_of(G, GT, check, values)
+        return Rows(G)
+    if GT is not None:
+        return BlockFronts(G, transpose_of(G, GT, check, values))
+    both = is_both_ways(G) if not values else G.directed is False
+    return BlockFronts(G, G if both else None)
+
+
+def find_vectors(G: Matrix, GT: Optional[Matrix], check: bool, values: bool = False) -> Traversal:
+    """As `find_traversal`, where the session keeps all vectors: in blocks these are columns."""
+    if G.in_one_place:
+        return find_traversal(G, GT, check, values)
+    return Columns(G, transpose_of(G, GT, check, values))
+
+
+def find_flow(G: Matrix, GT: Optional[Matrix], check: bool, values: bool = False) -> Traversal:
+    """How full vectors flow through a graph round after round."""
+    if is_shared(G):
+        return Columns(G, transpose_of(G, GT, check, values))
+    return find_vectors(G, GT, check, values)
+
+
+def find_both_directions(G: Matrix, GT: Optional[Matrix],
+                         check: bool) -> Tuple[Columns, Optional[Traversal]]:
+    """How all vertices look along their edges, and against them: None where that is the same."""
+    if is_both_ways(G):
+        return Columns(G), None
+    if GT is None and G.in_one_place:
+        return Columns(G), Rows(G)
+    back = transpose_of(G, GT, check)
+    return Columns(G), Rows(G) if G.in_one_place else Columns(G, back)
+
+
+def find_pushes(G: Matrix) -> Traversal:
+    """How some vertices look along edges that lead both ways."""
+    return Rows(G) if G.in_one_place else Columns(G)
+
+
+def can_loop(*matrices: Matrix) -> bool:
+    """Whether rounds over these may be a loop at the server."""
+    return all(matrix.in_one_place for matrix in matrices)
+
+
+def is_whole(graph: Matrix) -> bool:
+    """Whether one session has the graph, so that its sizes limit what comes of it."""
+    return graph.in_one_place
+
+
+def is_ample(graph: Matrix) -> bool:
+    """Whether one session has the graph, with a budget so large that nobody counts its steps."""
+    return graph.in_one_place and graph.session.backend.queue.left > AMPLE
+
+
+def is_shared(graph: Matrix) -> bool:
+    """Whether so many workers share a product with a full column that it beats one with a full row,
+    which one worker makes. Of a server's session that isn't known."""
+    if not graph.in_one_place or (graph.session.workers or 1) < MANY_WORKERS:
+        return False
+    return graph.nvals >= max(MANY_ENTRIES, MANY_AT_A_VERTEX * graph.nrows)
+
+
+def swap(ring: Semiring) -> Semiring:
+    """The semiring of the same product with its operands swapped."""
+    return Semiring(ring.add, SWAPPED.get(ring.mul, ring.mul))
+
+
+class Unseen:
+    """The vertices that a search hasn't seen, as a mask. It is made when it is first wanted, and
+    what was seen since is taken out when it is wanted next: 2 runs, and a walk along all
+    vertices."""
+
+    def __init__(self, lines: Traversal, seen: Array) -> None:
+        self._lines = lines
+        self._since: List[Array] = [seen]
+        self._last: Optional[Matrix] = None
+        self._held: Optional[Matrix] = None
+
+    def note(self, at: Array, matrix: Optional[Matrix]) -> None:
+        """More vertices are seen, which are those of a matrix, if that is given."""
+        self._last = matrix if not self._since else None
+        self._since.append(at)
+
+    def mask(self) -> Matrix:
+        """The vertices that weren't seen."""
+        now = self._held if self._held is not None else self._lines.ones()
+        if self._since:
+            marks = self._last if self._last is not None else self._lines.put(join(self._since))
+            now = now.ewise_add(marks, 'zero').select('nonzero')
+        self._held, self._since, self._last = now, [], None
+        return now
+
+
+# -- vectors and matrices
+
+def join(parts: Sequence[Array]) -> Vector:
+    """The vertices of several parts, each once, with ones."""
+    at = numpy.unique(numpy.concatenate(parts))
+    return Vector(at, numpy.ones_like(at))
+
+
+def put_row(graph: Matrix, vector: Vector) -> Matrix:
+    """A vector as a row beside a graph."""
+    zeros = numpy.zeros_like(vector.at)
+    return keep(graph, Triples(zeros, vector.at, vector.values, 1, graph.nrows))
+
+
+def put_column(graph: Matrix, vector: Vector) -> Matrix:
+    """A vector as a column beside a graph."""
+    zeros = numpy.zeros_like(vector.at)
+    return keep(graph, Triples(vector.at, zeros, vector.values, graph.nrows, 1))
+
+
+def put_known(graph: Matrix, numbers: Array, missing: int) -> Matrix:
+    """The numbers of all vertices as a column, without those that are `missing`."""
+    at = numpy.flatnonzero(numbers != missing)
+    return put_column(graph, Vector(at, numbers[at]))
+
+
+def put_all(graph: Matrix, values: Any) -> Matrix:
+    """A column with a value for each vertex of a graph."""
+    found_values = numpy.asarray(values, numpy.int64)
+    return put_column(graph, Vector(numpy.arange(len(found_values)), found_values))
+
+
+def keep(graph: Matrix, entries: Triples) -> Matrix:
+    """A matrix of entries by ascending row and column, beside a graph."""
+    made: Matrix = graph.session.backend.keep(entries)
+    return made
+
+
+def read_vector(text: bytes, field: int, values: bool = True) -> Vector:
+    """The vector of a text as the server writes it; `field` is 1 of a row, 0 of a column.
+
+    The places of a full vector aren't read, nor values that aren't wanted."""
+    nrows, ncols, nvals, start = matrix_text.head_of(text)
+    is_full = nvals == (ncols if field else nrows)
+    wanted = (() if is_full else (field,)) + ((2,) if values else ())
+    numbers = parse_integers.fields(text[start:], wanted) if wanted else []
+    at = numpy.arange(nvals) if is_full else numbers[0] - 1
+    return Vector(at, numbers[-1] if values else at[:0])
+
+
+def read_column(matrix: Matrix) -> Vector:
+    """The vector that a column is."""
+    return read_vector(matrix.to_text(), 0)
+
+
+def read_values(matrix: Matrix) -> Array:
+    """The values of a vector whose places are known."""
+    text = matrix.to_text()
+    values: Array = parse_integers.fields(text[matrix_text.head_of(text).start:], (2,))[0]
+    return values
+
+
+def spread(vector: Vector, count: int) -> Array:
+    """The values of a vector by vertex, 0 where there is none."""
+    numbers = numpy.zeros(count, numpy.int64)
+    numbers[vector.at] = vector.values
+    return numbers

@@ -1,0 +1,230 @@
+"""What a matrix asks of whatever holds it: jobs, entries in, entries out.
+
+A `Matrix` checks shapes, kinds, names and units. Then it hands a `Job` to its backend, which gives a `Handle` for the result:
+
+    server      one session, over a connection
+    blocks      row blocks: a job is the same job at the server of each block
+    trace       notes the jobs of a round of a loop, and runs none
+    estimate    computes nothing but what a job comes to, at the least and at the most
+"""
+from __future__ import annotations
+
+import abc
+import contextlib
+import itertools
+import weakref
+from typing import TYPE_CHECKING, Any, Callable, ContextManager, Dict, Iterator, List, NamedTuple, Optional, Tuple, Type
+
+from .._client.protocol import FORMS, Places
+from ..display import html
+from ..errors import NotMade
+from ..io import matrix_text
+from ..io.matrix_text import Triples
+from ..limits import MOST_SIDE
+from ..operators import Operator
+
+if TYPE_CHECKING:
+    from ..matrix import Matrix
+
+AMPLE = 1 << 56                                    # steps that clients of one server don't take from one another within a day
+serial = itertools.count()
+_PLACES = {name: form.places for name, form in FORMS.items()}
+_ROWS, _TERMS, _ANY = Places.ROWS, Places.TERMS, Places.ANY      # members of an enum take long to find
+
+
+class Budget(NamedTuple):
+    """Steps: left, reserved for jobs that wait, spent. Over TCP it is one for all sessions of the server."""
+    left: int
+    reserved: int
+    spent: int
+
+    def _repr_html_(self) -> str:
+        return html.budget(self)
+
+
+class JobResult(NamedTuple):
+    """A job that `run` settled: its result (None where nobody holds it any more), its form as the protocol names it, the most steps
+    that it could have taken, and those that it took."""
+    matrix: Optional['Matrix']
+    form: str
+    price: int
+    steps: int
+
+
+class Run(List[JobResult]):
+    """The jobs that a run settled, in order."""
+
+    def _repr_html_(self) -> str:
+        return html.runs(self)
+
+
+class Handle:
+    """What a backend gives for a matrix: its shape, the number of entries `nvals` (None until its job ran), the `most` that these can
+    be, and of a job's result the price and the steps that the job took. `lost` says why it is never made."""
+
+    key = ''                                       # the name at a server, where there is one
+    is_deferred = False                            # the entries are sent when a job first wants them
+    steps: Optional[int] = None
+
+    def __init__(self, backend: 'Backend', shape: Tuple[int, int], nvals: Optional[int] = None, most: int = MOST_SIDE) -> None:
+        self.backend, self.shape, self.nvals = backend, shape, nvals
+        self.most = most if nvals is None else nvals
+        self.price: Optional[int] = None
+        self.lost: Optional[BaseException] = None
+        self.transposed: Optional['weakref.ref[Handle]'] = None     # the transpose, while that is held
+        self.facts: Dict[str, Any] = {}            # what algorithms found out about the entries
+        self.serial = next(serial)                 # which of two is older
+        self._matrices: List['weakref.ref[Matrix]'] = []
+
+    @property
+    def waits(self) -> bool:
+        """Whether this is the result of a job that hasn't run."""
+        return self.nvals is None and self.lost is None
+
+    def check_made(self) -> None:
+        """Raises NotMade where the run of this matrix was refused."""
+        if self.lost is not None:
+            raise NotMade('this matrix was never made: its run was refused (%s)' % self.lost) from self.lost
+
+    def add_matrix(self, matrix: 'Matrix') -> None:
+        """A matrix that callers have of this, which may be one of several."""
+        if self._matrices:
+            self._matrices = [one for one in self._matrices if one() is not None]
+        self._matrices.append(weakref.ref(matrix))
+
+    def matrices(self) -> List['Matrix']:
+        """The matrices that callers have of this."""
+        return [matrix for matrix in (one() for one in self._matrices) if matrix is not None]
+
+
+class Job(NamedTuple):
+    """A job of one of the protocol's forms, under a structural mask or none. `thunk` is the number beside an index operator. A product
+    that is too large `is_by_parts` where the caller makes it by parts of the rows then; loops want to know. `is_associative` is the
+    caller's word of its ADD, which blocks want to know."""
+    form: str
+    operators: Tuple[Operator, ...]
+    operands: Tuple[Handle, ...]
+    shape: Tuple[int, int]
+    thunk: Optional[int] = None
+    mask: Optional[Handle] = None
+    is_by_parts: bool = False
+    is_associative: Optional[bool] = None
+
+
+class Most(NamedTuple):
+    """What a job can come to: terms that a product may be refused for, steps, entries of the result."""
+    terms: int
+    steps: int
+    entries: int
+
+
+def most_of(job: Job, length: int) -> Most:
+    """What a job with operators of so many instructions can come to, by what is known of its operands' entries."""
+    form, operands, (nrows, ncols), mask = job.form, job.operands, job.shape, job.mask
+    places, first = _PLACES[form], operands[0]
+    calls, room = first.most, nrows * ncols
+    under = MOST_SIDE if mask is None else mask.most
+    if places is _ROWS:
+        return Most(0, calls * length, min(calls, under, room))
+    if len(operands) == 1:
+        calls = calls if calls < under else under
+        return Most(0, calls * length, calls if calls < room else room)
+    second = operands[1]
+    if places is _TERMS:
+        terms = min(calls * second.shape[1], first.shape[0] * second.most)
+        return Most(terms, terms * length, min(terms, under, room))
+    entries, calls = calls + second.most, min(calls, second.most, under)
+    if places is _ANY:
+        return Most(entries, calls * length, min(entries, under, room))
+    return Most(0, calls * length, min(calls, room))
+
+
+class Backend(abc.ABC):
+    """What takes jobs and holds their results. `session` is what callers know it by.
+
+    A handle is used with the backend that gave it, or with one of which `takes_others` is set."""
+
+    session: Any
+    takes_others = False                           # whether it looks itself at handles that another backend gave
+    in_one_place = True                            # whether one session has each matrix whole
+    is_estimate = False                            # whether it only foresees what jobs come to
+    halves_products = False                        # whether it makes a product `is_by_parts` itself by halves of the rows
+    ceiling = AMPLE                                # steps that can be left at the most, as far as that is known here
+    matrix_type: Optional[Type['Matrix']] = None   # the class of its matrices, where that isn't `Matrix`
+
+    @abc.abstractmethod
+    def submit(self, job: Job, name: Optional[str] = None) -> Handle:
+        """Queues a job; `name` is a wish. Raises a Refused that is known by now; another comes where the result is looked at."""
+
+    @abc.abstractmethod
+    def put(self, entries: Triples) -> Handle:
+        """A matrix of entries by ascending row and column, which aren't looked at. They are sent when a job wants them."""
+
+    @abc.abstractmethod
+    def put_text(self, text: bytes, name: Optional[str] = None) -> Handle:
+        """A matrix from a Matrix Market text, which is read as it is. TextRefused names the line."""
+
+    @abc.abstractmethod
+    def read_text(self, handle: Handle) -> bytes:
+        """The canonical text of a matrix, once it is there."""
+
+    def read(self, handle: Handle) -> Triples:
+        """The entries of a matrix, once it is there: arrays of numpy."""
+        return matrix_text.read(self.read_text(handle), True)
+
+    def texts(self, handle: Handle) -> Iterator[bytes]:
+        """The same text by pieces, of which one is held at a time."""
+        yield self.read_text(handle)
+
+    def run(self) -> Run:
+        """Runs the jobs that wait for a run, where any do."""
+        return Run()
+
+    @abc.abstractmethod
+    def wait(self, handle: Handle) -> None:
+        """Returns once the matrix is there. Raises NotMade where its run was refused, Closed where the session has ended."""
+
+    def count(self, handle: Handle) -> int:
+        """The number of a matrix' entries, once it is there."""
+        self.wait(handle)
+        assert handle.nvals is not None
+        return handle.nvals
+
+    def transpose(self, handle: Handle) -> Handle:
+        """The transpose. While it is held, it is made once."""
+        made = None if handle.transposed is None else handle.transposed()
+        if made is None:
+            made = self.put_text(matrix_text.swapped(self.read_text(handle)))
+            made.transposed, handle.transposed = weakref.ref(handle), weakref.ref(made)
+        return made
+
+    @abc.abstractmethod
+    def length_of(self, op: Operator) -> int:
+        """The number of an operator's instructions, the most steps that a call takes. OperatorRefused where it is refused."""
+
+    @abc.abstractmethod
+    def budget(self) -> Budget:
+        """What the budget holds."""
+
+    def flush(self, handle: Handle) -> None:
+        """Sends what waits to be sent, so that the price of a job is known. No run."""
+
+    def keep(self, entries: Triples) -> 'Matrix':
+        """The matrix of `put`."""
+        from ..matrix import Matrix
+        return (self.matrix_type or Matrix)(self.session, self.put(entries))
+
+    def find_fact(self, matrix: 'Matrix', name: str, find: Callable[[], Any]) -> Any:
+        """A fact of a matrix' entries: as it was found before, or as it is found now."""
+        if name not in matrix.kept:
+            matrix.kept[name] = find()
+        return matrix.kept[name]
+
+    def stand_for(self, shape: Tuple[int, int], least: int, most: int) -> 'Matrix':
+        """What stands for a matrix of so many entries, where jobs are only foreseen."""
+        raise NotImplementedError
+
+    def granting(self, facts: Dict[str, Any]) -> 'ContextManager[Any]':
+        """In its `with` these facts are what a graph has to have, or the call ends in an error: an estimate takes them for granted."""
+        _ = facts
+        return contextlib.nullcontext()

@@ -1,0 +1,259 @@
+"""The backend of one session: operators are uploaded, jobs queued, matrices sent and read, over a connection.
+
+What makes many rounds of its own (`spmat.loops`) also uses the names, the queue and the connection."""
+from __future__ import annotations
+
+import itertools
+import re
+from typing import TYPE_CHECKING, Any, Dict, List, Mapping, NamedTuple, Optional
+
+from .._client.commands import Command
+from .._client.connection import Connection, Turn
+from .._client.replies import Reply
+from .._client.reply_checks import NOTHING, Limits, check_text, longest_text, sizes_of_text
+from ..errors import BudgetExceeded, OperatorRefused, Refused, refusal, without_frames
+from ..io import matrix_text
+from ..io.matrix_text import Triples
+from ..limits import MOST_OPERATOR, MOST_SIDE, MOST_TEXT, QUEUE
+from ..operators import Operator, diagnostics
+from .job_queue import PendingJob, Queue
+from .names import DeferredHandle, Names, ServerHandle
+from .protocol import Backend, Budget, Handle, Job, Run, most_of
+
+if TYPE_CHECKING:
+    from ..session import Session
+
+
+class Uploaded(NamedTuple):
+    """An operator that the server has: its name there, and its instructions."""
+    name: str
+    instructions: int
+
+
+class ServerBackend(Backend):
+    """One session's operators, jobs and matrices at the server. `jobs` counts those that were submitted."""
+
+    def __init__(self, session: 'Session', connection: Connection, shared: bool) -> None:
+        self.session, self.connection = session, connection
+        self.names = Names()
+        self.queue = Queue(connection, shared)
+        self.jobs = 0
+        self._turns = Turn(connection)
+        self._operators: Dict[Operator, Uploaded] = {}
+
+    @property
+    def ceiling(self) -> int:  # type: ignore[override]
+        """What can be left at the most, were all prices settled with nothing."""
+        return self.queue.ceiling
+
+    def turn(self) -> Turn:
+        """One thread at a time, and no Ctrl-C amid."""
+        return self._turns
+
+    def command(self, line: str, body: Optional[bytes] = None, near: Any = None,  # pylint: disable=dangerous-default-value
+                within: Mapping[str, Limits] = NOTHING) -> Reply:
+        """Sends what waits and a command; its reply, whose numbers are `within` limits that the client knows."""
+        self.sweep()
+        return self.connection.command(line, body, near, within)
+
+    def sweep(self) -> None:
+        """Overwrites large matrices that nobody holds, as no command forgets one."""
+        if self.names.dropped:
+            for name, text in self.names.settle():
+                self.connection.put(Command('matrix ' + name, text))
+
+    def poison(self) -> None:
+        """The same before what waits to be sent with the next command, where names that are given back are poisoned."""
+        if self.names.poisons:
+            self.sweep()
+
+    def flush(self, handle: Handle) -> None:
+        """Sends the jobs that wait to be sent, so that their prices are known. No run but those that stand behind them."""
+        with self._turns:
+            self.connection.exchange()
+
+    def budget(self) -> Budget:
+        """What the budget holds. No run."""
+        with self._turns:
+            budget = Budget(*map(int, self.command('budget').words[1:4]))
+            self.queue.note_budget(budget.left, budget.reserved)
+            return budget
+
+    # -- matrices
+
+    def put(self, entries: Triples) -> Handle:
+        """A matrix of entries by ascending row and column, which aren't looked at. The client has them; they are sent when a job
+        wants them."""
+        return DeferredHandle(self, entries)
+
+    def send(self, entries: Triples, handle: DeferredHandle) -> None:
+        """Sends the entries of a matrix that the client has, with the next command, under a name that its handle takes."""
+        def lost(cause: BaseException) -> None:
+            handle.lost = without_frames(cause)
+        with self._turns:
+            self.poison()
+            text = matrix_text.write(entries, ones=True)
+            handle.key = self.names.take(handle)
+            sizes = {'ROWS': entries.nrows, 'COLUMNS': entries.ncols, 'ENTRIES': len(entries.rows)}
+            self.connection.put(Command('matrix ' + handle.key, text, lost=lost, matters=True,
+                                        within={name: (size, size) for name, size in sizes.items()}))
+            handle.note_size(entries.nrows, len(entries.rows))
+            if self.connection.is_full:
+                self.connection.exchange()
+
+    def put_text(self, text: bytes, name: Optional[str] = None) -> Handle:
+        if len(text) > MOST_TEXT:
+            raise refusal('S7', detail='the text has %d bytes' % len(text))
+        with self._turns:
+            self.sweep()
+            handle = ServerHandle(self, (0, 0), wished=name)
+            try:
+                reply = self.command('matrix ' + handle.key, text, lambda rule, at: matrix_text.line_at(text, at), sizes_of_text(text))
+            except BaseException:
+                handle.give_back()
+                raise
+            nrows, ncols, nvals = map(int, reply.words[1:4])
+            handle.shape = nrows, ncols
+            handle.nvals = handle.most = nvals
+            handle.note_size(nrows, nvals)
+            return handle
+
+    def read_text(self, handle: Handle) -> bytes:
+        """The canonical text of a matrix. Runs the queue where it waits."""
+        if isinstance(handle, DeferredHandle):
+            return matrix_text.write(handle.entries)
+        with self._turns:
+            self.connection.check_open()
+            handle.check_made()
+            if handle.waits:
+                self.queue.run_later()
+            try:
+                body = self._shown(handle)
+            except Refused as refused:
+                raise self.connection.refused or refused
+            if self.connection.refused is not None:
+                raise self.connection.refused
+            return body
+
+    def _shown(self, handle: Handle) -> bytes:
+        """The text of a matrix. ProtocolError, and the session is ended, where it isn't that of this matrix."""
+        self.sweep()
+        most = handle.nvals if handle.nvals is not None else min(handle.most, MOST_SIDE)
+        command = 'show ' + handle.key
+        reply = self.connection.exchange(Command(command, within={'BYTES': (0, longest_text(most))},
+                                                 check=lambda reply: check_text(command, reply.body, handle.shape, handle.nvals)))
+        assert reply is not None
+        return reply.body
+
+    def read(self, handle: Handle) -> Triples:
+        if isinstance(handle, DeferredHandle):
+            return matrix_text.as_arrays(handle.entries)
+        return matrix_text.read(self.read_text(handle), True)
+
+    def wait(self, handle: Handle) -> None:
+        """Runs the queue where a matrix waits. Raises Closed where the session has ended, and NotMade where the run was refused."""
+        self.connection.check_open()
+        handle.check_made()
+        if handle.waits:
+            self.run()
+            handle.check_made()
+
+    # -- operators
+
+    def upload(self, op: Operator) -> Uploaded:
+        """An operator as this session has it. It is uploaded at its first use; what the server refuses is OperatorRefused."""
+        if not isinstance(op, Operator):
+            raise TypeError('expected an operator, such as spmat.binary.plus, got %r' % (op,))
+        with self._turns:
+            return self._uploaded(op)
+
+    def _uploaded(self, op: Operator) -> Uploaded:
+        if op not in self._operators:
+            if len(op.body) > MOST_OPERATOR:
+                raise refusal('S7', detail='the operator has %d bytes' % len(op.body))
+            name = self._operator_name(op)
+            try:
+                reply = self.command('%s %s %s' % ('op' if op.text is None else 'asm', name, op.kind), op.body, op.line_at)
+            except OperatorRefused as refused:
+                raise diagnostics.mended(op, refused) from None
+            self._operators[op] = Uploaded(name, int(reply.words[-1]))
+        return self._operators[op]
+
+    def length_of(self, op: Operator) -> int:
+        return self.upload(op).instructions
+
+    def _operator_name(self, op: Operator) -> str:
+        """The operator's own name where the server takes it and no other has it, else a number."""
+        taken = {uploaded.name for uploaded in self._operators.values()}
+        if op.name and op.name not in taken and re.fullmatch('[A-Za-z0-9_]{1,32}', op.name):
+            return op.name
+        return next(name for name in map('f{}'.format, itertools.count(len(taken) + 1)) if name not in taken)
+
+    # -- jobs
+
+    def submit(self, job: Job, name: Optional[str] = None) -> Handle:
+        """Queues a job. It takes the versions that its names have when it is submitted, so an operand or mask that waits makes the
+        queue run first. So does a full queue, and a budget that is too small while jobs wait: then what they don't take comes
+        back, and the job is sent once more.
+
+        A job that can be refused by nothing but want of memory, as what is known of its operands' entries tells, is sent with the
+        next command that needs an answer, and so is the run before it; any other at once."""
+        with self._turns:
+            form, operators, operands, shape, thunk, mask = job[:6]
+            needed = operands if mask is None else (*operands, mask)
+            words, length = [], 0
+            for op in operators:
+                uploaded = self._operators.get(op) or self._uploaded(op)
+                words.append(uploaded.name)
+                length += uploaded.instructions
+            for handle in needed:
+                if handle.lost is not None:
+                    handle.check_made()
+            words += [handle.key for handle in operands]
+            if thunk is not None:
+                words.append(str(thunk))
+            if mask is not None:
+                words += ['mask', mask.key]
+            if len(self.queue) >= QUEUE or self.queue.has(needed):
+                self.queue.run_later()
+            most = most_of(job, length)
+            self.poison()
+            made = ServerHandle(self, shape, None, most.entries, name)
+            self._hand_in(PendingJob(made, form, most), '%s %s %s' % (form, made.key, ' '.join(words)))
+            self.jobs += 1
+            return made
+
+    def _hand_in(self, job: PendingJob, line: str) -> None:
+        """Hands a job in, now or with the next command."""
+        if self.queue.is_sure(job.most):
+            self.queue.add_later(job, line)
+            if self.connection.is_full or self.queue.is_long:
+                self.connection.exchange()
+                self.sweep()                       # so that a loop of jobs uses the names of what nobody holds again
+            return
+        try:
+            self.queue.add_now(job, line)
+        except BaseException as fault:
+            if job.is_wanted:
+                job.handle.give_back()
+            if isinstance(fault, BudgetExceeded):
+                raise fault.with_advice() from None
+            raise
+
+    def run(self) -> Run:
+        """Runs the jobs that wait."""
+        with self._turns:
+            self.connection.settle()
+            if not len(self.queue) and not self.queue.running:
+                return Run()
+            self.queue.run_later()
+            self.sweep()
+            self.connection.exchange()
+            if self.connection.refused is not None:
+                raise self.connection.refused
+            return self.queue.results()
+
+    def lines_of(self, command: str, op: Operator) -> List[str]:
+        """What the server says of an operator: `dis` its code, `types` what the verifier knows before each instruction."""
+        with self._turns:
+            return self.command('%s %s' % (command, self.upload(op).name)).lines

@@ -1,0 +1,256 @@
+"""The backend of matrices in row blocks.
+
+A block is a matrix of the whole's shape that has the entries of its own rows alone. So a job is the
+same job at the session of each block, index operators see true rows and columns, and entries,
+prices and steps of all blocks together are those of one session's job. Operands and masks that are
+cut elsewhere are cut anew first, by text and without steps. Products are in `jobs`.
+"""
+from __future__ import annotations
+
+import weakref
+from typing import (TYPE_CHECKING, Any, Callable, Iterable, Iterator, List, Optional, Sequence,
+                    Tuple, Union)
+
+from ..backends.protocol import Backend, Budget, Handle, Job, most_of
+from ..errors import SpmatError
+from ..io import matrix_text
+from ..io.matrix_text import Triples
+from ..operators import Operator, Semiring
+from . import chunked_input, jobs, repartition, row_partition, worker_tasks
+from .matrix import BlockMatrix
+from .row_partition import Cut
+from .worker_store import Counts, Piece
+
+if TYPE_CHECKING:
+    from ..algorithms.traversal import Vector
+    from .sessions import Sessions
+
+# whole matrices that a result holds, so that it is soon made again
+HELD = 16
+Futures = Union[Sequence[Any], Callable[[], Sequence[Any]]]
+"""The futures of blocks, or what gives them when they are first wanted."""
+
+
+class BlockHandle(Handle):
+    """A matrix in row blocks: the futures of its blocks, in order, and where its rows are cut. Of a
+    job's result `form` names the job.
+
+    `holds` are futures of other matrices, from which a block that is lost is made again."""
+
+    backend: 'BlocksBackend'
+    is_ones = False                                # a row of ones, of which no block was made yet
+    turned: Optional['BlockHandle'] = None         # the transpose, which is kept as long as this is
+
+    def __init__(self, backend: 'BlocksBackend', cut: Cut, ncols: int, futures: Futures,
+                 holds: Iterable[Any] = (), form: str = '') -> None:
+        super().__init__(backend, (cut.nrows, ncols))
+        self.cut, self.form = cut, form
+        holds = tuple(dict.fromkeys(holds))[-HELD:]
+        self.holds: Tuple[Any, ...] = holds if backend.sessions.engine.forgets else ()
+        self._futures = futures
+        self._counts: Optional[List[Counts]] = None
+        self._whole: Any = None
+
+    @property
+    def futures(self) -> Sequence[Any]:
+        """The blocks."""
+        if callable(self._futures):
+            self._futures = self._futures()
+        return self._futures
+
+    @property
+    def labels(self) -> List[str]:
+        """The blocks in words, as errors name them."""
+        return [self.cut.label(block) for block in range(self.cut.blocks)]
+
+    def counts(self) -> List[Counts]:
+        """The sizes, entries, price and steps of each block, once all are made."""
+        if self._counts is None:
+            sessions, labels = self.backend.sessions, self.labels
+            asked = [sessions.submit(block, label, worker_tasks.counts_of, future)
+                     for block, (label, future) in enumerate(zip(labels, self.futures))]
+            try:
+                self._counts = sessions.results(asked, labels)
+            except SpmatError:
+                # so that `run` doesn't tell a failure that was told
+                sessions.forget(self)
+                raise
+            self.nvals = self.most = sum(counts.nvals for counts in self._counts)
+            self.price = sum(counts.price for counts in self._counts) if self.form else None
+        return self._counts
+
+    @property
+    def steps(self) -> Optional[int]:  # type: ignore[override]
+        """Of a job's result the steps that the job took, once all blocks are made."""
+        return sum(counts.steps for counts in self.counts()) if self.form else None
+
+    @property
+    def is_done(self) -> bool:
+        """Whether all blocks are made, or have failed, as far as the engine has told. It waits for
+        nothing."""
+        return not self.waits or all(future.done() for future in self.futures)
+
+    def check_made(self) -> None:
+        """Raises what a block was refused for."""
+        self.counts()
+
+    def whole(self) -> Any:
+        """The future of the whole as one piece, or that piece, for all sessions. It is made
+        once."""
+        if self._whole is None:
+            self._whole = repartition.joined(self)
+        return self._whole
+
+    def at_rows(self, cut: Cut) -> 'BlockHandle':
+        """The same matrix, cut at these rows."""
+        return self if cut == self.cut else repartition.recut(self, cut)
+
+    def like(self, futures: Sequence[Any], cut: Cut, ncols: int) -> 'BlockHandle':
+        """A matrix that is made of this one, and no job's result."""
+        made = BlockHandle(self.backend, cut, ncols, futures, self.holds)
+        made.most = self.most
+        return made
+
+
+class DeferredBlockHandle(BlockHandle):
+    """A column or a row of which the client has the entries: they are sent when a job first wants
+    them. A product takes them as one text."""
+
+    is_deferred = True
+
+    def __init__(self, backend: 'BlocksBackend', entries: Triples, cut: Cut) -> None:
+        super().__init__(backend, cut, entries.ncols, self._send)
+        self.entries, self.nvals = entries, len(entries.rows)
+        self.most = self.nvals
+
+    def _send(self) -> List[Any]:
+        put = self.backend.sessions.put
+        with chunked_input.InMemory(self.entries) as held:
+            return [put(block, self.cut.label(block), text)
+                    for block, text in enumerate(held.texts(self.cut))]
+
+    def check_made(self) -> None:
+        """It is there."""
+
+    def whole(self) -> Any:
+        if self._whole is None:
+            counts = Counts(*self.shape, len(self.entries.rows))
+            piece = Piece(counts, text=matrix_text.write(self.entries)).marked()
+            self._whole = self.backend.sessions.share(piece)
+        return self._whole
+
+    def at_rows(self, cut: Cut) -> BlockHandle:
+        return self if cut == self.cut else DeferredBlockHandle(self.backend, self.entries, cut)
+
+
+class BlocksBackend(Backend):
+    """The jobs of several sessions. `sessions` cut new matrices as the matrix is cut whose backend
+    this is."""
+
+    in_one_place = False
+    matrix_type = BlockMatrix
+
+    def __init__(self, sessions: 'Sessions') -> None:
+        self.session = self.sessions = sessions
+
+    @property
+    def ceiling(self) -> int:  # type: ignore[override]
+        """What all sessions have left."""
+        return self.sessions.ledger.budget.left
+
+    @property
+    def halves_products(self) -> bool:  # type: ignore[override]
+        """Each block halves its own rows, unless each job is looked at before it is made."""
+        return not self.sessions.is_metered
+
+    # -- jobs
+
+    def submit(self, job: Job, name: Optional[str] = None) -> BlockHandle:
+        return jobs.multiply(self, job) if job.form == 'product' else jobs.make_each(self, job)
+
+    def result(self, job: Job, cut: Cut, futures: Sequence[Any],
+               operands: Iterable[Optional[BlockHandle]],
+               wholes: Iterable[Any] = ()) -> BlockHandle:
+        """The handle of a job's result. A block that is lost is made again of what its operands
+        hold, and of whole matrices."""
+        holds = [future for handle in operands if handle is not None for future in handle.holds]
+        made = BlockHandle(self, cut, job.shape[1], futures, [*holds, *wholes], job.form)
+        made.most = most_of(job, 0).entries
+        self.sessions.begun(made)
+        return made
+
+    def step_front(self, graph: Any, transpose: Any, front: 'Vector',
+                   rings: Tuple[Semiring, Semiring], is_large: bool) -> 'Vector':
+        """What comes to each vertex along the edges from those of a front, which the client has.
+        The second of the rings has its MUL turned round."""
+        return jobs.step_front(graph, transpose, front, rings, is_large)
+
+    def wait(self, handle: Handle) -> None:
+        handle.check_made()
+
+    def flush(self, handle: Handle) -> None:
+        """Waits for the blocks, whose sessions know the prices."""
+        handle.check_made()
+
+    def length_of(self, op: Operator) -> int:
+        return self.sessions.dis(op).count('\n')
+
+    def budget(self) -> Budget:
+        return self.sessions.budget()
+
+    # -- matrices
+
+    def put(self, entries: Triples) -> BlockHandle:
+        """A matrix of entries by ascending row and column. Those of a column or a row are sent when
+        a job wants them."""
+        if 1 in (entries.nrows, entries.ncols):
+            cut = self.sessions.cut_for(entries.nrows, None)
+            if cut is None:
+                cut = row_partition.evenly(entries.nrows, self.sessions.blocks)
+            return DeferredBlockHandle(self, entries, cut)
+        with chunked_input.InMemory(entries) as held:
+            return self.spooled(held, self.sessions.find_cut(held.nrows, held))
+
+    def spooled(self, spool: 'chunked_input.Spooled', cut: Cut,
+                fold: Optional[Callable[[Triples], Triples]] = None) -> BlockHandle:
+        """A matrix of what lies in a spool, block by block."""
+        futures = [self.sessions.put(block, cut.label(block), text)
+                   for block, text in enumerate(spool.texts(cut, fold))]
+        made = BlockHandle(self, cut, spool.ncols, futures)
+        made.counts()
+        return made
+
+    def put_text(self, text: bytes, name: Optional[str] = None) -> BlockHandle:
+        handle: Any = self.sessions.from_text(text, name).handle
+        made: BlockHandle = handle
+        return made
+
+    def read_text(self, handle: Any) -> bytes:
+        if isinstance(handle, DeferredBlockHandle):
+            return matrix_text.write(handle.entries)
+        nrows, ncols = handle.shape
+        return row_partition.text_of(nrows, ncols, repartition.all_lines(handle))
+
+    def texts(self, handle: Any) -> Iterator[bytes]:
+        """The head of the text, and the lines of each block: one block's are held at a time."""
+        nrows, ncols = handle.shape
+        yield row_partition.head(nrows, ncols, self.count(handle))
+        for lines, _ in repartition.lines(handle):
+            yield lines
+
+    def read(self, handle: Handle) -> Triples:
+        if isinstance(handle, DeferredBlockHandle):
+            return matrix_text.as_arrays(handle.entries)
+        return super().read(handle)
+
+    def transpose(self, handle: Any) -> Handle:
+        """The transpose, by text: each block's lines are turned at its worker, and each block of
+        the transpose gets some of each. It is made once, and kept as long as the matrix is."""
+        if handle.turned is None:
+            found = None if handle.transposed is None else handle.transposed()
+            if found is not None:
+                return found  # type: ignore[no-any-return]
+            handle.turned = repartition.transposed(handle)
+            handle.turned.transposed = weakref.ref(handle)
+        made: Handle = handle.turned
+        return made

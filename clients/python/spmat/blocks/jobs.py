@@ -1,0 +1,189 @@
+"""Jobs of matrices in row blocks: the same job at each block, the ways of products, and the steps
+of searches."""
+from __future__ import annotations
+
+from typing import TYPE_CHECKING, Any, Dict, Iterable, List, Optional, Sequence, Tuple
+
+import numpy
+
+from .._client.protocol import FORMS
+from ..algorithms.traversal import Vector, put_column, vector_of
+from ..backends.protocol import Job
+from ..operators import Operator, Semiring, binary
+from . import worker_tasks
+from .row_partition import Cut
+from .shared_budget import Work
+
+if TYPE_CHECKING:
+    from .backend import BlockHandle, BlocksBackend
+    from .matrix import BlockMatrix
+
+FOLDS = (binary.any, binary.first, binary.second, binary.min, binary.max, binary.plus)
+BY_ARRAYS: Dict[Operator, str] = {binary.min: 'minimum', binary.max: 'maximum', binary.plus: 'add'}
+
+
+
+def job_at(cut: Cut, block: int, form: str, pieces: Iterable[Any], mask: Optional['BlockHandle'],
+           args: Sequence[Any], **options: Any) -> Work:
+    """A job at one block, by the method of matrices that makes it."""
+    under = None if mask is None else mask.futures[block]
+    sent = FORMS[form].method, list(pieces), under, list(args), options
+    return Work(block, cut.label(block), worker_tasks.job, sent)
+
+
+def make_each(backend: 'BlocksBackend', job: Job) -> 'BlockHandle':
+    """A job of any form but a product: each block's by the same rows of all operands."""
+    given: Any = job.operands
+    first: 'BlockHandle' = given[0]
+    operands = [first, *(other.at_rows(first.cut) for other in given[1:])]
+    mask = _mask_of(job, first.cut)
+    args: List[Any] = [*job.operators, *([] if job.thunk is None else [job.thunk])]
+    pieces = zip(*(operand.futures for operand in operands))
+    futures = backend.sessions.batch([job_at(first.cut, block, job.form, some, mask, args)
+                                      for block, some in enumerate(pieces)])
+    return backend.result(job, first.cut, futures, [*operands, mask])
+
+
+def multiply(backend: 'BlocksBackend', job: Job) -> 'BlockHandle':
+    """A product, by the whole of its second operand or, where the caller says that ADD is
+    associative, by its blocks.
+
+    It waits until the blocks are made, so that TooLarge is raised here, but for a product with a
+    column, which isn't too large. Where the engine forgets what nobody holds it always waits: the
+    caller holds then what a lost block is made of again."""
+    _, second = job.operands
+    is_associative, wide = job.is_associative, second.shape[1] > 1
+    if is_associative is None:
+        is_associative = wide and job.operators[0] in backend.sessions.associative
+    made = (_by_blocks if is_associative else _with_whole)(backend, job)
+    if second.shape[1] != 1 or is_associative or backend.sessions.engine.forgets:
+        made.counts()
+    return made
+
+
+def _mask_of(job: Job, cut: Cut) -> Optional['BlockHandle']:
+    mask: Any = job.mask
+    found: Optional['BlockHandle'] = None if mask is None else mask.at_rows(cut)
+    return found
+
+
+def _with_whole(backend: 'BlocksBackend', job: Job) -> 'BlockHandle':
+    """Each block of A times the whole of B. The result holds that whole, from which a block that is
+    lost is made again: so what came before B is not."""
+    a, b = _operands(job)
+    mask, whole = _mask_of(job, a.cut), b.whole()
+    args, parts = [Semiring(*job.operators)], job.is_by_parts and backend.halves_products
+    blocks = [block for block, (first, end) in enumerate(a.cut.ranges()) if first < end]
+    made = backend.sessions.batch([
+        job_at(a.cut, block, 'product', [a.futures[block], whole], mask, args, parts=parts)
+        for block in blocks])
+    futures = _filled(backend, job, a.cut, dict(zip(blocks, made)))
+    return backend.result(job, a.cut, futures, [a, mask], [whole])
+
+
+def _by_blocks(backend: 'BlocksBackend', job: Job) -> 'BlockHandle':
+    """Each block of A times one block of B after the other, joined by union with ADD in the order
+    of k. A row of ones goes to B's blocks, and a row comes from each."""
+    a, b = _operands(job)
+    mask, ring = _mask_of(job, a.cut), Semiring(*job.operators)
+    blocks = [block for block, (first, end) in enumerate(a.cut.ranges())
+              if first < end or not a.is_ones]
+    terms = _fold_ones(b, mask, blocks, ring) if a.is_ones else [
+        backend.sessions.batch([
+            job_at(a.cut, block, 'product', [a.futures[block], piece], mask, [ring],
+                   parts=job.is_by_parts and backend.halves_products)
+            for block in blocks]) for piece in b.futures]
+    sofar = terms[0]
+    for more in terms[1:]:
+        sofar = backend.sessions.batch([
+            Work(block, a.cut.label(block), worker_tasks.sum_of, (one, other, ring.add))
+            for block, one, other in zip(blocks, sofar, more)])
+    futures = _filled(backend, job, a.cut, dict(zip(blocks, sofar)))
+    return backend.result(job, a.cut, futures, [a, mask], b.holds)
+
+
+def _fold_ones(b: 'BlockHandle', mask: Optional['BlockHandle'], blocks: Sequence[int],
+               ring: Semiring) -> List[List[Any]]:
+    """The products of a row of ones with each block of B, at that block."""
+    under = None if mask is None else mask.futures[blocks[0]]
+    works = [Work(block, label, worker_tasks.fold_rows, (piece, under, ring))
+             for block, (label, piece) in enumerate(zip(b.labels, b.futures))]
+    return [[future] for future in b.backend.sessions.batch(works)]
+
+
+def _operands(job: Job) -> Tuple['BlockHandle', 'BlockHandle']:
+    a, b = job.operands
+    return a, b  # type: ignore[return-value]
+
+
+def _filled(backend: 'BlocksBackend', job: Job, cut: Cut, made: Dict[int, Any]) -> List[Any]:
+    """The futures of all blocks, from those of some: the others have no rows."""
+    none = None
+    if len(made) < cut.blocks:
+        label, task = 'blocks without rows', worker_tasks.assemble
+        none = backend.sessions.submit(0, label, task, job.shape, [])
+    return [made.get(block, none) for block in range(cut.blocks)]
+
+
+# -- steps of a search: what comes to each vertex along the edges that leave a front, which the
+# client has, as it has the answer
+#
+# A front of few vertices is pushed: each vertex' edges lie in the block that has its row, and so
+# each block gets its own part of the front alone, and a block without any gets nothing. What
+# several blocks find for one vertex is folded by the client, in the order of the blocks: for that
+# ADD has to be one of `FOLDS`, all of which are associative. A front with edges for a good part of
+# all vertices is pulled: each block gets all of it, and answers for its own rows. Either is one
+# task a block, and one trip.
+
+def push_front(graph: 'BlockMatrix', front: Vector, ring: Semiring) -> Vector:
+    """The terms `mul(front(i), edge)` along the edges (i, j) from the front's vertices, folded by
+    `add` for each j."""
+    handle, labels = graph.handle, graph.handle.labels
+    works = [Work(block, labels[block], worker_tasks.push_front,
+                  (handle.futures[block], part, ring))
+             for block, part in enumerate(_parts(graph, front)) if len(part.at)]
+    return _fold(handle.backend.sessions.asked(works), ring.add)
+
+
+def pull_front(transpose: 'BlockMatrix', front: Vector, ring: Semiring) -> Vector:
+    """The same, by the rows of the transpose; `ring` has its MUL turned round."""
+    column: Any = put_column(transpose, front)
+    handle, sessions = transpose.handle, transpose.blocks.sessions
+    whole, labels = column.handle.whole(), handle.labels
+    works = [Work(k, labels[k], worker_tasks.pull_front, (handle.futures[k], whole, ring))
+             for k, (first, end) in enumerate(transpose.cut.ranges()) if first < end]
+    return _concatenate(sessions.results(sessions.batch(works), [work.label for work in works]))
+
+
+def _parts(graph: 'BlockMatrix', front: Vector) -> List[Vector]:
+    """The front's vertices by the blocks that have their rows."""
+    ends = numpy.searchsorted(front.at, graph.cut.bounds).tolist()
+    return [Vector(front.at[first:end], front.values[first:end])
+            for first, end in zip(ends, ends[1:])]
+
+
+def _concatenate(parts: List[Vector]) -> Vector:
+    """Vectors of blocks one after the other."""
+    return Vector(*map(numpy.concatenate, zip(*parts))) if parts else vector_of([], [])
+
+
+def _fold(parts: List[Vector], add: Operator) -> Vector:
+    """What blocks found, each vertex once, ascending."""
+    found = _concatenate(parts)
+    if sum(1 for part in parts if len(part.at)) < 2:
+        return found
+    order = numpy.argsort(found.at, kind='stable')
+    at, values = found.at[order], found.values[order]
+    first = numpy.flatnonzero(numpy.concatenate(([True], at[1:] != at[:-1])))
+    if add in BY_ARRAYS:
+        return Vector(at[first], getattr(numpy, BY_ARRAYS[add]).reduceat(values, first))
+    last = numpy.append(first[1:], len(at)) - 1
+    return Vector(at[first], values[last if add == binary.second else first])
+
+
+def step_front(graph: 'BlockMatrix', transpose: Optional['BlockMatrix'], front: Vector,
+               ring: Tuple[Semiring, Semiring], large: bool) -> Vector:
+    """A step of a front by whichever way is shorter; of the ring also with MUL turned round."""
+    if transpose is not None and (large or ring[0].add not in FOLDS):
+        return pull_front(transpose, front, ring[1])
+    return push_front(graph, front, ring[0])

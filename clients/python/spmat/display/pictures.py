@@ -1,0 +1,273 @@
+"""Parts of pictures: axes to draw on, texts and ticks, colours and legends, dots and edges."""
+from __future__ import annotations
+
+import os
+from typing import Any, Dict, List, Mapping, NamedTuple, Optional, Sequence, Tuple, Union
+
+import numpy
+
+from ..errors import DimensionMismatch
+from ..extras import import_extra
+from ..matrix import Matrix
+
+Path = Union[str, os.PathLike[str]]
+XY = Tuple[float, float]
+Edge = Tuple[int, int]
+MOST_NAMES = 40            # an axis of more rows or columns has names at round numbers alone
+SHORT, LONG = 3, 24        # letters of a name that fits into a dot, and of one beside a dot
+MOST_VALUES = 12           # of more different values a colour bar shows the range
+MOST_HUES = 9              # of more groups the smallest share a grey
+INK, PALE, GREY, WARM, LINE = '#1f4e79', '#c9d3dd', '#5a6672', '#b5651d', '#9aa7b4'
+LEAST_AREA, MOST_AREA = 20., 500.                  # of dots that have a size, in square points
+
+
+# -- axes
+
+class Target(NamedTuple):
+    """Where a caller wants a picture: on axes, in a file, or neither, which means by pyplot."""
+    ax: Any
+    path: Optional[Path]
+
+
+def open_axes(target: Target, width: float, height: float) -> Any:
+    """Choose the axes to draw on: the caller's, or pyplot's. What goes to a file has a figure that
+    pyplot doesn't keep, since pyplot holds each figure until somebody closes it."""
+    if target.ax is not None:
+        return target.ax
+    if target.path is not None:
+        figure = import_extra('matplotlib.figure', 'a picture').Figure
+        return figure(figsize=(width, height), dpi=130).add_subplot()
+    pyplot = import_extra('matplotlib.pyplot', 'a picture')
+    if pyplot.get_fignums() and not pyplot.gca().has_data():
+        return pyplot.gca()                        # as plt.figure(figsize=..) left it
+    return pyplot.figure(figsize=(width, height)).add_subplot()
+
+
+def finish(ax: Any, path: Optional[Path]) -> Any:
+    """Write the figure of the axes to a path, if there is one, and return the axes."""
+    if path is not None:
+        ax.figure.savefig(path, bbox_inches='tight')
+    return ax
+
+
+def hide_frame(ax: Any) -> None:
+    """Leave the lower axis alone."""
+    ax.set_yticks([])
+    for side in ('left', 'right', 'top'):
+        ax.spines[side].set_visible(False)
+
+
+# -- texts and ticks
+
+def add_note(ax: Any, text: str, at: XY, off: Tuple[float, float], **look: Any) -> None:
+    """Write a small text, so many points off a position."""
+    ax.annotate(text, at, xytext=off, textcoords='offset points',
+                **{'ha': 'center', 'fontsize': 8, **look})
+
+
+def count_words(number: int, word: str, words: Optional[str] = None) -> str:
+    """Write a number of things in words: ``1 vertex``, ``2 vertices``."""
+    return '%s %s' % (format(number, ','), word if number == 1 else words or word + 's')
+
+
+def count_vertices(A: Matrix) -> str:
+    """Write how many vertices a graph has."""
+    return count_words(A.nrows, 'vertex', 'vertices')
+
+
+def describe_size(A: Matrix) -> str:
+    """Write how many entries a matrix has."""
+    return count_words(A.nvals, 'entry', 'entries')
+
+
+def shorten(name: Any) -> str:
+    """Write a name in at most LONG letters."""
+    return str(name) if len(str(name)) <= LONG else str(name)[:LONG - 2] + '..'
+
+
+def choose_round_numbers(least: int, most: int) -> List[int]:
+    """Choose 1, 2 and 5 times the powers of ten within a range, or the powers alone if those are
+    more than eight. If fewer than two remain, choose the ends."""
+    powers = [10 ** digits for digits in range(len(str(most)))]
+    for steps in ((1, 2, 5), (1,)):
+        found = [power * step for power in powers for step in steps
+                 if least <= power * step <= most]
+        if len(found) <= 8:
+            break
+    return found if len(found) > 1 else sorted({least, most})
+
+
+def set_plain_ticks(axis: Any, least: int, most: int) -> None:
+    """Write round numbers in digits on a logarithmic axis."""
+    ticker = import_extra('matplotlib.ticker', 'a picture')
+    at = choose_round_numbers(least, most)
+    axis.set_ticks(at, [format(number, ',') for number in at])
+    axis.set_minor_locator(ticker.NullLocator())
+    axis.set_minor_formatter(ticker.NullFormatter())
+
+
+def set_name_ticks(axis: Any, names: Optional[Sequence[Any]], count: int, first: int) -> None:
+    """Write names or numbers of rows or columns on an axis: each name of a few, of more those at
+    round numbers."""
+    if names is not None and count <= MOST_NAMES:
+        axis.set_ticks(range(first, first + count), [shorten(name) for name in names])
+    else:
+        axis.get_major_locator().set_params(integer=True)
+
+        def name_tick(position: float, _: Any) -> str:
+            at = int(position) - first
+            if position != int(position) or names is not None and not 0 <= at < count:
+                return ''
+            return format(int(position), ',') if names is None else shorten(names[at])
+        axis.set_major_formatter(name_tick)
+    if names is not None and axis.axis_name == 'x':
+        axis.set_tick_params(rotation=90)
+
+
+def make_halo() -> List[Any]:
+    """Make a white edge round letters, so that lines below don't hide them."""
+    effects = import_extra('matplotlib.patheffects', 'a picture')
+    return [effects.withStroke(linewidth=2, foreground='white')]
+
+
+# -- values of vertices
+
+def values_of_vertices(G: Matrix, given: Any, what: str) -> Dict[int, Any]:
+    """Resolve what a caller gives for vertices: {position: value}.
+
+    Raises
+    ------
+    DimensionMismatch
+        If a column or a sequence isn't as long as the graph has vertices.
+    TypeError
+        If `given` is none of these.
+    """
+    if isinstance(given, Matrix):
+        if given.shape not in ((G.nrows, 1), (1, G.nrows)):
+            raise DimensionMismatch('%s: expected a column of %d rows, a value for each vertex, '
+                                    'got %dx%d' % (what, G.nrows, *given.shape))
+        given = given.by_node()
+    elif hasattr(given, 'to_dict'):                # a Series of pandas
+        given = given.to_dict()
+    if isinstance(given, Mapping):
+        return {G.index(vertex): value for vertex, value in given.items()}
+    if isinstance(given, str) or not hasattr(given, '__len__'):
+        raise TypeError('%s: expected a column, a dict or a value for each vertex, got %r'
+                        % (what, given))
+    if len(given) != G.nrows:
+        raise DimensionMismatch('%s: expected %d values, one for each vertex, got %d'
+                                % (what, G.nrows, len(given)))
+    return dict(enumerate(given))
+
+
+class Colours(NamedTuple):
+    """A colour for each vertex, and what explains it: pairs of a colour and a text for a legend, or
+    the scale of a colour bar."""
+    dots: List[Any]
+    legend: Sequence[Tuple[Any, str]] = ()
+    scale: Any = None
+    title: Optional[str] = None
+
+
+def choose_colours(count: int, values: Mapping[int, Any], are_groups: bool) -> Colours:
+    """Colour vertices by their values: groups and names by hues, a few whole numbers by shades,
+    others by a scale. Vertices without a value are pale."""
+    are_numbers = all(isinstance(value, (int, float, numpy.number)) for value in values.values())
+    distinct = sorted(set(values.values())) if are_numbers else []
+    if are_groups or not are_numbers:
+        found = _choose_hues(values)
+    elif len(distinct) <= MOST_VALUES and all(value == int(value) for value in distinct):
+        shares = numpy.arange(len(distinct)) / max(1, len(distinct) - 1)
+        shades = dict(zip(distinct, shade(shares)))
+        found = shades, [(shades[value], format(int(value), ',')) for value in distinct]
+    else:
+        return _choose_scale(count, values)
+    colours, legend = found
+    dots = [colours[values[i]] if i in values else PALE for i in range(count)]
+    title = 'community (vertices)' if are_groups else None
+    return Colours(dots, legend + _explain_pale(count, values), title=title)
+
+
+def _explain_pale(count: int, values: Mapping[int, Any]) -> List[Tuple[Any, str]]:
+    return [(PALE, 'no value')] if len(values) < count else []
+
+
+def _choose_hues(values: Mapping[int, Any]) -> Tuple[Dict[Any, Any], List[Tuple[Any, str]]]:
+    """Give the largest groups a hue each. A legend names a group by its value, with its size."""
+    sizes: Dict[Any, int] = {}
+    for value in values.values():
+        sizes[value] = sizes.get(value, 0) + 1
+    order = sorted(sizes, key=lambda value: -sizes[value])
+    hues = import_extra('matplotlib', 'a picture').colormaps['tab10'].colors
+    hues = [hue for at, hue in enumerate(hues) if at != 7]         # the eighth is grey
+    colours = {value: hues[at] if at < MOST_HUES else GREY for at, value in enumerate(order)}
+    legend = [(colours[value], '%s (%s)' % (shorten(value), format(sizes[value], ',')))
+              for value in order[:MOST_HUES]]
+    others = len(order) - MOST_HUES
+    return colours, legend + ([(GREY, count_words(others, 'other'))] if others > 0 else [])
+
+
+def _choose_scale(count: int, values: Mapping[int, Any]) -> Colours:
+    """Colour numbers by where they are between the least and the greatest."""
+    colors = import_extra('matplotlib.colors', 'a picture')
+    cm = import_extra('matplotlib.cm', 'a picture')
+    scale = cm.ScalarMappable(colors.Normalize(min(values.values()), max(values.values())),
+                              'viridis_r')
+    dots = [scale.to_rgba(values[i]) if i in values else PALE for i in range(count)]
+    return Colours(dots, _explain_pale(count, values), scale)
+
+
+def shade(shares: Any) -> Any:
+    """Colours of numbers from 0 to 1, without the lightest, which are hard to see on white."""
+    colours = import_extra('matplotlib', 'a picture').colormaps['viridis_r']
+    return colours(.08 + .85 * numpy.asarray(shares))
+
+
+def add_legend(ax: Any, colours: Colours) -> None:
+    """Add what explains the colours: a legend, or a bar beside the axes."""
+    if colours.legend:
+        lines = import_extra('matplotlib.lines', 'a picture')
+        marks = [lines.Line2D([], [], marker='o', linestyle='', markersize=8, color=colour,
+                              label=text) for colour, text in colours.legend]
+        ax.legend(handles=marks, loc='upper left', bbox_to_anchor=(1, 1), frameon=False,
+                  fontsize=8, title=colours.title, title_fontsize=8)
+    if colours.scale is not None:
+        bar = ax.figure.colorbar(colours.scale, ax=ax, fraction=.04, pad=.02)
+        bar.ax.tick_params(labelsize=8)
+
+
+def choose_areas(count: int, values: Mapping[int, Any]) -> Any:
+    """Give each vertex a dot whose area grows with its value. ValueError for a value below 0."""
+    numbers = numpy.zeros(count)
+    numbers[list(values)] = [float(value) for value in values.values()]
+    if count and numbers.min() < 0:
+        raise ValueError('size: expected numbers of 0 or more, got %g' % numbers.min())
+    return LEAST_AREA + (MOST_AREA - LEAST_AREA) * numbers / numpy.max(numbers, initial=1e-300)
+
+
+# -- dots and edges
+
+
+class Strokes(NamedTuple):
+    """How an edge is drawn: its colour and width, how much it bends, whether it has an arrow."""
+    colour: str = GREY
+    width: float = .8
+    bend: float = 0.
+    arrow: bool = False
+
+
+def draw_edge(ax: Any, ends: Tuple[XY, XY], look: Strokes, room: Tuple[float, float],
+              zorder: float = 1) -> None:
+    """Draw an edge as a line or an arrow that ends so many points before the middle of each dot."""
+    patches = import_extra('matplotlib.patches', 'a picture')
+    ax.add_patch(patches.FancyArrowPatch(
+        *ends, arrowstyle='-|>' if look.arrow else '-', mutation_scale=9, linewidth=look.width,
+        color=look.colour, shrinkA=room[0], shrinkB=room[1], zorder=zorder,
+        connectionstyle='arc3,rad=%g' % look.bend))
+
+
+def draw_dots(ax: Any, positions: Any, colours: Any, areas: Any) -> None:
+    """Draw vertices."""
+    positions = numpy.asarray(positions, float).reshape(-1, 2)
+    ax.scatter(positions[:, 0], positions[:, 1], s=areas, c=colours, edgecolors='white',
+               linewidths=1 if len(positions) <= 150 else .5, zorder=2)

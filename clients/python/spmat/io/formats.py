@@ -1,0 +1,195 @@
+"""Which format a file has, and reading it as a matrix: lists of edges, DIMACS, GraphML, GEXF, GML and parquet. (`matrix_market` reads the rest.)"""
+from __future__ import annotations
+
+import json
+import re
+from typing import Callable, Dict, NamedTuple, Optional, Sequence, Tuple
+
+from ..errors import ReadError
+from . import dimacs, graph_formats, tables
+from .columns import Layout
+from .edges import Edges, Graph, How, graph_of
+from .matrix_text import line_at
+
+PARTED = {'csv': ',', 'tsv': '\t'}
+OF_LISTS = ('edges', 'csv', 'tsv', 'parquet')     # which have columns
+START = 1 << 16                                    # bytes that are looked at
+GML = re.compile(rb'(creator\s|version\s|comment\s|directed\s|graph\s*\[)', re.I)
+MARKUP = re.compile(rb'<([?!/]|[A-Za-z][\w:.-]*[\s/>])')
+DOT_OR_PAJEK = re.compile(rb'(strict\s+)?(di)?graph(\s+[\w"]+)?\s*\{|\*\s*(vertices|network|arcs|edges)\b', re.I)
+NO_TEXT = re.compile(rb'[\x00-\x08\x0e-\x1f\x7f-\xc1\xf5-\xff]')       # no text in UTF-8 begins so
+Progress = Callable[[str, int, int], object]
+
+
+class Request(NamedTuple):
+    """What a caller asks of a file: its format, or None for what its content says; how a list is written; what becomes of its edges.
+    `directed` None is as the file has it: DIMACS says, and a list's edges lead one way. `max_bytes` bounds the file, unpacked."""
+    format: Optional[str] = None
+    layout: Layout = Layout()
+    directed: Optional[bool] = None
+    nodelist: Optional[Sequence[object]] = None
+    max_bytes: Optional[int] = None
+
+    @property
+    def bipartite(self) -> bool:
+        """Whether sources and targets are two kinds of vertices."""
+        return bool(self.layout.bipartite)
+
+
+# -- which format a file has
+
+class GraphFormat(NamedTuple):
+    """A format that says by itself what its vertices are and which way edges lead: its name for callers, what texts call it, whether
+    bytes look like it, and what reads these. A module and a row here are all that a new one needs."""
+    name: str
+    called: str
+    is_like: Callable[[bytes], bool]
+    read: Callable[[str, bytes, Layout], graph_formats.GraphFile]
+
+
+def _read_dimacs(file: str, text: bytes, layout: Layout) -> graph_formats.GraphFile:
+    edges, problem = dimacs.read(file, text, layout.values, layout.scale)
+    return graph_formats.GraphFile(edges, range(1, problem.vertices + 1), problem.directed)
+
+
+def _by_networkx(name: str, is_like: Callable[[bytes], bool]) -> GraphFormat:
+    """The row of a format that networkx reads."""
+    return GraphFormat(name, graph_formats.CALLED[name], is_like,
+                       lambda file, text, layout: graph_formats.read_graph(file, text, name, layout))
+
+
+def _has_root(text: bytes, name: bytes) -> bool:
+    """Whether a text is XML whose root has a name."""
+    start = text[:START].lstrip()
+    root = re.search(rb'<(?:\w+:)?(graphml|gexf)\b', start) if start.startswith(b'<') else None
+    return root is not None and root.group(1) == name and not _is_html(start)
+
+
+def _is_html(start: bytes) -> bool:
+    return re.search(rb'<!doctype\s+html|<html\b', start[:4096], re.I) is not None
+
+
+def _is_gml(text: bytes) -> bool:
+    start = text[:START].lstrip()
+    return bool(GML.match(start) and re.search(rb'^[ \t]*(graph|node)\s*\[', start, re.M | re.I))
+
+
+GRAPH_FORMATS: Dict[str, GraphFormat] = {one.name: one for one in (
+    GraphFormat('dimacs', 'DIMACS', dimacs.is_dimacs, _read_dimacs),
+    _by_networkx('graphml', lambda text: _has_root(text, b'graphml')),
+    _by_networkx('gexf', lambda text: _has_root(text, b'gexf')),
+    _by_networkx('gml', _is_gml),
+)}
+FORMATS = ('mtx', 'edges', 'csv', 'tsv', *GRAPH_FORMATS, 'parquet')
+# what a sentence lists that says what can be read
+READABLE = ', '.join(['an edge list', 'CSV', 'TSV', *(one.called for one in GRAPH_FORMATS.values())])
+EXPECTED = 'expected %s or Matrix Market, got ' % READABLE
+
+
+def format_of(text: bytes) -> str:
+    """Which format a text has, by its beginning: `mtx`, `parquet`, or the first of GRAPH_FORMATS that it is like; else `edges`."""
+    if text[:14].lower() == b'%%matrixmarket':
+        return 'mtx'
+    if text[:4] == b'PAR1':
+        return 'parquet'
+    return next((name for name, one in GRAPH_FORMATS.items() if one.is_like(text)), 'edges')
+
+
+def describe_other(text: bytes) -> Optional[str]:
+    """What a file is, in words, where it is known to be no list of edges; else None."""
+    start = text[:START]
+    if start.startswith(b'PK\x03\x04') and b'matrices.json' in start:
+        return 'this is a file that save() wrote: s.load(path) reads it'
+    if start[:2] in (b'\xff\xfe', b'\xfe\xff'):
+        return EXPECTED + 'text in UTF-16: `iconv -f utf-16 -t utf-8` makes UTF-8 of it'
+    if start.startswith(b'PK\x03\x04'):
+        return EXPECTED + 'a zip archive of several files, or a damaged one: unpack it, and read one of them'
+    if b'\0' in start[:4096] or start.startswith(b'%PDF') or NO_TEXT.match(start):
+        return EXPECTED + 'binary data'
+    start = start.lstrip()
+    if MARKUP.match(start):
+        return EXPECTED + ('a page in HTML, perhaps in place of the file that was asked for' if _is_html(start) else
+                           'XML that is neither GraphML nor GEXF')
+    if start[:1] in (b'{', b'[') and _is_json(start, len(text) > START):
+        return EXPECTED + 'JSON: json.load reads it, and from_edgelist takes its edges, or networkx.node_link_graph and from_networkx'
+    if DOT_OR_PAJEK.match(start):
+        return EXPECTED + 'a graph in DOT or of Pajek: networkx.nx_pydot.read_dot or networkx.read_pajek reads it, and from_networkx takes it'
+    return None
+
+
+def _is_json(start: bytes, cut: bool) -> bool:
+    """Whether a text begins with a value of JSON that fills its line, or goes on behind what is looked at."""
+    words = start.decode('utf-8', 'replace')
+    try:
+        end = json.JSONDecoder().raw_decode(words)[1]
+    except json.JSONDecodeError as fault:
+        return cut and re.match(r'[\[{]\s*[\[{"]', words) is not None and fault.pos > len(words) // 2
+    except RecursionError:
+        return True
+    return not words[end:].partition('\n')[0].strip(' \t\r,')
+
+
+def check_format(file: str, text: bytes, format: Optional[str]) -> str:
+    """The format that a caller names, or the content's. ValueError for none of `FORMATS`, ReadError for a file that is no Matrix
+    Market file and was to be one, or is one and was not."""
+    if format is not None and format not in FORMATS:
+        raise ValueError('a format is %s, or None for what stands in the file; not %r' % (', '.join(FORMATS), format))
+    found = format_of(text)
+    if format == 'mtx' and found != 'mtx':
+        raise ReadError(file, 1, 'this is no Matrix Market file, which begins with %%MatrixMarket; read_graph(), and the command line without '
+                        '--format mtx, read ' + READABLE, line_at(text, 1))
+    if format not in (None, 'mtx') and found == 'mtx':
+        raise ReadError(file, 1, 'this is a Matrix Market file, and %s was asked for' % format, line_at(text, 1))
+    if format in (*graph_formats.CALLED, 'parquet') and found != format:
+        raise ReadError(file, 1, 'this is no file of the format %s' % format, line_at(text, 1))
+    other = describe_other(text) if found == 'edges' else None
+    if other is not None:
+        raise ReadError(file, None, other)
+    return found if format is None else format
+
+
+def check_layout(file: str, format: str, request: Request) -> None:
+    """ReadError where a caller says how a list is written, of a file that is none: the words would do nothing."""
+    given = {name: getattr(request.layout, name) for name in ('delimiter', 'header', 'columns', 'nodetype')}
+    if format == 'mtx':
+        given['nodelist'] = request.nodelist
+    named = [name for name, value in given.items() if value is not None]
+    if named:
+        raise ReadError(file, None, named[0] + '= is for a list of edges, and this is a file of the format ' + format)
+
+
+# -- reading it
+
+def read(file: str, text: bytes, request: Request, folds: bool, tell: Optional[Progress] = None) -> Graph:
+    """The matrix of a file of another format than Matrix Market; of an undirected graph the lower triangle alone. `tell` is told of the
+    phases: 'reading' of the bytes, 'names' of the edges."""
+    tell = tell if tell is not None else lambda what, done, of: None
+    tell('reading', 0, len(text))
+    edges, how = _edges_of(file, text, request, folds)
+    tell('reading', len(text), len(text))
+    count = len(edges.sources)
+    tell('names', 0, count)
+    graph = graph_of(edges, how)
+    tell('names', count, count)
+    return graph
+
+
+def _edges_of(file: str, text: bytes, request: Request, folds: bool) -> Tuple[Edges, How]:
+    """The edges of a file, and what becomes of them."""
+    format, layout = check_format(file, text, request.format), request.layout
+    how = How(request.directed is not False, request.nodelist, request.bipartite, folds)
+    if format in GRAPH_FORMATS:
+        if how.bipartite:
+            raise ReadError(file, None, '%s has one kind of vertices: bipartite=True is for lists' % format)
+        edges, nodes, directed = GRAPH_FORMATS[format].read(file, text, layout)
+        return edges, how._replace(directed=directed if request.directed is None else request.directed,
+                                   nodelist=nodes if how.nodelist is None else how.nodelist)
+    if format == 'parquet':
+        return graph_formats.read_table(file, text, layout), how
+    if layout.columns is None and graph_formats.has_dictionaries(text, layout.comments):
+        return graph_formats.read_dictionaries(file, text, layout), how
+    delimiter = layout.delimiter if layout.delimiter is not None else PARTED.get(format)
+    edges = tables.read(file, text, layout._replace(delimiter=delimiter))
+    if edges.question and request.directed is None:
+        raise ReadError(file, None, edges.question)
+    return edges, how

@@ -1,0 +1,127 @@
+"""Columns and rows seen as vectors."""
+from __future__ import annotations
+
+import functools
+from typing import Any, Optional, Tuple, Type
+
+import numpy
+
+from . import units
+from .aliases import alias
+from .backends.unread import reading
+from .errors import refusal
+from .indexing import choose_places, gather
+from .mask import Mask
+from .matrix import Matrix
+
+
+class Vector(Matrix):
+    """A column or a row, seen as a vector: one index for each entry, as in python-graphblas.
+
+    It is a matrix of one column, or of one row, with all methods of `Matrix`. What differs: `size`, `v[i]`, `i in v`, and the results of
+    `to_coo` and `to_dense`. Algorithms give vectors, and so does every job on one whose result has one column or row.
+
+    Parameters
+    ----------
+    column : Matrix
+        A column or a row. The vector has its entries and what is known of them; nothing is sent.
+
+    Raises
+    ------
+    DimensionMismatch
+        Of another shape.
+    """
+
+    is_vector = True
+
+    def __init__(self, column: Matrix) -> None:  # pylint: disable=super-init-not-called  # it is the same matrix
+        if 1 not in column.shape:
+            raise refusal('J5', detail='a vector is of a column or a row, not of %dx%d' % column.shape)
+        self.__dict__.update(column.__dict__)
+        self.handle.add_matrix(self)
+
+    @property
+    def size(self) -> int:
+        """How many entries there can be: the rows of a column, the columns of a row."""
+        return self.nrows if self.ncols == 1 else self.ncols
+
+    @reading
+    def __getitem__(self, at: Any) -> Any:
+        """`v[i]`: the value of a vertex, None where it has none. `v[indexes]`, `v[1:3]` and `v[mask]` are vectors. `v[i, j]` is as for
+        a matrix, unless (i, j) is a name. See `Matrix.__getitem__`."""
+        axis = 0 if self.ncols == 1 else 1
+        if isinstance(at, Mask) or isinstance(at, tuple) and not self._has_name(at, axis):
+            return super().__getitem__(at)
+        chosen = choose_places(self, at, axis)
+        if chosen.places is None:
+            return self
+        ones = gather(self, chosen.places, axis)
+        part = ones.mxm(self, 'any_second') if axis == 0 else self.mxm(ones, 'any_first')
+        if not chosen.one:
+            return as_vector(part)
+        values = part.entries(arrays=False)[2]
+        return units.to_decimal(values[0], self.unit) if values else None
+
+    def _has_name(self, at: Any, axis: int) -> bool:
+        """Whether a tuple is the name of a vertex, and not two indexes."""
+        names = self.notes.names(axis)
+        try:
+            return names is not None and at in names.places
+        except TypeError:                          # a slice has no hash in older versions of Python
+            return False
+
+    def __contains__(self, node: Any) -> bool:
+        return self.get(node) is not None
+
+    @reading
+    def to_coo(self, *, arrays: Optional[bool] = None, dtype: Any = None) -> Tuple[Any, Any]:  # type: ignore[override]
+        """Indexes (from 0) and values, by ascending index. `entries()` has rows, columns and values.
+
+        Parameters
+        ----------
+        arrays : bool, optional
+            False gives lists in place of arrays of numpy.
+        dtype : type, optional
+            With float, values are what the stored whole numbers stand for.
+
+        Returns
+        -------
+        tuple of two arrays or lists"""
+        rows, columns, values = self.entries(arrays=arrays, dtype=dtype)
+        return rows if self.ncols == 1 else columns, values
+
+    @reading
+    def to_dense(self, fill: Any = 0, dtype: Any = None, *, fill_value: Any = None) -> Any:
+        """An array of numpy of one dimension, `fill` where there is no entry. Else as `Matrix.to_dense`."""
+        return numpy.asarray(super().to_dense(fill, dtype, fill_value=fill_value)).ravel()
+
+    def reduce(self, op: Any = 'plus') -> Any:
+        """`reduce_scalar`, by python-graphblas' name."""
+        return self.reduce_scalar(op)
+
+
+def as_vector(column: Any) -> Any:
+    """A column or a row as a vector, of whatever class of matrices it is; anything else as it is."""
+    if not isinstance(column, Matrix) or column.is_vector or 1 not in column.shape:
+        return column
+    made = alias(column, column.notes)
+    made.__class__ = _vector_type(type(column))
+    return made
+
+
+@functools.lru_cache(maxsize=None)
+def _vector_type(kind: Type[Matrix]) -> Type[Matrix]:
+    """The class of vectors that are matrices of a class."""
+    if kind is Matrix:
+        return Vector
+    return type(kind.__name__, (Vector, kind), {'__doc__': kind.__doc__, '__module__': kind.__module__})
+
+
+def as_matrix(one: Any) -> Any:
+    """A vector as the column or row that it is; anything else as it is."""
+    if not isinstance(one, Vector):
+        return one
+    made = alias(one, one.notes)
+    kinds = [kind for kind in type(one).__mro__ if issubclass(kind, Matrix) and not issubclass(kind, Vector)]
+    made.__class__ = kinds[0]  # type: ignore[assignment]
+    return made

@@ -1,0 +1,133 @@
+"""Graphs of networkx as matrices and back: weights, parallel edges, parts, names. Skipped where there is no networkx."""
+import random
+import unittest
+
+from support import InSession, needs
+import spmat
+
+
+@needs('networkx')
+class Networkx(InSession):
+    def test_graphs(self):
+        import networkx
+        G = networkx.Graph([('a', 'b'), ('b', 'c'), ('c', 'c')])
+        A = self.s.from_networkx(G)
+        self.assertEqual((A.nodes, A.to_dict()), (['a', 'b', 'c'], {(0, 1): 1, (1, 0): 1, (1, 2): 1, (2, 1): 1, (2, 2): 1}))
+        self.assertTrue(networkx.is_isomorphic(A.to_networkx(directed=False), G))
+        self.assertEqual(set(A.to_networkx(directed=False).edges), set(G.edges))
+        D = networkx.gnp_random_graph(20, .2, seed=1, directed=True)
+        B = self.s.from_networkx(D)
+        self.assertEqual(set(B.to_dict()), set(D.edges))
+        self.assertEqual(set(B.to_networkx().edges), set(D.edges))
+        self.assertEqual(set(B.to_networkx().nodes), set(D.nodes))
+
+    def test_weights(self):
+        import networkx
+        G = networkx.DiGraph()
+        G.add_edge(0, 1, weight=5, cost=7)
+        G.add_edge(1, 2)
+        self.assertEqual(self.s.from_networkx(G).to_dict(), {(0, 1): 5, (1, 2): 1})
+        self.assertEqual(self.s.from_networkx(G, 'cost').to_dict(), {(0, 1): 7, (1, 2): 1})
+        self.assertEqual(self.s.from_networkx(G, None).to_dict(), {(0, 1): 1, (1, 2): 1})
+        self.assertEqual(self.s.from_networkx(G).to_networkx()[0][1], {'weight': 5})
+        self.assertEqual(self.s.from_networkx(G).to_networkx(weight='w', nodes='xyz')['x']['y'], {'w': 5})
+        G.add_edge(2, 0, weight=.5)
+        with self.assertRaises(ValueError):
+            self.s.from_networkx(G)
+
+    def test_nodelist(self):
+        import networkx
+        G = networkx.path_graph(4)
+        self.assertEqual(self.s.from_networkx(G, nodelist=[2, 1]).to_dict(), {(0, 1): 1, (1, 0): 1})
+        for wrong in ([1, 1], [1, 9]):
+            with self.assertRaises(ValueError):
+                self.s.from_networkx(G, nodelist=wrong)
+
+    def test_multigraphs(self):
+        import networkx
+        G = networkx.MultiGraph()
+        G.add_weighted_edges_from([(0, 1, 5), (0, 1, 7), (1, 1, 2), (1, 1, 3)])
+        with self.assertRaises(ValueError) as said:
+            self.s.from_networkx(G)
+        self.assertIn('dup_op=', str(said.exception))
+        self.assertEqual(self.s.from_networkx(G, dup_op='plus').to_dict(), {(0, 1): 12, (1, 0): 12, (1, 1): 5})
+        self.assertEqual(self.s.from_networkx(G, dup_op='min').to_dict(), {(0, 1): 5, (1, 0): 5, (1, 1): 2})
+
+    def test_multigraphs_without_parallel_edges(self):
+        import networkx
+        for kind in (networkx.MultiGraph, networkx.MultiDiGraph):
+            G = kind([('a', 'b', {'weight': 3}), ('b', 'c', {'weight': 4}), ('c', 'c', {'weight': 5})])
+            simple = (networkx.DiGraph if G.is_directed() else networkx.Graph)(G)
+            self.assertEqual(self.s.from_networkx(G).to_dict(), self.s.from_networkx(simple).to_dict())
+            G.add_edge('b', 'c')
+            with self.assertRaises(ValueError) as said:
+                self.s.from_networkx(G)
+            self.assertIn("2 edges lead from 'b' to 'c'", str(said.exception))
+
+    def test_wrong_weights_name_their_edge(self):
+        import networkx
+        G = networkx.path_graph(200)
+        for value, kind in ((1.5, ValueError), ('x', TypeError), (2 ** 63, ValueError), (None, TypeError), (float('nan'), ValueError)):
+            H = networkx.relabel_nodes(G, {150: 'here', 151: 'there'})
+            H['here']['there']['weight'] = value
+            with self.assertRaises(kind) as said:
+                self.s.from_networkx(H)
+            self.assertIn("the edge from 'here' to 'there': ", str(said.exception))
+        for weight in (lambda u, v, d: 1, len):
+            with self.assertRaises(TypeError) as said:
+                self.s.from_networkx(G, weight=weight)
+            self.assertIn('set_edge_attributes', str(said.exception))
+
+    def test_beside_networkx(self):
+        """Random graphs of each kind, with and without numpy's columns: the entries that networkx lists."""
+        import networkx
+        from spmat.io import networkx_adjacency
+        r = random.Random(4)
+        for number in range(60):
+            kind = (networkx.Graph, networkx.DiGraph, networkx.MultiGraph, networkx.MultiDiGraph)[number % 4]
+            G = kind()
+            names = r.choice((list(range(12)), [3 * k - 7 for k in range(12)], ['v%d' % k for k in range(12)]))
+            G.add_nodes_from(r.sample(names, 12))
+            for _ in range(r.randrange(40)):
+                G.add_edge(r.choice(names), r.choice(names), **r.choice(({}, {'weight': r.randrange(9)}, {'weight': 2.0})))
+            chosen = r.choice((None, r.sample(names, 7)))
+            want = {}
+            for u, v, value in G.edges(data='weight', default=1):
+                if chosen is None or (u in chosen and v in chosen):
+                    for pair in {(u, v), (u, v) if G.is_directed() else (v, u)}:
+                        want[pair] = want.get(pair, 0) + value
+            A = self.s.from_networkx(G, nodelist=chosen, dup_op='plus')
+            self.assertEqual({(u, v): value for u, v, value in A.to_edgelist()}, want)
+            self.assertEqual(A.nodes, list(G) if chosen is None else chosen)
+            self.assertEqual(A.directed, G.is_directed())
+
+    def test_views(self):
+        """Views count other neighbours than they give, and some graphs have another adjacency than they keep."""
+        import networkx
+        G = networkx.MultiGraph([(0, 1), (0, 1), (1, 2), (2, 3)])
+        view = networkx.subgraph_view(G, filter_edge=lambda u, v, k: k == 0 and {u, v} != {1, 2})
+        self.assertEqual(set(self.s.from_networkx(view).to_dict()), {(0, 1), (1, 0), (2, 3), (3, 2)})
+        self.assertEqual(set(self.s.from_networkx(networkx.path_graph(4).subgraph([0, 1, 3])).to_edgelist()), {(0, 1, 1), (1, 0, 1)})
+
+    def test_there_and_back(self):
+        """What comes back is what went: directed or not, with weights or without, by its names."""
+        import networkx
+        for kind in (networkx.Graph, networkx.DiGraph):
+            G = kind([('a', 'b'), ('b', 'c'), ('c', 'c')])
+            back = self.s.from_networkx(G).to_networkx()
+            self.assertEqual((type(back), list(back), dict(back.adjacency())), (kind, list(G), dict(G.adjacency())))
+            networkx.set_edge_attributes(G, 7, 'weight')
+            back = self.s.from_networkx(G).to_networkx()
+            self.assertEqual(dict(back.adjacency()), dict(G.adjacency()))
+            self.assertEqual(self.s.from_networkx(G, None).to_networkx().edges['a', 'b'], {})
+            self.assertEqual(self.s.from_networkx(G).to_networkx(weight=None).edges['a', 'b'], {})
+            self.assertIs(type(self.s.from_networkx(G).to_networkx(directed=True)), networkx.DiGraph)
+            self.assertEqual(self.s.from_networkx(G).apply('plus', right=1).to_networkx().edges['a', 'b'], {'weight': 8})
+
+    def test_out_of_range(self):
+        with self.assertRaises(spmat.DimensionMismatch):
+            self.s.full(1, 2).to_networkx()
+        with self.assertRaises(ValueError):
+            self.s.full(2, 2).to_networkx(nodes='abc')
+
+
