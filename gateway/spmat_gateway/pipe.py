@@ -1,0 +1,242 @@
+"""The bytes of one session, both ways, untouched.
+
+A session has a thread of its own, which waits by `poll` and copies by large buffers. The standard
+library's reads and writes (also those of TLS) let other threads work meanwhile.
+"""
+from __future__ import annotations
+
+import fcntl
+import os
+import select
+import socket
+import ssl
+import time
+from typing import Callable, Optional, Union
+
+Client = Union[socket.socket, ssl.SSLSocket]
+PIECE = 1 << 18
+PIPE_SIZE = 1 << 20
+SET_PIPE_SIZE = 1031                               # F_SETPIPE_SZ, which Python names from 3.10 on
+BROKEN = select.POLLERR | select.POLLNVAL
+WANTS = (ssl.SSLWantReadError, ssl.SSLWantWriteError, BlockingIOError)
+
+
+class ClientGone(Exception):
+    """The client's connection has broken, or ended without the word that TLS has for it."""
+
+
+class _Way:
+    """One direction: a buffer, and what of it hasn't been written yet."""
+
+    def __init__(self) -> None:
+        self.buffer = memoryview(bytearray(PIECE))
+        self.rest = self.buffer[:0]
+        self.count = 0
+        self.ended = False                         # its source has ended
+        self.closed = False                        # so has its target, or was told of it
+
+
+class Pipe:
+    """Copies between a client and the standard streams of an engine until the engine's output ends.
+
+    Parameters
+    ----------
+    client
+        The connection, after its handshake.
+    standard_input, standard_output
+        The engine's streams, as descriptors that this pipe owns from now on.
+    on_replies
+        Called with each piece before it is sent to the client.
+    """
+
+    def __init__(self, client: Client, standard_input: int, standard_output: int,
+                 on_replies: Callable[[memoryview], None]) -> None:
+        self._client, self._input, self._output = client, standard_input, standard_output
+        self._on_replies = on_replies
+        self._up, self._down = _Way(), _Way()
+        self._poll = select.poll()
+        self._masks = {client.fileno(): -1, standard_input: -1, standard_output: -1}
+        client.setblocking(False)
+        for descriptor in (standard_input, standard_output):
+            os.set_blocking(descriptor, False)
+            try:
+                fcntl.fcntl(descriptor, SET_PIPE_SIZE, PIPE_SIZE)
+            except OSError:  # a user's pipes have a size together; the usual one does too
+                pass
+
+    @property
+    def ended(self) -> bool:
+        """Whether the engine's output has ended."""
+        return self._down.ended
+
+    @property
+    def sent_all(self) -> bool:
+        """Whether the client was sent all that the engine has said."""
+        return self._down.ended and not self._down.rest
+
+    @property
+    def bytes_in(self) -> int:
+        """How many bytes the client has sent."""
+        return self._up.count
+
+    @property
+    def bytes_out(self) -> int:
+        """How many bytes the engine has sent."""
+        return self._down.count
+
+    def begin(self, first: bytes) -> None:
+        """Takes what came before, behind the login."""
+        self._up.count = len(first)
+        self._up.rest = memoryview(first)
+
+    def run(self, deadline: Callable[[], float]) -> bool:
+        """Copies until the engine's output has ended and is sent.
+
+        Returns
+        -------
+        bool
+            False where the time of `deadline()` passed before.
+
+        Raises
+        ------
+        ClientGone
+            Where nobody is there any more for whom the session goes on.
+        """
+        self._write_up()
+        up, down, client, watched = self._up, self._down, self._client.fileno(), None
+        while not self.sent_all:
+            state = (not up.rest, up.ended, not down.rest, down.ended, self._input)
+            if state != watched:                   # seldom, as each side mostly takes all at once
+                self._watch()
+                watched = state
+            left = deadline() - time.monotonic()
+            if left <= 0:
+                return False
+            pending = not up.rest and not up.ended and self._has_decrypted()
+            patience = 0 if pending else min(1000.0 * left, 1000.0) + 1
+            for descriptor, event in self._poll.poll(patience):
+                if descriptor == client:
+                    self._serve_client(event)
+                elif descriptor == self._output:
+                    self._read_down()
+                else:
+                    self._write_up()
+            if pending:
+                self._read_up()
+        return True
+
+    def finish(self, seconds: float) -> None:
+        """Ends the engine's input, and reads its last replies for nobody but who counts them, for
+        so long at most."""
+        until = time.monotonic() + seconds
+        if self._input >= 0:
+            os.close(self._input)
+            self._input = -1
+        poll, down = select.poll(), self._down
+        poll.register(self._output, select.POLLIN)
+        while not down.ended and poll.poll(max(0.0, 1000 * (until - time.monotonic()))):
+            self._fill_down()
+
+    def close(self) -> None:
+        """Closes the engine's streams; the client's connection is its owner's."""
+        for descriptor in (self._input, self._output):
+            if descriptor >= 0:
+                os.close(descriptor)
+        self._input = self._output = -1
+
+    def _has_decrypted(self) -> bool:
+        return isinstance(self._client, ssl.SSLSocket) and self._client.pending() > 0
+
+    def _watch(self) -> None:
+        """Registers what each side waits for. Who waits for nothing isn't registered, as a hang-up
+        would wake for ever; the client always is, to see that it has gone."""
+        up, down = self._up, self._down
+        client = select.POLLOUT if down.rest else 0
+        if not up.rest and not up.ended:
+            client |= select.POLLIN
+        self._set_mask(self._client.fileno(), client)
+        if self._input >= 0:
+            self._set_mask(self._input, select.POLLOUT if up.rest else None)
+        self._set_mask(self._output, select.POLLIN if not down.rest and not down.ended else None)
+
+    def _set_mask(self, descriptor: int, mask: Optional[int]) -> None:
+        if self._masks.get(descriptor) == mask:
+            return
+        if mask is None:
+            if self._masks.get(descriptor, -1) != -1:
+                self._poll.unregister(descriptor)
+        else:
+            self._poll.register(descriptor, mask)
+        self._masks[descriptor] = mask if mask is not None else -1
+
+    def _serve_client(self, event: int) -> None:
+        if event & BROKEN:
+            raise ClientGone('the connection has broken')
+        if event & select.POLLHUP and self._up.ended:
+            raise ClientGone('the client has closed the connection')
+        if self._down.rest:
+            self._write_down()
+        if event & (select.POLLIN | select.POLLHUP):
+            self._read_up()
+
+    def _read_up(self) -> None:
+        up = self._up
+        while not up.rest and not up.ended:
+            try:
+                count = self._client.recv_into(up.buffer)
+            except WANTS:
+                return
+            except OSError as fault:               # TLS that ends without its word for it, too
+                raise ClientGone(str(fault)) from None
+            up.ended = not count
+            up.count += count
+            up.rest = up.buffer[:count]
+            self._write_up()
+            if not self._has_decrypted():
+                return
+
+    def _write_up(self) -> None:
+        up = self._up
+        try:
+            while up.rest and not up.closed:
+                up.rest = up.rest[os.write(self._input, up.rest):]
+        except BlockingIOError:
+            return
+        except OSError:  # the engine reads no more; what it says still counts
+            up.closed = up.ended = True
+        if up.closed:
+            up.rest = up.buffer[:0]
+        if up.ended and not up.rest and self._input >= 0:
+            self._set_mask(self._input, None)
+            del self._masks[self._input]
+            os.close(self._input)
+            self._input, up.closed = -1, True
+
+    def _read_down(self) -> None:
+        self._down.rest = self._fill_down()
+        self._write_down()
+
+    def _fill_down(self) -> memoryview:
+        """What the engine says next, once it is counted."""
+        down = self._down
+        try:
+            count = os.readv(self._output, [down.buffer])
+        except BlockingIOError:
+            return down.buffer[:0]
+        except OSError:
+            count = 0
+        down.ended = not count
+        down.count += count
+        if count:
+            self._on_replies(down.buffer[:count])
+        return down.buffer[:count]
+
+    def _write_down(self) -> None:
+        down = self._down
+        try:
+            while down.rest:
+                down.rest = down.rest[self._client.send(down.rest):]
+        except WANTS:
+            return
+        except OSError as fault:
+            raise ClientGone(str(fault)) from None

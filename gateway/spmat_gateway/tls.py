@@ -1,0 +1,116 @@
+"""TLS: the gateway's own certificate, the certificates of clients, and a connection's end."""
+from __future__ import annotations
+
+import hashlib
+import select
+import socket
+import ssl
+import time
+from typing import Optional, Union
+
+from .config import ConfigError, Tls
+from .users import Login, is_name
+
+Client = Union[socket.socket, ssl.SSLSocket]
+SECONDS_TO_LINGER = 3.0
+
+
+def make_context(tls: Tls) -> Optional[ssl.SSLContext]:
+    """What speaks TLS as the file says; None where it names no certificate.
+
+    Raises
+    ------
+    ConfigError
+        Where a certificate or a key can't be used.
+    """
+    if not tls.certificate:
+        return None
+    context = ssl.SSLContext(ssl.PROTOCOL_TLS_SERVER)
+    context.minimum_version = ssl.TLSVersion.TLSv1_2
+    # an end without TLS' own word for it is a client that has gone, and no end of its input
+    context.options &= ~getattr(ssl, 'OP_IGNORE_UNEXPECTED_EOF', 0)
+    try:
+        context.load_cert_chain(tls.certificate, tls.key or None)
+    except OSError as fault:
+        raise ConfigError('[tls] certificate %s with its key %s: %s' % (tls.certificate, tls.key
+                                                                        or 'in the same file',
+                                                                        fault.strerror
+                                                                        or fault)) from None
+    if tls.clients:
+        context.verify_mode = ssl.CERT_OPTIONAL
+        try:
+            context.load_verify_locations(tls.clients)
+        except OSError as fault:
+            raise ConfigError('[tls] clients %s: %s' % (tls.clients, fault.strerror
+                                                        or fault)) from None
+    return context
+
+
+def fingerprint_of(certificate: bytes) -> str:
+    """The SHA-256 of a certificate in DER, as `openssl x509 -fingerprint -sha256` has it, without
+    colons."""
+    return hashlib.sha256(certificate).hexdigest()
+
+
+def fingerprint_of_text(text: str) -> str:
+    """The fingerprint of the first certificate of a PEM text."""
+    begin = text.find('-----BEGIN CERTIFICATE-----')
+    end = text.find('-----END CERTIFICATE-----')
+    if begin < 0 or end < begin:
+        raise ValueError('no certificate in PEM format')
+    return fingerprint_of(ssl.PEM_cert_to_DER_cert(text[begin:end] + '-----END CERTIFICATE-----\n'))
+
+
+def shake_hands(connection: socket.socket, context: Optional[ssl.SSLContext],
+                seconds: float) -> Client:
+    """The connection with TLS spoken on it. OSError where that fails or takes too long."""
+    connection.settimeout(seconds)
+    if context is None:
+        return connection
+    return context.wrap_socket(connection, server_side=True, suppress_ragged_eofs=False)
+
+
+def login_by_certificate(client: Client, names: str) -> Optional[Login]:
+    """Who the client is by its certificate; None where it has shown none."""
+    if not isinstance(client, ssl.SSLSocket):
+        return None
+    certificate = client.getpeercert(True)
+    if not certificate:
+        return None
+    subject = (client.getpeercert() or {}).get('subject', ())
+    common = [value for part in subject for key, value in part  # type: ignore[misc]
+              if key == 'commonName']
+    by_name = names == 'common-name' and len(common) == 1 and is_name(str(common[0]))
+    return Login(name=str(common[0]) if by_name else '', fingerprint=fingerprint_of(certificate))
+
+
+def close(client: Client) -> None:
+    """Ends a connection so that the last bytes arrive: what the client still sends is read, as a
+    reset would drop them."""
+    deadline = time.monotonic() + SECONDS_TO_LINGER
+    try:
+        client.setblocking(False)
+        if isinstance(client, ssl.SSLSocket):
+            try:
+                client.unwrap()
+            except (OSError, ValueError):          # ours is sent; the client's may come later
+                pass
+        client.shutdown(socket.SHUT_WR)
+        _read_to_the_end(client, deadline)
+    except OSError:
+        pass
+    finally:
+        client.close()
+
+
+def _read_to_the_end(client: Client, deadline: float) -> None:
+    poll = select.poll()
+    poll.register(client.fileno(), select.POLLIN)
+    while time.monotonic() < deadline:
+        if not poll.poll(1000 * max(0.0, deadline - time.monotonic())):
+            return
+        try:
+            if not client.recv(1 << 16):
+                return
+        except BlockingIOError:
+            continue

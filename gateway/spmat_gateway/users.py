@@ -1,0 +1,65 @@
+"""Who connects: names, tokens, and the first line that a client with a token sends.
+
+A token is 32 random bytes that the gateway draws, so nobody guesses one, and a single SHA-256 with
+a salt is a hash for it.
+"""
+from __future__ import annotations
+
+import hashlib
+import hmac
+import re
+import secrets
+from typing import NamedTuple, Optional
+
+NAME = re.compile(r'[a-z0-9_][a-z0-9_.-]{0,31}')
+GROUP_MARK = '@'                                   # a group is an account whose name begins with it
+LONGEST_LOGIN = 256
+WRONG = 'sha256$00$' + '0' * 64  # what a token is compared with where there is no user
+
+
+class Login(NamedTuple):
+    """What a client says of itself: a name with a token, or a certificate's fingerprint and common
+    name."""
+    name: str = ''
+    token: str = ''
+    fingerprint: str = ''
+
+
+def is_name(name: str) -> bool:
+    """Whether a user may be called so. A name is a word of commands and of units, so it begins with
+    no dash."""
+    return NAME.fullmatch(name) is not None
+
+
+def is_account(name: str) -> bool:
+    """Whether this is a user's name, or `@` and a group's."""
+    return is_name(name[1:] if name.startswith(GROUP_MARK) else name)
+
+
+def new_token() -> str:
+    """A new token, which nobody can guess."""
+    return secrets.token_urlsafe(32)
+
+
+def hash_token(token: str) -> str:
+    """What is stored of a token."""
+    salt = secrets.token_hex(16)
+    return 'sha256$%s$%s' % (salt, hashlib.sha256((salt + token).encode()).hexdigest())
+
+
+def is_right(stored: Optional[str], token: str) -> bool:
+    """Whether a token is the one whose hash is stored, in a time that doesn't tell."""
+    kind, salt, digest = (stored or WRONG).split('$')
+    given = hashlib.sha256((salt + token).encode()).hexdigest()
+    return hmac.compare_digest(given, digest) and bool(stored) and kind == 'sha256'
+
+
+def parse_login(line: bytes) -> Optional[Login]:
+    """The line `login USER TOKEN`, None for any other."""
+    try:
+        words = line.decode('ascii').split()
+    except UnicodeDecodeError:
+        return None
+    if len(words) != 3 or words[0] != 'login' or not is_name(words[1]):
+        return None
+    return Login(words[1], words[2])
