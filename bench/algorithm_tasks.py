@@ -43,7 +43,7 @@ def shares(matrix: Any) -> Any:
 
 def summed(matrix: Any) -> Tuple[int, int]:
     """How many entries a matrix has, and their sum."""
-    _, _, values = matrix.to_coo()
+    _, _, values = matrix.entries()
     return len(values), int(numpy.sum(values))
 
 

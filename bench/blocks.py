@@ -113,11 +113,11 @@ def of_spmat(sessions, held, parts):
     yield 'load', load
     yield 'degrees', lambda: algorithms.degrees(made['G']).reduce_scalar('max')
     yield 'mxv', lambda: made['G'].mxv(made['x']).reduce_scalar('max')
-    yield 'bfs', lambda: sum(algorithms.bfs_levels(made['G'], source, made['G'], check=False).to_coo(arrays=False)[2])
-    yield 'components', lambda: len(set(algorithms.connected_components(made['G'], made['G'], check=False).to_coo(arrays=False)[2]))
+    yield 'bfs', lambda: sum(algorithms.bfs_levels(made['G'], source, made['G'], check=False).entries(arrays=False)[2])
+    yield 'components', lambda: len(set(algorithms.connected_components(made['G'], made['G'], check=False).entries(arrays=False)[2]))
     yield 'pagerank', lambda: algorithms.pagerank(made['G'], made['G'], scale=1 << 44, check=False).reduce_scalar('max')
     yield 'triangles', lambda: algorithms.triangle_count(made['G'], check=False)
-    yield 'sssp', lambda: sum(algorithms.sssp(made['W'], source, made['W'], check=False).to_coo(arrays=False)[2])
+    yield 'sssp', lambda: sum(algorithms.sssp(made['W'], source, made['W'], check=False).entries(arrays=False)[2])
 
 
 def of_scipy(held):

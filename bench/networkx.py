@@ -9,7 +9,7 @@ is installed, and how often networkx' time the second is. The least of several c
 (5), and stands as `>5`; after `--seconds` in all (900) what is left isn't timed. Where both ended the answers are compared, and a
 difference is status 1. `--processors` counts what processors spend on client and server together, where the clock of a busy machine
 says nothing (Linux alone). With `--figures` the times are also written into that file's table, in the column of this size; bench/ratios.py
-makes the table of docs/performance.md from bench/networkx.txt.
+makes the table of bench/README.md from bench/networkx.txt.
 """
 import argparse
 import contextlib
@@ -62,19 +62,18 @@ class Graphs:
         self._made = {}
 
     def graph(self, kind):
-        """A 'graph'; its greatest component, 'joined'; a 'digraph', a 'dag', and one of two 'sides', of its edges."""
+        """A 'graph'; its greatest component, 'joined'; a 'digraph' and a 'dag' of its edges."""
         if kind not in self._made and kind == 'joined':
             graph = self.graph('graph')
             most = max(nx.connected_components(graph, backend='networkx'), key=len)
             self._made[kind] = graph if len(most) == len(graph) else graph.subgraph(sorted(most)).copy()
         if kind not in self._made:
             rng = random.Random(2)
-            made = nx.Graph() if kind in ('graph', 'sides') else nx.DiGraph()
+            made = nx.Graph() if kind == 'graph' else nx.DiGraph()
             made.add_nodes_from(range(self.count))
             for i, j in self.pairs:
                 turned, weight = kind == 'digraph' and rng.random() < 0.5, rng.randint(1, 9)
-                if kind != 'sides' or (i + j) % 2:
-                    made.add_edge(*((j, i) if turned else (i, j)), weight=weight)
+                made.add_edge(*((j, i) if turned else (i, j)), weight=weight)
             self._made[kind] = made
         return self._made[kind]
 
@@ -90,11 +89,11 @@ class Graphs:
 
 
 PAIRED = ('all_pairs_', 'floyd_warshall', 'number_of_walks', 'power', 'transitive_')   # whose answers have a number for each pair
-DIRECTED = set('''attracting_components in_degree_centrality is_arborescence is_branching is_semiconnected is_strongly_connected
-    is_tournament is_weakly_connected negative_edge_cycle number_strongly_connected_components number_weakly_connected_components
+DIRECTED = set('''attracting_components in_degree_centrality is_arborescence is_branching is_semiconnected
+    is_weakly_connected negative_edge_cycle number_strongly_connected_components number_weakly_connected_components
     out_degree_centrality overall_reciprocity reciprocity strongly_connected_components transitive_closure
     weakly_connected_components'''.split())
-ACYCLIC = {'dag_longest_path_length', 'has_cycle', 'is_directed_acyclic_graph', 'transitive_closure_dag', 'transitive_reduction'}
+ACYCLIC = {'dag_longest_path_length', 'transitive_closure_dag', 'transitive_reduction'}
 JOINED = {'average_shortest_path_length', 'center', 'diameter', 'eccentricity', 'periphery', 'radius', 'wiener_index'}
 PEERS = {
     'betweenness_centrality': lambda g, _: g.betweenness(), 'closeness_centrality': lambda g, _: g.closeness(),
@@ -102,7 +101,7 @@ PEERS = {
     g.transitivity_avglocal_undirected(mode='zero'), 'transitivity': lambda g, _: g.transitivity_undirected(),
     'connected_components': lambda g, _: g.connected_components().membership, 'core_number': lambda g, _: g.coreness(),
     'degree_centrality': lambda g, _: g.degree(), 'diameter': lambda g, _: g.diameter(), 'eccentricity': lambda g, _: g.eccentricity(),
-    'harmonic_centrality': lambda g, _: g.harmonic_centrality(), 'is_bipartite': lambda g, _: g.is_bipartite(),
+    'harmonic_centrality': lambda g, _: g.harmonic_centrality(),
     'is_connected': lambda g, _: g.is_connected(), 'is_tree': lambda g, _: g.is_tree(),
     'minimum_spanning_tree': lambda g, _: g.spanning_tree(weights='weight'), 'pagerank': lambda g, _: g.pagerank(),
     'radius': lambda g, _: g.radius(), 'average_shortest_path_length': lambda g, _: g.average_path_length(),
@@ -113,17 +112,15 @@ PEERS = {
 
 def arguments(name, middle, far, count):
     """What a function is called with besides the graph."""
-    ends, some = [(k, count - 1 - k) for k in range(min(1000, count // 2))], list(range(0, count, 7))
+    some = list(range(0, count, 7))
     one, two = {'source': middle}, {'source': middle, 'target': far}
     return {
-        'ancestors': one, 'bellman_ford_path_length': two, 'bfs_layers': {'sources': [middle]}, 'common_neighbor_centrality':
-        {'ebunch': ends, 'alpha': 1}, 'descendants': one, 'descendants_at_distance': {**one, 'distance': 2}, 'dijkstra_path_length': two,
-        'efficiency': {'u': middle, 'v': far}, 'ego_graph': {'n': far, 'radius': 2}, 'has_path': two, 'is_dominating_set':
-        {'nbunch': some}, 'is_k_regular': {'k': 3}, 'jaccard_coefficient': {'ebunch': ends}, 'k_core': {'k': 5}, 'k_corona': {'k': 5},
+        'ancestors': one, 'bellman_ford_path_length': two, 'bfs_layers': {'sources': [middle]}, 'descendants': one,
+        'dijkstra_path_length': two, 'k_core': {'k': 5}, 'k_corona': {'k': 5},
         'k_crust': {'k': 12}, 'k_shell': {'k': 12}, 'k_truss': {'k': 4}, 'maximal_independent_set': {'seed': 1},
-        'multi_source_dijkstra_path_length': {'sources': some[:9]}, 'node_boundary': {'nbunch1': some}, 'node_connected_component':
+        'multi_source_dijkstra_path_length': {'sources': some[:9]}, 'node_connected_component':
         {'n': middle}, 'number_of_walks': {'walk_length': 3}, 'pagerank': {'weight': None}, 'power': {'k': 2},
-        'preferential_attachment': {'ebunch': ends}, 'shortest_path_length': one, 'single_source_bellman_ford_path_length': one,
+        'shortest_path_length': one, 'single_source_bellman_ford_path_length': one,
         'single_source_dijkstra_path_length': one, 'single_source_shortest_path_length': one,
         'single_target_shortest_path_length': {'target': middle},
     }.get(name, {})
@@ -135,8 +132,7 @@ def functions(graphs):
     middle = max(range(3), key=lambda node: sum(node in pair for pair in graphs.pairs[:1000]))
     found = []
     for name in sorted(SERVED):
-        kind = ('digraph' if name in DIRECTED else 'dag' if name in ACYCLIC else 'joined' if name in JOINED else
-                'sides' if name == 'color' else 'graph')
+        kind = ('digraph' if name in DIRECTED else 'dag' if name in ACYCLIC else 'joined' if name in JOINED else 'graph')
         given = arguments(name, middle, graphs.count - 1, graphs.count)
         found.append((name, kind, given))
         if name in ('average_clustering', 'pagerank', 'single_source_shortest_path_length', 'single_source_bellman_ford_path_length'):
@@ -227,8 +223,8 @@ class Table:
     """The times of one size."""
 
     def __init__(self, edges, limit, whole):
-        from spmat.networkx.backend import Backend
-        self.backend, self.limit, self.end = Backend, limit, time.perf_counter() + whole
+        from spmat.networkx.backend import backend
+        self.backend, self.limit, self.end = backend, limit, time.perf_counter() + whole
         self.graphs, self.held, self.wrong, self.edges, self.cells = Graphs(edges), {}, [], edges, {}
 
     def on_server(self, kind):

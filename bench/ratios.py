@@ -1,10 +1,10 @@
 #!/usr/bin/env python3
-"""ratios.py            writes the tables of ratios into docs/performance.md
-ratios.py --check    sees that the page has them as the raw figures are
+"""ratios.py            writes the tables of ratios into docs/performance.md and bench/README.md
+ratios.py --check    sees that the pages have them as the raw figures are
 
-bench/peers.txt has the milliseconds of `bench/run peers`, bench/algorithms.txt the seconds of `bench/run algorithms`, and bench/networkx.txt
-those of bench/networkx.py. The page shows ratios, which
-say more than seconds of some machine: each table stands between the comments `<!-- bench/ratios NAME -->` and `<!-- end -->`.
+bench/peers.txt has the milliseconds of `bench/run peers`, bench/algorithms.txt the seconds of `bench/run algorithms`,
+bench/algorithms_large.txt those on graphs of a million edges, and bench/networkx.txt those of bench/networkx.py. The pages show ratios,
+which say more than seconds of some machine: each table stands between the comments `<!-- bench/ratios NAME -->` and `<!-- end -->`.
 """
 import os
 import re
@@ -12,7 +12,9 @@ import sys
 from typing import Callable, Dict, List, NamedTuple, Optional
 
 BENCH = os.path.dirname(os.path.abspath(__file__))
-PAGE = os.path.join(os.path.dirname(BENCH), 'docs', 'performance.md')
+TOP = os.path.dirname(BENCH)
+PAGE = os.path.join(TOP, 'docs', 'performance.md')
+MEASUREMENTS = os.path.join(BENCH, 'README.md')
 GRAPHS = ('kron', 'urand', 'road', 'directed')     # whole algorithms; what is measured on a dag alone stands with directed
 EDGES = '100,000 edges'                            # the size that the page shows of networkx' functions
 BANDS = ((100, '100 and more'), (30, '30 to 100'), (10, '10 to 30'), (3, '3 to 10'), (1, '1 to 3'), (0, 'below 1'))
@@ -124,26 +126,45 @@ def shown(ratio: float) -> str:
     return '%.0f' % ratio if ratio >= 9.5 else '%.1f' % ratio if ratio >= 1 else '%.2f' % ratio if ratio >= 0.01 else '%.3f' % ratio
 
 
-TABLES: Dict[str, Callable[[], str]] = {'peers': lambda: peers(text_of('peers.txt')), 'networkx': lambda: networkx(text_of('networkx.txt')),
-                                        'algorithms': lambda: algorithms(text_of('algorithms.txt'))}
+def large(raw: str) -> str:
+    """The time of a call, how many times as long as the best peer it took, and that peer, of each algorithm on each graph."""
+    cells: Dict[str, Dict[str, str]] = {}
+    for row in rows_of(raw)[1:]:
+        graph, best = row[0].partition(':')[0], measured(row)
+        cells.setdefault(row[1], {})[graph] = '%s, %s %s' % (duration(float(row[3])), shown(float(best.ratio)), best.best)
+    lines = ['| `%s` | %s |' % (name, ' | '.join(found.get(graph, '') for graph in GRAPHS)) for name, found in cells.items()]
+    return '\n'.join(['| algorithm | %s |' % ' | '.join(GRAPHS), '|---' * (len(GRAPHS) + 1) + '|', *lines])
 
 
-def with_tables(page: str) -> str:
-    """The page with each table as the raw figures give it. ValueError where it has no place for one."""
-    for name, make in TABLES.items():
+def duration(seconds: float) -> str:
+    """A time in two digits, with its unit."""
+    return '%.2g s' % seconds if seconds >= 0.995 else '%.2g ms' % (1000 * seconds) if seconds < 0.0995 else '%.0f ms' % (1000 * seconds)
+
+
+PAGES: Dict[str, Dict[str, Callable[[], str]]] = {
+    PAGE: {'large': lambda: large(text_of('algorithms_large.txt'))},
+    MEASUREMENTS: {'peers': lambda: peers(text_of('peers.txt')), 'networkx': lambda: networkx(text_of('networkx.txt')),
+                   'algorithms': lambda: algorithms(text_of('algorithms.txt'))}}
+
+
+def with_tables(path: str) -> str:
+    """A page with each of its tables as the raw figures give it. ValueError where it has no place for one."""
+    with open(path, encoding='utf-8') as file:
+        page = file.read()
+    for name, make in PAGES[path].items():
         place = re.compile(r'(<!-- bench/ratios %s -->\n).*?(<!-- end -->)' % name, re.S)
         if not place.search(page):
-            raise ValueError('docs/performance.md has no place <!-- bench/ratios %s -->' % name)
+            raise ValueError('%s has no place <!-- bench/ratios %s -->' % (path, name))
         page = place.sub(lambda found, made=make(): found.group(1) + made + '\n' + found.group(2), page)     # type: ignore[misc]
     return page
 
 
 def write() -> None:
-    """Puts the tables into the page."""
-    with open(PAGE, encoding='utf-8') as file:
-        made = with_tables(file.read())
-    with open(PAGE, 'w', encoding='utf-8') as file:
-        file.write(made)
+    """Puts the tables into the pages."""
+    for path in PAGES:
+        made = with_tables(path)
+        with open(path, 'w', encoding='utf-8') as file:
+            file.write(made)
 
 
 def main(words: List[str]) -> int:
@@ -153,12 +174,13 @@ def main(words: List[str]) -> int:
     if not words:
         write()
         return 0
-    with open(PAGE, encoding='utf-8') as file:
-        page = file.read()
-    if with_tables(page) == page:
-        return 0
-    print('docs/performance.md: a table of ratios differs from the raw figures; bench/ratios.py writes it anew')
-    return 1
+    status = 0
+    for path in PAGES:
+        with open(path, encoding='utf-8') as file:
+            if with_tables(path) != file.read():
+                print('%s: a table of ratios differs from the raw figures; bench/ratios.py writes it anew' % os.path.relpath(path, TOP))
+                status = 1
+    return status
 
 
 if __name__ == '__main__':

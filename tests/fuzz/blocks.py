@@ -21,7 +21,9 @@ import time
 sys.path[0] = os.path.dirname(os.path.dirname(os.path.dirname(os.path.realpath(__file__))))     # modules are named from the top
 
 from tests.lib.paths import CLIENT, CLIENT_TESTS  # noqa: E402  # pylint: disable=wrong-import-position
+from tools import numpy_python  # noqa: E402  # pylint: disable=wrong-import-position
 
+numpy_python.use()
 sys.path[:0] = [CLIENT, CLIENT_TESTS]
 os.environ['PYTHONPATH'] = os.pathsep.join(sys.path[:2])       # also for Dask's workers
 

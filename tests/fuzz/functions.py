@@ -14,6 +14,7 @@ import sys
 sys.path[0] = os.path.dirname(os.path.dirname(os.path.dirname(os.path.realpath(__file__))))     # modules are named from the top
 
 from tests.lib.paths import CLIENT, CLIENT_TESTS, PLAIN_SERVER, TOP
+from tools import numpy_python
 
 sys.path[:1] = [CLIENT, CLIENT_TESTS, TOP]
 
@@ -24,6 +25,7 @@ def main(words):
     parser.add_argument('--seed', type=int, default=random.randrange(1 << 32))
     parser.add_argument('--program')
     given = parser.parse_args(words)
+    numpy_python.use()
     os.environ.setdefault('SPMAT', given.program or PLAIN_SERVER)
     import random_comparison
     import spmat

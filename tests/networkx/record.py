@@ -28,11 +28,11 @@ def pytest_configure(config):
         scipy.sparse.sparray = scipy.sparse._arrays._sparray
     if not os.environ.get('NETWORKX_TEST_BACKEND'):
         return
-    from spmat.networkx.backend import Backend
+    from spmat.networkx.backend import backend
     from spmat.networkx.backend_info import SERVED
     for name in SERVED:
-        setattr(Backend, name, staticmethod(_counted(name, getattr(Backend, name))))
-    Backend.can_run = staticmethod(_watched(Backend.can_run))
+        setattr(backend, name, _counted(name, getattr(backend, name)))
+    backend.can_run = _watched(backend.can_run)
 
 
 def _counted(name, function):

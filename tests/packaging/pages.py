@@ -8,7 +8,7 @@ from typing import Dict, Iterator, List, NamedTuple
 
 from tests.lib.paths import TOP
 
-PAGES = ('README.md', 'docs/server.md')
+PAGES = ('README.md', 'docs/server.md', 'docs/service.md')
 INTRODUCED = re.compile(r'\[(packaging/[^\]]+)\]\((?:\.\./)?\1\):$')
 INDENT = '    '
 

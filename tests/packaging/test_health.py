@@ -42,7 +42,8 @@ class Health(Room):
         port = self.serve()
         seats: List[spmat.Session] = [spmat.Session.connect(port=port) for _ in range(SEATS)]
         for _ in range(20):
-            self.tells((0, '%d: all seats are taken\n' % port), port)
+            for words in ((port,), (port, 1), (port, 2000000)):     # steps that weren't looked at are no success
+                self.tells((2, '%d: it takes no session: all seats are taken, or there is no memory or thread\n' % port), *words)
         for session in seats:
             session.close()
         self.tells((0, '%d: 1000000 steps left\n' % port), port)
@@ -68,15 +69,32 @@ class Health(Room):
         port = free_port()
         self.assertEqual(health(port), (1, '%d: no answer\n' % port))
 
-    def test_something_else(self) -> None:
+    def answered(self, replies: bytes, wanted: Tuple[int, str], *words: str) -> None:
+        """A server that says this, whatever it is asked, is told so."""
         with socket.create_server(('127.0.0.1', 0)) as other:
             port = other.getsockname()[1]
-            child = subprocess.Popen([HEALTH, str(port)], stdout=subprocess.PIPE, text=True)
-            other.settimeout(FOR_A_REPLY)
-            with other.accept()[0] as connection:
-                connection.sendall(b'HTTP/1.1 400 Bad Request\r\n')
-            self.assertEqual(child.communicate(timeout=FOR_A_REPLY), ('%d: no answer\n' % port, None))
-            self.assertEqual(child.returncode, 1)
+            with subprocess.Popen([HEALTH, str(port), *words], stdout=subprocess.PIPE, text=True) as child:
+                other.settimeout(FOR_A_REPLY)
+                with other.accept()[0] as connection:
+                    connection.sendall(replies)
+                    connection.shutdown(socket.SHUT_WR)
+                    connection.settimeout(FOR_A_REPLY)
+                    while connection.recv(4096):
+                        pass
+                self.assertEqual(child.communicate(timeout=FOR_A_REPLY), ('%d: %s\n' % (port, wanted[1]), None))
+                self.assertEqual(child.returncode, wanted[0])
+
+    def test_something_else(self) -> None:
+        self.answered(b'HTTP/1.1 400 Bad Request\r\n', (1, 'no answer'))
+        self.answered(b'ok budget 5 0 0\nok budget 5 0 0\n', (1, 'no answer'))
+        self.answered(b'ok budget 5 0 0\n', (1, 'no answer'))
+
+    def test_a_session_without_memory(self) -> None:
+        """Too few steps are told first: they don't come back, and memory may."""
+        replies = b'ok budget 5 0 0\nno memory\nok quit\n'
+        self.answered(replies, (2, 'no memory, 5 steps left'))
+        self.answered(replies, (2, 'no memory, 5 steps left'), '5')
+        self.answered(replies, (1, '5 steps left'), '6')
 
     @needs('socat', 'systemd-socket-activate')
     def test_a_socket_file(self) -> None:

@@ -8,8 +8,8 @@ from typing import List, Set
 from tests.lib.paths import TOP
 from tests.packaging.pages import PAGES, blocks, is_file, text_of
 
-PRINTED = ('ssh/*', 'stunnel/session.py')
-LINKED = ('ssh/*', 'stunnel/*', 'systemd/*.service', 'systemd/*.socket', 'spmat-health')
+PRINTED = ('gateway/spmat-gateway.toml', 'ssh/*', 'stunnel/session.py')
+LINKED = ('ssh/*', 'stunnel/*', 'systemd/*.service', 'systemd/*.socket', 'spmat-health', 'gateway/*.toml', 'gateway/*.yml', 'Containerfile', 'compose.yaml')
 UNITS = ('systemd/*.service', 'systemd/*.socket')
 # What the page calls by a name of this kind, and isn't a setting: variables of /etc/default/spmat.
 OTHER_SETTINGS = {'SERVE', 'SESSION'}
@@ -36,7 +36,7 @@ class Pages(unittest.TestCase):
         self.assertEqual(files_of(PRINTED), sorted(block.file for page in PAGES for block in blocks(page)))
 
     def test_each_file_is_linked(self) -> None:
-        page = text_of('docs/server.md')
+        page = text_of('docs/server.md') + text_of('docs/service.md')
         for file in files_of(LINKED):
             with self.subTest(file=file):
                 self.assertIn('](../%s)' % file, page)

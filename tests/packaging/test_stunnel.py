@@ -6,6 +6,7 @@ import socket
 import ssl
 import subprocess
 import sys
+import threading
 from typing import Dict, Optional
 
 from tests.lib.paths import TOP
@@ -99,3 +100,46 @@ class Stunnel(Room):
         for name in ('server', 'client'):
             for setting in ('TIMEOUTidle', 'TIMEOUTclose'):
                 self.assertIn('\n%s = 86400\n' % setting, snippet('stunnel/%s.conf' % name, {}))
+
+
+@needs('openssl')
+class Certificates(Room):
+    """packaging/stunnel/certificate names a host or a person as such, and an address as an address, which clients compare with it."""
+
+    def test_names_and_addresses(self) -> None:
+        for name, told in (('localhost', 'DNS:localhost'), ('anna', 'DNS:anna'), ('10.example.org', 'DNS:10.example.org'),
+                           ('127.0.0.1', 'IP Address:127.0.0.1'), ('2001:db8::7', 'IP Address:2001:DB8:0:0:0:0:0:7')):
+            subprocess.run([os.path.join(TOP, 'packaging', 'stunnel', 'certificate'), name], cwd=self.folder, check=True,
+                           stdin=subprocess.DEVNULL, stderr=subprocess.DEVNULL, timeout=FOR_A_REPLY)
+            said = subprocess.run(['openssl', 'x509', '-in', self.file(name + '.crt'), '-noout', '-ext', 'subjectAltName'],
+                                  stdout=subprocess.PIPE, text=True, check=True, timeout=FOR_A_REPLY)
+            self.assertEqual(said.stdout.splitlines()[-1].strip(), told)
+
+    def test_a_client_compares_the_address(self) -> None:
+        """A server with the certificate of 127.0.0.1 is known at this address, and one with that of another address isn't."""
+        for name, known in (('127.0.0.1', True), ('127.0.0.2', False)):
+            subprocess.run([os.path.join(TOP, 'packaging', 'stunnel', 'certificate'), name], cwd=self.folder, check=True,
+                           stdin=subprocess.DEVNULL, stderr=subprocess.DEVNULL, timeout=FOR_A_REPLY)
+            context = ssl.SSLContext(ssl.PROTOCOL_TLS_SERVER)
+            context.load_cert_chain(self.file(name + '.pem'))
+            with socket.create_server(('127.0.0.1', 0)) as server:
+                thread = threading.Thread(target=shake_hands, args=(server, context))
+                thread.start()
+                tls = ssl.create_default_context(cafile=self.file(name + '.crt'))
+                with socket.create_connection(server.getsockname(), FOR_A_REPLY) as client:
+                    try:
+                        tls.wrap_socket(client, server_hostname='127.0.0.1').close()
+                        self.assertTrue(known)
+                    except ssl.SSLCertVerificationError as error:
+                        self.assertFalse(known)
+                        self.assertIn('IP address mismatch', str(error))
+                thread.join()
+
+
+def shake_hands(server: socket.socket, context: ssl.SSLContext) -> None:
+    """Accepts one client and shakes hands with it, as far as it does."""
+    with server.accept()[0] as connection:
+        try:
+            context.wrap_socket(connection, server_side=True).close()
+        except OSError:
+            pass

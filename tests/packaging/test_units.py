@@ -5,17 +5,19 @@ import shlex
 import signal
 import socket
 import subprocess
-from typing import List, Set, Tuple
+import threading
+from typing import Dict, List, Set, Tuple
 
 from tests.lib.patience import FOR_A_REPLY
 from tests.lib.ports import free_port
 from tests.packaging.pages import snippet, text_of
 from tests.packaging.rooms import (FIRST_SESSION, LAST_REPLIES, Room, converse, found, is_checked, lines_of, needs, program,
-                                   settings_of)
+                                   settings_of, until)
 import spmat
 
 SERVICES = ('spmat.service', 'spmat@.service')
-UNITS = SERVICES + ('spmat.socket',)
+GATEWAY = 'spmat-gateway.service'
+UNITS = SERVICES + ('spmat.socket', GATEWAY)
 MOST_EXPOSED = 20                                  # of 100, as systemd-analyze counts
 # Calls of what starts the program, before systemd's filter stands.
 BEFORE = {'execve'}
@@ -23,17 +25,23 @@ BEFORE = {'execve'}
 
 def words_of(service: str, name: str) -> List[str]:
     """The words behind the program that a unit gives by itself, in its variable of this name."""
-    (value,) = settings_of(text_of('packaging/systemd/' + service))['Environment']
-    variable, _, words = value.strip('"').partition('=')
-    assert variable == name
+    (words,) = (value.strip('"').partition('=')[2] for value in settings_of(text_of('packaging/systemd/' + service))['Environment']
+                if value.startswith('"%s=' % name))
     return shlex.split(words)
+
+
+def allocator_of(service: str) -> Dict[str, str]:
+    """The variables by which a unit has the C library give memory back."""
+    (line,) = (value for value in settings_of(text_of('packaging/systemd/' + service))['Environment'] if value.startswith('MALLOC_'))
+    return dict(pair.split('=') for pair in line.split())
 
 
 class Units(Room):
     def setUp(self) -> None:
         super().setUp()
         for name in UNITS:
-            self.write(name, snippet('systemd/' + name, {'/usr/bin/spmat': program()} if name in SERVICES else {}), 0o644)
+            changes = {'/usr/bin/spmat': program()} if name in SERVICES else {'/usr/bin/spmat-gateway': program()} if name == GATEWAY else {}
+            self.write(name, snippet('systemd/' + name, changes), 0o644)
 
     @needs('systemd-analyze')
     def test_systemd_takes_them(self) -> None:
@@ -42,8 +50,17 @@ class Units(Room):
         self.assertEqual((said.returncode, said.stdout), (0, ''))
 
     @needs('systemd-analyze')
-    def test_exposure(self) -> None:
+    def test_systemd_sees_that_the_program_is_missing(self) -> None:
         for name in SERVICES:
+            path = self.write('missing-' + name, snippet('systemd/' + name, {'/usr/bin/spmat': '/nowhere/spmat'}), 0o644)
+            said = subprocess.run(['systemd-analyze', 'verify', '--man=no', path], stdout=subprocess.PIPE, stderr=subprocess.STDOUT, text=True,
+                                  timeout=FOR_A_REPLY, check=False)
+            self.assertNotEqual(said.returncode, 0)
+            self.assertIn('/nowhere/spmat is not executable', said.stdout)
+
+    @needs('systemd-analyze')
+    def test_exposure(self) -> None:
+        for name in (*SERVICES, GATEWAY):
             said = subprocess.run(['systemd-analyze', 'security', '--offline=yes', '--no-pager', '--threshold=%d' % MOST_EXPOSED,
                                    self.file(name)], stdout=subprocess.PIPE, text=True, timeout=FOR_A_REPLY, check=False)
             self.assertEqual(said.returncode, 0, said.stdout[-300:])
@@ -71,6 +88,68 @@ class Units(Room):
         words = words_of('spmat.service', 'SERVE')
         tasks = int(settings_of(text_of('packaging/systemd/spmat.service'))['TasksMax'][0])
         self.assertGreater(tasks, 16 * int(words[words.index('--workers') + 1]) + 2)
+
+
+class Memory(Room):
+    """What sessions that ended had allocated has gone back, under the units' variables: a mixed load leaves little, and what fits into a
+    fresh server fits again."""
+
+    LIMIT = 3_000_000                              # of address space, in KB
+    EMPTY = b'%%MatrixMarket matrix coordinate integer general\n16777216 1 0\n'
+    """A matrix of 134 MB that is quickly sent."""
+
+    def setUp(self) -> None:
+        super().setUp()
+        if is_checked():
+            self.skipTest('a program with run-time checks wants all addresses')
+        self.port = free_port()
+        for service in SERVICES:
+            self.assertEqual(allocator_of(service), allocator_of(SERVICES[0]))
+        words = ['env'] + ['%s=%s' % pair for pair in allocator_of(SERVICES[0]).items()]
+        words += ['prlimit', '--as=%d' % (1024 * self.LIMIT), program(), 'serve', '--port', str(self.port), '--steps', '1000000000000',
+                  '--workers', '1']
+        self.server = self.start('memory', words, lambda: 'listening' in self.log('memory')).pid
+
+    def resident(self) -> int:
+        """The resident memory of the server in KB."""
+        with open('/proc/%d/status' % self.server, encoding='ascii') as file:
+            return int(re.findall(r'VmRSS:\s+(\d+)', file.read())[0])
+
+    def fitting(self) -> int:
+        """How many large matrices one session can hold."""
+        commands = b''.join(b'matrix Z%d %d\n%s' % (number, len(self.EMPTY), self.EMPTY) for number in range(40)) + b'quit\n'
+        with socket.create_connection(('127.0.0.1', self.port)) as client:
+            client.sendall(commands)
+            with client.makefile('rb') as replies:
+                return replies.read().count(b'ok matrix')
+
+    def mixed(self, seed: int) -> None:
+        """A session as users have them: texts, products, results, some of them large."""
+        size = 20_000 + 5_000 * (seed % 5)
+        rows = b''.join(b'%d %d %d\n' % (row + 1, row * 7 % size + 1, row) for row in range(size))
+        text = b'%%%%MatrixMarket matrix coordinate integer general\n%d %d %d\n%s' % (size, size, size, rows)
+        plus = b'asm plus binary 32\nmov64 r0, r1\nadd64 r0, r2\nexit\n\n'
+        jobs = b''.join(b'union B%d plus A A\nproduct C%d plus plus A A\nrun\nshow B%d\n' % (number, number, number)
+                        for number in range(4))
+        with socket.create_connection(('127.0.0.1', self.port)) as client:
+            sender = threading.Thread(target=client.sendall, args=(plus + b'matrix A %d\n%s' % (len(text), text) + jobs + b'quit\n',))
+            sender.start()
+            with client.makefile('rb') as replies:
+                self.assertTrue(replies.read().endswith(b'ok quit\n'))
+            sender.join()
+
+    def test_memory_comes_back(self) -> None:
+        fresh = self.fitting()
+        self.assertGreater(fresh, 18)
+        for _ in range(3):
+            threads = [threading.Thread(target=self.mixed, args=(seed,)) for seed in range(12)]
+            for thread in threads:
+                thread.start()
+            for thread in threads:
+                thread.join()
+        until('the memory is given back', lambda: self.resident() < 60_000)
+        self.assertGreaterEqual(self.fitting(), fresh - 1)
+        until('the memory is given back', lambda: self.resident() < 60_000)
 
 
 @needs('strace')

@@ -17,7 +17,7 @@ from typing import Dict, List
 from tests.lib.paths import TOP
 from tests.lib.patience import FOR_A_COMMAND
 from tests.releases.copies import PROGRAM, Copy, needs_git
-from tools.releasing import look
+from tools.releasing import look, tree
 
 WHOLE = False                                      # the Debian packages too, and every Python of this machine
 FIRST_SESSION = re.compile(r'A first session in Python:\n\n((?:    .*\n)+)\nprints\n\n((?:    .*\n)+)')
@@ -28,11 +28,11 @@ def sum_of(data: bytes) -> str:
 
 
 def pythons() -> List[str]:
-    """The Pythons of this machine that the client is for; this one alone unless all are asked for."""
-    found = [sys.executable]
+    """The Pythons of this machine that the client can use, which have numpy; one alone unless all are asked for."""
+    found = [sys.executable, '/usr/bin/python3']
     if WHOLE:
         found = sorted(glob.glob(os.path.expanduser('~/.pyenv/versions/*/bin/python3'))) + ['/usr/bin/python3']
-    asked = 'import sys, venv; sys.exit(sys.version_info < (3, 9))'
+    asked = 'import sys, venv, numpy; sys.exit(sys.version_info < (3, 9))'
     return [python for python in found
             if os.path.exists(python) and subprocess.run([python, '-c', asked], stderr=subprocess.DEVNULL, check=False).returncode == 0]
 
@@ -43,6 +43,16 @@ def first_session() -> List[str]:
         found = FIRST_SESSION.search(file.read())
     assert found is not None
     return [re.sub('^    ', '', text, flags=re.M) for text in found.groups()]
+
+
+def name_toolchain_of_this_machine(copy: Copy) -> None:
+    """Has the documents of a copy name the kit that is here, as a release has to: a machine may have another one of the same logic."""
+    here = tree.toolchain()
+    assert here is not None
+    named = next(kit for kit in look.toolchains() if kit.startswith('rattle-kit-'))
+    for path in look.PROVED:
+        copy.write(path, copy.text(path).replace(named, here.kit))
+    copy.commit()
 
 
 @needs_git
@@ -68,6 +78,8 @@ class Made(unittest.TestCase):
             copy = first = Copy(os.path.join(room.name, 'tree'), first)
             os.makedirs(os.path.dirname(copy.path(PROGRAM)), exist_ok=True)
             shutil.copy(program, copy.path(PROGRAM))
+            if not cls.made:                       # the other folder is a copy of this one
+                name_toolchain_of_this_machine(copy)
             copy.pass_gate()
             cls.folder = os.path.join(room.name, 'made')
             told = copy.release('--to', cls.folder, '--only', *cls.kinds)
@@ -171,21 +183,25 @@ class Made(unittest.TestCase):
                     self.assertEqual(sum_of(held.read(carried)), sum_of(self.program()))
                     self.assertEqual(held.getinfo(carried).external_attr >> 16 & 0o777, 0o755)
                 about = held.read(next(entry for entry in held.namelist() if entry.endswith('/METADATA'))).decode()
+                needed = 'aiohttp ?\\(?>=3\\.8' if name.startswith('spmat_gateway') else 'numpy ?\\(?>=1\\.22'
+                self.assertRegex(about, r'(?m)^Requires-Dist: %s\)?$' % needed)
                 self.assertRegex(about, r'(?m)^(Home-page|Project-URL: Homepage,|Project-URL: homepage,) ?:? ?%s$' % re.escape(look.homepage()))
                 listed = held.read(next(entry for entry in held.namelist() if entry.endswith('/RECORD'))).decode().splitlines()
                 self.assertEqual(sorted(line.split(',')[0] for line in listed), sorted(held.namelist()))
 
     def test_a_fresh_environment(self) -> None:
-        """`pip install` of the wheel, and then the README's first session, with nothing else."""
+        """`pip install` of the wheel, and then the README's first session, with nothing else but numpy."""
         self.wants('wheels')
-        for python in pythons():
+        usable = pythons()
+        self.assertTrue(usable, 'no Python here has numpy and venv')
+        for python in usable if WHOLE else usable[:1]:
             with self.subTest(python=python), tempfile.TemporaryDirectory(prefix='spmat-venv-') as room:
                 self.use_in_fresh(python, room)
 
     def use_in_fresh(self, python: str, room: str) -> None:
         """Installs the wheel for a Python, and uses what it brings."""
         text, printed = first_session()
-        self.ran(room, [python, '-m', 'venv', 'env'])
+        self.ran(room, [python, '-m', 'venv', '--system-site-packages', 'env'])
         self.ran(room, ['env/bin/pip', 'install', '-q', '--no-index', '--disable-pip-version-check', '--find-links', self.folder, 'spmat'])
         self.assertEqual(self.ran(room, ['env/bin/python', '-c', text]), printed)
         with open(os.path.join(TOP, 'VERSION'), encoding='ascii') as file:
@@ -204,7 +220,8 @@ class Made(unittest.TestCase):
     def test_the_packages(self) -> None:
         self.wants('debian')
         names = [name for name in self.made[0] if name.endswith('.deb')]
-        self.assertEqual([re.sub(r'_[\d.]+_', '_', name) for name in names], ['python3-spmat_all.deb', 'spmat-doc_all.deb', 'spmat_amd64.deb'])
+        self.assertEqual([re.sub(r'_[\d.]+_', '_', name) for name in names], 
+                         ['python3-spmat_all.deb', 'spmat-doc_all.deb', 'spmat-gateway_all.deb', 'spmat_amd64.deb'])
         with tempfile.TemporaryDirectory(prefix='spmat-deb-') as room:
             for name in names:
                 subprocess.run(['dpkg-deb', '-x', os.path.join(self.folder, name), room], check=True)
@@ -215,8 +232,10 @@ class Made(unittest.TestCase):
                          'usr/lib/python3/dist-packages/spmat/VERSION', 'usr/share/doc/spmat/copyright',
                          'usr/share/doc/spmat/CHANGELOG.md', 'usr/share/doc/spmat/docs/api.md', 'usr/bin/spmat-graph', 'usr/share/man/man1/spmat-graph.1.gz',
                          'usr/share/bash-completion/completions/spmat', 'usr/share/bash-completion/completions/spmat-graph',
-                         'usr/share/doc/spmat-doc/html/index.html', 'usr/share/zsh/vendor-completions/_spmat', 'usr/share/zsh/vendor-completions/_spmat-graph'):
+                         'usr/share/doc/spmat-doc/html/index.html', 'usr/share/zsh/vendor-completions/_spmat', 'usr/share/zsh/vendor-completions/_spmat-graph',
+                         'usr/bin/spmat-gateway', 'usr/lib/python3/dist-packages/spmat_gateway/VERSION', 'usr/share/man/man1/spmat-gateway.1.gz',
+                         'usr/lib/sysusers.d/spmat-gateway.conf', 'usr/share/man/man7/spmat-service.7.gz'):
                 self.assertTrue(os.path.exists(os.path.join(room, path)), path)
             units = {os.path.basename(path) for path in glob.glob(os.path.join(room, '*/systemd/system/*')) +
                      glob.glob(os.path.join(room, 'usr/lib/systemd/system/*'))}
-            self.assertEqual(units, {'spmat.service', 'spmat@.service', 'spmat.socket'})
+            self.assertEqual(units, {'spmat.service', 'spmat@.service', 'spmat.socket', 'spmat-gateway.service'})

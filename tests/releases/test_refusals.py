@@ -3,6 +3,7 @@ import json
 import os
 import re
 import tempfile
+import zipfile
 
 from tests.lib.paths import TOP
 from tests.releases.copies import PROGRAM, TELLS, Copy, InCopy, needs_git
@@ -59,6 +60,32 @@ class Refusals(InCopy):
         if 'lowdown' not in made.stdout:
             self.assertEqual(made.returncode, 0, made.stdout)
         self.assertEqual(self.copy.release('--check').returncode, 0)
+
+    def test_untested(self) -> None:
+        """Without a gate, of changed files, the version tells so; what stands against every release stands against this."""
+        os.remove(self.copy.path('crates/spmat/out/passed.json'))   # as if no gate had passed
+        self.copy.write('README.md', self.copy.text('README.md') + '\nmore\n')
+        mark = self.version + '+untested.g%s' % self.copy.git('rev-parse', '--short=7', 'HEAD')
+        for end in ('.changed', ''):
+            made = self.copy.release('--untested', '--only', 'wheels', '--to', self.copy.path('out/made' + end))
+            self.copy.git('checkout', '-q', 'README.md')
+            if 'no Python here' in made.stdout:
+                continue
+            self.assertEqual(made.returncode, 0, made.stdout)
+            name = 'spmat-%s-py3-none-any.whl' % (mark + end)
+            self.assertIn(name, made.stdout)
+            with zipfile.ZipFile(self.copy.path('out/made%s/%s' % (end, name))) as wheel:
+                self.assertEqual(wheel.read('spmat/VERSION').decode(), mark + end + '\n')
+                self.assertIn('\nVersion: %s\n' % (mark + end), wheel.read('spmat-%s.dist-info/METADATA' % (mark + end)).decode())
+        self.copy.replace('CHANGELOG.md', '## ' + self.version, '## 0.9.7')
+        made = self.copy.release('--untested', '--to', self.copy.path('out/other'))
+        self.assertEqual(made.returncode, 1, made.stdout)
+        self.assertIn('CHANGELOG.md says 0.9.7', made.stdout)
+        os.remove(self.copy.path(PROGRAM))
+        self.copy.git('checkout', '-q', 'CHANGELOG.md')
+        made = self.copy.release('--untested', '--to', self.copy.path('out/none'))
+        self.assertEqual(made.returncode, 1, made.stdout)
+        self.assertIn('there is no program', made.stdout)
 
     def test_a_tree_that_is_not_clean(self) -> None:
         self.copy.write('docs/more.md', 'more\n')

@@ -3,7 +3,7 @@
 A block is indented by four spaces. Behind a line that ends in `prints` it is what the block before it prints, and behind one that
 ends in `ends with` the last that it says on standard error, however that is cut into lines; else its first word says what it is:
 Python (`import`, `from`) or shell. Each runs by itself, at a place that looks like the top of the repository, and
-those of a page in one folder, so that files stay. Python runs without what is installed beside the standard library.
+those of a page in one folder, so that files stay.
 """
 import os
 import re
@@ -11,14 +11,14 @@ import subprocess
 import sys
 import tempfile
 from typing import List, NamedTuple, Optional
-from tests.lib.paths import TOP
+from tests.lib.paths import CLIENT, TOP
 from tests.lib.patience import FOR_A_SESSION
 from tests.lib.runs import Wrong, difference
 
 PYTHON = ('import', 'from')
 SHELL = ('send()', 'export', 'python3', 'printf', 'PATH', 'cd', 'tools/', 'tests/', 'bench/', '{')
 # Blocks that run elsewhere: the gate runs the package's tests itself, and these run what wants Dask or networkx.
-ELSEWHERE = ('python3 -m unittest', 'from distributed', 'import networkx')
+ELSEWHERE = ('python3 -m pytest', 'from distributed', 'import networkx')
 
 
 class Block(NamedTuple):
@@ -35,7 +35,7 @@ class Block(NamedTuple):
             return None
         word = re.split(r'[\s=]', first, 1)[0]
         if word in PYTHON:
-            return [sys.executable, '-S', '-c', self.text]
+            return [sys.executable, '-c', self.text]
         if first.startswith(SHELL):
             return ['sh', '-c', self.text]
         raise Wrong('line %d: a block that is neither Python, nor shell, nor what one prints: %.40r' % (self.line, self.text))
@@ -79,7 +79,7 @@ def check_page(page: str, program: str) -> None:
         os.symlink(program, os.path.join(folder, 'crates', 'spmat', 'out', 'spmat'))
         for name in ('clients', 'docs'):
             os.symlink(os.path.join(TOP, name), os.path.join(folder, name))
-        environment = {**os.environ, 'SPMAT': program, 'PYTHONPATH': os.path.join(TOP, 'clients', 'python')}
+        environment = {**os.environ, 'SPMAT': program, 'PYTHONPATH': os.pathsep.join(filter(None, [CLIENT, os.environ.get('PYTHONPATH')]))}
         for block in blocks:
             words = block.words()
             if words is None:

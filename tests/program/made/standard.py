@@ -11,7 +11,7 @@ from tests.lib.paths import TOP
 from tests.lib.patience import FOR_A_SESSION
 from tests.lib.runs import Wrong, expect, started
 
-TIME_IS_OVER = '\nspmat: because the time that --idle gives is over\n'
+TIME_IS_OVER = '\nspmat: because the idle timeout expired\n'
 LITTLE_TIME = 0.3
 
 

@@ -3,6 +3,7 @@
     exchanges.py    commands with the replies that they must have, and how a session of them is run
     programs.py     code from slots, and the commands that upload it
     lanes.py        operands laid out as matrices, so that calls are made alone and up to 64 at once
+    conformance.py  the vectors of rfc9669.txt, which were worked out from the RFC alone
     values.py       operations, conditions and the stack, with values that are written down
     refusals.py     code that is refused, with the rule and the slot that are written down
     faulty_texts.py assembly text that is refused, with the rule and the line that are written down

@@ -72,13 +72,18 @@ class Laid(NamedTuple):
             return [pair for _, _, pair in self.places()]
         return [(x, row, column, THUNK) for row, column, (x, _) in self.places()]
 
+    def outcome(self, values: Sequence[int], length: int, steps: int) -> bytes:
+        """The replies to the job R of an operator of this length at all places, to `run` and to `show R`."""
+        reply = b'ok queued 1 %d\nok run 1 %d\n' % (self.entries * length, steps)
+        reply += b'R %d %d %d %d\n' % (self.rows, self.columns, self.entries, steps)
+        return reply + show_reply(self.text(values))
+
     def exchange(self, what: str, slots: Sequence[str], kind: str) -> Exchange:
         """An operator is uploaded and called on all operands; what it gives and costs is what the machine says."""
         values, steps = Machine(slots).calls(self.operands(kind))
         job = {'unary': b'apply R f X', 'binary': b'both R f X Y', 'index': b'apply R f X %d' % THUNK}[kind]
-        reply = b'%sok queued 1 %d\n' % (uploaded(slots), self.entries * count_of(slots))
-        reply += b'ok run 1 %d\nR %d %d %d %d\n' % (steps, self.rows, self.columns, self.entries, steps)
-        return Exchange(what, upload('f', slots, kind) + job + b'\nrun\nshow R\n', reply + show_reply(self.text(values)))
+        reply = uploaded(slots) + self.outcome(values, count_of(slots), steps)
+        return Exchange(what, upload('f', slots, kind) + job + b'\nrun\nshow R\n', reply)
 
 
 def pair_of(words: Sequence[int], number: int) -> Tuple[int, int]:
