@@ -5,7 +5,7 @@ An item is exported where it stands in a module that is public, or where lib.rt 
 import glob
 import os
 import re
-from typing import Iterator, List, NamedTuple
+from typing import Iterator, List, NamedTuple, Set
 
 from paths import CRATES
 
@@ -17,6 +17,8 @@ NEXT_CLAUSE = re.compile(r'(?:\s|//.*)*(?:requires|ensures)\b[^{]*')
 BRACE = re.compile('[{}]')
 LABEL = re.compile(r'^( *(?:requires|ensures)) \w+ (?=\{)', re.M)
 MEMBER = re.compile(r'^ +ghost (?!use|invariant)\w+( = )?[^{,;]*', re.M)
+NAMED = re.compile(r'^ *(ensures|requires)\*? (?:(\w+) )?\{', re.M)
+FACT = re.compile(r'^ +(?:pub )?ghost (\w+):', re.M)
 FIELD = re.compile(r'^ +(?:pub(?:\(\w+\))? )?ghost (?!use|invariant)\w+: [^\n]*,$', re.M)
 
 
@@ -52,6 +54,7 @@ class Crate:
         self.exported = {item.strip() for listed, one in used for item in (listed or one).split(',')}
         for path in self.open:
             self.exported.update(ITEM.findall(read(path)))
+        self.is_program = root.endswith('main.rt')
         self.own = {item for path in self.files for item in ITEM.findall(read(path))}
 
     def sees(self, name: str) -> bool:
@@ -85,6 +88,13 @@ class Crate:
             holder = [found.group(1) for found in ITEM.finditer(text, 0, field.start())]
             if holder and self.sees(holder[-1]):
                 yield field.group(0)
+
+    def stated(self, path: str) -> Iterator[str]:
+        """What others see of a file; of a program, each of its contracts."""
+        if not self.is_program:
+            return self.seen(path)
+        text = read(path)
+        return (LABEL.sub(r'\1 ', clauses_of(text[head.start():])) for head in FUNCTION.finditer(text))
 
     def seen(self, path: str) -> Iterator[str]:
         yield from self.contracts(path)
@@ -120,6 +130,29 @@ def end_of_braces(text: str, at: int) -> int:
         if not depth:
             return brace.end()
     return at
+
+
+def promises_of(crate: str, name: str) -> Set[str]:
+    """The names of the clauses of a function of a crate, `TYPE::FUNCTION` for a method, `ensures`
+    or `requires` for one without a name; of a type, those of its ghost facts, and `invariant`."""
+    found: Set[str] = set()
+    holder, _, own = name.rpartition('::')
+    for path in Crate(crate).files:
+        text = read(path)
+        blocks = blocks_of(text)
+        for head in FUNCTION.finditer(text):
+            block = block_at(blocks, head.start()) if head.group(1) else NO_BLOCK
+            if head.group(3) == own and holder in ('', block.of_type, block.of_trait):
+                labels = NAMED.findall(clauses_of(text[head.start():]))
+                found.update(label or kind for kind, label in labels)
+        for block, behind in zip(blocks, [*blocks[1:], None]):
+            body = text[block.start:behind.start if behind else len(text)]
+            if name == block.of_type and re.search(r'^ +ghost invariant =', body, re.M):
+                found.add('invariant')
+        for item in ITEM.finditer(text):
+            if item.group(1) == name:
+                found.update(FACT.findall(text[item.start():text.index('\n}', item.start())]))
+    return found
 
 
 def all_crates() -> List[Crate]:

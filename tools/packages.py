@@ -5,7 +5,8 @@ import subprocess
 import sys
 from typing import List, NamedTuple
 
-DISTRIBUTION = '/usr/bin/python3'                  # the Python that Debian's packages serve, whatever comes first on the PATH
+from tools.numpy_python import DISTRIBUTION
+
 MODULES = ('import sys, importlib.util; sys.exit(importlib.util.find_spec(sys.argv[1]) is None)')
 
 
@@ -28,12 +29,16 @@ PACKAGES = (
     Package('mypy', 'the client\'s types', program='mypy'),
     Package('pylint', 'the client\'s style', program='pylint'),
     Package('valgrind', 'counts of instructions', program='valgrind'),
-    Package('python3-pytest', 'networkx\' own tests', module='pytest'),
-    Package('python3-scipy', 'the client with numpy and scipy', module='scipy'),
+    Package('python3-pytest', 'the client\'s tests, and networkx\' own', module='pytest'),
+    Package('python3-numpy', 'the client', module='numpy'),
+    Package('python3-scipy', 'matrices of scipy', module='scipy'),
     Package('python3-pandas', 'lists that pandas reads, and frames', module='pandas'),
     Package('python3-networkx', 'the networkx backend', module='networkx'),
     Package('python3-matplotlib', 'pictures', module='matplotlib'),
     Package('python3-distributed', 'row blocks on Dask', module='distributed'),
+    Package('python3-pyelftools', 'operators in C', module='elftools'),
+    Package('python3-tqdm', 'progress bars', module='tqdm'),
+    Package('python3-argcomplete', 'completion of the client\'s commands', module='argcomplete'),
     Package('openssh-server', 'SSH in front of a server', program='sshd'),
     Package('openssh-client', 'SSH in front of a server', program='ssh'),
     Package('stunnel4', 'TLS in front of a server', program='stunnel4'),
@@ -42,6 +47,10 @@ PACKAGES = (
     Package('strace', 'a socket file in front of a server', program='strace'),
     Package('systemd', 'units', program='systemd-analyze'),
     Package('zsh', 'completion by zsh', program='zsh'),
+    Package('python3-aiohttp', 'the gateway', module='aiohttp'),
+    Package('python3-prometheus-client', 'the gateway', module='prometheus_client'),
+    Package('python3-psycopg', 'the gateway on PostgreSQL', module='psycopg'),
+    Package('postgresql', 'the gateway on PostgreSQL', program='pg_ctlcluster'),
     Package('python3-sphinx', 'the site', module='sphinx'),
     Package('python3-myst-parser', 'the site', module='myst_parser'),
     Package('python3-numpydoc', 'the site', module='numpydoc'),

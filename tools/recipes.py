@@ -11,16 +11,17 @@ SAMPLES = {
     'A command': r"\bTypes\b|'types'|b'types\b|\btypes_text\b",
     'A ready operator': r'\babsdiff\b',
     'An algorithm': r'\bk_core\b',
+    'A file format': r'\b_read_dimacs\b|\bimport dimacs\b',
     'A rule of refusal': r'\bSymmetricNotSquare\b|\bM12\b',
 }
 FOLDERS = ['bench', 'clients', 'crates', 'docs', 'reference', 'tests']
 # generated, mutants, sessions as bytes, and pages that speak of the whole
-PASSED_OVER = re.compile(r'(^|/)(out|wrong|must-fail|__pycache__|[.][^/]*)/|^tests/cases/|^bench/\w+\.txt$|\.(svg|png|mtx|hex|pyc)$|README\.md$|'
+PASSED_OVER = re.compile(r'(^|/)(out|mutants|must-fail|__pycache__|[.][^/]*)/|^tests/cases/|^bench/\w+\.txt$|\.(svg|png|mtx|hex|pyc)$|README\.md$|'
                          r'^docs/(DECISIONS|performance|examples|scaling)\.md$')
 # ready operators are named by algorithms and by one another, opcodes by the operators of tests
 USES = {'A ready operator': re.compile(r'^clients/python/spmat/(algorithms|networkx)/|^bench/'),
         'An opcode': re.compile(r'\.asm$|^bench/|^clients/python/spmat/algorithms/|^crates/(form|job)_tests/'),
-        'A form of job': re.compile(r'^bench/'), 'A command': re.compile(r'^bench/')}
+        'A form of job': re.compile(r'^bench/'), 'A command': re.compile(r'^bench/|^tests/gateway')}
 
 
 def files_of(top: str) -> Iterator[str]:

@@ -1,6 +1,6 @@
 """A docstring and a signature, cut into the sections of the reference: what it does, arguments, returns, cost, elsewhere, raises.
 
-The client's docstrings are prose. A sentence belongs to a section by how it begins: "Runs:" and "Steps:" to the cost, "networkx:" to the
+The client's docstrings are prose, or have numpydoc's sections. A sentence of prose belongs to a section by how it begins: "Runs:" and "Steps:" to the cost, "networkx:" to the
 names elsewhere, "Raises .." or the name of an exception to what is raised. Blocks that are indented stay code.
 """
 import inspect
@@ -27,8 +27,8 @@ class Argument(NamedTuple):
 def sections_of(thing: Any) -> Dict[str, str]:
     """The sections of a docstring, each as Markdown; those that it has nothing for are empty."""
     found: Dict[str, List[str]] = {name: [] for name in SECTIONS}
-    for paragraph in re.split(r'\n[ \t]*\n', inspect.getdoc(thing) or ''):
-        if paragraph.startswith((' ', '|')):
+    for paragraph in re.split(r'\n[ \t]*\n', without_heads(inspect.getdoc(thing) or '')):
+        if paragraph.startswith((' ', '|', '- ')):
             found['text'].append(paragraph)
             continue
         for name, sentences in by_section(' '.join(paragraph.split())).items():
@@ -37,6 +37,29 @@ def sections_of(thing: Any) -> Dict[str, str]:
     joined = {name: ('\n\n' if name == 'text' else ' ').join(parts) for name, parts in found.items()}
     joined['raises'] = re.sub(r'(^|(?<=\. ))Raises ', '', joined['raises'])
     return joined
+
+
+def without_heads(text: str) -> str:
+    """A docstring with numpydoc's sections as prose: arguments as a list, what is returned and raised as sentences, examples as
+    code."""
+    parts = re.split(r'^(\w+)\n-{3,}\n', text, flags=re.M)
+    out = [parts[0]]
+    for head, body in zip(parts[1::2], parts[2::2]):
+        out.append(BODIES.get(head, str.strip)(body.strip('\n')))
+    return '\n\n'.join(out)
+
+
+def entries_of(body: str) -> List[Tuple[str, str]]:
+    """The entries of a section: what stands first, and what is said of it."""
+    pairs = re.findall(r'^(\S.*)\n((?:(?:[ \t]+.*)?\n?)*?)(?=^\S|\Z)', body, re.M)
+    return [(name, ' '.join(said.split())) for name, said in pairs]
+
+
+BODIES: Dict[str, Callable[[str], str]] = {
+    'Parameters': lambda body: '\n'.join('- `%s`: %s' % (name.split(' : ')[0], said) for name, said in entries_of(body)),
+    'Returns': lambda body: '\n\n'.join('Returns: %s' % said for _, said in entries_of(body)),
+    'Raises': lambda body: '\n\n'.join('Raises %s %s' % (name, said[:1].lower() + said[1:]) for name, said in entries_of(body)),
+    'Examples': lambda body: re.sub(r'^(?=.)', '    ', body, flags=re.M)}
 
 
 def by_section(paragraph: str) -> Dict[str, List[str]]:

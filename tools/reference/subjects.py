@@ -41,7 +41,7 @@ ALGORITHM_MODULES = {
     'Communities and dense parts': ('label_propagation_communities', 'louvain_communities', 'core_decomposition', 'truss'),
     'Similarity': ('neighbour_similarity',),
 }
-PICTURES = ('spy', 'degree_histogram', 'levels')
+PICTURES = ('spy', 'degree_histogram', 'graph', 'levels', 'route')
 BLOCKS = ('Sessions', 'Threads', 'Dask')
 OTHERS = 'Others'
 

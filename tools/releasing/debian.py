@@ -18,11 +18,12 @@ PAGES = {
     'bpf': 'the instructions and the assembly text of operators, and what the verifier of spmat wants',
     'server': 'how to run a server of spmat for others',
     'limits': 'what a session of spmat takes, and how to bound it',
+    'service': 'how to run a service of spmat for strangers',
 }
 # The first session of the program, and what it prints.
 FIRST_SESSION = ('crates/spmat/stdin', 'crates/spmat/stdout')
 # Those of section 1, which are written by hand.
-BY_HAND = ('spmat', 'spmat-health', 'spmat-drain', 'spmat-graph')
+BY_HAND = ('spmat', 'spmat-health', 'spmat-drain', 'spmat-graph', 'spmat-gateway')
 CHANGES = """spmat (%s) unstable; urgency=medium
 
   * %s
@@ -86,15 +87,13 @@ def changes() -> str:
 
 def goes_in(name: str) -> bool:
     """Whether packages are made of a file, or tried with it."""
-    return tree.is_client(name) or name.startswith(('docs/', 'packaging/')) or os.path.dirname(name) == '' or name in FIRST_SESSION
+    return tree.is_client(name) or tree.is_gateway(name) or name.startswith(('docs/', 'packaging/')) or os.path.dirname(name) == '' or name in FIRST_SESSION
 
 
 def lay_out(stage: str) -> None:
     """The commit's files that go into packages, with packaging/debian as the folder `debian` and what is made for it."""
     for name in filter(goes_in, tree.files()):
-        path = os.path.join(stage, name)
-        os.makedirs(os.path.dirname(path), exist_ok=True)
-        shutil.copy(tree.path_of(name), path)
+        tree.copy(name, os.path.join(stage, name))
     debian = os.path.join(stage, 'debian')
     shutil.copytree(os.path.join(stage, PACKAGING), debian)
     for path in glob.glob(os.path.join(stage, 'packaging/systemd/*')):

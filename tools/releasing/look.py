@@ -9,12 +9,14 @@ from tools.releasing import gate, parts, tree
 # Where the version stands beside VERSION, as nothing reads it there: each with a form for it.
 PROGRAMS = 'crates/command_line/src/version.rt'
 CLIENT = 'clients/python/spmat/VERSION'             # a copy: the gate's prover refuses a tree with links
-PLACES = {'CHANGELOG.md': r'^## (\d[^ \n]*)', PROGRAMS: r'^pub const VERSION: &str = "(.+)";$', CLIENT: r'^(.+)$'}
+GATEWAY = 'gateway/spmat_gateway/VERSION'
+PLACES = {'CHANGELOG.md': r'^## (\d[^ \n]*)', PROGRAMS: r'^pub const VERSION: &str = "(.+)";$', CLIENT: r'^(.+)$', GATEWAY: r'^(.+)$'}
 # Names of files of a release, in the documents.
 RELEASED = r'\bspmat[_-](\d+(?:\.\d+)+)[_-]'
 DOCUMENTS = ('README.md', 'docs/server.md', 'clients/python/README.md')
 # Where the homepage stands: whoever publishes puts theirs into each.
 HOMEPAGES = {'packaging/debian/control': r'^Homepage: (\S+)$', 'clients/python/pyproject.toml': r'^Homepage = "(\S+)"$',
+             'gateway/pyproject.toml': r'^Homepage = "(\S+)"$',
              'README.md': r'<(https://\S+)>'}
 # Where the toolchain that proves is named.
 PROVED = ('README.md', 'CHANGELOG.md', 'docs/proved.md')
@@ -34,14 +36,13 @@ def places() -> Dict[str, str]:
 
 def version_faults() -> List[str]:
     """Places that tell another version than VERSION does."""
-    version = tree.version()
+    version = tree.plain_version()
     out = ['VERSION is %s, and %s says %s' % (version, path, other) for path, other in sorted(places().items()) if other != version]
     if not re.fullmatch(r'\d+\.\d+\.\d+', version):
         out.append('VERSION is three numbers with points between them, not %r' % version)
     if 'CHANGELOG.md' not in places():
         out.append('CHANGELOG.md has no heading with a version')
-    if CLIENT not in places():
-        out.append('%s has no version' % CLIENT)
+    out.extend('%s has no version' % path for path in (CLIENT, GATEWAY) if path not in places())
     return out
 
 
@@ -103,7 +104,7 @@ def program_faults() -> List[str]:
     if not os.path.exists(path) or PROGRAMS not in places():
         return []
     told = subprocess.run([path, '--version'], stdout=subprocess.PIPE, stderr=subprocess.DEVNULL, check=False).stdout
-    return [] if told == b'spmat %s\n' % tree.version().encode() else ['the program says of its version: %r' % told]
+    return [] if told == b'spmat %s\n' % tree.plain_version().encode() else ['the program says of its version: %r' % told]
 
 
 def release_faults() -> List[str]:
@@ -111,3 +112,9 @@ def release_faults() -> List[str]:
     out = ['the tree is not clean: ' + line for line in tree.changed()[:10]]
     other = other_toolchain()
     return out + faults() + ([other] if other else []) + gate.faults() + program_faults()
+
+
+def untested_faults() -> List[str]:
+    """What stands against packages of a tree that no gate has passed: as `faults`, and that there is no program."""
+    here = os.path.exists(tree.path_of(tree.PROGRAM))
+    return faults() + ([] if here else ['there is no program %s: `rt run` in crates/spmat makes it' % tree.PROGRAM]) + program_faults()

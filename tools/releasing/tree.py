@@ -10,10 +10,15 @@ from typing import List, NamedTuple, Optional
 from tools.paths import TOP
 
 CLIENT = 'clients/python/'
+GATEWAY = 'gateway/'
 # What of it isn't installed: tests, and what makes a checkout look installed.
 LEFT_OUT = tuple(CLIENT + folder for folder in ('tests/', 'benchmarks/', 'spmat.dist-info/'))
 REFERENCE = 'docs/api.md'                          # made for releases and packages; the repository has none
 PROGRAM = os.path.join('crates', 'spmat', 'out', 'spmat')
+# The files that carry the version into what is made.
+VERSIONS = ('VERSION', CLIENT + 'spmat/VERSION', GATEWAY + 'spmat_gateway/VERSION')
+# What is added to the version, by `mark_untested`.
+MARKS: List[str] = []
 
 
 class Toolchain(NamedTuple):
@@ -48,9 +53,29 @@ def told(*words: str) -> str:
     return subprocess.run(words, cwd=TOP, stdout=subprocess.PIPE, check=True, text=True).stdout.strip()
 
 
-def version() -> str:
+def plain_version() -> str:
     """The version, as the file VERSION has it."""
     return text_of('VERSION').strip()
+
+
+def version() -> str:
+    """The version of what is made: that of the file VERSION, with a mark where no gate has passed."""
+    return plain_version() + ''.join(MARKS)
+
+
+def mark_untested() -> None:
+    """Has the version tell that no gate has passed, of which commit it is, and whether files differ from it. So marked it is a version
+    for pip and for dpkg, later than the plain one and earlier than the next."""
+    MARKS[:] = ['+untested.g' + commit()[:7] + ('.changed' if changed() else '')]
+
+
+def copy(name: str, path: str) -> None:
+    """Copies a file of the repository, of which those of the version have it with its mark."""
+    os.makedirs(os.path.dirname(path), exist_ok=True)
+    shutil.copy(path_of(name), path)
+    if name in VERSIONS:
+        with open(path, 'w', encoding='ascii') as file:
+            file.write(version() + '\n')
 
 
 def commit() -> str:
@@ -75,6 +100,11 @@ def files() -> List[str]:
 def is_client(name: str) -> bool:
     """Whether a file belongs to what is installed of the Python client."""
     return name.startswith(CLIENT) and not name.startswith(LEFT_OUT)
+
+
+def is_gateway(name: str) -> bool:
+    """Whether a file belongs to what is installed of the gateway."""
+    return name.startswith(GATEWAY) and not name.startswith(GATEWAY + 'tests/')
 
 
 def toolchain() -> Optional[Toolchain]:

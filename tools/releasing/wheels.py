@@ -1,4 +1,4 @@
-"""The two wheels of the Python client: one for every machine, and one for Linux on x86_64 that carries the program.
+"""The wheels of the Python client, one for every machine, and one for Linux on x86_64 that carries the program; and that of the gateway.
 
 setuptools makes the first; the second is the same with the program and the command `spmat` added. Both are packed here, so that their
 bytes depend on their files alone, and not on the folder, the time or the user.
@@ -12,7 +12,7 @@ import subprocess
 import sys
 import tempfile
 import zipfile
-from typing import Dict, NamedTuple
+from typing import Callable, Dict, NamedTuple
 
 from tools.releasing import tree
 
@@ -21,6 +21,7 @@ PLATFORM = 'manylinux_2_34_x86_64'
 SECTION = b'[console_scripts]\n'                       # of entry_points.txt, as setuptools writes it
 COMMAND = b'spmat = spmat._client.server_program:main\n'
 ANY = 'py3-none-any'
+GATEWAY = 'spmat_gateway'
 TIME = (1980, 1, 1, 0, 0, 0)
 
 
@@ -43,15 +44,13 @@ def builder() -> str:
     raise NoSetuptools('no Python here has pip, setuptools and wheel (Debian: python3-pip, python3-setuptools, python3-wheel)')
 
 
-def made_by_setuptools() -> Dict[str, Entry]:
-    """The files of the wheel for every machine, as setuptools makes it of the commit's files, but for its list of them."""
+def made_by_setuptools(folder: str, belongs: Callable[[str], bool]) -> Dict[str, Entry]:
+    """The files of a folder's wheel for every machine, as setuptools makes it of the commit's files, but for its list of them."""
     with tempfile.TemporaryDirectory(prefix='spmat-wheel-') as room:
-        stage = os.path.join(room, 'client')
+        stage = os.path.join(room, 'source')
         for name in tree.files():
-            if tree.is_client(name):
-                path = os.path.join(stage, name[len(tree.CLIENT):])
-                os.makedirs(os.path.dirname(path), exist_ok=True)
-                shutil.copyfile(tree.path_of(name), path)
+            if belongs(name):
+                tree.copy(name, os.path.join(stage, name[len(folder):]))
         subprocess.run([builder(), '-m', 'pip', 'wheel', '--quiet', '--no-index', '--no-deps', '--no-build-isolation', '--no-cache-dir',
                         '-w', room, stage], check=True)
         (path,) = (os.path.join(room, name) for name in os.listdir(room) if name.endswith('.whl'))
@@ -59,13 +58,14 @@ def made_by_setuptools() -> Dict[str, Entry]:
             return {name: Entry(held.read(name)) for name in held.namelist() if not name.endswith('/RECORD')}
 
 
-def information(name: str) -> str:
-    """The path of a file that tells of the wheel."""
-    return 'spmat-%s.dist-info/%s' % (tree.version(), name)
+def information(name: str, package: str = 'spmat') -> str:
+    """The path of a file that tells of a wheel."""
+    return '%s-%s.dist-info/%s' % (package, tree.version(), name)
 
 
-def with_notices(files: Dict[str, Entry]) -> Dict[str, Entry]:
-    return {**files, information('LICENSE'): Entry(tree.bytes_of(tree.path_of('LICENSE')))}
+def with_notices(files: Dict[str, Entry], package: str = 'spmat') -> Dict[str, Entry]:
+    """The same wheel, with the licence."""
+    return {**files, information('LICENSE', package): Entry(tree.bytes_of(tree.path_of('LICENSE')))}
 
 
 def with_program(files: Dict[str, Entry], program: str) -> Dict[str, Entry]:
@@ -81,19 +81,19 @@ def with_program(files: Dict[str, Entry], program: str) -> Dict[str, Entry]:
             'spmat/carried/spmat': Entry(tree.bytes_of(program), is_program=True)}
 
 
-def record(files: Dict[str, Entry]) -> bytes:
+def record(files: Dict[str, Entry], package: str) -> bytes:
     """The list of a wheel's files, with their SHA-256 and lengths."""
     def line(name: str) -> str:
         code = base64.urlsafe_b64encode(hashlib.sha256(files[name].data).digest()).rstrip(b'=').decode()
         return '%s,sha256=%s,%d\n' % (name, code, len(files[name].data))
-    return (''.join(map(line, sorted(files))) + information('RECORD') + ',,\n').encode()
+    return (''.join(map(line, sorted(files))) + information('RECORD', package) + ',,\n').encode()
 
 
-def packed(files: Dict[str, Entry]) -> bytes:
+def packed(files: Dict[str, Entry], package: str = 'spmat') -> bytes:
     """A wheel's bytes, which depend on its files alone."""
     told = io.BytesIO()
     with zipfile.ZipFile(told, 'w', zipfile.ZIP_DEFLATED, compresslevel=9) as wheel:
-        for name, entry in sorted({**files, information('RECORD'): Entry(record(files))}.items(),
+        for name, entry in sorted({**files, information('RECORD', package): Entry(record(files, package))}.items(),
                                   key=lambda pair: ('.dist-info/' in pair[0], pair[0])):
             about = zipfile.ZipInfo(name, TIME)
             about.compress_type = zipfile.ZIP_DEFLATED
@@ -104,8 +104,10 @@ def packed(files: Dict[str, Entry]) -> bytes:
 
 
 def make(to: str, program: str) -> None:
-    """Writes both wheels into a folder. NoSetuptools where no Python here can."""
-    pure = with_notices(made_by_setuptools())
-    for kind, files in ((ANY, pure), ('py3-none-' + PLATFORM, with_program(pure, program))):
-        with open(os.path.join(to, 'spmat-%s-%s.whl' % (tree.version(), kind)), 'wb') as file:
-            file.write(packed(files))
+    """Writes the wheels into a folder. NoSetuptools where no Python here can."""
+    pure = with_notices(made_by_setuptools(tree.CLIENT, tree.is_client))
+    gateway = with_notices(made_by_setuptools(tree.GATEWAY, tree.is_gateway), GATEWAY)
+    for package, kind, files in (('spmat', ANY, pure), ('spmat', 'py3-none-' + PLATFORM, with_program(pure, program)),
+                                 (GATEWAY, ANY, gateway)):
+        with open(os.path.join(to, '%s-%s-%s.whl' % (package, tree.version(), kind)), 'wb') as file:
+            file.write(packed(files, package))
