@@ -8,7 +8,7 @@ from tests.lib.commands import (EXIT, INCREMENT, RESULT_IS_OPERAND, add, assembl
                                 matrix_text, operator_command, run_words, show_reply)
 from tests.lib.limits import MOST_SESSIONS, MOST_STEPS
 from tests.lib.runs import Wrong, difference, expect
-from tests.program.made.long_sessions import LONG_SESSIONS
+from tests.program.generated.long_sessions import LONG_SESSIONS
 from tests.program.server.server import BUSY, Client, Server, until
 
 CLIENTS_AT_ONCE = 4

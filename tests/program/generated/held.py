@@ -6,7 +6,7 @@ from tests.lib.commands import BANNER, INCREMENT, assembly_command, matrix_comma
 from tests.lib.figures import BYTES, REQUESTS, look_at
 from tests.lib.runs import expect
 from tests.lib.witness import Witness
-from tests.program.made.sizes import many_entries, most_held
+from tests.program.generated.sizes import many_entries, most_held
 
 COUNT = 30000
 SIDE = 200

@@ -8,7 +8,7 @@ from tests.lib.commands import BANNER, assembly_command, matrix_command, matrix_
 from tests.lib.paths import TOP
 from tests.lib.patience import FOR_A_SESSION
 from tests.lib.runs import Wrong, difference, run_session
-from tests.program.made.document_blocks import page_case
+from tests.program.generated.document_blocks import page_case
 
 PROTOCOL, BPF = 'protocol.md', 'bpf.md'
 FIRST_LINE = BANNER.decode().rstrip()

@@ -4,7 +4,7 @@ import random
 from typing import Callable, Dict, List, Tuple
 
 from tests.lib.commands import assembly_command, matrix_command, matrix_text
-from tests.program.made.known import run_as_reference
+from tests.program.generated.known import run_as_reference
 
 Entries = List[Tuple[int, int, int]]
 SIZES = (300, 70000, 40000, 300000)

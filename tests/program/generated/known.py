@@ -9,7 +9,7 @@ from tests.lib.commands import assembly_command, matrix_command, matrix_text, ru
 from tests.lib.paths import PLAIN_SERVER
 from tests.lib.patience import FOR_A_SESSION
 from tests.lib.runs import Wrong, run_session
-from tests.program.made.sizes import many_entries
+from tests.program.generated.sizes import many_entries
 
 BY_NUMBER = [each for each in SPELLINGS if each.bits == 64 and {'dst', 'imm'} <= set(each.fields)]
 OPERATIONS = [each.action for each in BY_NUMBER if each.group == 'arithmetic']

@@ -5,7 +5,7 @@ from typing import Callable, Dict, Optional, Tuple
 
 from tests.lib.commands import assembly_command, matrix_command, run_words, show_reply
 from tests.lib.runs import Wrong, run_session
-from tests.program.made.graphs import HIGH, LOW, OPERATORS, Matrix, job_of
+from tests.program.generated.graphs import HIGH, LOW, OPERATORS, Matrix, job_of
 
 HEIGHTS = (0, 1, 255, 256, 257, 513)
 WORKERS = (1, 3, 64)
