@@ -8,7 +8,8 @@ from typing import Dict, Iterator, List
 SAMPLES = {
     'An opcode': r"\bXor\b|'xor'|\bxor64\b",
     'A form of job': r"\bReduce\b|'reduce'|b'reduce'|\breduce_(rows|region)\b",
-    'A command': r"\bTypes\b|'types'|b'types\b|\btypes_text\b",
+    # (a type of bpf_verify is called Types as well)
+    'A command': r"\bTypes (?:\{ |: \()?(?:name|words)\b|[.:]Types\b|, Types\b|'types'|b'types\b|\btypes_text\b",
     'A ready operator': r'\babsdiff\b',
     'An algorithm': r'\bk_core\b',
     'A file format': r'\b_read_dimacs\b|\bimport dimacs\b',
