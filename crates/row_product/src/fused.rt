@@ -173,7 +173,8 @@ impl<'r, 'f, 'm, A: Function> Loop for RowsBy<'r, 'f, 'm, A> {
     }
 }
 
-/// Adds the rows of a range in one loop, in which both operators are compiled, if they are known so. Else it adds none.
+/// Adds the rows of a range in one loop, in which both operators are compiled, if they are known so and B's column is full. Else it
+/// adds none.
 pub(crate) fn fill_fused(
     alloc: Global,
     factors: &MaskedFactors,
@@ -184,6 +185,10 @@ pub(crate) fn fill_fused(
     ensures known { IfSome result (λ filled. AddsRows factors.now range.start range.end making.old making.new filled) }
     ensures unknown { result ≡ None → making.new ≡ making.old }
 {
+    // Each sum waits for the one before it, also where a term is missing: lists of terms pass over those.
+    if factors.b.entries() < factors.b.rows() {
+        return None;
+    }
     let none = Making::begin(alloc, range.start, factors.b.columns());
     let mut filling = Filling {
         making: replace(making, none),
