@@ -30,6 +30,7 @@ PACKAGES = (
     Package('pylint', 'the client\'s style', program='pylint'),
     Package('valgrind', 'counts of instructions', program='valgrind'),
     Package('python3-pytest', 'the client\'s tests, and networkx\' own', module='pytest'),
+    Package('python3-pytest-xdist', 'quick tests, side by side', module='xdist'),
     Package('python3-numpy', 'the client', module='numpy'),
     Package('python3-scipy', 'matrices of scipy', module='scipy'),
     Package('python3-pandas', 'lists that pandas reads, and frames', module='pandas'),
