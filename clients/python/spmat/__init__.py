@@ -52,6 +52,7 @@ def _version() -> str:
 __version__ = _version()
 __all__ = ['Budget', 'BudgetExceeded', 'BudgetWarning', 'Busy', 'Closed', 'CompileError', 'DimensionMismatch', 'DomainMismatch', 'JobResult', 'Loop',
            'Mask', 'MaskWarning', 'Matrix', 'NamesDiffer', 'NoThread', 'NotMade', 'NotSettled', 'Operator', 'OperatorRefused', 'OutOfMemory',
+           'OverflowWarning',
            'ProtocolError', 'ReadError', 'Refused', 'ResultLost', 'Semiring', 'Session', 'SpmatError', 'TextRefused', 'ThreadUnavailable', 'TooLarge',
            'UnitsDiffer', 'Vector', 'algorithms',
            'align', 'asm', 'binary', 'bipartite', 'c', 'cdiv', 'cmod', 'code', 'code_of', 'concat', 'draw', 'empty', 'events', 'explain', 'fixpoint',
@@ -65,7 +66,7 @@ _PLACES: Dict[str, str] = {name: module for module, names in {
     'operators.c': 'c',
     'errors': 'BudgetExceeded BudgetWarning Busy Closed CompileError DimensionMismatch DomainMismatch MaskWarning NamesDiffer NoThread NotMade '
               'NotSettled OperatorRefused '
-              'OutOfMemory ProtocolError ReadError Refused ResultLost SpmatError TextRefused ThreadUnavailable TooLarge UnitsDiffer',
+              'OutOfMemory OverflowWarning ProtocolError ReadError Refused ResultLost SpmatError TextRefused ThreadUnavailable TooLarge UnitsDiffer',
     'backends.protocol': 'Budget JobResult',
     'loops': 'Loop empty loop steady',
     'mask': 'Mask',

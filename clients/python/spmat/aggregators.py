@@ -2,15 +2,16 @@
 from __future__ import annotations
 
 from fractions import Fraction
-from typing import Any, Callable, Dict, NamedTuple, Optional, TypeVar, cast
+from typing import Any, Callable, Dict, NamedTuple, NoReturn, Optional, TypeVar, cast
 
 from . import units
 from .errors import refusal
 from .io.coo import MOST
 from .mask import Mask, as_mask
-from .operators import binary
+from .operators import binary, find
 
 M = TypeVar('M')
+HALF = 32                                          # bits of a half of a number
 FINEST = 10 ** 6                                   # parts of a mean's unit, or fewer where means are so large that these don't fit
 
 # Folds by a ready operator, of the values or of what an operator makes of them.
@@ -52,9 +53,29 @@ INDEXES = ('argmin', 'argmax', 'first_index', 'last_index')      # whose results
 NAMES = frozenset((*OPERATORS, *FOLDS, 'mean', 'peak_to_peak'))
 
 
+STATISTICS = {'median': 'median', 'var': 'var', 'variance': 'var', 'std': 'std', 'stdev': 'std', 'stddev': 'std', 'std_dev': 'std',
+              'quantile': 'quantile', 'nunique': 'nunique', 'count_distinct': 'nunique'}
+
+
 def is_aggregator(op: Any) -> bool:
-    """Whether a fold is named that no ready or registered operator makes alone."""
+    """Whether a fold is named that no ready or registered operator makes alone. ValueError for a name that no fold has."""
+    if isinstance(op, str) and op not in NAMES and op not in binary:
+        _refuse_name(op)
     return isinstance(op, str) and op in NAMES and op not in binary
+
+
+def _refuse_name(name: str) -> NoReturn:
+    """ValueError that says what there is in place of a fold."""
+    words = 'folds are binary operators, such as "plus" and "max", and the aggregators %s' % ', '.join(sorted(NAMES))
+    method = STATISTICS.get(name)
+    if method is not None:
+        raise ValueError('no fold is called %r: A.to_pandas_edgelist().groupby("source")["weight"].%s() has it for each row, ("target") for each '
+                         'column, and A.to_pandas_edgelist()["weight"].%s() for all; %s' % (name, method, method, words))
+    try:
+        find('binary', name)
+    except ValueError as fault:
+        raise ValueError('%s; %s' % (fault, words)) from None
+    raise AssertionError(name)
 
 
 def folded(matrix: Any, op: str, axis: int, mask: Any = None, name: Optional[str] = None) -> Any:
@@ -79,19 +100,29 @@ def _aggregated(matrix: Any, op: str, axis: int, where: Optional[Mask], name: Op
         return made
     if op == 'peak_to_peak':
         return folded(matrix, 'max', axis).ewise_mult(folded(matrix, 'min', axis), 'minus', mask=where, name=name)
-    return _means(folded(matrix, 'plus', axis, where), folded(matrix.apply('one'), 'plus', axis, where), name)
+    return _means(matrix, axis, where, name)
 
 
-def _means(sums: Any, counts: Any, name: Optional[str]) -> Any:
+def _means(matrix: Any, axis: int, where: Optional[Mask], name: Optional[str]) -> Any:
     """Means as parts of a unit, each the nearest."""
+    stored = units.with_unit(matrix, 1)
+    sums, high, counts = (folded(made, 'plus', axis, where) for made in (stored, stored.apply('arsh', right=HALF), stored.apply('one')))
     rows, columns, many = sums.entries(arrays=False)
-    exact = [Fraction(total, count) for total, count in zip(many, counts.entries(arrays=False)[2])]
+    exact = [Fraction(_total(low, up, count), count) for low, up, count in
+             zip(many, high.entries(arrays=False)[2], counts.entries(arrays=False)[2])]
     parts = FINEST
     while parts > 1 and any(abs(mean) * parts > MOST for mean in exact):
         parts //= 10
     made = sums.session.from_coo(rows, columns, [round(mean * parts) for mean in exact], *sums.shape, name=name)
-    made.notes = sums.notes._replace(unit=units.plain(Fraction(sums.unit) * parts))
+    made.notes = sums.notes._replace(unit=units.plain(Fraction(matrix.unit) * parts))
     return made
+
+
+def _total(low: int, high: int, count: int) -> int:
+    """A sum of so many numbers without a limit: `low` is it in 64 bits, and `high` the sum of the upper halves of these numbers, so that it lies
+    from high * 2^32 on, by less than count * 2^32."""
+    least = high << HALF
+    return least + (low - least) % (1 << 64)
 
 
 def aggregate_all(matrix: Any, op: str, raw: bool) -> Any:
@@ -101,8 +132,10 @@ def aggregate_all(matrix: Any, op: str, raw: bool) -> Any:
     if op == 'count':
         return matrix.nvals
     if op == 'mean':
-        total = matrix.reduce_scalar('plus', raw=True)
-        return None if total is None else float(Fraction(total, matrix.nvals) / (1 if raw else matrix.unit))
+        stored = units.with_unit(matrix, 1)
+        low, high = stored.reduce_scalar('plus'), stored.apply('arsh', right=HALF).reduce_scalar('plus')
+        count = matrix.nvals
+        return float(Fraction(_total(low, high, count), count) / (1 if raw else matrix.unit)) if count else None
     if op == 'peak_to_peak':
         most, least = (matrix.reduce_scalar(end, raw=True) for end in ('max', 'min'))
         return None if most is None or least is None else units.to_decimal(most - least, 1 if raw else matrix.unit)

@@ -27,12 +27,12 @@ def assigned(matrix: 'Matrix', what: Any, chosen: Tuple[Any, Any], accum: Option
     if isinstance(what, Held):
         given = _spread(matrix, _turned(what, matrix, rows, columns), rows, columns)
     elif where is not None and not where.complement:
-        stored = units.to_stored(what, matrix.unit, 'value')
+        stored = units.to_stored(what, matrix.unit, 'value ')
         there = structure(where).apply('thunk', right=stored)
         there.notes = there.notes._replace(unit=matrix.unit)
         given = _within(there, rows, columns)
     else:
-        given = _everywhere(matrix, units.to_stored(what, matrix.unit, 'value'), rows, columns)
+        given = _everywhere(matrix, units.to_stored(what, matrix.unit, 'value '), rows, columns)
     if accum is not None:
         whole = matrix.ewise_add(given, accum, name=None if where is not None else name)
     elif rows.places is None and columns.places is None:

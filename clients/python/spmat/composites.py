@@ -11,7 +11,7 @@ from . import aggregators, assignment, tiles, units
 from .backends.unread import reading
 from .errors import refusal
 from .indexing import gather, picked
-from .job_operators import of_form
+from .job_operators import of_form, ring_of
 from .mask import Mask, as_mask, structure
 from .metadata import (BY_POSITIONS, COLUMNS, NOTHING, ROWS, Notes, check_equal, check_same_names, hint_of, of_copy, of_update,
                        on_diagonal, under)
@@ -233,6 +233,8 @@ class Composites(Signs, metaclass=MatrixType):
         if self.shape != other.shape:
             return False
         check_same_names(self.notes, other.notes)
+        if units.is_whole(self.unit) and units.is_whole(other.unit):
+            units.common('isclose', self.unit, other.unit)
         if self.nvals != other.nvals:
             return False
         (rows, columns, values), (i, j, others) = self.entries(arrays=False), other.entries(arrays=False)
@@ -308,7 +310,7 @@ def notes_under(where: Mask, shape: Tuple[int, int], notes: Notes) -> Notes:
 
 def filled(pattern: Any, number: Any, unit: units.Unit) -> Any:
     """A matrix with one number wherever another has an entry: 1 job."""
-    made = pattern.apply('thunk', right=units.to_stored(number, unit, 'default'))
+    made = pattern.apply('thunk', right=units.to_stored(number, unit, 'default '))
     made.notes = made.notes._replace(unit=unit)
     return made
 
@@ -327,6 +329,7 @@ def power_of(matrix: 'Matrix', n: int, op: 'Ring', name: Optional[str]) -> 'Matr
         neutral = matrix.session.identity(matrix.nrows, NEUTRAL[op], name=name)  # type: ignore[index]
         neutral.notes = NOTHING.with_axes(matrix.notes.axis(ROWS), matrix.notes.axis(COLUMNS))
         return neutral
+    units.check_power(matrix.unit, n, ring_of(op)[0].mul)
     made: Optional['Matrix'] = None
     square = matrix
     while n:

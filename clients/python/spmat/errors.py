@@ -120,8 +120,7 @@ class SpmatError(Exception):
 
 
 class Closed(SpmatError):
-    """The session has ended: by close, by a refusal that ends sessions, or because the program or the connection is gone. Its words
-    are what the program said, its status among them."""
+    """The session has ended: by close, by a refusal, or as the program or the connection is gone. The words have what the program said."""
 
 
 class ProtocolError(Closed):
@@ -131,6 +130,10 @@ class ProtocolError(Closed):
 
 class MaskWarning(UserWarning):
     """A matrix was given as a mask: it means its structure, `A.S`, where the C API of the GraphBLAS means its values, `A.V`."""
+
+
+class OverflowWarning(UserWarning):
+    """Results of a job on values with a unit, such as decimals, may be beyond 64 bits. They wrap there, and stand for other numbers."""
 
 
 class ReadError(SpmatError, ValueError):
@@ -158,21 +161,18 @@ class NamesDiffer(SpmatError, ValueError):
 
 
 class NotMade(SpmatError):
-    """This matrix is the result of a job whose run was refused, so it never came to be. The refusal is the cause. `ResultLost` is the
-    same class."""
+    """The result of a job whose run was refused, so that it never came to be. The refusal is the cause. `ResultLost` is the same class."""
 
 
 ResultLost = NotMade
 
 
 class UnitsDiffer(SpmatError, ValueError):
-    """Stored numbers of two units would meet, such as hundredths and thousandths; or a result would have values of two units. The words name
-    both units, and say what to write."""
+    """Numbers of two units would meet, such as hundredths and thousandths; or a result would have two units. The words say what to write."""
 
 
 class CompileError(SpmatError):
-    """An operator from Python or C that no server was asked about: it can't be an operator, or clang refused it; the words say what to
-    do."""
+    """A function of Python or C that can't be an operator, or that clang refused; no server was asked. The words say what to do."""
 
 
 class NotSettled(RuntimeError):

@@ -1,25 +1,31 @@
 """Operators and the numbers beside them, as the forms of jobs take them."""
 from __future__ import annotations
 
+import datetime
 from decimal import Decimal
 from fractions import Fraction
 from typing import Dict, NamedTuple, Optional, Tuple, Union
+
+import numpy
 
 from . import units
 from ._client.protocol import FORMS
 from .errors import refusal
 from .operators import READY, Op, Operator, Semiring, find, find_semiring
 
-Number = Union[int, float, Fraction, Decimal]
+Number = Union[int, float, Fraction, Decimal, datetime.date, datetime.timedelta, numpy.datetime64, numpy.timedelta64]
 Ring = Union[str, Semiring, Tuple[Op, Op]]
 
 
 class Applied(NamedTuple):
-    """The operator and thunk that `apply` sends, whether its answers are the same at each row and column, and their unit."""
+    """The operator and thunk that `apply` sends, whether its answers are the same at each row and column, and their unit; which operator
+    that is before the number is bound, and on which side it is."""
     op: Operator
     thunk: Optional[int]
     even: bool
     unit: units.Unit
+    by: Operator
+    is_left: bool = False
 
 
 def of_form(form: str, op: Op) -> Operator:
@@ -51,18 +57,19 @@ def applied(op: Op, right: Optional[Number], left: Optional[Number], unit: units
         raise TypeError('right= or left=, not both')
     bound = right is not None or left is not None
     if not bound and isinstance(op, Operator) and op.kind == 'unary':
-        return Applied(op, None, True, unit if unit == 1 else units.of_unary(op, unit))
+        return Applied(op, None, True, unit if unit == 1 else units.of_unary(op, unit), op)
     kinds = ('binary', 'index') if bound else ('unary', 'index')
     found = find(_kind_of(op, kinds, bound), op)
     number = left if left is not None else right if right is not None else 0
     if found.kind == 'index' and left is None:
-        sent = units.of_index(found, number, unit)
-        return Applied(found, sent.thunk, False, sent.unit)
+        sent = units.of_index(found, number, unit, 'right=')
+        return Applied(sent.op, sent.thunk, False, sent.unit, sent.op)
     if found.kind == 'binary' and bound:
         sent = units.of_bound(found, number, left is not None, unit)
-        return Applied(found.bind_right() if right is not None else found.bind_left(), sent.thunk, True, sent.unit)
+        op = sent.op.bind_right() if right is not None else sent.op.bind_left()
+        return Applied(op, sent.thunk, True, sent.unit, sent.op, left is not None)
     if found.kind == 'unary' and not bound:
-        return Applied(found, None, True, units.of_unary(found, unit))
+        return Applied(found, None, True, units.of_unary(found, unit), found)
     how = ' with %s=' % ('right' if right is not None else 'left') if bound else ''
     raise refusal('J4', command='apply', detail='expected a unary or index operator, or a binary one with right= or left=, '
                   'got %r%s' % (found, how))

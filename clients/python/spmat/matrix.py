@@ -6,7 +6,7 @@ from typing import TYPE_CHECKING, Any, Iterator, Optional, Sequence, Tuple, Type
 
 import numpy
 
-from . import aggregators, metadata, oversized_jobs, units
+from . import aggregators, metadata, overflow, oversized_jobs, units
 from .backends.protocol import Handle, Job
 from .composites import Composites, notes_under
 from .display import html
@@ -142,7 +142,9 @@ class Matrix(Composites):
         `B.unit = 100`, where you know another."""
         sent = applied(op, right, left, self.notes.unit)
         notes = metadata.of_applied(self.notes, sent.op, sent.even, sent.unit)
-        return self._queue(Job('apply', (sent.op,), (self.handle,), self.handle.shape, sent.thunk), (self,), notes, mask, name)
+        span = None if sent.unit == 1 else overflow.of_applied(self, sent)
+        made = self._queue(Job('apply', (sent.op,), (self.handle,), self.handle.shape, sent.thunk), (self,), notes, mask, name)
+        return overflow.noted(made, span)
 
     def select(self, op: Op, thunk: Number = 0, *, mask: MaskLike = None, name: Optional[str] = None) -> 'Matrix':
         """The entries for which an index operator's answer isn't 0, with their values. In the GraphBLAS GrB_select.
@@ -173,9 +175,9 @@ class Matrix(Composites):
         if isinstance(op, str):
             metadata.check_counts_places(op, self.notes)
         found = of_form('select', op)
-        thunk = units.of_selected(found, thunk, self.notes.unit)
-        notes = metadata.of_selected(self.notes, found, thunk)
-        return self._queue(Job('select', (found,), (self.handle,), self.handle.shape, thunk), (self,), notes, mask, name)
+        found, stored, _ = units.of_index(found, thunk, self.notes.unit)
+        notes = metadata.of_selected(self.notes, found, stored)
+        return self._queue(Job('select', (found,), (self.handle,), self.handle.shape, stored), (self,), notes, mask, name)
 
     def ewise_add(self, other: 'Matrix', op: Op = 'plus', *, mask: MaskLike = None,
                   name: Optional[str] = None) -> 'Matrix':
@@ -267,7 +269,7 @@ class Matrix(Composites):
             A binary operator, or one of python-graphblas' aggregators: "sum", "prod", "last", "any_value"; with 1 to 3 jobs more
             "count", "count_nonzero", "count_zero", "exists", "all", "first_index", "last_index", "sum_of_squares", "peak_to_peak";
             with 4 more, and a value a row that the client sends, "argmin" and "argmax", the first column with the least or greatest
-            value; with 2 more "mean", in millionths that the client makes of sums and counts.
+            value; with 4 more "mean", in millionths that the client makes of sums and counts; no sum wraps then.
         mask, name
             As for `apply`.
 
@@ -302,6 +304,7 @@ class Matrix(Composites):
             if operand.is_vector:
                 is_vector = 1 in job.shape and (job.shape == operand.shape or job.shape != (1, 1))
         backend = session.backend
+        span = None if notes.unit == 1 or job.form == 'apply' else overflow.of_job(backend, job, operands)
         try:
             handle = backend.submit(job, name)
         except TooLarge as fault:
@@ -310,7 +313,7 @@ class Matrix(Composites):
             raise oversized_jobs.explained(fault, job, operands) from None
         made = (backend.matrix_type or Matrix)(session, handle, name)
         made.notes = notes
-        return _as_vector(made) if is_vector else made
+        return overflow.noted(_as_vector(made) if is_vector else made, span)
 
     def _check_shape(self, form: str, other: 'Matrix', shape: Tuple[int, Optional[int]]) -> None:
         if not isinstance(other, Matrix):
@@ -329,7 +332,7 @@ class Matrix(Composites):
         backend = self.session.backend
         made = (backend.matrix_type or Matrix)(self.session, backend.transpose(self.handle))
         made.notes = metadata.turned(self.notes)
-        return _as_vector(made) if self.is_vector else made
+        return overflow.noted(_as_vector(made) if self.is_vector else made, self.kept.get(overflow.KEY))
 
     def to_text(self) -> bytes:
         """The canonical Matrix Market text: coordinate integer general, entries by ascending row and column. Runs the queue where

@@ -461,14 +461,14 @@ def of_update(first: Notes, second: Notes, accum: Optional[Operator], where: Opt
     there = under(of_copy(inside), where.matrix.notes, where.value, where.complement)
     if replace:
         return there
-    units.check_same('update', first.unit, there.unit)
+    unit = units.common('update', first.unit, there.unit)
     alike = _chosen(binary.first, first.value_names, there.value_names)
-    return _of_pair(under(of_copy(first), where.matrix.notes, where.value, not where.complement), there, first.unit, alike)
+    return _of_pair(under(of_copy(first), where.matrix.notes, where.value, not where.complement), there, unit, alike)
 
 
 def check_equal(first: Notes, second: Notes) -> None:
     """Raises NamesDiffer or UnitsDiffer where two matrices can't be compared, as they are of other vertices, or other parts."""
-    units.check_same('isequal', first.unit, second.unit)
+    units.common('isequal', first.unit, second.unit)
     check_same_names(first, second)
 
 

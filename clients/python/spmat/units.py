@@ -12,11 +12,15 @@ import math
 from fractions import Fraction
 from typing import Any, Dict, NamedTuple, NoReturn, Optional, Union
 
+from . import time_units
 from .aliases import alias
+from .comparisons import compared, exact_in, exact_number as exact_number
 from .errors import UnitsDiffer
 from .io import coo
 from .io.matrix_text import is_array
+from .io.time_values import UNITS
 from .operators import Op, READY, Operator, find
+from .time_units import TimeUnit
 
 Unit = Union[int, Fraction]
 
@@ -38,14 +42,23 @@ _KINDS: Dict[str, Dict[str, str]] = {
 
 # -- numbers
 
+def told(unit: Unit) -> str:
+    """A unit as errors name it."""
+    return 'times in %s' % unit if isinstance(unit, TimeUnit) else 'parts of 1/%s' % unit
+
+
 def as_unit(number: Any) -> Unit:
-    """A number as a unit, as it is written in decimals: an int where it is whole. ValueError where it is no number above 0."""
+    """A number as a unit, as it is written in decimals: an int where it is whole; of "s" and the like the unit of times. ValueError where it
+    is no number above 0."""
+    if isinstance(number, str) and number in UNITS:
+        return TimeUnit(number)
     try:
         exact = exact_number(number)
     except (TypeError, ValueError):
         exact = Fraction(0)
     if exact <= 0:
-        raise ValueError('a unit is a number above 0, such as 100 where stored whole numbers are hundredths, not %r' % (number,))
+        raise ValueError('a unit is a number above 0, such as 100 where stored whole numbers are hundredths, or of times %s, not %r' % (
+            ', '.join(map('"%s"'.__mod__, UNITS)), number))
     return plain(exact)
 
 
@@ -54,49 +67,40 @@ def plain(unit: Union[int, Fraction]) -> Unit:
     return unit.numerator if unit.denominator == 1 else unit
 
 
-def exact_number(number: Any) -> Fraction:
-    """A number of Python or numpy, a float as it is written in decimals (0.29 is 29/100). TypeError for what is no number, ValueError for
-    what isn't finite."""
-    if hasattr(number, '__index__'):
-        return Fraction(number.__index__())
-    if isinstance(number, (str, bytes)) or not (hasattr(number, '__float__') or isinstance(number, Fraction)):
-        raise TypeError('expected a number, not %r' % (number,))
-    try:
-        return Fraction(number if isinstance(number, (Fraction, decimal.Decimal)) else repr(float(number)))
-    except (OverflowError, ValueError):
-        raise ValueError('expected a finite number, not %r' % (number,)) from None
+def is_whole(unit: Unit) -> bool:
+    """Whether stored numbers are shown as they are: those that have no unit, and times."""
+    return unit == 1 or isinstance(unit, TimeUnit)
 
 
-def to_stored(number: Any, unit: Unit, what: str = 'thunk') -> int:
-    """The whole number that a number is stored as. ValueError where there is none, or it is beyond 64 bits."""
-    if unit == 1:
-        return coo.word(number, what)
-    exact = exact_number(number) * unit
+def to_stored(number: Any, unit: Unit, what: str) -> int:
+    """The whole number that a number, or a time, is stored as. ValueError where there is none, or it is beyond 64 bits; `what` stands before
+    the number in its words, such as "right="."""
+    exact = exact_in(number, unit)
+    parts = '' if unit == 1 else ' in %s, as this matrix holds' % told(unit)
     if exact.denominator != 1:
         finer = unit * 10 ** (_places(exact.denominator) or 0)
-        mend = finer if (exact_number(number) * finer).denominator == 1 else unit * exact.denominator
-        raise ValueError('%s is no whole number of parts of 1/%s, which this matrix holds: A.rescale(%s) has it' % (number, unit, plain(mend)))
-    return coo.word(exact.numerator, what)
+        mend = finer if (exact / unit * finer).denominator == 1 else unit * exact.denominator
+        raise ValueError('%s%s is no whole number%s: A.rescale(%s) holds it' % (
+            what, number, parts or ', as the values of this matrix are', _finer_time(exact, unit) or plain(Fraction(mend))))
+    if not coo.LEAST <= exact <= coo.MOST:
+        raise ValueError('%s%s is not in -2^63 to 2^63 - 1%s' % (what, number, parts))
+    return exact.numerator
 
 
-def to_compared(op: Operator, number: Any, unit: Unit, is_left: bool = False) -> int:
-    """The whole number that stored ones are compared with in place of a number: x > 0.125 is x > 12 of hundredths. ValueError where none
-    tells the same, as of equality."""
-    upward = None if unit == 1 else _rounds_up(op.kind).get(op)
-    if upward is None:
-        return to_stored(number, unit)
-    exact = exact_number(number) * unit
-    return coo.word(math.ceil(exact) if upward != is_left else math.floor(exact), 'thunk')
+def _finer_time(exact: Fraction, unit: Unit) -> Optional[str]:
+    """The coarsest unit of times that holds a time exactly; None of what is no time."""
+    found = [name for name, size in UNITS.items() if isinstance(unit, TimeUnit) and (exact * unit.size / size).denominator == 1]
+    return repr(found[0]) if found else None
 
 
 def to_decimal(value: int, unit: Unit) -> Any:
     """What a stored number stands for: itself with a unit of 1, else the nearest float."""
-    return value if unit == 1 else value * unit.denominator / unit.numerator
+    return value if is_whole(unit) else value * unit.denominator / unit.numerator
 
 
 def to_decimals(values: Any, unit: Unit) -> Any:
     """The same of a list, or of an array of numpy."""
-    if unit == 1:
+    if is_whole(unit):
         return values
     if not is_array(values):
         return [value * unit.denominator / unit.numerator for value in values]
@@ -108,7 +112,7 @@ def to_decimals(values: Any, unit: Unit) -> Any:
 
 def to_text(value: int, unit: Unit) -> str:
     """What a stored number stands for, as text with all its digits where these come to an end."""
-    if unit == 1:
+    if is_whole(unit):
         return str(value)
     places = _places(unit.numerator)
     if places is None:
@@ -120,7 +124,7 @@ def to_text(value: int, unit: Unit) -> str:
 
 def to_exact(value: int, unit: Unit) -> Any:
     """The same as a number that is printed with these digits."""
-    return value if unit == 1 else decimal.Decimal(to_text(value, unit))
+    return value if is_whole(unit) else decimal.Decimal(to_text(value, unit))
 
 
 @functools.lru_cache(maxsize=64)
@@ -157,16 +161,18 @@ def _kinds(kind: str) -> Dict[Operator, str]:
     return {READY[kind][name]: meaning for meaning, names in _KINDS[kind].items() for name in names.split()}
 
 
-@functools.lru_cache(maxsize=None)
-def _rounds_up(kind: str) -> Dict[Operator, bool]:
-    """Whether a number to compare with may be the next greater whole one: x < 12.5 is x < 13, and x > 12.5 is x > 12."""
-    names = {'lt': True, 'ge': True, 'le': False, 'gt': False}
-    return {READY[kind]['value' + name if kind == 'index' else name]: up for name, up in names.items()}
-
-
 def _meaning(op: Operator) -> Optional[str]:
     """What an operator does with units, None where that isn't known: of the caller's own, and of those on bits."""
     return _kinds(op.kind).get(op)
+
+
+def common(what: Union[Operator, str], first: Unit, second: Unit) -> Unit:
+    """The unit of values that meet. UnitsDiffer where they have two; numbers without a unit go with times of any."""
+    if first == second or (second == 1 and isinstance(first, TimeUnit)):
+        return first
+    if first == 1 and isinstance(second, TimeUnit):
+        return second
+    return refuse(what, first, second)
 
 
 def of_both(op: Operator, first: Unit, second: Unit) -> Unit:
@@ -174,46 +180,62 @@ def of_both(op: Operator, first: Unit, second: Unit) -> Unit:
     if first == 1 and second == 1:
         return 1
     meaning = _meaning(op)
-    if meaning in (MEET, COMPARE) and first != second:
-        refuse(op, first, second)
-    if meaning in (MEET, FIRST):
-        return first
-    if meaning == SECOND:
-        return second
+    met = common(op, first, second) if meaning in (MEET, COMPARE) else 1
+    if meaning == MEET:
+        return met
+    if meaning in (FIRST, SECOND):
+        return first if meaning == FIRST else second
     if meaning == TIMES:
-        return plain(Fraction(first) * second)
+        return _multiplied(op, first, second)
     if meaning in (OVER, UNDER):
         over, under = (first, second) if meaning == OVER else (second, first)
-        if Fraction(over) % under:
+        if Fraction(over) % under or (isinstance(over, TimeUnit) and isinstance(under, TimeUnit) and over != under):
             refuse(op, first, second)
         return plain(Fraction(over) / under)
     return 1
 
 
+def _multiplied(op: Operator, first: Unit, second: Unit) -> Unit:
+    """The unit of a product of two numbers. ValueError where no stored number could be 1."""
+    unit = plain(Fraction(first) * second)
+    if unit.numerator > coo.MOST:
+        mend = ' and '.join('%s.rescale(1000, exact=False)' % name for name, one in (('A', first), ('B', second)) if one > 1000)
+        raise ValueError('%s multiplies the units %s and %s, and 64 bits hold no 1 in parts of their product: write %s, with rounding' % (
+            _name(op), first, second, mend))
+    return unit
+
+
+def check_power(unit: Unit, n: int, mul: Operator) -> None:
+    """ValueError where the n-th power of a matrix has a unit of which 64 bits hold no 1."""
+    if n > 1 and not is_whole(unit) and _meaning(mul) == TIMES and n * math.log2(unit) > 63:
+        raise ValueError('the power has values in parts of 1/%s^%d, of which 64 bits hold no 1: write A.rescale(%d, exact=False).power(%d), with '
+                         'rounding' % (unit, n, 10 ** (18 // n), n))
+
+
 def of_union(op: Operator, first: Unit, second: Unit) -> Unit:
     """The unit of a union, which copies what one matrix alone has."""
-    if first == 1 and second == 1:
-        return 1
-    if first != second:
-        refuse(op, first, second)
-    return of_fold(op, first)
+    return 1 if first == 1 and second == 1 else of_fold(op, common(op, first, second))
 
 
 def of_fold(op: Operator, unit: Unit) -> Unit:
     """The unit of a fold, which copies what stands alone."""
-    if unit == 1 or _meaning(op) in (None, SHIFT):
+    meaning = _meaning(op)
+    if unit == 1 or meaning in (None, SHIFT):
         return 1
-    if _meaning(op) in (OVER, UNDER, TIMES, COMPARE, NUMBER):
-        raise UnitsDiffer('%s gives numbers that are no parts of 1/%s, as the values are that stand alone and are copied: take '
-                          'A.rescale(1), or A.unit = 1 to work on the stored whole numbers' % (_name(op), unit))
-    return unit
+    if meaning not in (OVER, UNDER, TIMES, COMPARE, NUMBER):
+        return unit
+    if isinstance(unit, TimeUnit):
+        return 1
+    raise UnitsDiffer('%s gives numbers that are no parts of 1/%s, as the values are that stand alone and are copied: %s' % (
+        _name(op), unit, 'B = A.dup() and B.unit = 1 has the stored whole numbers, and A.rescale(1, exact=False) rounds to whole ones'))
 
 
-def of_read(scale: Any, dup_op: Optional[Op]) -> Unit:
-    """The unit of what is read with a scale. UnitsDiffer where values that share a position are folded to numbers of another one."""
-    if scale is None:
+def of_read(scale: Any, dup_op: Optional[Op], times: Optional[str] = None) -> Unit:
+    """The unit of what is read with a scale, or as times. UnitsDiffer where values that share a position are folded to numbers of another
+    one."""
+    if scale is None and times is None:
         return 1
-    unit = as_unit(scale)
+    unit = as_unit(scale if times is None else times)
     if dup_op is not None:
         of_fold(find('binary', dup_op), unit)      # one of the caller's own is taken to keep what its scale says
     return unit
@@ -226,16 +248,13 @@ def of_product(add: Operator, mul: Operator, first: Unit, second: Unit) -> Unit:
     return of_fold(add, of_both(mul, first, second))
 
 
-def check_same(what: str, first: Unit, second: Unit) -> None:
-    """UnitsDiffer where two matrices whose values meet have not one unit."""
-    if first != second:
-        refuse(what, first, second)
-
-
 def refuse(op: Union[Operator, str], first: Unit, second: Unit) -> NoReturn:
     """Raises UnitsDiffer of the operands of an operator, or of what else brings values together."""
-    least = plain(Fraction(_lcm(Fraction(first).numerator, Fraction(second).numerator)))
-    mend = ' and '.join('%s.rescale(%s)' % (name, least) for name, unit in (('A', first), ('B', second)) if unit != least)
+    if isinstance(first, TimeUnit) and isinstance(second, TimeUnit):
+        wanted: Unit = min(first, second, key=lambda unit: unit.size)
+    else:
+        wanted = plain(Fraction(_lcm(Fraction(first).numerator, Fraction(second).numerator)))
+    mend = ' and '.join('%s.rescale(%r)' % (name, wanted) for name, unit in (('A', first), ('B', second)) if unit != wanted)
     raise UnitsDiffer('%s of values whose units differ: A has a unit of %s, and B of %s; write %s' % (_name(op), first, second, mend))
 
 
@@ -256,7 +275,8 @@ def _is_function(op: Operator) -> bool:
 
 
 class Bound(NamedTuple):
-    """The whole number that is sent beside an operator, and the unit of its result."""
+    """An operator, the whole number that is sent beside it, and the unit of its result."""
+    op: Operator
     thunk: int
     unit: Unit
 
@@ -266,98 +286,69 @@ def of_unary(op: Operator, unit: Unit) -> Unit:
     if unit == 1:
         return 1
     meaning = _meaning(op)
-    if meaning == UNDER:
-        _refuse_inverse(op, unit)
+    if meaning == UNDER and not isinstance(unit, TimeUnit):
+        _refuse_inverse(op, 1, unit)
     return unit if meaning == KEEP else 1
 
 
-def of_index(op: Operator, thunk: Any, unit: Unit) -> Bound:
+def of_index(op: Operator, thunk: Any, unit: Unit, what: str = 'the number beside the operator') -> Bound:
     """The same of an index operator, with the number beside it: a value stands for itself, what the caller's own operators get is a stored
     number."""
     meaning = _meaning(op)
     if meaning == COMPARE and not _is_function(op):
-        return Bound(to_compared(op, thunk, unit), 1)
-    return Bound(coo.word(thunk, 'thunk'), unit if meaning == KEEP else 1)
+        return Bound(*compared(op, thunk, unit), 1)
+    return Bound(op, _whole(thunk, what, 'is'), unit if meaning == KEEP else 1)
 
 
 def of_bound(op: Operator, number: Any, is_left: bool, unit: Unit) -> Bound:
     """The same of a binary operator, one of whose operands is a number: where it meets the values it is one of these, by times and division
     it is a factor."""
-    if unit == 1 or _is_function(op):
-        return Bound(coo.word(number, 'thunk'), _own(op, is_left, unit))
-    meaning = _meaning(op)
-    if meaning == COMPARE:
-        return Bound(to_compared(op, number, unit, is_left), 1)
-    if meaning in (MEET, FIRST, SECOND):
-        return Bound(to_stored(number, unit), unit)
-    return Bound(coo.word(number, 'thunk'), _own(op, is_left, unit))
+    meaning, what = _meaning(op), 'left=' if is_left else 'right='
+    if not _is_function(op):
+        if meaning == COMPARE:
+            return Bound(*compared(op, number, unit, is_left), 1)
+        if meaning in (MEET, FIRST, SECOND):
+            return Bound(op, to_stored(number, unit, what), unit)
+    divides = meaning in (OVER, UNDER) and is_left != (meaning == OVER)
+    if meaning in (OVER, UNDER) and not divides and not is_whole(unit):
+        _refuse_inverse(op, number, unit)
+    if meaning == TIMES or divides:
+        _check_factor(op, number, is_left, unit)
+    return Bound(op, _whole(number, what, 'of "%s" is' % _name(op)), _own(meaning, is_left, unit))
 
 
-def _own(op: Operator, is_left: bool, unit: Unit) -> Unit:
-    """The unit of the result of a binary operator with a number that isn't changed."""
-    meaning = _meaning(op)
-    if meaning in (OVER, UNDER) and is_left == (meaning == OVER) and unit != 1:
-        _refuse_inverse(op, unit)
-    if meaning == SHIFT:
-        return 1 if is_left else unit
-    return unit if meaning in (MEET, FIRST, SECOND, TIMES, OVER, UNDER) else 1
+def _own(meaning: Optional[str], is_left: bool, unit: Unit) -> Unit:
+    """The unit of the result of a binary operator with a number that isn't changed. A multiple of a time is a number."""
+    if meaning == SHIFT and is_left:
+        return 1
+    keep = (MEET, FIRST, SECOND) if isinstance(unit, TimeUnit) else (MEET, FIRST, SECOND, TIMES, OVER, UNDER, SHIFT)
+    return unit if meaning in keep else 1
 
 
-def _refuse_inverse(op: Operator, unit: Unit) -> NoReturn:
-    raise UnitsDiffer('%s divides by values that are parts of 1/%s, and would lose what is less than %s: take A.rescale(1), or A.unit = 1 to '
-                      'work on the stored whole numbers' % (_name(op), unit, unit))
+def _whole(number: Any, what: str, verb: str) -> int:
+    """A whole number of 64 bits that callers write beside an operator, by the word that they know it by."""
+    try:
+        return coo.word(number, 'number')
+    except (TypeError, ValueError) as fault:
+        raise type(fault)('%s %s a whole number of 64 bits, not %r' % (what, verb, number)) from None
 
 
-def of_selected(op: Operator, thunk: Any, unit: Unit) -> int:
-    """The whole number that is sent beside an operator that selects."""
-    return of_index(op, thunk, unit).thunk
+def _check_factor(op: Operator, number: Any, is_left: bool, unit: Unit) -> None:
+    """ValueError for a factor, or a divisor, that isn't whole: it says how to take it all the same."""
+    if time_units.is_time(number) or isinstance(number, str) or not math.isfinite(number) or exact_number(number).denominator == 1:
+        return                                     # whatever else it is, `_whole` says so
+    exact, side, name = exact_number(number), 'left' if is_left else 'right', _name(op)
+    over, under = exact.numerator, exact.denominator
+    how = 'B = A.apply("times", %s=%d); B.unit = %s' % (side, over, plain(unit * Fraction(under)))
+    if _meaning(op) != TIMES:
+        how = 'A.apply("times", right=%d).apply("%s", %s=%d)' % (under, name, side, over)
+    raise ValueError('%s= of "%s" is a whole number, not %r: write %s' % (side, name, number, how))
 
 
-# -- another unit
-
-def rescaled(matrix: Any, unit: Any, exact: bool) -> Any:
-    """A matrix with the same numbers in another unit; see `Held.rescale`."""
-    wanted = as_unit(unit)
-    factor = Fraction(wanted) / matrix.unit
-    if factor == 1:
-        return matrix
-    made, more, less = with_unit(matrix, 1), factor.numerator, factor.denominator
-    if less != 1:
-        left = made.apply('cmod', right=less).select('nonzero')
-        if exact and left.nvals:
-            some = made.dup(mask=left.S).reduce_scalar('any', raw=True)
-            raise ValueError('%d of %d values would lose digits in parts of 1/%s, such as %s: exact=False rounds them'
-                             % (left.nvals, matrix.nvals, wanted, to_text(some, matrix.unit)))
-        if not left.nvals:
-            made, less = made.apply('cdiv', right=less), 1
-    if more != 1:
-        _check_fits(made, Fraction(more, less), wanted)
-    if less != 1:
-        made = made.apply(_rounding(more, less))
-    elif more != 1:
-        made = made.apply('times', right=more)
-    made.notes = matrix.notes._replace(source='', unit=wanted)
-    return made
-
-
-def _check_fits(matrix: Any, factor: Fraction, wanted: Unit) -> None:
-    """ValueError where a stored value times a factor is beyond 64 bits."""
-    least, most = math.ceil(coo.LEAST / factor), math.floor(coo.MOST / factor)
-    outside = [matrix.select('valuelt', least) if least > coo.LEAST else None, matrix.select('valuegt', most) if most < coo.MOST else None]
-    many = sum(part.nvals for part in outside if part is not None)
-    if many:
-        raise ValueError('%d of %d values are beyond 64 bits in parts of 1/%s: a smaller unit holds them' % (many, matrix.nvals, wanted))
-
-
-def _rounding(more: int, less: int) -> Operator:
-    """x times more / less, rounded to the nearest, halves to the even one. ValueError where this takes more than 64 bits."""
-    if more * less >= 1 << 62:
-        raise ValueError('a factor of %d/%d can not be rounded in 64 bits: rescale in two steps' % (more, less))
-
-    def nearest(x: int) -> int:
-        whole = x // less
-        over = (x - whole * less) * more
-        found = whole * more + over // less
-        rest = (over - over // less * less) * 2
-        return found + ((rest > less) | ((rest == less) & (found & 1)))
-    return READY['unary'](nearest, name='rescale')
+def _refuse_inverse(op: Operator, number: Any, unit: Unit) -> NoReturn:
+    parts = 1000 * unit.denominator
+    over = exact_number(number) * unit * parts
+    parts, over = (parts, over) if over.denominator == 1 and abs(over) <= coo.MOST else (unit.denominator, Fraction(unit.numerator))
+    raise UnitsDiffer('"%s" divides by values that are parts of 1/%s, so that the quotients would be no parts of it: write B = A.dup(); '
+                      'B.unit = 1; C = B.apply("cdiv", left=%d); C.unit = %d for quotients in parts of 1/%d, cut down'
+                      % (_name(op), unit, int(over), parts, parts))

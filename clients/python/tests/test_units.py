@@ -106,17 +106,14 @@ class Acts(Case):
         self.assertEqual(A.apply('lsh', right=1).to_edgelist(), [('A', 'B', 2.5), ('B', 'C', 1.0)])
         self.assertEqual(A.select('rowle', 0).to_edgelist(), [('A', 'B', 1.25)])
         self.assertEqual(A.apply('colindex', right=5).to_edgelist(), [('A', 'B', 6), ('B', 'C', 7)])
-        for call in (lambda: A.select('==', 1.255), lambda: A.apply('plus', right=0.125), lambda: A.apply('times', right=0.5),
-                     lambda: A.apply('max', right=1e17), lambda: A.select('==', float('nan')), lambda: A.select('rowle', 0.5),
-                     lambda: A.apply('ne', left=0.001), lambda: A.select('>', float('inf')), lambda: A.select('<', 1e18)):
+        for call in (lambda: A.apply('plus', right=0.125), lambda: A.apply('times', right=0.5), lambda: A.apply('max', right=1e17),
+                     lambda: A.select('==', float('nan')), lambda: A.select('rowle', 0.5)):
             with self.assertRaises(ValueError):
                 call()
         with self.assertRaisesRegex(ValueError, r'1\.255 .*1/100.*A\.rescale\(1000\)'):
             A.apply('minus', right=1.255)
         with self.assertRaises(TypeError):
             A.select('>=', '1.5')
-        self.differ(lambda: A.apply('floordiv', left=3), 'rescale(1)')
-        self.differ(lambda: A.apply('minv'), 'rescale(1)')
 
     def test_own_operators_have_stored_numbers(self):
         A = self.cents

@@ -177,15 +177,15 @@ def keep_units(algorithm: Algorithm) -> Callable[..., Any]:
 def unit_of(graph: Matrix, transpose: Optional[Matrix]) -> Fraction:
     """The unit of the values of a graph. UnitsDiffer where its transpose has another one."""
     if transpose is not None:
-        units.check_same('a graph and its transpose', graph.unit, transpose.unit)
+        units.common('a graph and its transpose', graph.unit, transpose.unit)
     return Fraction(graph.unit)
 
 
 def _check_transpose(algorithm: Algorithm, given: Dict[str, Any], unit: units.Unit) -> None:
     for name in ('GT', 'WT'):
         if isinstance(given.get(name), Held):
-            units.check_same('%s of a graph and its transpose' % algorithm.function.__name__, unit,
-                             given[name].unit)
+            units.common('%s of a graph and its transpose' % algorithm.function.__name__, unit,
+                         given[name].unit)
 
 
 def _floor(cutoff: Any, unit: units.Unit) -> Any:

@@ -39,12 +39,13 @@ BINS = 4096
 
 class Reading(NamedTuple):
     """What becomes of edges: whether they lead one way, whether rows and columns are of two kinds,
-    how values that share a position are folded, and the matrix' name."""
+    how values that share a position are folded, the matrix' name, and what values are parts of."""
     directed: bool = True
     bipartite: bool = False
     dup_op: DupOp = None
     name: Optional[str] = None
     scale: Optional[float] = None
+    times: Optional[str] = None
 
 
 class _Vertices(NamedTuple):
@@ -144,7 +145,7 @@ def of_sources(sessions: 'Inputs', sources: Sequence[Source],
     rows = axis_of(vertices.names[0])
     columns = rows if len(sizes) == 1 else axis_of(vertices.names[-1])
     made.notes = Notes(None, None, reading.directed, weighted or op is not None, _left_out(found).added_to(found[0][2]),
-                       units.of_read(reading.scale, reading.dup_op) if weighted else 1, sides=int(reading.bipartite)).with_axes(rows, columns)
+                       units.of_read(reading.scale, reading.dup_op, reading.times) if weighted else 1, sides=int(reading.bipartite)).with_axes(rows, columns)
     return made
 
 

@@ -25,11 +25,12 @@ import numpy
 from ..errors import ReadError, SpmatError, TextRefused, TooLarge
 from ..limits import MOST_SIDE, MOST_TEXT
 from ..metadata import Nodes, Notes, Unnamed
-from ..units import plain
+from ..units import as_unit
 from . import matrix_market
 from .coo import MOST
 from .exporters import Held
 from .files import RATIO, SMALL, replacing
+from .time_values import UNITS
 
 CONTENTS = 'matrices.json'
 VERSION = 2                                        # 1 has no units, and no values that are vertices
@@ -142,9 +143,9 @@ def _notes(about: Dict[str, Any], shape: Tuple[int, int]) -> Notes:
         if about[what] is not None:
             _typed(about[what], bool, what)
     unit = about.get('unit', '1')
-    if UNIT.fullmatch(str(unit)) is None:
+    if unit not in UNITS and UNIT.fullmatch(str(unit)) is None:
         raise ValueError('a unit is a number above 0, not %.40r' % (unit,))
-    return Notes(rows, columns, about['directed'], about['weighted'], _typed(about['source'], str, 'source'), plain(Fraction(unit)),
+    return Notes(rows, columns, about['directed'], about['weighted'], _typed(about['source'], str, 'source'), as_unit(unit if unit in UNITS else Fraction(unit)),
                  vertices, *_two(unnamed), _sides(about.get('sides', 0)))
 
 

@@ -11,7 +11,8 @@ import numpy
 from .. import top_k
 from ..errors import BudgetExceeded, refusal
 from ..metadata import COLUMNS, NOTHING, ROWS, Nodes, Notes, axes_of, check_one_kind, given_axis, vertices_of
-from ..units import Unit, are_decimals, as_unit, rescaled, to_decimals
+from ..rescaling import rescaled
+from ..units import Unit, are_decimals, as_unit, is_whole, to_decimals
 from . import compressed, coo, files, matrix_text
 from .dense import dense
 from .file_writers import Written
@@ -161,7 +162,7 @@ class Held(Written):
 
     def _floats(self, values: Any) -> Any:
         """What stored values stand for, as floats."""
-        return to_decimals(values, self.unit) if self.unit != 1 else list(map(float, values)) if isinstance(values, list) else values * 1.0
+        return to_decimals(values, self.unit) if not is_whole(self.unit) else list(map(float, values)) if isinstance(values, list) else values * 1.0
 
     def _shown(self, values: Any, raw: bool) -> Any:
         """Values as people are shown them: what they stand for, or with `raw` as they are stored."""

@@ -9,7 +9,7 @@ import tempfile
 from typing import IO, Any, Callable, Dict, Iterable, Iterator, List, Optional, Sequence, Tuple
 
 from ..metadata import NOTHING, Notes, vertices_of
-from ..units import Unit, to_decimal, to_decimals, to_text
+from ..units import Unit, is_whole, to_decimal, to_decimals, to_text
 from . import files, list_writer
 
 EDGE = ('source', 'target', 'weight')
@@ -120,7 +120,7 @@ class Written:
         if not self._is_vector():
             return self.to_pandas_edgelist(scale=scale, raw=raw)
         names, values = self._columns(scale, raw, to_decimal)
-        kind: Any = 'int64' if scale is None and (raw or self.notes.unit == 1) else 'float64'
+        kind: Any = 'int64' if scale is None and (raw or is_whole(self.notes.unit)) else 'float64'
         if self._vertices(scale, raw) is not None:
             kind = None if values else object
         return pandas.Series(values, pandas.Index(names, name=NODE[0], tupleize_cols=False), kind, NODE[1])

@@ -4,7 +4,7 @@ from __future__ import annotations
 import abc
 from typing import Any, Dict, Generic, Iterable, Optional, Sequence, TypeVar
 
-from .. import units
+from .. import overflow, units
 from ..errors import ReadError, TextRefused, TooLarge
 from ..metadata import NOTHING, Axes, axes_of, sizes_of
 from ..operators import Op
@@ -54,11 +54,12 @@ class Sources(abc.ABC, Generic[Made]):
         if (square or symmetric) and nrows is None and ncols is None:
             triples = triples._replace(nrows=max(triples.nrows, triples.ncols), ncols=max(triples.nrows, triples.ncols))
         axes = axes_of(nodes, (triples.nrows, triples.ncols))
+        triples = self._folded(triples, dup_op)
         if not symmetric:
-            return _told(self._from(triples, dup_op, name), rounding, unit, axes)
+            return _told(self._from(triples, name=name), rounding, unit, axes, triples.values)
         if triples.nrows != triples.ncols:
             raise ValueError('symmetric=True is of a square matrix, not of %d rows and %d columns' % (triples.nrows, triples.ncols))
-        made = _told(self._both_ways(self._folded(triples, dup_op), name), rounding, unit, axes)
+        made = _told(self._both_ways(triples, name), rounding, unit, axes, triples.values)
         made.notes = made.notes._replace(directed=False)
         return made
 
@@ -117,8 +118,10 @@ class Sources(abc.ABC, Generic[Made]):
         and 1 run where there are any). In python-graphblas `io.from_networkx`."""
         triples, notes = networkx_adjacency.triples_of(graph, weight, nodelist, networkx_adjacency.Asked(dup_op is not None, scale))
         unit = units.of_read(scale, dup_op) if weight is not None else 1
-        made = self._from(triples, dup_op, name)
+        triples = self._folded(triples, dup_op)
+        made = self._from(triples, name=name)
         made.notes = notes._replace(unit=unit)
+        overflow.note(made, triples.values)
         return made
 
     def from_edgelist(self, edges: Iterable[Any], *, directed: bool = True, nodelist: Optional[Sequence[Any]] = None, values: bool = True,
@@ -140,7 +143,7 @@ class Sources(abc.ABC, Generic[Made]):
             _check_kinds(frame.columns[:2], bipartite)
             edges = arrays.edges_of_frame(frame)
         layout = Layout(values=values, scale=scale, missing=missing, unit=unit, date_format=date_format)
-        return self._graph(graph_of_list(edges, How(directed, nodelist, bool(bipartite), dup_op is not None), layout), scale, dup_op, name)
+        return self._graph(graph_of_list(edges, How(directed, nodelist, bool(bipartite), dup_op is not None), layout), layout, dup_op, name)
 
     def from_pandas_edgelist(self, frame: Any, source: Any = 'source', target: Any = 'target', edge_attr: Any = None, *,
                              scale: Optional[float] = None, directed: bool = True, nodelist: Optional[Sequence[Any]] = None,
@@ -151,8 +154,9 @@ class Sources(abc.ABC, Generic[Made]):
         `missing` and `unit` among it, is as `from_edgelist` has it, but that `bipartite=` has to be said where the columns are called by two
         kinds of vertices, such as user and item. In networkx the same name."""
         _check_kinds((source, target), bipartite)
-        edges = edges_of_frame(frame, (source, target), edge_attr, Layout(scale=scale, missing=missing, unit=unit, date_format=date_format))
-        return self._graph(graph_of(edges, How(directed, nodelist, bool(bipartite), dup_op is not None)), scale, dup_op, name)
+        layout = Layout(scale=scale, missing=missing, unit=unit, date_format=date_format)
+        edges = edges_of_frame(frame, (source, target), edge_attr, layout)
+        return self._graph(graph_of(edges, How(directed, nodelist, bool(bipartite), dup_op is not None)), layout, dup_op, name)
 
     def read_edgelist(self, path: Any, *, delimiter: Optional[str] = None, header: Optional[bool] = None,
                       columns: Optional[Sequence[Column]] = None, values: bool = True, scale: Optional[float] = None,
@@ -332,7 +336,7 @@ class Sources(abc.ABC, Generic[Made]):
         if format == 'mtx':
             made = self._market(file, text, request, dup_op, name)
             return self._both_ways_of(file, made, dup_op, name) if request.directed is False and made.directed is not False else made
-        return self._graph(read(file, text, request, dup_op is not None, self._tell), request.layout.scale, dup_op, name)
+        return self._graph(read(file, text, request, dup_op is not None, self._tell), request.layout, dup_op, name)
 
     def _both_ways_of(self, file: str, matrix: Made, dup_op: DupOp, name: Optional[str]) -> Made:
         """A matrix whose entries lead both ways, though its file is `general`. ReadError where an edge has two values and nothing folds them."""
@@ -358,20 +362,22 @@ class Sources(abc.ABC, Generic[Made]):
         rows, columns, values = matrix.entries()
         made = self._from(Triples(rows, columns, values, *matrix.shape), name=name)
         made.notes = matrix.notes
+        overflow.note(made, values)
         return made
 
     @abc.abstractmethod
     def _folded(self, triples: Triples, dup_op: DupOp) -> Triples:
         """Each position once: what shares one is folded by an operator."""
 
-    def _graph(self, graph: Graph, scale: Optional[float], dup_op: DupOp, name: Optional[str]) -> Made:
+    def _graph(self, graph: Graph, layout: Layout, dup_op: DupOp, name: Optional[str]) -> Made:
         """A matrix of edges; of an undirected graph the other direction of each is added here."""
         triples, notes = graph
         if notes.weighted:
-            notes = notes._replace(unit=units.of_read(scale, dup_op))
+            notes = notes._replace(unit=units.of_read(layout.scale, dup_op, layout.unit))
         triples = self._folded(triples, dup_op)
         made = self._from(triples, name=name) if notes.directed is not False else self._both_ways(triples, name)
         made.notes = notes if dup_op is None else notes._replace(weighted=True)
+        overflow.note(made, triples.values)
         return made
 
 
@@ -382,10 +388,11 @@ def _check_kinds(ends: Sequence[Any], bipartite: Optional[bool]) -> None:
         raise ValueError(question)
 
 
-def _told(made: Made, rounding: Rounding, unit: units.Unit, axes: Axes) -> Made:
+def _told(made: Made, rounding: Rounding, unit: units.Unit, axes: Axes, values: Any) -> Made:
     """A matrix that the caller made by indexes, with what its rows and columns are called, what rounding did to its values, and what they are
     parts of."""
     made.notes = NOTHING.with_axes(*axes)
     if rounding.scale is not None:
         made.notes = made.notes._replace(source=str(rounding), unit=unit)
+    overflow.note(made, values)
     return made

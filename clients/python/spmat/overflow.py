@@ -1,0 +1,194 @@
+"""Whether stored numbers that have a unit can pass 64 bits, where they wrap: what values a result can have follows from those of its operands.
+
+What a session reads with a unit has its least and greatest value noted. A job's result has the bounds that follow from these. Where they leave
+64 bits, or aren't known, the session is asked for the operands' values, and for how many there are in a row, once for each matrix.
+"""
+from __future__ import annotations
+
+import math
+from fractions import Fraction
+from typing import TYPE_CHECKING, Any, Callable, Dict, List, NamedTuple, Optional, Sequence, TypeVar, cast
+
+from . import units
+from .errors import BudgetExceeded, OverflowWarning
+from .io.coo import LEAST, MOST
+from .mask import warn_user
+from .operators import READY, Operator
+
+if TYPE_CHECKING:
+    from .backends.protocol import Backend, Job
+    from .job_operators import Applied
+
+M = TypeVar('M')
+KEY, ROW, COLUMN = 'span', 'greatest row', 'greatest column'    # facts of matrices
+SUMS = ('plus', 'minus', 'rminus', 'absdiff')      # folds that can be as large as all terms together
+
+
+class Span(NamedTuple):
+    """The least and the greatest value that entries can have, and whether some entries have these."""
+    least: int = LEAST
+    most: int = MOST
+    exact: bool = False
+
+    @property
+    def fits(self) -> bool:
+        """Whether all of it has 64 bits."""
+        return LEAST <= self.least and self.most <= MOST
+
+    @property
+    def size(self) -> int:
+        """The greatest absolute value."""
+        return max(-self.least, self.most)
+
+    def times(self, many: int) -> 'Span':
+        """What sums of up to so many of these can be."""
+        return Span(min(self.least, self.least * many), max(self.most, self.most * many))
+
+
+ANY = Span()
+Term = Callable[[Span, Span], Span]
+
+
+def _hull(x: Span, y: Span) -> Span:
+    return Span(min(x.least, y.least), max(x.most, y.most))
+
+
+def _product(x: Span, y: Span) -> Span:
+    corners = [a * b for a in x[:2] for b in y[:2]]
+    return Span(min(corners), max(corners))
+
+
+# What op(x, y) can be. Of operators that aren't here it is any number of 64 bits.
+TERMS: Dict[str, Term] = {
+    'plus': lambda x, y: Span(x.least + y.least, x.most + y.most), 'minus': lambda x, y: Span(x.least - y.most, x.most - y.least),
+    'rminus': lambda x, y: Span(y.least - x.most, y.most - x.least), 'absdiff': lambda x, y: Span(0, max(x.most - y.least, y.most - x.least)),
+    'times': _product, 'floordiv': lambda x, y: Span(-x.size, x.size), 'cdiv': lambda x, y: Span(-x.size, x.size),
+    'rdiv': lambda x, y: Span(-y.size, y.size), 'cmod': lambda x, y: Span(min(x.least, 0), max(x.most, 0)),
+    'min': lambda x, y: Span(min(x.least, y.least), min(x.most, y.most)), 'max': lambda x, y: Span(max(x.least, y.least), max(x.most, y.most)),
+    'any': _hull, 'first': lambda x, y: x, 'second': lambda x, y: y,
+    'lsh': lambda x, y: Span(x.least << (y.most & 63), x.most << (y.most & 63)),
+    'identity': lambda x, y: x, 'abs': lambda x, y: Span(0, x.size), 'ainv': lambda x, y: Span(-x.most, -x.least)}
+NAMED: Dict[Operator, str] = {READY[kind][name]: name for kind in ('unary', 'binary') for name in TERMS if name in READY[kind]}
+WANTED = {'first': (0,), 'second': (1,), 'floordiv': (0,), 'cdiv': (0,), 'rdiv': (1,)}      # the operands that results depend on
+
+
+def note(matrix: Any, values: Any) -> None:
+    """Notes what the values of a matrix with a unit are, as they are sent."""
+    if matrix.unit != 1 and len(values):
+        matrix.kept[KEY] = Span(int(min(values) if isinstance(values, list) else values.min()),
+                                int(max(values) if isinstance(values, list) else values.max()), True)
+
+
+def noted(matrix: M, span: Optional[Span]) -> M:
+    """A matrix, of whose values is noted what they can be, where that is known."""
+    if span is not None:
+        cast(Any, matrix).kept[KEY] = span
+    return matrix
+
+
+def of_applied(matrix: Any, sent: 'Applied') -> Optional[Span]:
+    """What values `apply` gives; None where the operator tells nothing of them. ValueError where one would be beyond 64 bits."""
+    term, backend = TERMS.get(NAMED.get(sent.by, '')), matrix.session.backend
+    if term is None or backend.takes_others:
+        return None
+    of_two, beside = term, ANY if sent.thunk is None else Span(sent.thunk, sent.thunk)
+
+    def span(x: Span) -> Span:
+        return of_two(beside, x) if sent.is_left else of_two(x, beside)
+    found = span(matrix.kept.get(KEY, ANY))
+    if not found.fits:
+        found = span(_asked(matrix))
+    if not found.fits and not backend.is_estimate:
+        raise ValueError('%s would be beyond 64 bits in %s, where it would wrap: %s' % (
+            units.to_text(found.most if found.most > MOST else found.least, sent.unit), units.told(sent.unit), _mend([matrix], found, False)))
+    return found if found.fits else None
+
+
+def of_job(backend: 'Backend', job: 'Job', operands: Sequence[Any]) -> Optional[Span]:
+    """What values the result of another job can have; None where that isn't known. It warns where some can be beyond 64 bits."""
+    if backend.takes_others:
+        return None
+    known: List[Span] = [operand.kept.get(KEY, ANY) for operand in operands]
+    if job.form == 'select':
+        return known[0]._replace(exact=False)
+    names = [NAMED.get(op) for op in job.operators]
+    if None in names:
+        return None
+    found = _span(job.form, names, known, operands[0].ncols)
+    if not found.fits:
+        wanted = WANTED.get(names[-1] or '', (0, 1)) if job.form != 'union' else (0, 1)
+        known = [_asked(operand) if at in wanted else span for at, (operand, span) in enumerate(zip(operands, known))]
+        found = _span(job.form, names, known, operands[0].ncols)
+    if not found.fits and job.form in ('reduce', 'product') and names[0] in SUMS:
+        found = _sums(names, known, operands, _span('both', names[-1:], known, 1) if job.form == 'product' else known[0])
+    if not found.fits and not backend.is_estimate:
+        _warn(names, operands, found)
+    return found if found.fits else None
+
+
+def _span(form: str, names: Sequence[Optional[str]], known: Sequence[Span], many: int) -> Span:
+    """What values a job's result can have by those of its operands, where up to so many terms are folded."""
+    term = known[0] if form == 'reduce' else TERMS[names[-1] or ''](known[0], known[1])
+    if form == 'union':
+        return _hull(_hull(known[0], known[1]), term)
+    if form == 'both' or names[0] not in SUMS:
+        return TERMS['cmod'](term, term) if names[0] == 'cmod' else term
+    return term.times(many) if names[0] == 'plus' else Span(-term.size * many, term.size * many)
+
+
+def _sums(names: Sequence[Optional[str]], known: Sequence[Span], operands: Sequence[Any], term: Span) -> Span:
+    """What sums can be, by the greatest sum of a row of absolute values, or of a column of the second operand's."""
+    row = _total(operands[0], known[0], True) if names[-1] != 'second' or len(operands) == 1 else 0
+    column = _total(operands[1], known[1], False) if len(operands) == 2 and names[-1] != 'first' else 0
+    size = min(row * known[1].size, column * known[0].size) if names[-1] == 'times' and len(operands) == 2 else row + column
+    return Span(0 if term.least >= 0 and names[0] == 'plus' else -size, size)
+
+
+def _asked(matrix: Any) -> Span:
+    """The least and the greatest value of a matrix: those that are noted, or 4 jobs and 2 to 4 runs."""
+    span: Span = matrix.kept.get(KEY, ANY)
+    if not span.exact:
+        stored = units.with_unit(matrix, 1)
+        try:
+            ends = [stored.reduce_scalar(op, raw=True) for op in ('min', 'max')]
+        except BudgetExceeded:
+            return span
+        if all(isinstance(end, int) for end in ends):
+            span = matrix.kept[KEY] = Span(ends[0], ends[1], True)
+        elif all(end is None for end in ends):
+            span = matrix.kept[KEY] = Span(0, 0, True)
+    return span
+
+
+def _total(matrix: Any, span: Span, is_row: bool) -> int:
+    """No less than the greatest sum of a row's absolute values, or of a column's: by how many entries it has, and by sums of so few bits that
+    they can't wrap. 6 jobs and 4 runs."""
+    key = ROW if is_row else COLUMN
+    if key in matrix.kept:
+        return int(matrix.kept[key])
+    stored, fold = units.with_unit(matrix, 1), 'reduce_rowwise' if is_row else 'reduce_columnwise'
+    try:
+        many = getattr(stored.apply('one'), fold)('plus').reduce_scalar('max')
+        bits = max(0, (span.size * (many if isinstance(many, int) else 0)).bit_length() - 62)
+        most = getattr(stored.apply('abs').apply('rsh', right=bits), fold)('plus').reduce_scalar('max')
+    except BudgetExceeded:
+        return int(span.size * (matrix.ncols if is_row else matrix.nrows))
+    if isinstance(many, int) and isinstance(most, int):
+        matrix.kept[key] = (most + (many if bits else 0)) << bits
+    return int(matrix.kept.get(key, 0))
+
+
+def _mend(operands: Sequence[Any], found: Span, is_product: bool) -> str:
+    """What leaves room for values of a size."""
+    scaled = [(name, operand.unit) for name, operand in zip('AB', operands) if not units.is_whole(operand.unit)]
+    digits = max(1, math.ceil(math.log10(Fraction(found.size, MOST))))
+    by = 10 ** (-(-digits // len(scaled)) if is_product and scaled else digits)
+    if not scaled or any(unit < by for _, unit in scaled):
+        return 'write A.rescale(.., exact=False) for a coarser unit' if not scaled else 'the numbers themselves are as large'
+    return 'write %s, with rounding' % ' and '.join('%s.rescale(%d, exact=False)' % (name, unit // by) for name, unit in scaled)
+
+
+def _warn(names: Sequence[Optional[str]], operands: Sequence[Any], found: Span) -> None:
+    unit = next((operand.unit for operand in operands if operand.unit != 1), 1)
+    warn_user('"%s" of values in %s: some results may be beyond 64 bits, where they wrap, and stand for other numbers; %s' % (
+        '_'.join(name or '' for name in names), units.told(unit), _mend(operands, found, names[-1] == 'times')), OverflowWarning)
