@@ -14,7 +14,7 @@ from typing import Any, Dict, NamedTuple, NoReturn, Optional, Union
 
 from . import time_units
 from .aliases import alias
-from .comparisons import compared, exact_in, exact_number as exact_number
+from .comparisons import compared, exact_in as exact_in, exact_number as exact_number
 from .errors import UnitsDiffer
 from .io import coo
 from .io.matrix_text import is_array
@@ -50,8 +50,8 @@ def told(unit: Unit) -> str:
 def as_unit(number: Any) -> Unit:
     """A number as a unit, as it is written in decimals: an int where it is whole; of "s" and the like the unit of times. ValueError where it
     is no number above 0."""
-    if isinstance(number, str) and number in UNITS:
-        return TimeUnit(number)
+    if isinstance(number, TimeUnit) or (isinstance(number, str) and number in UNITS):
+        return number if isinstance(number, TimeUnit) else TimeUnit(number)
     try:
         exact = exact_number(number)
     except (TypeError, ValueError):

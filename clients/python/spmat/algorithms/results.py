@@ -191,7 +191,7 @@ def _check_transpose(algorithm: Algorithm, given: Dict[str, Any], unit: units.Un
 def _floor(cutoff: Any, unit: units.Unit) -> Any:
     """The greatest stored number that is no farther."""
     try:
-        return math.floor(units.exact_number(cutoff) * unit)
+        return math.floor(units.exact_in(cutoff, unit))
     except (TypeError, ValueError):                # the algorithm says what is wrong with it
         return cutoff
 
