@@ -13,7 +13,7 @@ from .errors import refusal
 from .indexing import gather, picked
 from .job_operators import of_form, ring_of
 from .mask import Mask, as_mask, structure
-from .metadata import (BY_POSITIONS, COLUMNS, NOTHING, ROWS, Notes, check_equal, check_same_names, hint_of, of_copy, of_update,
+from .metadata import (BY_POSITIONS, COLUMNS, NOTHING, ROWS, Notes, check_equal, check_same_names, even, hint_of, of_copy, of_update,
                        on_diagonal, under)
 from .operators import Op, Semiring, binary, indexunary, unary
 from .signs import Signs
@@ -26,6 +26,7 @@ C = TypeVar('C', bound='Composites')
 Sizes = tiles.Sizes
 # What stands on the diagonal of a matrix that is multiplied by others without changing them.
 NEUTRAL: Dict[str, int] = {'plus_times': 1, 'lor_land': 1, 'any_pair': 1, 'min_plus': 0, 'max_plus': 0}
+EXACT = ('plus_times', 'lor_land', 'any_pair')     # whose products are associative also where sums wrap
 
 
 class MatrixType(type):
@@ -327,7 +328,7 @@ def power_of(matrix: 'Matrix', n: int, op: 'Ring', name: Optional[str]) -> 'Matr
         if op not in NEUTRAL:
             raise ValueError('what changes nothing is known for %s, not for %r: powers are 1 or more' % (', '.join(NEUTRAL), op))
         neutral = matrix.session.identity(matrix.nrows, NEUTRAL[op], name=name)  # type: ignore[index]
-        neutral.notes = NOTHING.with_axes(matrix.notes.axis(ROWS), matrix.notes.axis(COLUMNS))
+        neutral.notes = NOTHING._replace(directed=False).with_axes(matrix.notes.axis(ROWS), matrix.notes.axis(COLUMNS))
         return neutral
     units.check_power(matrix.unit, n, ring_of(op)[0].mul)
     made: Optional['Matrix'] = None
@@ -338,6 +339,8 @@ def power_of(matrix: 'Matrix', n: int, op: 'Ring', name: Optional[str]) -> 'Matr
         n >>= 1
         square = square.mxm(square, op) if n else square
     assert made is not None
+    if op in EXACT:                                # powers of a symmetric matrix commute
+        made.notes = made.notes._replace(directed=even(matrix.notes))
     return made.dup(name=name) if name is not None or made is matrix else made
 
 

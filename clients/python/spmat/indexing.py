@@ -12,7 +12,7 @@ from . import units
 from .io.exporters import Held
 from .io.matrix_text import is_array
 from .mask import Mask
-from .metadata import NOTHING, Nodes, joined
+from .metadata import NOTHING, Nodes, even, joined
 
 if TYPE_CHECKING:
     from .matrix import Matrix
@@ -41,6 +41,8 @@ def picked(matrix: 'Matrix', at: Any) -> Union['Matrix', int, float, None]:
     if rows.one and columns.one:
         values = part.entries(arrays=False)[2]
         return units.to_decimal(values[0], matrix.unit) if values else None
+    if rows.places is not None and rows.places == columns.places:
+        part.notes = part.notes._replace(directed=even(matrix.notes))
     return part
 
 

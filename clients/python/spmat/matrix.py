@@ -186,7 +186,7 @@ class Matrix(Composites):
         `union`."""
         self._check_shape('union', other, self.shape)
         found = of_form('union', op)
-        notes = metadata.of_union(self.notes, other.notes, found)
+        notes = metadata.of_union(self.notes, other.notes, found, self.handle.mirrors(other.handle))
         return self._queue(Job('union', (found,), (self.handle, other.handle), self.shape), (self, other), notes, mask, name)
 
     def ewise_mult(self, other: 'Matrix', op: Op = 'times', *, mask: MaskLike = None,
@@ -195,7 +195,7 @@ class Matrix(Composites):
         unit of 1. 1 job. In the GraphBLAS GrB_eWiseMult; here `both`."""
         self._check_shape('both', other, self.shape)
         found = of_form('both', op)
-        notes = metadata.of_both(self.notes, other.notes, found)
+        notes = metadata.of_both(self.notes, other.notes, found, self.handle.mirrors(other.handle))
         return self._queue(Job('both', (found,), (self.handle, other.handle), self.shape), (self, other), notes, mask, name)
 
     def mxm(self, other: 'Matrix', op: Ring = 'plus_times', *, mask: MaskLike = None, parts: bool = False,
@@ -237,7 +237,7 @@ class Matrix(Composites):
             return aggregators.positional_product(self, other, op, mask, name, parts=parts, associative=associative)
         self._check_shape('product', other, (self.ncols, None))
         ring, operators = ring_of(op)
-        notes = metadata.of_product(self.notes, other.notes, ring, self.handle is other.handle)
+        notes = metadata.of_product(self.notes, other.notes, ring, self.handle is other.handle, self.handle.mirrors(other.handle))
 
         def multiply(rows: 'Matrix') -> 'Matrix':
             job = Job('product', operators, (rows.handle, other.handle), (self.nrows, other.ncols), None, None, parts, associative)

@@ -258,9 +258,9 @@ def without_names(matrix: N) -> N:
 
 
 def as_constant(matrix: N) -> N:
-    """A constant, which goes with any names; where it is square, its rows and columns are the same vertices."""
+    """A constant, which goes with any names; where it is square, its rows and columns are the same vertices, and it is symmetric."""
     nrows, ncols = matrix.shape
-    matrix.notes = ALIKE if nrows == ncols > 1 else NOTHING
+    matrix.notes = ALIKE._replace(directed=False) if nrows == ncols > 1 else NOTHING
     return matrix
 
 
@@ -329,9 +329,14 @@ def _is_vertex(notes: Notes) -> bool:
     return all(axis.has_names for axis in sides) and sides[0].agrees(sides[1])
 
 
-def _even(*both: Notes) -> Optional[bool]:
+def even(*both: Notes) -> Optional[bool]:
     """What is known of directions, where what two symmetric matrices make is symmetric."""
     return False if all(one.directed is False for one in both) else None
+
+
+def _mirrored(notes: Notes, op: Operator, mirrors: bool) -> Notes:
+    """What is known of a result; symmetric where its operands are transposes of one another, and their order doesn't matter."""
+    return notes._replace(directed=False) if mirrors and _is_ready(op, COMMUTE) else notes
 
 
 def _chosen(op: Operator, first: Optional[Nodes], second: Optional[Nodes]) -> Optional[Nodes]:
@@ -340,12 +345,12 @@ def _chosen(op: Operator, first: Optional[Nodes], second: Optional[Nodes]) -> Op
     return first if first is not None and second is not None and _is_ready(op, CHOOSE) and first.equals(second) else None
 
 
-def of_applied(first: Notes, op: Operator, even: bool, unit: Unit) -> Notes:
-    """What is known of the result of `apply`, whose unit is given; `even` says that the operator doesn't look at rows and columns."""
+def of_applied(first: Notes, op: Operator, alike: bool, unit: Unit) -> Notes:
+    """What is known of the result of `apply`, whose unit is given; `alike` says that the operator doesn't look at rows and columns."""
     if first.value_names is None and first.directed is None and first.weighted is None and not first.source and unit == first.unit:
         return first                               # all that is known are names, which stay
     same = _is_ready(op, IDENTITY)
-    return first._replace(directed=_even(first) if even else None, weighted=first.weighted if same else None, source='',
+    return first._replace(directed=even(first) if alike or _is_ready(op, BY_VALUE) else None, weighted=first.weighted if same else None, source='',
                           unit=unit, value_names=first.value_names if same else None)
 
 
@@ -353,18 +358,20 @@ def of_selected(first: Notes, op: Operator, thunk: int) -> Notes:
     """What is known of the result of `select`: values stay."""
     if first.directed is None and not first.source:
         return first
-    even = _is_ready(op, BY_VALUE) or (thunk == 0 and _is_ready(op, BY_DIAGONAL))
-    return first._replace(directed=_even(first) if even else None, source='')
+    alike = _is_ready(op, BY_VALUE) or (thunk == 0 and _is_ready(op, BY_DIAGONAL))
+    return first._replace(directed=even(first) if alike else None, source='')
 
 
-def of_union(first: Notes, second: Notes, op: Operator) -> Notes:
-    """What is known of a union."""
-    return _of_pair(first, second, units.of_union(op, first.unit, second.unit), _chosen(op, first.value_names, second.value_names))
+def of_union(first: Notes, second: Notes, op: Operator, mirrors: bool = False) -> Notes:
+    """What is known of a union; `mirrors` says that its operands are transposes of one another."""
+    made = _of_pair(first, second, units.of_union(op, first.unit, second.unit), _chosen(op, first.value_names, second.value_names))
+    return _mirrored(made, op, mirrors)
 
 
-def of_both(first: Notes, second: Notes, op: Operator) -> Notes:
-    """What is known of an intersection."""
-    return _of_pair(first, second, units.of_both(op, first.unit, second.unit), _met(op, first, second))
+def of_both(first: Notes, second: Notes, op: Operator, mirrors: bool = False) -> Notes:
+    """What is known of an intersection; `mirrors` is as for a union."""
+    made = _of_pair(first, second, units.of_both(op, first.unit, second.unit), _met(op, first, second))
+    return _mirrored(made, op, mirrors)
 
 
 def _met(op: Operator, first: Notes, second: Notes) -> Optional[Nodes]:
@@ -378,7 +385,7 @@ def _met(op: Operator, first: Notes, second: Notes) -> Optional[Nodes]:
 def _of_pair(first: Notes, second: Notes, unit: Unit, value_names: Optional[Nodes] = None) -> Notes:
     if first is NOTHING and second is NOTHING:
         return NOTHING
-    return _elementwise(first, second, ELEMENTWISE)._replace(directed=_even(first, second), weighted=None, source='', unit=unit,
+    return _elementwise(first, second, ELEMENTWISE)._replace(directed=even(first, second), weighted=None, source='', unit=unit,
                                                              value_names=value_names)
 
 
@@ -392,9 +399,9 @@ def _elementwise(first: Notes, second: Notes, pairs: Pairs) -> Notes:
     return first.with_axes(*joined(first, second, pairs))._replace(sides=first.sides or second.sides)
 
 
-def of_product(first: Notes, second: Notes, ring: Semiring, same: bool) -> Notes:
-    """What is known of a product; `same` says that both operands are one matrix."""
-    if first is second and (first is NOTHING or first is BY_POSITIONS):
+def of_product(first: Notes, second: Notes, ring: Semiring, same: bool, mirrors: bool = False) -> Notes:
+    """What is known of a product; `same` says that both operands are one matrix, `mirrors` that they are transposes of one another."""
+    if first is second and not mirrors and (first is NOTHING or first is BY_POSITIONS):
         return first
     inner = joined(first, second, PRODUCT)[0]
     rows, columns = (inner if _are_alike(one) else one.axis(axis) for one, axis in ((first, ROWS), (second, COLUMNS)))
@@ -403,8 +410,9 @@ def of_product(first: Notes, second: Notes, ring: Semiring, same: bool) -> Notes
     met = _met(ring.mul, first, second)
     # the product of a bipartite matrix and the transpose of one has one kind of vertices
     sides = 0 if first.sides == -second.sides else first.sides or second.sides
-    return Notes(directed=_even(first) if same and _is_ready(ring.mul, COMMUTE) else None, value_names=_chosen(ring.add, met, met),
-                 unit=units.of_product(ring.add, ring.mul, first.unit, second.unit), sides=sides).with_axes(rows, columns)
+    made = Notes(directed=even(first) if same and _is_ready(ring.mul, COMMUTE) else None, value_names=_chosen(ring.add, met, met),
+                 unit=units.of_product(ring.add, ring.mul, first.unit, second.unit), sides=sides)
+    return _mirrored(made, ring.mul, mirrors).with_axes(rows, columns)
 
 
 def _are_alike(notes: Notes) -> bool:
@@ -423,12 +431,12 @@ def masked(result: Notes, mask: Notes) -> Notes:
     """What is known of a result that is cut to the structure of a mask."""
     if result is NOTHING and mask is NOTHING:
         return NOTHING
-    return _elementwise(result, mask, MASK)._replace(directed=_even(result, mask), source='', unit=result.unit, value_names=result.value_names)
+    return _elementwise(result, mask, MASK)._replace(directed=even(result, mask), source='', unit=result.unit, value_names=result.value_names)
 
 
 def of_structure(mask: Notes, value: bool) -> Notes:
     """What is known of the positions that a mask means; `value` says that entries of 0 don't count."""
-    return mask._replace(directed=_even(mask)) if value and mask is not NOTHING else mask
+    return mask._replace(directed=even(mask)) if value and mask is not NOTHING else mask
 
 
 def outside(result: Notes, mask: Notes) -> Notes:
@@ -441,7 +449,7 @@ def outside(result: Notes, mask: Notes) -> Notes:
 
 def of_copy(first: Notes) -> Notes:
     """What is known of a copy, which is a job."""
-    return NOTHING if first is NOTHING else first._replace(directed=_even(first), source='')
+    return NOTHING if first is NOTHING else first._replace(directed=even(first), source='')
 
 
 def under(result: Notes, mask: Optional[Notes], value: bool, complement: bool) -> Notes:

@@ -12,7 +12,7 @@ from .indexing import WHAT, gather
 from .io import coo
 from .io.exporters import Held
 from .limits import MOST_SIDE
-from .metadata import BY_POSITIONS, COLUMNS, NOTHING, ROWS, Axis, Nodes, Unnamed, axis_of, joined
+from .metadata import BY_POSITIONS, COLUMNS, NOTHING, ROWS, Axis, Nodes, Unnamed, axis_of, even, joined
 from .operators import Op
 
 if TYPE_CHECKING:
@@ -105,7 +105,14 @@ def parts_of(matrix: 'Matrix', row_sizes: Sizes, column_sizes: Optional[Sizes]) 
 def _part(matrix: 'Matrix', rows: Tuple[int, int], columns: Tuple[int, int]) -> 'Matrix':
     """A part by positions, whatever rows and columns are called."""
     part = gather(matrix, list(range(*rows)), 0).mxm(matrix, 'any_second') if rows != (0, matrix.nrows) else matrix
-    return part.mxm(gather(matrix, list(range(*columns)), 1), 'any_first') if columns != (0, matrix.ncols) else part
+    part = part.mxm(gather(matrix, list(range(*columns)), 1), 'any_first') if columns != (0, matrix.ncols) else part
+    return part if part is matrix else _of_corner(matrix, part, rows == columns)
+
+
+def _of_corner(matrix: 'Matrix', part: 'Matrix', is_corner: bool) -> 'Matrix':
+    """A part, which is undirected where it `is_corner`, with the same rows and columns, of a matrix that is."""
+    part.notes = part.notes._replace(directed=even(matrix.notes) if is_corner else None)
+    return part
 
 
 def _bounds(count: int, sizes: Optional[Sizes], axis: int) -> List[Tuple[int, int]]:
@@ -134,7 +141,8 @@ def resized(matrix: 'Matrix', nrows: int, ncols: int, name: Optional[str]) -> 'M
     if ncols != matrix.ncols:
         both = range(min(ncols, matrix.ncols))
         made = made.mxm(selector(matrix, both, both, (matrix.ncols, ncols), (matrix.notes.axis(COLUMNS), axes[1])), 'any_first')
-    return made.dup(name=name) if made is matrix or name is not None else made
+    made = made.dup(name=name) if made is matrix or name is not None else made
+    return _of_corner(matrix, made, nrows == ncols)
 
 
 def _resized_axis(matrix: 'Matrix', axis: int, size: int) -> Axis:
@@ -185,7 +193,7 @@ def kronecker(first: 'Matrix', second: 'Matrix', op: Op, name: Optional[str]) ->
     sides = [first.session.from_coo(rows, columns, many, *shape) for many in (numpy.repeat(x, each), numpy.tile(y, times))]
     axes = [_pairs(first, second, axis) for axis in (ROWS, COLUMNS)]
     for made, of in zip(sides, (first, second)):
-        made.notes = NOTHING._replace(unit=of.unit).with_axes(*axes)
+        made.notes = NOTHING._replace(unit=of.unit, directed=even(of.notes)).with_axes(*axes)
     return sides[0].ewise_mult(sides[1], op, name=name)
 
 

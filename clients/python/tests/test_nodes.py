@@ -96,9 +96,10 @@ class Names(unittest.TestCase):
             self.assertIsNone(G.directed)
             G.notes = G.notes._replace(directed=False)
             known = (G.T, G.apply('ainv'), G.apply('plus', right=3), G.apply('minus', left=3), G.select('valuege', 6), G.select('offdiag'),
-                     G.ewise_add(G, 'minus'), G.ewise_mult(G.apply('one'), 'first'), G.mxm(G, 'plus_times', mask=G.S), G.dup(mask=G.S))
+                     G.ewise_add(G, 'minus'), G.ewise_mult(G.apply('one'), 'first'), G.mxm(G, 'plus_times', mask=G.S), G.dup(mask=G.S),
+                     G.ewise_add(s.full(3, 3)))
             unknown = (G.apply('rowindex'), G.select('tril'), G.select('offdiag', 1), G.mxm(G, 'plus_first'), G.mxm(G.apply('one')),
-                       G.ewise_add(s.full(3, 3)), G.reduce_rowwise(), G.apply(spmat.asm('index', 'mov64 r0, r2\nexit')))
+                       G.reduce_rowwise(), G.apply(spmat.asm('index', 'mov64 r0, r2\nexit')))
             for result in known:
                 self.assertIs(result.directed, False)
                 self.assertTrue(result.isequal(result.T))

@@ -5,6 +5,7 @@ from typing import NamedTuple, Tuple
 
 import numpy
 
+from .. import metadata
 from ..errors import refusal
 from ..limits import MOST_SIDE
 from ..matrix import Matrix
@@ -152,13 +153,19 @@ def all_pairs(W: Matrix, progress: Progress = None) -> Matrix:
     _check_room(W)
     least, most = extremes(W)
     if max(most, -least) * max(1, W.nrows) >= MARKED_BOUND:
-        return _by_squaring(W, progress)
+        return _undirected_as(W, _by_squaring(W, progress))
     near = W.apply('times', right=2).ewise_add(loops(W, 0), 'min')
     reach, edges = _squared(near, BY_LENGTH)
     if least < 0:
         _check_cycles(reach)
     known = _spread(reach, reach, reach, BY_LENGTH, progress, W.nrows // edges + 2, least < 0)
-    return known.apply('arsh', right=1)
+    return _undirected_as(W, known.apply('arsh', right=1))
+
+
+def _undirected_as(W: Matrix, lengths: Matrix) -> Matrix:
+    """Lengths between all vertices, which are the same both ways where the graph is undirected."""
+    lengths.notes = lengths.notes._replace(directed=metadata.even(W.notes))
+    return lengths
 
 
 def _by_squaring(W: Matrix, progress: Progress) -> Matrix:

@@ -81,16 +81,21 @@ def beside(graph: Matrix, result: Matrix) -> Matrix:
     return result
 
 
-def name_pairs(graph: Matrix, result: Matrix) -> Matrix:
-    """A matrix that says something of each two vertices, with the graph's names of its vertices."""
+def name_pairs(graph: Matrix, result: Matrix, asked: Optional[Matrix] = None) -> Matrix:
+    """A matrix that says the same of each two vertices in either order, of those that are `asked`
+    about or of all, with the graph's names of its vertices."""
     rows, columns = (graph.notes.axis(axis) for axis in (metadata.ROWS, metadata.COLUMNS))
-    result.notes = result.notes.with_axes(rows, columns)
+    directed = False if asked is None else metadata.even(asked.notes)
+    result.notes = result.notes._replace(directed=directed).with_axes(rows, columns)
     return result
 
 
 def name_rows(graph: Matrix, result: Matrix, rows: List[Place]) -> Matrix:
     """A matrix with a row for each of some vertices and a column for each vertex, with their names.
-    Rows have none where a vertex stands twice."""
+    Rows have none where a vertex stands twice. A row for each vertex of an undirected graph makes
+    an undirected one, as distances are the same either way."""
+    if rows == list(range(graph.nrows)):
+        result.notes = result.notes._replace(directed=metadata.even(graph.notes))
     vertices = metadata.vertices_of(graph.notes)
     if vertices is not None:
         differ = len(set(rows)) == len(rows)

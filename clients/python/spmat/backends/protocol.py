@@ -81,6 +81,10 @@ class Handle:
         """Whether this is the result of a job that hasn't run."""
         return self.nvals is None and self.lost is None
 
+    def mirrors(self, other: 'Handle') -> bool:
+        """Whether another is known to be the transpose."""
+        return any(one.transposed is not None and one.transposed() is two for one, two in ((self, other), (other, self)))
+
     def check_made(self) -> None:
         """Raises NotMade where the run of this matrix was refused."""
         if self.lost is not None:
