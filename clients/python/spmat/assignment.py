@@ -4,6 +4,7 @@ from __future__ import annotations
 from typing import TYPE_CHECKING, Any, List, Optional, Tuple
 
 from . import units
+from .common_session import common_session
 from .errors import refusal
 from .indexing import WHAT, Chosen, choose_places
 from .io.exporters import Held
@@ -19,6 +20,8 @@ def assigned(matrix: 'Matrix', what: Any, chosen: Tuple[Any, Any], accum: Option
              name: Optional[str]) -> 'Matrix':
     """See `Matrix.assign`."""
     where = as_mask(mask)
+    for other in ([what] if isinstance(what, Held) else []) + ([where.matrix] if where is not None else []):
+        common_session(matrix.session, other.session)
     if where is not None and where.matrix.shape != matrix.shape:
         raise refusal('J9', detail='the matrix is %dx%d, the mask %dx%d' % (*matrix.shape, *where.matrix.shape))
     if chosen == (None, None) and isinstance(what, Held):

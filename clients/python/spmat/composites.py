@@ -9,6 +9,7 @@ from typing import TYPE_CHECKING, Any, Callable, Dict, List, Optional, Tuple, Ty
 
 from . import aggregators, assignment, tiles, units
 from .backends.unread import reading
+from .common_session import common_session
 from .errors import refusal
 from .indexing import gather, picked
 from .job_operators import of_form, ring_of
@@ -69,13 +70,13 @@ class Composites(Signs, metaclass=MatrixType):
         a column, `G[rows, columns]` a part, `G[M.S]` or `G[~M.V]` a copy under a mask.
 
         Rows and columns are named as `index` has it, or counted from 0; below 0 no number is a position. Of a list or an array each counts, as
-        often as it stands there; a row that is there twice leaves the rows without names. Lists, arrays and columns of pandas that have
+        often as it stands there; rows that have names are asked for once each. Lists, arrays and columns of pandas that have
         True and False alone filter, as do masks of columns: those with names are aligned by these. A column itself is refused, as it could
         be a list of rows as well. A slice of names takes both ends, as in pandas; one of positions leaves out the second and counts from
         the end below 0, as in numpy. Where numbers are names, but for 0 to n - 1, a number in a slice could be either and is refused.
 
         1 job for the rows and 1 for the columns that are chosen, and 1 run where both are; a value comes with 1 run more. In the GraphBLAS
-        GrB_extract. Raises ValueError where there is no such vertex, IndexError where a filter has another length, TypeError for floats and
+        GrB_extract. Raises ValueError where there is no such vertex, or a name stands twice, IndexError where a filter has another length, TypeError for floats and
         other things that are no index."""
         return picked(self, at)  # type: ignore[arg-type]
 
@@ -157,6 +158,7 @@ class Composites(Signs, metaclass=MatrixType):
         where = as_mask(mask, warns=False)
         if where is None:
             raise TypeError('expected a mask')
+        common_session(self.session, where.matrix.session)
         if where.complement:
             return self.dup(mask=~where, name=name)
         notes = notes_under(~where, self.shape, of_copy(self.notes))
@@ -180,6 +182,7 @@ class Composites(Signs, metaclass=MatrixType):
         self._check_shape('union', other, self.shape)
         where = as_mask(mask)
         if where is not None:
+            common_session(self.session, where.matrix.session)
             check_mask(where, self.shape, self.notes)
         op = None if accum is None else of_form('union', accum)
         notes = of_update(self.notes, other.notes, op, where, replace)

@@ -4,6 +4,7 @@ A product with a matrix of ones gathers rows or columns, as GrB_extract does: P 
 """
 from __future__ import annotations
 
+import collections
 import sys
 from collections.abc import Iterator, KeysView, Set, ValuesView
 from typing import TYPE_CHECKING, Any, Hashable, List, NamedTuple, NoReturn, Optional, Union
@@ -33,6 +34,8 @@ def picked(matrix: 'Matrix', at: Any) -> Union['Matrix', int, float, None]:
     if isinstance(at, Mask):
         return matrix.dup(mask=at)
     rows, columns = (choose_places(matrix, index, axis) for axis, index in enumerate(_pair_of(at)))
+    for axis, chosen in enumerate((rows, columns)):
+        _check_once(matrix, chosen, axis)
     part = matrix
     if rows.places is not None:
         part = gather(matrix, rows.places, 0).mxm(part, 'any_second')
@@ -44,6 +47,17 @@ def picked(matrix: 'Matrix', at: Any) -> Union['Matrix', int, float, None]:
     if rows.places is not None and rows.places == columns.places:
         part.notes = part.notes._replace(directed=even(matrix.notes))
     return part
+
+
+def _check_once(matrix: 'Matrix', chosen: Chosen, axis: int) -> None:
+    """ValueError where a row (or column) that has a name is asked for twice: of a result no two have one name, as those of pandas may."""
+    places = chosen.places
+    if places is None or len(set(places)) == len(places) or not matrix.notes.axis(axis).has_names:
+        return
+    twice = next(place for place, count in collections.Counter(places).items() if count > 1)
+    name, what = matrix.notes.axis(axis).listed(matrix.shape[axis])[twice], WHAT[axis]
+    raise ValueError('the %s %r is asked for twice, and no two %ss have one name: list(dict.fromkeys(names)) takes each once; to repeat %ss, '
+                     'take the names off first, B = A.dup(); B.%s_nodes = None, and write positions' % (what, name, what, what, what))
 
 
 def _pair_of(at: Any) -> Any:

@@ -5,6 +5,7 @@ import sys
 import warnings
 from typing import TYPE_CHECKING, Any, NamedTuple, Optional, Type, Union
 
+from .common_session import common_session
 from .errors import MaskWarning, refusal
 
 if TYPE_CHECKING:
@@ -88,7 +89,8 @@ def _as_operand(other: Any) -> Mask:
 
 
 def _check_shapes(one: Mask, other: Any) -> None:
-    """DimensionMismatch where two masks have other shapes."""
+    """DimensionMismatch where two masks have other shapes, ValueError where they are of two sessions."""
+    common_session(one.matrix.session, _as_operand(other).matrix.session)
     if _as_operand(other).matrix.shape != one.matrix.shape:
         raise refusal('J9', detail='one mask is %dx%d, the other %dx%d' % (*one.matrix.shape, *other.matrix.shape))
 

@@ -8,6 +8,7 @@ import numpy
 
 from . import aggregators, metadata, overflow, oversized_jobs, units
 from .backends.protocol import Handle, Job
+from .common_session import common_session
 from .composites import Composites, notes_under
 from .display import html
 from .errors import TooLarge, refusal
@@ -292,6 +293,7 @@ class Matrix(Composites):
         if mask is not None:
             where = as_mask(mask)
             assert where is not None
+            common_session(self.session, where.matrix.session)
             under = notes_under(where, job.shape, notes)
             if where.complement:
                 return self._queue(job, operands, notes, None, None).without(~where, name=name)
@@ -300,7 +302,7 @@ class Matrix(Composites):
         session, is_vector = self.session, False
         for operand in operands:
             if operand.session is not session:
-                session = _common_session(session, operand.session)
+                session = common_session(session, operand.session)
             if operand.is_vector:
                 is_vector = 1 in job.shape and (job.shape == operand.shape or job.shape != (1, 1))
         backend = session.backend
@@ -318,6 +320,7 @@ class Matrix(Composites):
     def _check_shape(self, form: str, other: 'Matrix', shape: Tuple[int, Optional[int]]) -> None:
         if not isinstance(other, Matrix):
             raise TypeError('expected a matrix, got %r' % (other,))
+        common_session(self.session, other.session)
         if other.nrows != shape[0] or shape[1] not in (None, other.ncols):
             raise refusal('J5', command=form, detail='%dx%d and %dx%d%s' % (
                 *self.shape, *other.shape, metadata.hint_of(self.notes, other.notes)))
@@ -351,15 +354,6 @@ def _as_vector(column: Matrix) -> Matrix:
     from .vector import as_vector                  # which is made of matrices
     made: Matrix = as_vector(column)
     return made
-
-
-def _common_session(first: 'Session', second: 'Session') -> 'Session':
-    """Whose backend takes a job on matrices of both. ValueError where none does."""
-    if first == second or first.backend.takes_others:
-        return first
-    if second.backend.takes_others:                # a step of a loop asks
-        return second
-    raise ValueError('a matrix of another session')
 
 
 def bipartite(B: Matrix) -> Matrix:

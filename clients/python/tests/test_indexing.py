@@ -137,10 +137,19 @@ class Positions(InSession):
         self.assertEqual(self.N[[], :].shape, (0, 4))
         self.assertEqual(self.N[[], []].shape, (0, 0))
         self.assertEqual(self.N[3:3, :].shape, (0, 4))
+
+    def test_names_are_asked_for_once(self):
+        """A result would have a name twice, or none: neither comes without a word."""
         W = self.s.from_edgelist([('a', 'b', 1), ('b', 'c', 2)])
-        twice = W[['a', 'a'], :]
-        self.assertEqual((twice.row_nodes, twice.column_nodes), (None, ['a', 'b', 'c']))       # no name stands twice
-        self.assertEqual(twice.to_edgelist(), [(0, 'b', 1), (1, 'b', 1)])
+        counted = self.s.from_edgelist([(0, 1, 1), (1, 2, 2)])
+        for G, many, what in ((W, ['a', 'b', 'a'], 'row'), (W, [0, 1, 0], 'row'), (W, numpy.array(['a', 'a']), 'row'), (counted, [2, 2], 'row'),
+                              (W, ['a', 'a'], 'column'), (counted, [2, 2], 'column')):
+            with self.subTest(many=many, what=what), self.assertRaisesRegex(ValueError, 'the %s .* is asked for twice.*dict.fromkeys' % what):
+                G[(many, slice(None)) if what == 'row' else (slice(None), many)]
+        B = W.dup()
+        B.row_nodes = None
+        self.assertEqual((B[[0, 0], :].to_edgelist(), B[[0, 0], :].column_nodes), ([(0, 'b', 1), (1, 'b', 1)], ['a', 'b', 'c']))
+        self.assertEqual(W[['b', 'a'], :].row_nodes, ['b', 'a'])
 
     def test_floats_and_other_things(self):
         for index in (1.0, .5, [1.0], [0, 1.5], float('nan')):

@@ -31,6 +31,7 @@ from .all_pairs_lengths import (all_pairs as all_pairs, path_lengths as path_len
                                 transitive_closure as transitive_closure)
 from .betweenness_centrality import betweenness as betweenness
 from .bfs import bfs_levels as bfs_levels, bfs_parents as bfs_parents
+from .call_arguments import checks_arguments
 from .centrality import eigenvector as eigenvector, hits as hits, katz as katz
 from .communities import (label_propagation as label_propagation, louvain as louvain,
                           modularity as modularity)
@@ -68,8 +69,8 @@ __doc__ = '%s\n%s\n' % (__doc__, '\n'.join(table()))
 # each algorithm looks at the budget before its first job, and says what its values mean; type
 # checkers know the imports above
 ALGORITHMS.update((name, with_model(one)) for name, one in list(ALGORITHMS.items()))
-globals().update({name: guarded(name_values(one, keep_units(one))) for name,
-                  one in ALGORITHMS.items()}, __all__=_NAMES)
+globals().update({name: guarded(name_values(one, keep_units(one)), checks_arguments(one.function))
+                  for name, one in ALGORITHMS.items()}, __all__=_NAMES)
 
 
 def __dir__() -> list[str]:

@@ -7,6 +7,7 @@ from typing import Any, Callable, Iterable, List, Optional, TypeVar, cast
 import numpy
 
 from .. import metadata
+from ..common_session import common_session
 from ..errors import NotSettled
 from ..io.matrix_text import Triples
 from ..job_operators import Ring
@@ -32,6 +33,8 @@ def order(graph: Matrix, transpose: Optional[Matrix] = None) -> int:
         raise ValueError('a graph is a square matrix; this one has %d rows and %d columns'
                          % (graph.nrows, graph.ncols))
     metadata.check_one_kind(graph.notes)
+    if transpose is not None and transpose is not graph:
+        common_session(graph.session, transpose.session)
     if transpose is not None and transpose.shape != graph.shape:
         raise ValueError('GT has to be the transpose: it has %d rows and %d columns, and the graph '
                          '%d vertices' % (transpose.nrows, transpose.ncols, graph.nrows))

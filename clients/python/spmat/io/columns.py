@@ -10,6 +10,7 @@ import re
 from typing import Dict, List, NamedTuple, Optional, Sequence, Set, Tuple, Union
 
 from ..errors import ReadError
+from . import square_tables
 from .edge_values import is_missing
 from .edges import RAISE
 from .time_values import NAMES as TIMES, TAKES, is_time
@@ -192,11 +193,18 @@ class Layout(NamedTuple):
 
 
 class Head(NamedTuple):
-    """The beginning of a list: its file's name, the number and the fields of its first line, and the fields of some lines below."""
+    """The beginning of a list: its file's name, the number and the fields of its first line, the fields of some lines below, or of all where
+    it `is_whole`, and what parts the fields."""
     file: str
     number: int
     first: List[str]
     rest: List[List[str]]
+    is_whole: bool = False
+    delimiter: Optional[str] = ','
+
+    def as_table(self) -> str:
+        """What is said of a table of a graph, which is no list of edges; nothing of a list."""
+        return square_tables.describe_table(self.first, self.rest, self.is_whole, self.delimiter)
 
     def below(self, at: int) -> List[str]:
         """The fields of a column below the first line, of the lines that have as many."""
@@ -241,13 +249,16 @@ def choose_columns(head: Head, layout: Layout) -> Choice:
 def _chosen(head: Head, layout: Layout) -> Choice:
     if layout.columns is not None:
         return _asked_for(head, layout)
+    if layout.header is None and (square_tables.is_labelled(head.first, head.rest, head.is_whole) or (
+            head.is_whole and square_tables.is_symmetric([head.first, *head.rest]))) and head.as_table():
+        raise head.fault(head.as_table() + '; columns= says which columns have edges')
     if len(head.first) < 2:
         header = layout.header is True
         raise head.fault('an edge has two names, and this line one field%s' % (
             '' if header else ', where commas, tabs, semicolons and blanks part fields'), head.first[0])
     found = pairs(head.first) if layout.header is not False else []
     if len(head.first) > MOST_COLUMNS and not found:
-        raise head.fault('%d columns: columns=(SOURCE, TARGET) or (SOURCE, TARGET, VALUE) says by name or by number, from 0, which are read'
+        raise head.fault(head.as_table() or '%d columns: columns=(SOURCE, TARGET) or (SOURCE, TARGET, VALUE) says by name or by number, from 0, which are read'
                          % len(head.first))
     header = layout.header if layout.header is not None else _is_header(head, found)
     if header and found:
@@ -364,6 +375,8 @@ def _unnamed_ends(head: Head, layout: Layout, header: bool) -> Tuple[int, int]:
     has_values = not third or are_times or mostly_numbers(third)
     if width == 3 and has_values and (not header or layout.header is True):
         return 0, 1
+    if head.as_table():
+        raise head.fault(head.as_table())
     guess = _likely(head) if header else (0, 1)
     why = 'none of their names is known as that of a source or a target' if header else 'no header says which have the names'
     what = '' if header or any(map(is_number, head.first)) else ', header=True that this line is one'

@@ -15,6 +15,7 @@ import numpy
 from ..errors import refusal
 from ..extras import import_extra
 from ..limits import MOST_SIDE
+from ..mask import warn_user
 from ..metadata import Nodes, Notes, axis_of
 from . import coo, matrix_market
 from .arrays import is_gap
@@ -34,12 +35,13 @@ NO_NAMES = frozenset(('', '#N/A', '#N/A N/A', '#NA', '-1.#IND', '-1.#QNAN', '-Na
 
 class LeftOut(NamedTuple):
     """What reading leaves out: how many lines are comments, how many end in one, how many rows lack a name or a value, and how many edges
-    are of other vertices than those of `nodelist`. `notes.source` says it, so that nothing is lost in silence."""
+    are of other vertices than those of `nodelist`, or repeat one that counts once. `notes.source` says it, so that nothing is lost in silence."""
     comments: int = 0
     ends: int = 0
     names: int = 0
     values: int = 0
     others: int = 0
+    repeats: int = 0
 
     def plus(self, other: LeftOut) -> LeftOut:
         """What two parts of a graph leave out together."""
@@ -48,7 +50,7 @@ class LeftOut(NamedTuple):
     def __str__(self) -> str:
         counts = ((self.comments, 'comment line%s passed over'), (self.ends, 'comment%s at the end of a line passed over'),
                   (self.names, 'row%s without a name left out'), (self.values, 'row%s without a value left out'),
-                  (self.others, 'edge%s of vertices outside nodelist left out'))
+                  (self.others, 'edge%s of vertices outside nodelist left out'), (self.repeats, 'edge%s given again, counted once'))
         return '; '.join('%d %s' % (count, words % ('' if count == 1 else 's')) for count, words in counts if count)
 
     def added_to(self, words: str) -> str:
@@ -126,11 +128,11 @@ def graph_of(edges: Edges, how: How) -> Graph:
     triples = Triples(rows, columns, values, len(first), len(second))
     if not how.directed:
         triples = matrix_market.lowered(triples, 'symmetric')
-    if not how.folds:
-        triples = _keep_first(triples, edges, first, second)
+    kept = triples if how.folds else _keep_first(triples, edges, first, second)
+    left_out = edges.left_out._replace(repeats=len(triples.rows) - len(kept.rows))
     axis = axis_of(first)
-    notes = Notes(None, None, how.directed, edges.values is not None, edges.left_out.added_to(edges.summary), sides=int(how.bipartite))
-    return Graph(triples, notes.with_axes(axis, axis if second is first else axis_of(second)))
+    notes = Notes(None, None, how.directed, edges.values is not None, left_out.added_to(edges.summary), sides=int(how.bipartite))
+    return Graph(kept, notes.with_axes(axis, axis if second is first else axis_of(second)))
 
 
 def _among(edges: Edges, nodelist: Sequence[Any]) -> Tuple[Edges, Any, Any, Nodes]:
@@ -289,6 +291,9 @@ def choose_value_column(columns: Sequence[Any], ends: Tuple[Any, Any], edge_attr
     """The column of values that `edge_attr` means, or None: a name, a list of one, or True where there is one column beside the names.
     ValueError where it means several, KeyError where a column isn't there."""
     known = list(columns)
+    if edge_attr is None:
+        _warn_of_weights(known, ends)
+    edge_attr = None if edge_attr is False else edge_attr
     if edge_attr is True:
         edge_attr = [column for column in known if column not in ends]
         if not edge_attr:
@@ -301,6 +306,14 @@ def choose_value_column(columns: Sequence[Any], ends: Tuple[Any, Any], edge_attr
         if column not in known:
             raise KeyError('no column %r: there are %s' % (column, ', '.join(map(repr, known))))
     return edge_attr
+
+
+def _warn_of_weights(columns: Sequence[Any], ends: Tuple[Any, Any]) -> None:
+    """Warns of a column that is called as weights of edges are, and isn't read."""
+    weight = next((one for one in columns if one not in ends and isinstance(one, str) and one.lower() in ('weight', 'weights')), None)
+    if weight is not None:
+        warn_user('the column %r is not read, and each edge counts as 1: edge_attr=%r takes its values, edge_attr=False leaves them out'
+                  % (weight, weight), UserWarning)
 
 
 def edges_of_frame(frame: Any, ends: Tuple[Any, Any], attribute: Any, layout: Any) -> Edges:

@@ -10,6 +10,7 @@ import numpy
 
 from .. import top_k
 from ..errors import BudgetExceeded, refusal
+from ..extras import import_extra
 from ..metadata import COLUMNS, NOTHING, ROWS, Nodes, Notes, axes_of, check_one_kind, given_axis, vertices_of
 from ..rescaling import rescaled
 from ..units import Unit, are_decimals, as_unit, is_whole, to_decimals
@@ -277,9 +278,9 @@ class Held(Written):
     def to_scipy_sparse(self, format: str = 'csr', dtype: Any = None) -> Any:
         """A matrix of scipy.sparse, of int64, the stored whole numbers, or with `dtype=float` of float64, what these stand for. In
         python-graphblas `io.to_scipy_sparse`."""
-        import scipy.sparse
+        sparse = import_extra('scipy.sparse', 'to_scipy_sparse')
         rows, columns, values = self.entries(arrays=True, dtype=dtype)
-        return scipy.sparse.coo_matrix((values, (rows, columns)), self.shape).asformat(format)
+        return sparse.coo_matrix((values, (rows, columns)), self.shape).asformat(format)
 
     def to_networkx(self, directed: Optional[bool] = None, weight: Optional[str] = 'weight',
                     nodes: Optional[Sequence[Any]] = None, *, raw: bool = False) -> Any:
@@ -287,7 +288,7 @@ class Held(Written):
         of an undirected graph, else a DiGraph. (A Graph that is asked for has an edge where one of (i, j) and (j, i) is.) Its nodes
         are `nodes`, or this matrix's, or 0 to n - 1. Values, as `by_node` has them, are the edges' `weight`, unless that is None, or the
         matrix came from a graph without weights. In python-graphblas `io.to_networkx`."""
-        import networkx
+        networkx = import_extra('networkx', 'to_networkx')
         if self.nrows != self.ncols:
             raise refusal('J5', detail='expected a square matrix, got %dx%d: `spmat.bipartite` makes one of it' % self.shape)
         if nodes is None:

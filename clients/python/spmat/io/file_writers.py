@@ -2,12 +2,14 @@
 from __future__ import annotations
 
 import contextlib
+import importlib.util
 import io
 import itertools
 import os
 import tempfile
 from typing import IO, Any, Callable, Dict, Iterable, Iterator, List, Optional, Sequence, Tuple
 
+from ..extras import import_extra
 from ..metadata import NOTHING, Notes, vertices_of
 from ..units import Unit, is_whole, to_decimal, to_decimals, to_text
 from . import files, list_writer
@@ -116,7 +118,7 @@ class Written:
 
     def to_pandas(self, *, scale: Optional[float] = None, raw: bool = False) -> Any:
         """Of a column or a row a Series of pandas by name; of another matrix a table as `to_pandas_edgelist` has it."""
-        import pandas
+        pandas = import_extra('pandas', 'to_pandas')
         if not self._is_vector():
             return self.to_pandas_edgelist(scale=scale, raw=raw)
         names, values = self._columns(scale, raw, to_decimal)
@@ -129,7 +131,7 @@ class Written:
                            scale: Optional[float] = None, raw: bool = False) -> Any:
         """A table of pandas with a row an entry: the names of its row and its column, and its value as `edge_attr`, unless that is None.
         `from_pandas_edgelist` takes it again. In networkx the same name."""
-        import pandas
+        pandas = import_extra('pandas', 'to_pandas_edgelist')
         rows, columns, values = self.entries(arrays=True)
         table: Dict[str, Any] = {}
         for called, names, at in ((source, self.notes.rows, rows), (target, self.notes.columns, columns)):
@@ -143,6 +145,8 @@ class Written:
     def to_parquet(self, path: Any, *, scale: Optional[float] = None, raw: bool = False) -> None:
         """Writes what `to_pandas` gives as a parquet file, by pandas with pyarrow or fastparquet. It warns of vertices without
         an edge as `to_csv` does. In pandas the same name."""
+        if not any(importlib.util.find_spec(engine) for engine in ('pyarrow', 'fastparquet')):
+            import_extra('pyarrow', 'to_parquet')
         table = self.to_pandas(scale=scale, raw=raw)
         if not self._is_vector():
             list_writer.warn_of_isolated(self._count_isolated(table.iloc[:, 0], table.iloc[:, 1]), 3)

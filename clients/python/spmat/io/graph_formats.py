@@ -78,8 +78,8 @@ def read_table(file: str, text: bytes, layout: Layout) -> Edges:
     """The edges of a parquet file, whose columns are found as those of a list with a header."""
     try:
         frame = import_extra('pandas', 'parquet').read_parquet(io.BytesIO(text))
-    except ImportError:
-        raise ReadError(file, None, describe_missing('pandas', 'parquet') + '; ' + describe_missing('pyarrow', 'it')) from None
+    except ImportError as fault:
+        raise ReadError(file, None, describe_missing('pandas' if fault.name == 'pandas' else 'pyarrow', 'parquet')) from None
     except Exception as fault:                     # pylint: disable=broad-exception-caught  # each engine has its own
         raise ReadError(file, None, 'no parquet file that pandas reads (%s)' % fault) from None
     names = [str(name) for name in frame.columns]

@@ -33,6 +33,7 @@ VALUELESS = 'the value is missing (%%r): fill it in, or %s; values=False reads n
 SAMPLE = 100                                       # lines that are looked at
 LONG = 1 << 20                                     # of so many bytes, at most
 PIECE = 1 << 20                                    # bytes whose marks are looked at together, so that their tables stay in a cache
+SEPARATOR = re.compile(rb'"?sep=([,;|\t])"?(?=\r?\n)', re.I)
 LF, CR, MINUS, PLUS, ZERO, NINE = 10, 13, 45, 43, 48, 57
 CALLER = 6                                         # frames from here to who asked a session to read a list
 # Blanks of other alphabets, which Python takes for blanks and pandas doesn't.
@@ -247,8 +248,9 @@ def lay_out(file: str, text: bytes, layout: Layout) -> Table:
     if layout.nodetype not in (None, str, int):
         raise ValueError('nodetype is str or int, or None for whole numbers where all are; not %r' % (layout.nodetype,))
     plain, left_out = blank_comments(text, layout.comments)
+    plain, separator = blank_separator(plain)
     comments = list(comments_above(text)) if layout.comments is True and left_out.comments else []
-    delimiter = layout.delimiter if layout.delimiter is not None else find_delimiter(
+    delimiter = layout.delimiter if layout.delimiter is not None else separator or find_delimiter(
         plain if plain[:LONG].strip() else b'\n'.join(line for _, line in comments))
     delimiter = None if delimiter is None or not delimiter.strip(' ') else delimiter
     if delimiter is not None and len(delimiter) != 1:
@@ -259,14 +261,21 @@ def lay_out(file: str, text: bytes, layout: Layout) -> Table:
         return Table(file, text, plain, delimiter, 0, (0, 1), None, 2, '', left_out)
     number, first = header or rows[0]
     below = [fields for _, fields in (rows if header else rows[1:])]
-    choice = choose_columns(Head(file, number, first, below), layout if header is None else layout._replace(header=True))
+    head = Head(file, number, first, below, len(rows) < SAMPLE and len(plain) <= LONG, delimiter)
+    choice = choose_columns(head, layout if header is None else layout._replace(header=True))
     skipped = rows[0].number - (0 if choice.header and header is None else 1)
     left_out = left_out if header is None else left_out._replace(comments=left_out.comments - 1)
     summary = '%s: %s' % (file, choice.describe(first))
     unknown = (delimiter is not None and layout.header is None and not choice.header and choice.value is None
                and not any(map(is_number, first)) and all(COLUMN.fullmatch(first[at]) for at in choice.ends))
     return Table(file, text, plain, delimiter, skipped, choice.ends, choice.value, len(first), summary, left_out, unknown,
-                 column_names.ask_direction(Head(file, number, first, below)) if choice.header else '')
+                 column_names.ask_direction(head) if choice.header else '')
+
+
+def blank_separator(text: bytes) -> Tuple[bytes, str]:
+    """A list with blanks in place of a first line `sep=;`, by which Excel is told what parts the fields; and what that is, else nothing."""
+    found = SEPARATOR.match(text)
+    return (text, '') if found is None else (b' ' * found.end() + text[found.end():], found.group(1).decode('latin-1'))
 
 
 def find_delimiter(text: bytes) -> Optional[str]:
