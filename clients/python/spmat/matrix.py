@@ -234,9 +234,9 @@ class Matrix(Composites):
         Notes
         -----
         1 job."""
+        self._check_shape('product', other, (self.ncols, None))
         if aggregators.is_positional(op):
             return aggregators.positional_product(self, other, op, mask, name, parts=parts, associative=associative)
-        self._check_shape('product', other, (self.ncols, None))
         ring, operators = ring_of(op)
         notes = metadata.of_product(self.notes, other.notes, ring, self.handle is other.handle, self.handle.mirrors(other.handle))
 

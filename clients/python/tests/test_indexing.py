@@ -5,6 +5,8 @@ import unittest
 import warnings
 import weakref
 
+import numpy
+
 from support import InSession, needs
 import alike
 import spmat

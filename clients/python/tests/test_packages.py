@@ -1,8 +1,12 @@
 """What is installed: pyproject.toml names each folder of the package, and what it needs; Debian's packages need the same."""
 import os
 import re
+import sys
+import tempfile
 import unittest
+from unittest import mock
 
+import spmat
 from spmat import extras
 
 import support
@@ -76,6 +80,26 @@ class Missing(unittest.TestCase):
         self.assertEqual(str(raised.exception), 'a picture needs no_such_module (extra files): pip install no-such-project, or on Debian '
                                                 "apt install python3-none (No module named 'no_such_module')")
         self.assertEqual(raised.exception.name, 'no_such_module')
+
+    def test_parquet_without_an_engine(self):
+        """One line, which says what to type, before anything is written."""
+        with spmat.Session() as s, tempfile.TemporaryDirectory() as folder:
+            G, path = s.from_edgelist([('a', 'b', 1)]), os.path.join(folder, 'x.parquet')
+            hidden = {name: None for name in ('pyarrow', 'fastparquet')}
+            with mock.patch.dict(sys.modules, hidden), mock.patch('importlib.util.find_spec', lambda name: None):
+                for call in (lambda: G.to_parquet(path), lambda: G.reduce_rowwise().to_parquet(path)):
+                    with self.assertRaisesRegex(ImportError, r'^to_parquet needs pyarrow \(extra parquet\): pip install pyarrow \(') as raised:
+                        call()
+                    self.assertNotIn('\n', str(raised.exception))
+            self.assertEqual(os.listdir(folder), [])
+
+    def test_results_for_packages_that_are_missing(self):
+        with spmat.Session() as s:
+            G = s.from_edgelist([('a', 'b', 1)])
+            for module, call in (('pandas', G.to_pandas), ('pandas', G.to_pandas_edgelist), ('networkx', G.to_networkx), ('scipy.sparse', G.to_scipy_sparse)):
+                with self.subTest(module=module), mock.patch.dict(sys.modules, {module: None}):
+                    with self.assertRaisesRegex(ImportError, r'^to_\w+ needs %s \(extra \w+\): pip install' % module.partition('.')[0]):
+                        call()
 
     def test_without_a_package_of_debian(self):
         self.assertEqual(extras.describe_missing('pyarrow', 'parquet'), 'parquet needs pyarrow (extra parquet): pip install pyarrow')

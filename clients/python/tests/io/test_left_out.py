@@ -3,6 +3,7 @@ import io
 import os
 import tempfile
 import unittest
+import warnings
 from unittest import mock
 
 import command_line
@@ -23,6 +24,32 @@ class Case(support.InSession):
         with self.assertRaises(ValueError) as said:
             call(*args, **named)
         return str(said.exception)
+
+
+class Repeated(Case):
+    def test_edges_that_count_once(self):
+        """Edges without values that are given again, also in the other direction where that is the same edge, are counted."""
+        again = [('a', 'b'), ('b', 'a'), ('a', 'b'), ('b', 'c'), ('c', 'c')]
+        for directed, words in ((True, '1 edge given again, counted once'), (False, '2 edges given again, counted once')):
+            G = self.s.from_edgelist(again, directed=directed)
+            self.assertEqual(G.notes.source, words)
+            H = self.read('a,b\nb,a\na,b\nb,c\nc,c\n', directed=directed)
+            self.assertEqual((H.notes.source.rpartition('; ')[2], H.to_edgelist()), (words, G.to_edgelist()))
+        self.assertEqual(self.s.from_edgelist(again[:2]).notes.source, '')
+        self.assertEqual(self.s.from_edgelist(again, dup_op='plus').notes.source, '')
+
+    @support.needs('pandas')
+    def test_weights_that_nobody_reads(self):
+        import pandas
+        frame = pandas.DataFrame({'source': ['a', 'b'], 'target': ['b', 'c'], 'Weight': [5, 6]})
+        with self.assertWarnsRegex(UserWarning, "'Weight' is not read, .*: edge_attr='Weight' takes its values, edge_attr=False leaves them out") as told:
+            self.assertEqual(self.s.from_pandas_edgelist(frame).to_edgelist(), [('a', 'b', 1), ('b', 'c', 1)])
+        self.assertEqual(told.filename, __file__)
+        with warnings.catch_warnings():
+            warnings.simplefilter('error')
+            self.assertEqual(self.s.from_pandas_edgelist(frame, edge_attr=False).to_edgelist(), [('a', 'b', 1), ('b', 'c', 1)])
+            self.assertEqual(self.s.from_pandas_edgelist(frame, edge_attr='Weight').to_edgelist(), [('a', 'b', 5), ('b', 'c', 6)])
+            self.assertEqual(self.s.from_pandas_edgelist(frame.drop(columns='Weight')).nvals, 2)
 
 
 class Comments(Case):
