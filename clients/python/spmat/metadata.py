@@ -12,7 +12,8 @@ import enum
 import functools
 import itertools
 import numbers
-from typing import Any, Dict, FrozenSet, Iterable, List, NamedTuple, Optional, Protocol, Sequence, Set, Tuple, TypeVar
+from collections.abc import KeysView, Mapping, Set
+from typing import Any, Dict, FrozenSet, Iterable, List, NamedTuple, Optional, Protocol, Sequence, Tuple, TypeVar
 
 from . import units
 from .errors import NamesDiffer
@@ -84,7 +85,7 @@ class Nodes(List[Any]):
 def check_names(names: Nodes) -> None:
     """ValueError where a name stands twice, or has an end of line in it, so that it couldn't be written into a list."""
     if len(names.places) != len(names):
-        seen: Set[Any] = set()
+        seen: set[Any] = set()
         name = next(name for name in names if name in seen or seen.add(name))                # type: ignore[func-returns-value]
         raise ValueError('the name %r stands twice, at %d and at %d: names of vertices differ'
                          % (name, names.index(name), names.index(name, names.index(name) + 1)))
@@ -154,12 +155,19 @@ ROWS, COLUMNS = 0, 1
 Axes = Tuple[Axis, Axis]
 
 
+def list_of_names(names: Iterable[Any]) -> List[Any]:
+    """Names as a list. TypeError for a set, which has no order, for a dict, and for a text, whose letters nobody means."""
+    if isinstance(names, (str, bytes, Set, Mapping)) and not isinstance(names, KeysView):
+        raise TypeError('names are a list, one for each vertex in their order, and not a %s: write list(..)' % type(names).__name__)
+    return list(names)
+
+
 def given_axis(names: Optional[Iterable[Any]], count: int) -> Axis:
     """What so many vertices are called by a caller who made a matrix by indexes. ValueError where there are more or fewer names, or they can't
     be told apart."""
     if names is None:
         return Axis(None, Unnamed.POSITIONS)
-    found = names if isinstance(names, Nodes) else Nodes(names)
+    found = names if isinstance(names, Nodes) else Nodes(list_of_names(names))
     if found is not names:
         check_names(found)
     if len(found) != count:

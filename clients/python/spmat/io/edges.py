@@ -8,7 +8,7 @@ from __future__ import annotations
 
 import operator
 import re
-from typing import Any, Callable, Iterable, List, NamedTuple, NoReturn, Optional, Sequence, Tuple
+from typing import Any, Callable, Dict, Iterable, List, Mapping, NamedTuple, NoReturn, Optional, Sequence, Tuple
 
 import numpy
 
@@ -171,8 +171,19 @@ def number_names(columns: Sequence[Any]) -> Tuple[List[Any], Nodes]:
     if all(type(name) is int for many in lists for name in many):
         nodes = Nodes(sorted(set().union(*lists)))
     else:
-        nodes = Nodes(dict.fromkeys(name for edge in zip(*lists) for name in edge))
+        nodes = Nodes(_first_seen(name for edge in zip(*lists) for name in edge))
     return [numpy.fromiter(map(nodes.places.__getitem__, many), numpy.int64, len(many)) for many in lists], nodes
+
+
+def _first_seen(names: Iterable[Any]) -> Dict[Any, None]:
+    """Each name once. TypeError for one that has no hash, such as a list."""
+    found: Dict[Any, None] = {}
+    for name in names:
+        try:
+            found[name] = None
+        except TypeError:
+            raise TypeError('a name is text, a number, a date or a tuple of these, which can be looked up, and not %r' % (name,)) from None
+    return found
 
 
 def number_first_seen(keys: Any) -> Tuple[Any, Any]:
@@ -230,11 +241,8 @@ def graph_of_list(edges: Iterable[Any], how: How, layout: Any) -> Graph:
     """The matrix of (from, to), (from, to, value) or (from, to, {'weight': value}), as networkx gives and takes them."""
     check_missing(layout.missing)
     clock = clock_of(layout.unit, layout.date_format, layout.scale)
-    many = edges.tolist() if hasattr(edges, 'tolist') else list(edges)
-    lengths = {len(edge) for edge in many}
-    if not lengths <= {2, 3}:
-        at = next(at for at, edge in enumerate(many) if len(edge) not in (2, 3))
-        raise ValueError('an edge is (from, to) or (from, to, value), not %r (edge %d)' % (many[at], at))
+    many = _listed_edges(edges)
+    lengths = set(map(len, many))
     columns: List[Any] = [[edge[0] for edge in many], [edge[1] for edge in many]]
     columns += [[_value_of(edge) for edge in many]] if 3 in lengths and layout.values else []
     places, left_out = _complete_edges(columns, layout.missing)
@@ -244,6 +252,19 @@ def graph_of_list(edges: Iterable[Any], how: How, layout: Any) -> Graph:
         return ValueError('edge %d: %s' % (places[at], words))
     values, done = whole_values_of(columns[2], layout.scale, clock, fault) if len(columns) > 2 else (None, '')
     return graph_of(Edges(columns[0], columns[1], values, fault, done, left_out), how)
+
+
+def _listed_edges(edges: Iterable[Any]) -> List[Any]:
+    """Edges as a list. TypeError for a dict, whose values would be lost, and for what has no order or no hash; ValueError for other lengths."""
+    if isinstance(edges, Mapping):
+        raise TypeError('edges are a list, and a dict would lose its values: from_edgelist([(*edge, value) for edge, value in edges.items()]) '
+                        'takes {(from, to): value}; networkx.from_dict_of_lists and from_dict_of_dicts take neighbours, and from_networkx the graph')
+    many = edges.tolist() if hasattr(edges, 'tolist') else list(edges)
+    for at, edge in enumerate(many):
+        if not hasattr(edge, '__getitem__') or len(edge) not in (2, 3):
+            kind = ValueError if hasattr(edge, '__getitem__') else TypeError
+            raise kind('an edge is (from, to) or (from, to, value), not %r (edge %d)' % (edge, at))
+    return many
 
 
 def whole_values_of(values: List[Any], scale: Optional[float], clock: Optional[Clock], fault: Callable[[int, str], Exception]) -> Tuple[Any, str]:
@@ -305,6 +326,8 @@ def choose_value_column(columns: Sequence[Any], ends: Tuple[Any, Any], edge_attr
     for column in (*ends, *(() if edge_attr is None else (edge_attr,))):
         if column not in known:
             raise KeyError('no column %r: there are %s' % (column, ', '.join(map(repr, known))))
+        if known.count(column) > 1:
+            raise ValueError('%d columns are called %r: frame.columns = [..] gives each a name of its own' % (known.count(column), column))
     return edge_attr
 
 
@@ -371,8 +394,9 @@ def _values_of_column(frame: Any, attribute: Any, rounding: Rounding) -> Any:
     column = frame[attribute]
     if rounding.scale is None and column.dtype.kind == 'i':
         return column.to_numpy('int64')
-    if column.dtype.kind in 'mM':
-        raise TypeError('row %r: a value is a whole number, not %r: %s' % (frame.index[0], column.iloc[0], TAKES))
+    if column.dtype.kind in 'mM' and len(column):
+        takes = TAKES if column.dtype.kind == 'M' else 'frame[%r].dt.total_seconds() has seconds' % (attribute,)
+        raise TypeError('row %r: a value is a whole number, not %r: %s' % (frame.index[0], column.iloc[0], takes))
     exact, out = check_scale(rounding.scale), []
     if exact is not None and column.dtype.kind == 'f':
         found = scaled_array(column.to_numpy('float64'), rounding.scale, rounding)

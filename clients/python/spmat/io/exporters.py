@@ -11,7 +11,8 @@ import numpy
 from .. import top_k
 from ..errors import BudgetExceeded, refusal
 from ..extras import import_extra
-from ..metadata import COLUMNS, NOTHING, ROWS, Nodes, Notes, axes_of, check_one_kind, given_axis, vertices_of
+from ..mask import warn_user
+from ..metadata import COLUMNS, NOTHING, ROWS, Nodes, Notes, axes_of, check_one_kind, given_axis, list_of_names, vertices_of
 from ..rescaling import rescaled
 from ..units import Unit, are_decimals, as_unit, is_whole, to_decimals
 from . import compressed, coo, files, matrix_text
@@ -56,7 +57,7 @@ class Held(Written):
 
     @nodes.setter
     def nodes(self, names: Optional[Iterable[Any]]) -> None:
-        self.notes = self.notes.with_axes(*axes_of(names if names is None or isinstance(names, Nodes) else list(names), self.shape))
+        self.notes = self.notes.with_axes(*axes_of(names if names is None or isinstance(names, Nodes) else list_of_names(names), self.shape))
 
     @property
     def row_nodes(self) -> Optional[List[Any]]:
@@ -308,10 +309,14 @@ class Held(Written):
         return graph
 
     def mmwrite(self, target: Any) -> None:
-        """Writes the text to a path, or to a file opened in binary. In python-graphblas `io.mmwrite`."""
+        """Writes the text to a path, or to a file opened in binary. It warns where values have a unit, which the text has not. In
+        python-graphblas `io.mmwrite`."""
+        if self.unit != 1:
+            warn_user('mmwrite writes the stored whole numbers, which are %s times what they stand for: to_csv writes decimals, and save() '
+                      'keeps the unit' % self.unit, UserWarning)
         if not hasattr(target, 'write'):
             with files.replacing(os.fspath(target)) as file:
-                self.mmwrite(file)
+                file.writelines(self._texts())
             return
         for piece in self._texts():
             target.write(piece)

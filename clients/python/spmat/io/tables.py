@@ -619,6 +619,8 @@ def _of_another_width(table: Table, number: int, fields: List[str]) -> ReadError
         words += '; this is no Matrix Market file'
     elif fields[0].startswith(('#', '%')):
         words += '; comments="%s" passes over lines that begin so' % fields[0][0]
+    elif table.delimiter is None:
+        words += '; networkx.read_adjlist reads lists of neighbours, and from_networkx takes the graph'
     return table.fault(number, words)
 
 
