@@ -4,21 +4,22 @@ from __future__ import annotations
 
 import math
 from fractions import Fraction
-from typing import Any, Callable, List, NamedTuple, Optional, Tuple, Union
+from typing import Any, Callable, NamedTuple, Optional, Tuple, Union
 
 import numpy
 
 from ..io.coo import whole
 from ..matrix import Matrix
 from ..operators import Semiring, asm, binary
-from ..units import exact_number
+from ..units import exact_number, with_unit
 from . import step_bounds
-from .cached_properties import extremes, is_both_ways
+from .cached_properties import extremes
 from .types import Array
 from .registry import algorithm
 from .results import CHANGE, Centrality, RESIDUAL, as_centrality, keep_partial, unit_of
-from .traversal import Traversal, Vector, find_flow, put_all, put_column, read_column, spread
-from .utils import Progress, beside, iterate, order, tell
+from .traversal import Columns, find_flow, put_all
+from .utils import Progress, beside, order, tell
+from .vector_rounds import SPARE, Grown, Mutual, Pace, Room, Rounds, Scale, Steps, handed
 
 ONE = 1 << 40
 # of the greatest number of a vector, or fewer where sums leave no room
@@ -26,12 +27,11 @@ BITS = 40
 ROUNDS = 1000
 # bits by which Katz' numbers may grow, and so many more where they do
 ROOM, MORE_ROOM = 16, 8
+# the usual tolerance of these, and the bits that do for it
+USUAL, SMALLER = 1e-9, 36
 LEAST_BITS = 16
-# of alpha: twice as many bits have room in a word
-MOST_DENOMINATOR = 1 << 30
 # what a few operations on floats take, as a share
 FLOATS = 2.0 ** -50
-MOST_NUMBER = 1 << 60
 # bits that a product of great weights leaves out, and that sums of great weights have
 HALF, HEAVY = 32, 20
 # x y / 2^32, rounded down, of numbers from 0 on whose product may have more than 64 bits
@@ -55,45 +55,13 @@ exit
 ''', 'high_product')
 
 
-class Steps:
-    """Products of a graph with numbers that the client has: what comes to each vertex, and what it
-    leads to."""
-
-    def __init__(self, lines: Traversal, weighted: bool) -> None:
-        self.lines, self.graph, self.count = lines, lines.graph, lines.count
-        self._comes = Semiring(binary.plus, binary.times if weighted else binary.first)
-        self._leads = Semiring(binary.plus, binary.times if weighted else binary.second)
-        self._is_weighted = weighted
-
-    def fill(self, value: int) -> Array:
-        """The same number for each vertex."""
-        return numpy.full(self.count, value)
-
-    def comes(self, numbers: Array, ring: Optional[Semiring] = None) -> Array:
-        """The sum over the edges that lead to each vertex, or what another semiring makes of
-        them."""
-        return spread(self.lines.push(_nonzero(numbers), ring or self._comes), self.count)
-
-    def leads(self, numbers: Array) -> Array:
-        """The sum over the edges that leave each vertex."""
-        if not self._is_weighted and is_both_ways(self.graph):
-            return self.comes(numbers)
-        column = put_column(self.graph, _nonzero(numbers))
-        return spread(read_column(self.graph.mxv(column, self._leads)), self.count)
-
-
-def _nonzero(numbers: Array) -> Vector:
-    at = numpy.flatnonzero(numbers)
-    return Vector(at, numbers[at])
-
-
 def _steps(G: Matrix, GT: Optional[Matrix], weighted: bool, check: bool) -> Steps:
     """The products of a graph. ValueError where a value is below 0, or they add up to too much."""
     least, most = extremes(G) if weighted else (1, 1)
     if least < 0 or most * max(1, G.nvals) >= 1 << 62:
         raise ValueError('weights are 0 or more, and add up to less than 2^62: here they are %d to '
                          '%d' % (least, most))
-    return Steps(find_flow(G, GT, check, weighted), weighted)
+    return Steps(find_flow(G, GT, check, weighted), weighted, GT)
 
 
 def _bits(heaviest: int) -> int:
@@ -162,28 +130,27 @@ class _Settled(NamedTuple):
     moved: float
 
 
-def _settle(step: Callable[[Array], Array], start: Array, ends: Tuple[float, float],
+def _settle(rounds: Rounds, room: Room, kind: Callable[[Scale], Any], ends: Tuple[float, float],
             most: Tuple[int, Progress], show: Callable[[_Settled], Any]) -> _Settled:
-    """What a step comes to whose results change by less than the tolerance, or by no more than
-    rounding takes and no less than the round before. ValueError where that takes too many rounds.
-    `show` makes the result of a round after which the budget ends."""
-    (tolerance, rounding), (rounds, progress) = ends, most
-
-    def advance(last: _Settled) -> _Settled:
-        with keep_partial(lambda: show(last) if last.rounds else None):
-            now = step(last.numbers)
-        tell(progress, 'round', last.rounds + 1)
-        moved = _distance(now, last.numbers) if _most(now) else 0.0
-        return _Settled(now, last.rounds + 1, moved)
-
-    def is_near(before: _Settled, now: _Settled) -> bool:
-        if now.moved < tolerance or before.moved <= now.moved < rounding:
-            return True
-        if now.rounds == rounds:
+    """What rounds come to whose results change by less than the tolerance, or by no more than
+    rounding takes and no less than at the look before. ValueError where that takes too many rounds.
+    `show` makes the result of a look after which the budget ends."""
+    (tolerance, rounding), (limit, progress) = ends, most
+    pace, last = Pace(tolerance), _Settled(rounds.now, 0, math.inf)
+    while True:
+        moved = _distance(rounds.now, rounds.before) if _most(rounds.now) else 0.0
+        now = _Settled(rounds.now, rounds.number, moved if rounds.number else math.inf)
+        if now.moved < tolerance or last.moved <= now.moved < rounding:
+            return now
+        if now.rounds == limit:
             raise ValueError('%d rounds, and numbers still change by %.2g, more than %g: give more '
-                             'rounds= or a greater tolerance=' % (rounds, now.moved, tolerance))
-        return False
-    return iterate(_Settled(start, 0, math.inf), advance, is_near)
+                             'rounds= or a greater tolerance=' % (limit, moved, tolerance))
+        ahead = min(pace.ahead(now.rounds, now.moved), limit - now.rounds)
+        scale, count = room.choose(_most(now.numbers), ahead)
+        with keep_partial(lambda: show(now) if now.rounds else None):
+            rounds.advance(kind(scale), count, progress)
+        room.note(rounds.before, rounds.now, scale)
+        last = now
 
 
 @algorithm('eigenvector centrality', 'tolerance', 'weighted', scale=ONE, ranked=True,
@@ -233,14 +200,18 @@ def eigenvector(G: Matrix, GT: Optional[Matrix] = None, tolerance: Optional[floa
         If so many rounds are too few, the graph has no edge, a value is below 0, a tolerance that
         is given can't be kept, or a number is out of range.
     BudgetExceeded
-        If the budget ends amid the work; `partial` has the numbers of the last round; its `error`
+        If the budget ends amid the work; `partial` has the numbers of the last look; its `error`
         is the last change.
 
     Notes
     -----
     Power iteration of G + 1, in whole numbers.
 
-    Runs: 1 a round, and 2. Steps: up to 5 an edge, a round.
+    Rounds between two looks are a loop that stays at the server. A look brings the numbers of the
+    last two rounds to the client, and comes after each eighth round, or sooner.
+
+    Runs: 2 a round, or 3 where nothing comes to some vertex, and 2. Steps: up to 5 an edge and 6 a
+    vertex, a round (6 an edge with weights; 8 a vertex where nothing comes to some).
 
     networkx: `eigenvector_centrality`. igraph: `eigenvector_centrality`, whose greatest is 1.
 
@@ -270,32 +241,41 @@ def eigenvector(G: Matrix, GT: Optional[Matrix] = None, tolerance: Optional[floa
 def find_eigenvector(steps: Steps, tolerance: Optional[float], most: Tuple[int, Progress],
                      show: Callable[[_Settled, float], Any]) -> Tuple[_Settled, Array, float]:
     """The numbers, what one more product makes of them, and the tolerance that is kept."""
-    bits = _bits(_most(steps.comes(steps.fill(1))))
+    ones = steps.fill(1)
+    weights = steps.comes(ones)
+    bits = _bits(_most(weights))
     kept = _kept(tolerance, 1e-6, bits)
-    settled = _settle(lambda numbers: _scale(numbers + steps.comes(numbers), bits),
-                      steps.fill(1 << bits), (kept * steps.count, 0), most,
+    everywhere = bool(weights.all()) or (steps.is_mutual and not isinstance(steps.lines, Columns))
+    # where nothing comes to a vertex its number is 0 in the end, and nothing comes from it
+    first = numpy.where(weights > 0, ones + weights, 0) if steps.is_mutual else ones + weights
+    tell(most[1], 'round', 1)
+    rounds = Rounds(steps, ones, _scale(first, bits), 1)
+    settled = _settle(rounds, Room(bits, 1 + _most(weights)),
+                      lambda scale: Grown(scale, everywhere), (kept * steps.count, 0), most,
                       lambda last: show(last, kept))
     with keep_partial(lambda: show(settled, kept)):
-        return settled, steps.comes(settled.numbers), kept
+        return settled, rounds.product(), kept
 
 
-class _Handed(NamedTuple):
-    """What Katz' numbers hand on along an edge: a fraction in whole numbers, as a share of it how
-    far it is from what was asked for, what rounding takes of a number, and the semiring. `spare`
-    are the bits that sums don't have, as products leave them out."""
+class _Way(NamedTuple):
+    """How Katz' numbers are handed on along an edge: what share of a sum, by which semiring, and
+    what rounding takes of a number. `spare` are the bits that sums don't have, as products leave
+    them out, and `most` those that the least number has at the most."""
     share: Fraction
-    drift: float
     rounding: float
     ring: Optional[Semiring] = None
     spare: int = 0
 
+    most: int = BITS
+
     def bits(self, heaviest: int, room: int) -> int:
         """How many bits the least number has, where others have so many more."""
-        return min(BITS, 60 - room - max(0, heaviest.bit_length() - self.spare))
+        more = max(0, heaviest.bit_length() - self.spare) + int(self.share).bit_length()
+        return min(self.most, 61 - room - more)
 
     def least(self, heaviest: int) -> float:
         """The least distance that is told, where numbers are about one."""
-        return self.rounding / 2.0 ** self.bits(heaviest, ROOM) + self.drift
+        return self.rounding / 2.0 ** self.bits(heaviest, ROOM)
 
 
 def _exact_alpha(alpha: float, beta: float, unit: Fraction) -> Fraction:
@@ -311,18 +291,14 @@ def _exact_alpha(alpha: float, beta: float, unit: Fraction) -> Fraction:
     return exact
 
 
-def _handed(steps: Steps, exact: Fraction, heaviest: int) -> _Handed:
+def _way(steps: Steps, exact: Fraction, heaviest: int) -> _Way:
     """How so much is handed on along an edge: by plain products, or where weights are so great that
     sums of these leave few bits by products that leave out 32 bits, whichever keeps more."""
-    ways = []
-    if exact.limit_denominator(MOST_DENOMINATOR):
-        share = exact.limit_denominator(MOST_DENOMINATOR)
-        ways.append(_Handed(share, float(abs(exact / share - 1)), 1))
-    if not ways or heaviest >> HEAVY:
-        share = (exact * (1 << HALF)).limit_denominator(MOST_DENOMINATOR)
+    ways = [_Way(exact, 1)]
+    if heaviest >> HEAVY:
+        share = exact * (1 << HALF)
         many = _most(steps.comes(steps.fill(1), Semiring(binary.plus, binary.oneb)))
-        ways.append(_Handed(share, float(abs(exact * (1 << HALF) / share - 1)), 1
-                            + float(share) * many, Semiring(binary.plus, HIGH), HALF))
+        ways.append(_Way(share, 1 + float(share) * many, Semiring(binary.plus, HIGH), HALF))
     return min(ways, key=lambda way: way.least(heaviest))
 
 
@@ -382,9 +358,12 @@ def katz(G: Matrix, alpha: float = 0.1, beta: float = 1.0, GT: Optional[Matrix] 
 
     Notes
     -----
-    Runs: 1 a round, and 1, or 2 with great weights; some rounds again where numbers grow by more
-    than 2^16. Steps: up to 5 an edge, a round, and 20 where weights at a vertex add up to 2^20 or
-    more.
+    Rounds between two looks are a loop that stays at the server, as in `eigenvector`. None of them
+    divides: alpha is a constant of 62 bits.
+
+    Runs: 2 a round, and 1, or 2 with great weights; some rounds again where numbers grow by more
+    than 2^16. Steps: up to 5 an edge and 16 a vertex, a round (6 an edge with weights; 19 a vertex
+    where alpha is 1 or more), and 20 an edge where weights at a vertex add up to 2^20 or more.
 
     networkx: `katz_centrality`.
 
@@ -396,15 +375,18 @@ def katz(G: Matrix, alpha: float = 0.1, beta: float = 1.0, GT: Optional[Matrix] 
     count = order(G, GT)
     _check(scale, rounds)
     exact = _exact_alpha(alpha, beta, unit_of(G, GT) if weighted else Fraction(1))
-    steps = _steps(G, GT, weighted, check)
-    heaviest = _most(steps.comes(steps.fill(1))) if count else 0
-    handed, room = _handed(steps, exact, heaviest), ROOM
-    if handed.bits(heaviest, room) < LEAST_BITS:
+    steps = _steps(with_unit(G, 1), GT if GT is None else with_unit(GT, 1), weighted, check)
+    weights = steps.comes(steps.fill(1)) if count else steps.fill(0)
+    heaviest = _most(weights)
+    way, room = _way(steps, exact, heaviest), ROOM
+    if tolerance is None or tolerance >= USUAL:    # shares of smaller numbers take fewer steps
+        way = way._replace(most=SMALLER)
+    if way.bits(heaviest, room) < LEAST_BITS:
         raise ValueError('edges of one vertex that weigh %d leave no room for fixed point: divide '
                          'the weights' % heaviest)
     while True:
-        bits = handed.bits(heaviest, room)
-        kept = _kept(tolerance, 1e-9, bits, handed.rounding)
+        bits = way.bits(heaviest, room)
+        kept = _kept(tolerance, USUAL, bits, way.rounding)
 
         def show(last: _Settled, bits: int = bits, kept: float = kept) -> Centrality:
             found = last.numbers / (_norm(last.numbers) if normalized else (1 << bits) / beta)
@@ -413,11 +395,11 @@ def katz(G: Matrix, alpha: float = 0.1, beta: float = 1.0, GT: Optional[Matrix] 
                                  (share + FLOATS) * float(found.max(initial=0)) + .5 / scale,
                                  tolerance=max(kept, share), rounds=last.rounds)
         aim = kept / (2 + kept if normalized else 1), tolerance is None
-        settled = _hand_on(steps, handed, (bits, room), aim, (rounds, progress), show)
+        settled = _hand_on(steps, (way, weights), (bits, room), aim, (rounds, progress), show)
         if isinstance(settled, _Settled):
             break
         room += MORE_ROOM
-        if handed.bits(heaviest, room) < LEAST_BITS:
+        if way.bits(heaviest, room) < LEAST_BITS:
             raise ValueError('alpha=%g is too great for this graph: numbers grow on and on. It has '
                              'to be less than 1 divided by the greatest eigenvalue%s, and by their '
                              'growth that is near %.3g'
@@ -440,56 +422,64 @@ class _Growing(NamedTuple):
         return _Settled(self.before, self.rounds, self.off / (1 - self.off))
 
 
-def _hand_on(steps: Steps, handed: _Handed, room: Tuple[int, int], aim: Tuple[float, bool],
-             most: Tuple[int, Progress],
+def _looked(rounds: Rounds, way: _Way, unit: int) -> _Growing:
+    """How near Katz' numbers are."""
+    off = _farthest(rounds.now, rounds.before) + way.rounding if rounds.number else math.inf
+    return _Growing(rounds.now, rounds.before, rounds.number, off / unit)
+
+
+def _borne(now: _Growing, rounding: float, bits: int, ahead: int) -> Tuple[int, float]:
+    """How many rounds can't take numbers beyond so many bits, of those that are wanted, but one in
+    any case; and the greatest number that they come to. None makes a number greater by more than
+    the last round, but for rounding."""
+    if not now.rounds:
+        return 1, 2.0 ** 61
+    growth = float((now.numbers / now.before).max()) * (1 + rounding) * (1 + FLOATS)
+    most, count = float(_most(now.numbers)) * growth, 1
+    while count < ahead and most * growth < 2.0 ** bits:
+        most, count = most * growth, count + 1
+    return count, most
+
+
+def _hand_on(steps: Steps, edges: Tuple[_Way, Array], room: Tuple[int, int],
+             aim: Tuple[float, bool], most: Tuple[int, Progress],
              show: Callable[[_Settled], Any]) -> Union[_Settled, float]:
     """Katz' numbers, where the least is 2^bits, once they are near enough, or where they change no
     more if the second of `aim` is set. Or, where they leave the room, by how much they grew in the
     last round. One more step takes each number nearer to the true ones, by the norm in which these
     are one: so its change, divided by 1 less itself, bounds the distance. ValueError where rounds
     don't do."""
-    (bits, more), (rounds, progress), (nearest, settles) = room, most, aim
-    unit = 1 << bits
-
-    def advance(last: _Growing) -> _Growing:
-        with keep_partial(lambda: show(last.settled) if last.off < 1 else None):
-            now = _multiply(steps.comes(last.numbers, handed.ring), handed.share, unit)
-        tell(progress, 'round', last.rounds + 1)
-        off = _farthest(now, last.numbers) + handed.rounding + handed.drift * _most(now)
-        return _Growing(now, last.numbers, last.rounds + 1, off / unit if steps.count else 0)
-
-    def is_near(now: _Growing) -> bool:
-        if now.off >= 1:
-            return False
-        rests = settles and now.off < .25 and not _farthest(now.numbers, now.before)
-        return rests or now.off / (1 - now.off) <= nearest
-
-    def ends(_: _Growing, now: _Growing) -> bool:
-        if is_near(now) or _most(now.numbers) >> (bits + more):
-            return True
-        if now.rounds == rounds:
+    (way, weights), (bits, more), (nearest, settles), (limit, progress) = edges, room, aim, most
+    if not steps.count:
+        return _Settled(steps.fill(0), 0, 0.0)
+    unit, pace = 1 << bits, Pace(nearest)
+    units = steps.lines.fill(unit) if steps.in_session else None
+    rounds = Rounds(steps, steps.fill(unit), steps.fill(unit), 0)
+    if way.ring is None:                           # then the first sums are known
+        first = handed(way.share, unit, None, None, float(_most(weights) * unit))
+        rounds = Rounds(steps, rounds.now, first.share_of(weights * unit), 1)
+        tell(progress, 'round', 1)
+    while True:
+        now = _looked(rounds, way, unit)
+        if rounds.number:
+            rests = settles and now.off < .25 and not _farthest(now.numbers, now.before)
+            if rests or now.off < 1 and now.off / (1 - now.off) <= nearest:
+                return now.settled
+        if _most(now.numbers) >> (bits + more):
+            return _sum(now.numbers) / _sum(now.before)
+        if now.rounds == limit:
             raise ValueError('%d rounds are too few for this alpha, which is near 1 divided by the '
                              'greatest eigenvalue or above it: give a smaller one, a greater '
-                             'tolerance=, or more rounds=' % rounds)
-        return False
-    start = steps.fill(unit)
-    last = iterate(_Growing(start, start, 0, math.inf), advance, ends)
-    return last.settled if is_near(last) else _sum(last.numbers) / _sum(last.before)
+                             'tolerance=, or more rounds=' % limit)
+        ahead = min(pace.ahead(now.rounds, now.off), limit - now.rounds)
+        with keep_partial(lambda: show(now.settled) if now.off < 1 else None):
+            count, greatest = _borne(now, way.rounding / unit, bits + more, ahead)
+            kind = handed(way.share, unit, way.ring, units, greatest / float(way.share))
+            rounds.advance(kind, count, progress)
 
 
 def _sum(numbers: Array) -> float:
     return float(numbers.sum(dtype=float))
-
-
-def _multiply(numbers: Array, share: Fraction, more: int) -> Array:
-    """Numbers below 2^61 times a fraction, rounded down, and so much more; what has no room in a
-    word is as great as can be."""
-    times, by = share.numerator, share.denominator
-    if times < by:
-        product: Array = numbers // by * times + numbers % by * times // by + more
-        return product
-    return numpy.array([min(more + x * times // by, MOST_NUMBER) for x in numbers.tolist()],
-                       numpy.int64)
 
 
 def _farthest(first: Array, second: Array) -> int:
@@ -513,8 +503,7 @@ def hits(G: Matrix, GT: Optional[Matrix] = None, tolerance: Optional[float] = No
     G : Matrix
         The graph; an entry (i, j) is an edge from i to j.
     GT : Matrix, optional
-        The transpose. It serves blocks, and large graphs in a session of three workers or more;
-        without it it is made there.
+        The transpose. Without it it is made, where edges lead one way alone or have weights.
     tolerance : float, optional
         Rounds end where the numbers of hubs moved by less in all: 1e-8, or where weights are so
         great that rounding takes more the least that can be kept, as the result's `tolerance` says.
@@ -546,9 +535,12 @@ def hits(G: Matrix, GT: Optional[Matrix] = None, tolerance: Optional[float] = No
 
     Notes
     -----
-    Kleinberg's algorithm, in whole numbers. The graph decides how far the true numbers are.
+    Kleinberg's algorithm, in whole numbers. The graph decides how far the true numbers are. Rounds
+    between two looks are a loop that stays at the server, as in `eigenvector`; where edges lead one
+    way alone the transpose is kept, too.
 
-    Runs: 2 a round, and 3. Steps: up to 10 an edge, a round.
+    Runs: 3 a round, or 4 where edges of two vertices weigh 2^20 or more, multiplied, and 3. Steps:
+    up to 10 an edge and 5 a vertex, a round (12 an edge with weights; 8 a vertex with 4 runs).
 
     networkx: `hits`. igraph: `hub_score`, `authority_score`.
 
@@ -576,15 +568,23 @@ def hits(G: Matrix, GT: Optional[Matrix] = None, tolerance: Optional[float] = No
 def find_hubs(steps: Steps, tolerance: Optional[float], most: Tuple[int, Progress],
               show: Callable[[_Settled, Array, float], Any]) -> Any:
     """What `show` makes of hubs, authorities, and the tolerance that is kept."""
-    bits = _bits(max(_most(steps.comes(steps.fill(1))), _most(steps.leads(steps.fill(1)))))
+    ones = steps.fill(1)
+    weights = steps.comes(ones)
+    leaving = weights if steps.goes_both_ways else steps.leads(ones)
+    ends = _most(weights), _most(leaving)
+    bits = _bits(max(ends))
     kept = _kept(tolerance, 1e-8, bits)
-    came: List[Array] = []                         # the authorities of the last round
-
-    def step(hubs: Array) -> Array:
-        came[:] = [_scale(steps.comes(hubs), bits)]
-        return _scale(steps.leads(came[0]), bits)
+    # authorities have as many bits as their sums leave
+    shift = max(0, bits + SPARE + sum(end.bit_length() for end in ends) - 62)
+    steps.find_transpose()
+    is_full = bool(weights.all() and leaving.all())
+    zeros = steps.lines.fill(0) if isinstance(steps.lines, Columns) and not is_full else None
+    start = steps.fill(1 << bits)
+    rounds = Rounds(steps, start, start, 0)
     rounding = 8 * steps.count / (1 << bits) if tolerance is None else 0
-    settled = _settle(step, steps.fill(1 << bits), (kept, rounding), most,
-                      lambda last: show(last, came[0], kept))
-    with keep_partial(lambda: show(settled, came[0], kept)):
-        return show(settled, steps.comes(settled.numbers), kept)
+    settled = _settle(rounds, Room(bits, ends[0] * ends[1] / 2.0 ** shift, ends[1]),
+                      lambda scale: Mutual(scale, shift, zeros), (kept, rounding), most,
+                      lambda last: show(last._replace(numbers=rounds.last('now')),
+                                        rounds.last('came'), kept))
+    with keep_partial(lambda: show(settled, rounds.last('came'), kept)):
+        return show(settled, rounds.product(), kept)

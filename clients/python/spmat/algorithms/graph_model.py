@@ -11,9 +11,9 @@ import numpy
 from ..io.matrix_text import Triples
 from ..matrix import Matrix
 from ..operators import Operator, Semiring, binary
-from .centrality import Steps
 from .types import Array
 from .traversal import Traversal, Vector, spread
+from .vector_rounds import Steps
 
 LARGEST = 1 << 18                      # entries of a graph of which it pays
 MOST_WALKED = 1 << 24                  # edges after which nobody waits for a price
@@ -90,14 +90,14 @@ class ModelSteps(Steps):
         self._back = GraphModel(graph, turn(entries))
         super().__init__(GraphModel(graph, entries), weighted)
 
+    @property
+    def goes_both_ways(self) -> bool:
+        """Nobody asks, which would take jobs: the sums are made twice at the most."""
+        return False
+
     def leads(self, numbers: Array) -> Array:
         at = numpy.flatnonzero(numbers)
         return spread(self._back.push(Vector(at, numbers[at]), self._comes), self.count)
-
-    @property
-    def walked(self) -> int:
-        """The edges of all products."""
-        return cast(GraphModel, self.lines).walked + self._back.walked
 
     @property
     def pushes(self) -> int:

@@ -122,28 +122,29 @@ def k_shortest_paths(g: CallSizes) -> Optional[int]:
 
 # -- centralities
 
-def _flow(g: CallSizes, find: Callable[[ModelSteps], object]) -> Optional[Bound]:
-    """The products that numbers take until they settle."""
+def _flow(g: CallSizes, vertex: int, find: Callable[[ModelSteps], object]) -> Optional[Bound]:
+    """The products that numbers take until they settle, each of which walks all edges, with so many
+    steps a vertex."""
     entries = _entries(g)
     if entries is None or not g.entries or (g.degrees is not None and g.degrees.least < 0):
         return None
     steps = ModelSteps(g.graph, entries, bool(g.given['weighted']))
     find(steps)
     edge = 6 if g.given['weighted'] else 5
-    total = step_bounds.flow_checks(g) + edge * steps.walked
+    total = step_bounds.flow_checks(g) + (edge * g.entries + vertex * g.vertices) * steps.pushes
     return Bound(total, total, '%d products of %d an edge' % (steps.pushes, edge))
 
 
 def hits(g: CallSizes) -> Optional[Bound]:
     """The rounds are those of the model, whose numbers are the same."""
     most = (int(g.given['rounds']), None)
-    return _flow(g, lambda steps: find_hubs(steps, g.given['tolerance'], most, _show))
+    return _flow(g, 4, lambda steps: find_hubs(steps, g.given['tolerance'], most, _show))
 
 
 def eigenvector(g: CallSizes) -> Optional[Bound]:
     """As `hits`."""
     most = (int(g.given['rounds']), None)
-    return _flow(g, lambda steps: find_eigenvector(steps, g.given['tolerance'], most, _show))
+    return _flow(g, 8, lambda steps: find_eigenvector(steps, g.given['tolerance'], most, _show))
 
 
 def _show(*_: object) -> None:

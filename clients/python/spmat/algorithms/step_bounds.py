@@ -484,35 +484,36 @@ def flow_checks(g: CallSizes) -> int:
     return checks + (g.find_extremes if weighted else 0)
 
 
-def _flow(g: CallSizes, rounds: int, times: int, more: int, dear: int = 0) -> Bound:
-    edge = (dear or (6 if g.given['weighted'] else 5)) * times
-    checks = flow_checks(g)
-    steps = checks + edge * g.entries * rounds + 6 * more * g.entries
-    return Bound(steps, steps, 'up to %d rounds of %d an edge' % (rounds, edge))
+def _flow(g: CallSizes, rounds: int, each: Tuple[int, int], more: int, dear: int = 0) -> Bound:
+    """Rounds of so many products, and of so many steps a vertex beside them; and more products."""
+    (times, vertex), edge = each, dear or (6 if g.given['weighted'] else 5)
+    steps = flow_checks(g) + (times * edge * g.entries + vertex * g.vertices) * rounds
+    steps += 6 * more * g.entries
+    return Bound(steps, steps, 'up to %d rounds of %d an edge' % (rounds, edge * times))
 
 
 def eigenvector(g: CallSizes) -> Bound:
     """A product for each round, and two more; nothing but `rounds` says how many there are."""
-    return _flow(g, int(g.given['rounds']), 1, 2)
+    return _flow(g, int(g.given['rounds']), (1, 8), 2)
 
 
 def hits(g: CallSizes) -> Bound:
     """Two products for each round, and three more; nothing but `rounds` says how many there are."""
-    return _flow(g, int(g.given['rounds']), 2, 3)
+    return _flow(g, int(g.given['rounds']), (2, 14), 3)
 
 
 def katz(g: CallSizes) -> Bound:
     """A product for each round. Where alpha times the most edges that enter a vertex is below 1,
-    each makes the error less by that. Else numbers may grow beyond their room, and all is done
-    again with more."""
+    each makes the error less by that, and some may follow before it is looked at. Else numbers may
+    grow beyond their room, and all is done again with more."""
     rounds, tolerance = 4 * int(g.given['rounds']), float(g.given['tolerance'] or 1e-9)
     heaviest = 1 if not g.given['weighted'] else max(0, _extremes_of(g)[1])
     entering = max(g.degrees.entering, default=0) if g.degrees else g.vertices
     rate = float(g.given['alpha']) * (g.degrees.heaviest if g.degrees and g.given['weighted']
                                       else heaviest * entering)
     if 0 < rate < .99 and not (g.given['weighted'] and getattr(g.graph, 'unit', 1) != 1):
-        rounds = min(int(g.given['rounds']), rounds_to(tolerance * (1 - rate) / 8, rate) + 2)
-    return _flow(g, 1 if rate == 0 else rounds, 1, 2, 20 if heaviest * entering >> 20 else 0)
+        rounds = min(int(g.given['rounds']), rounds_to(tolerance * (1 - rate) / 8, rate) + 10)
+    return _flow(g, 1 if rate == 0 else rounds, (1, 19), 2, 20 if heaviest * entering >> 20 else 0)
 
 
 def label_propagation(g: CallSizes) -> Bound:

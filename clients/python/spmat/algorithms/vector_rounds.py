@@ -1,0 +1,410 @@
+"""Rounds in which numbers flow through a graph: those of eigenvector and Katz centrality, and of
+hubs and authorities.
+
+Where one session has the graph, the rounds between two looks are a loop that stays at the server. A
+look brings the numbers of the last two rounds to the client. From these it knows how near they are,
+when to look next, and by which factor to scale each round until then, so that no sum passes a word.
+In blocks, and for a price, the client makes the same rounds, with the same numbers.
+"""
+from __future__ import annotations
+
+import math
+from fractions import Fraction
+from typing import Any, Dict, List, NamedTuple, Optional, Protocol, Tuple
+
+import numpy
+
+from ..loops import Loop, State
+from ..loops.trips import Round
+from ..matrix import Matrix
+from ..operators import Operator, Semiring, asm, binary
+from .cached_properties import is_both_ways, transpose_of
+from .traversal import (Columns, Rows, Traversal, Vector, put_column, read_column, spread)
+from .types import Array
+from .utils import Progress, tell
+
+MOST_AHEAD = 8                                     # rounds between two looks
+# bits of a factor, and of a number that it multiplies
+FACTOR, MULTIPLIED = 5, 57
+# by how many bits the greatest number of a round may pass those that it is to have
+SPARE = 2
+# what numbers may be more than their bound, as those that are nearly 0 grow by any factor
+LITTLE = 16
+ABOVE = 1 + 2.0 ** -30                             # what floats take of a bound
+
+
+class Steps:
+    """Products of a graph with numbers, at the server or of numbers that the client has: what comes
+    to each vertex, and what it leads to."""
+
+    def __init__(self, lines: Traversal, weighted: bool, transpose: Optional[Matrix] = None) -> None:
+        self.lines, self.graph, self.count = lines, lines.graph, lines.count
+        self._comes = Semiring(binary.plus, binary.times if weighted else binary.first)
+        self._leads = Semiring(binary.plus, binary.times if weighted else binary.second)
+        self._is_weighted, self._transpose = weighted, transpose
+        self._turned: Optional[Traversal] = None
+
+    @property
+    def in_session(self) -> bool:
+        """Whether rounds may stay at the server."""
+        return self.lines.has_matrices and self.graph.in_one_place
+
+    def fill(self, value: int) -> Array:
+        """The same number for each vertex."""
+        return numpy.full(self.count, value)
+
+    def comes(self, numbers: Array, ring: Optional[Semiring] = None) -> Array:
+        """The sum over the edges that lead to each vertex, or what another semiring makes of
+        them."""
+        return spread(self.lines.push(_nonzero(numbers), ring or self._comes), self.count)
+
+    @property
+    def goes_both_ways(self) -> bool:
+        """Whether what leads to a vertex also leaves it, so that both sums are one."""
+        return not self._is_weighted and is_both_ways(self.graph)
+
+    def leads(self, numbers: Array) -> Array:
+        """The sum over the edges that leave each vertex."""
+        if self.goes_both_ways:
+            return self.comes(numbers)
+        column = put_column(self.graph, _nonzero(numbers))
+        return spread(read_column(self.graph.mxv(column, self._leads)), self.count)
+
+    def flow(self, numbers: Matrix, ring: Optional[Semiring] = None) -> Matrix:
+        """`comes`, of a matrix."""
+        return self.lines.step(numbers, ring or self._comes)
+
+    def flow_back(self, numbers: Matrix) -> Matrix:
+        """`leads`, of a matrix, once the transpose was found."""
+        if isinstance(self.lines, Columns):
+            return self.graph.mxv(numbers, self._leads)
+        assert self._turned is not None
+        return self._turned.step(numbers, self._comes)
+
+    def find_transpose(self) -> None:
+        """Finds what rows are pushed along against the edges."""
+        if self.in_session and self._turned is None and not isinstance(self.lines, Columns):
+            alike = self._is_weighted and self.graph.kept.get('values both ways')
+            self._turned = self.lines if alike else Rows(transpose_of(
+                self.graph, self._transpose, False, self._is_weighted))
+
+    @property
+    def is_mutual(self) -> bool:
+        """Whether it is known without a job that something comes to each vertex that leads to
+        another one, and the other way round."""
+        known = self.graph.directed is False or bool(self.graph.kept.get('both ways'))
+        return known and not self._is_weighted
+
+    def put(self, numbers: Array) -> Matrix:
+        """Numbers as a matrix: a row has no 0, and a column is full."""
+        is_column = isinstance(self.lines, Columns)
+        return self.lines.put(Vector(numpy.arange(self.count), numbers) if is_column
+                              else _nonzero(numbers))
+
+    def read(self, matrix: Matrix) -> Array:
+        """The numbers that a matrix has."""
+        return spread(self.lines.read(matrix), self.count)
+
+
+def _nonzero(numbers: Array) -> Vector:
+    at = numpy.flatnonzero(numbers)
+    return Vector(at, numbers[at])
+
+
+class Scale(NamedTuple):
+    """A factor of up to 1: a product between two shifts, which rounds down."""
+    first: int
+    times: int
+    then: int
+
+    @property
+    def value(self) -> float:
+        """The factor."""
+        return self.times / 2.0 ** (self.first + self.then)
+
+    @property
+    def rounding(self) -> float:
+        """What it may take of a number."""
+        return 1 + self.value * ((1 << self.first) - 1)
+
+    def of(self, numbers: Array) -> Array:
+        """Numbers that the client has, times the factor."""
+        scaled: Array = (numbers >> self.first) * self.times >> self.then
+        return scaled
+
+    def operator(self, kind: str, begin: str) -> Operator:
+        """The factor times what some instructions leave in r0."""
+        first = 'rsh64 r0, %d\n' % self.first if self.first else ''
+        return asm(kind, '%s%smul64 r0, %d\nrsh64 r0, %d\nexit\n' % (begin, first, self.times,
+                                                                 self.then))
+
+
+def scale_of(factor: float, bits: int) -> Scale:
+    """The greatest scale up to a factor that is 1 or less, of numbers that it makes ones of so many
+    bits or fewer."""
+    part, power = math.frexp(factor)
+    times, shift = int(part * (1 << FACTOR)), FACTOR - power
+    first = max(0, bits + shift - times.bit_length() + 1 - MULTIPLIED)
+    return Scale(first, times, shift - first)
+
+
+class Room:
+    """How numbers stay within a word where they aren't looked at for some rounds. `norm` is by how
+    much a round that isn't scaled may multiply the greatest number, and `lost` what rounding takes
+    of a number before it is scaled.
+
+    If none of a round's numbers is more than r times the one before it, and a little, this holds
+    for the next rounds as well (Collatz and Wielandt), but that the little grows by the norm."""
+
+    def __init__(self, bits: int, norm: float, lost: float = 0) -> None:
+        self.bits, self.norm, self.lost, self._ratio = bits, norm, lost, norm
+        self._rounding = 1.0                       # of the round that the ratio is known of
+
+    def note(self, before: Array, now: Array, scale: Scale) -> None:
+        """Two rounds that follow, and the scale of the second one."""
+        some = before > 0
+        self._ratio, self._rounding = self.norm, self._taken(scale)
+        if not (now[~some] > LITTLE).any():
+            ratio = float(((now[some] - LITTLE) / before[some]).max(initial=0))
+            self._ratio = min(self.norm, max(1e-9, ratio) / scale.value * ABOVE)
+
+    def choose(self, most: int, ahead: int) -> Tuple[Scale, int]:
+        """The scale of the next rounds, where `most` is the greatest number, and how many they are:
+        no more than are wanted."""
+        for count in range(ahead, 0, -1):
+            scale = self._aimed(most, count, self._ratio)
+            if self._holds(scale, most, count):
+                return scale, count
+        return self._aimed(most, 1, self.norm), 1
+
+    def _aimed(self, most: int, count: int, ratio: float) -> Scale:
+        """What takes the greatest number to its bits, and one more, in so many rounds."""
+        wanted = (2.0 ** (self.bits + 1) / max(1, most)) ** (1 / count)
+        return scale_of(min(1.0, min(2.0, wanted) / ratio), self.bits + SPARE)
+
+    def _taken(self, scale: Scale) -> float:
+        return scale.rounding + scale.value * self.lost
+
+    def _holds(self, scale: Scale, most: float, count: int) -> bool:
+        """Whether no number of so many rounds has more bits than are spared."""
+        factor, little = scale.value, float(LITTLE)
+        rounding = max(self._rounding, self._taken(scale))
+        for _ in range(count):
+            little = factor * (self._ratio * rounding + self.norm * little)
+            most = factor * self._ratio * most * ABOVE + little
+            if most > 2.0 ** (self.bits + SPARE):
+                return False
+        return True
+
+
+class Pace:
+    """When numbers are looked at next, by how fast a distance shrank to what it is to be."""
+
+    def __init__(self, aim: float) -> None:
+        self._aim, self._last = aim, (0, math.inf)
+
+    def ahead(self, number: int, distance: float) -> int:
+        """How many rounds follow the one of this number, before the next look."""
+        most = min(MOST_AHEAD, max(1, number))
+        (before, last), self._last = self._last, (number, distance)
+        if self._aim < distance < last < math.inf:
+            rate = math.log(distance / last) / (number - before)
+            most = min(most, math.ceil(math.log(self._aim / distance) / rate))
+        return max(1, most)
+
+
+class Kind(Protocol):
+    """What a round makes of numbers: the next ones as `now`, and what else there is of it."""
+
+    def of_numbers(self, steps: Steps, numbers: Array) -> Dict[str, Array]:
+        """At the client."""
+
+    def of_matrix(self, steps: Steps, numbers: Matrix) -> Dict[str, Matrix]:
+        """As jobs."""
+
+
+class Grown(NamedTuple):
+    """Numbers, and what comes to each vertex of them. `everywhere` says whether something comes to
+    each one that has a number."""
+    scale: Scale
+    everywhere: bool
+
+    def of_numbers(self, steps: Steps, numbers: Array) -> Dict[str, Array]:
+        """At the client."""
+        return {'now': self.scale.of(numbers + steps.comes(numbers))}
+
+    def of_matrix(self, steps: Steps, numbers: Matrix) -> Dict[str, Matrix]:
+        """As jobs: the product, and a union, whose copies a second one has to scale."""
+        flow = steps.flow(numbers)
+        if self.everywhere:
+            scaled = self.scale.operator('binary', 'mov64 r0, r1\nadd64 r0, r2\n')
+            return {'now': numbers.ewise_add(flow, scaled)}
+        scaled = self.scale.operator('unary', 'mov64 r0, r1\n')
+        return {'now': numbers.ewise_add(flow, 'plus').apply(scaled)}
+
+
+class Mutual(NamedTuple):
+    """Hubs, from the authorities that come from hubs, which are told in units of 2^`shift`. `zeros`
+    is what they are added to, where columns had better be full."""
+    scale: Scale
+    shift: int
+    zeros: Optional[Matrix]
+
+    def of_numbers(self, steps: Steps, numbers: Array) -> Dict[str, Array]:
+        """At the client."""
+        came = steps.comes(numbers) >> self.shift
+        return {'now': self.scale.of(steps.leads(came)), 'came': came}
+
+    def of_matrix(self, steps: Steps, numbers: Matrix) -> Dict[str, Matrix]:
+        """As jobs: two products, and what scales each, if need be."""
+        came = steps.flow(numbers)
+        if self.shift:
+            came = came.apply(asm('unary', 'mov64 r0, r1\nrsh64 r0, %d\nexit\n' % self.shift))
+        now = steps.flow_back(self._filled(came))
+        scaled = self.scale.operator('unary', 'mov64 r0, r1\n')
+        return {'now': self._filled(now.apply(scaled)), 'came': came}
+
+    def _filled(self, numbers: Matrix) -> Matrix:
+        return numbers if self.zeros is None else self.zeros.ewise_add(numbers, 'plus')
+
+
+# r1, and r2 times a constant of 62 bits, of which those behind the point are left out
+WIDE = '''mov64 r3, r2
+rsh64 r3, 31
+and64 r2, {mask}
+mov64 r4, r2
+mul64 r4, {low}
+rsh64 r4, 31
+mov64 r0, r3
+mul64 r0, {high}
+mul64 r3, {low}
+mul64 r2, {high}
+add64 r3, r2
+add64 r3, r4
+rsh64 r3, 31
+add64 r0, r3
+add64 r0, r1
+exit
+'''
+# the same of smaller numbers, by some of the constant's bits at a time, from the lowest ones on
+FIRST = 'mov64 r3, r2\nmul64 r3, %d\nrsh64 r3, {0}\n'
+NEXT = 'mov64 r4, r2\nmul64 r4, %d\nadd64 r3, r4\nrsh64 r3, {0}\n'
+LAST = 'mul64 r2, %d\nadd64 r3, r2\nrsh64 r3, {0}\nmov64 r0, r1\nadd64 r0, r3\nexit\n'
+WHOLE = 'wide r5, %d\nmul64 r5, r2\nadd64 r1, r5\n'
+HALF, NARROW = 31, 47                              # bits of half a constant, and of smaller numbers
+
+
+class Handed(NamedTuple):
+    """A share of what comes to each vertex, by a semiring, and what each has anyhow, which `units`
+    has as a matrix. The share is a whole number and a constant, which is rounded up, in parts of so
+    many bits: so all is rounded by less than 1. It is `wide` where sums have up to 62 bits."""
+    whole: int
+    parts: Tuple[int, ...]
+    bits: int
+    unit: int
+    ring: Optional[Semiring]
+    units: Optional[Matrix]
+
+    def share_of(self, sums: Array) -> Array:
+        """What sums make of numbers, at the client."""
+        if self.bits == HALF:
+            low, high = self.parts
+            above, below = sums >> HALF, sums & ((1 << HALF) - 1)
+            middle = above * low + below * high + (below * low >> HALF)
+            shares: Array = above * high + (middle >> HALF)
+        else:
+            shares = numpy.zeros_like(sums)
+            for part in self.parts:
+                shares = shares + sums * part >> self.bits
+        shares += self.unit + self.whole * sums
+        return shares
+
+    def of_numbers(self, steps: Steps, numbers: Array) -> Dict[str, Array]:
+        """At the client."""
+        return {'now': self.share_of(steps.comes(numbers, self.ring))}
+
+    def of_matrix(self, steps: Steps, numbers: Matrix) -> Dict[str, Matrix]:
+        """As jobs: the product, and a union."""
+        assert self.units is not None
+        return {'now': self.units.ewise_add(steps.flow(numbers, self.ring), self.operator)}
+
+    @property
+    def operator(self) -> Operator:
+        """What makes a number of a unit and a sum."""
+        if self.bits == HALF:
+            low, high = self.parts
+            text = WIDE.format(low=low, high=high, mask=(1 << HALF) - 1)
+        else:
+            text = (FIRST + (len(self.parts) - 2) * NEXT + LAST).format(self.bits) % self.parts
+        return asm('binary', (WHOLE % self.whole if self.whole else '') + text)
+
+
+def handed(share: Fraction, unit: int, ring: Optional[Semiring], units: Optional[Matrix],
+           most: float) -> Handed:
+    """How numbers hand on a share of sums that are no greater than so much."""
+    size = max(HALF, math.ceil(math.log2(max(1.0, most))) + 1)
+    bits, many = HALF, 2
+    if size <= NARROW:                             # then all bits of a product fit into a word
+        bits = min(HALF - 1, 63 - size)
+        many = max(2, -(-(size + 1) // bits))
+    whole, constant = divmod(math.ceil(share * (1 << bits * many)), 1 << bits * many)
+    parts = tuple(constant >> bits * at & ((1 << bits) - 1) for at in range(many))
+    return Handed(whole, parts, bits, unit, ring, units)
+
+
+class Rounds:
+    """Numbers, and rounds of them. `now` and `before` are those of the last two rounds, where both
+    are known to the client."""
+
+    def __init__(self, steps: Steps, before: Array, now: Array, number: int) -> None:
+        self.steps, self.number, self.before, self.now = steps, number, before, now
+        self._kind: Optional[Kind] = None
+        self._loop: Optional[Loop] = None
+        self._made: Dict[str, Array] = {}          # by the client's last round
+
+    def advance(self, kind: Kind, count: int, progress: Progress) -> None:
+        """So many rounds, and a look."""
+        if not self.steps.in_session:
+            for _ in range(count):
+                self._made = kind.of_numbers(self.steps, self.now)
+                self.before, self.now = self.now, self._made['now']
+                self.number += 1
+                tell(progress, 'round', self.number)
+            return
+        loop, number = self._loop_of(kind), self.number
+
+        def heard(first: int, rounds: List[Round]) -> None:
+            for at in range(first, first + len(rounds)):
+                tell(progress, 'round', number - begun + at)
+        begun = loop.number
+        loop.rounds(None, count, heard)
+        self.number += count
+        self.before = self.now if count == 1 else self.steps.read(loop.state.before)
+        self.now = self.steps.read(loop.state.now)
+
+    def _loop_of(self, kind: Kind) -> Loop:
+        """The loop of such rounds, which goes on from the last one."""
+        steps = self.steps
+        if self._loop is None or kind != self._kind:
+            if self._loop is None:
+                now = steps.put(self.now)
+                state = State({'now': now, 'before': now, 'came': now})
+            else:
+                state = self._loop.state
+
+            def step(s: State) -> Dict[str, Any]:
+                return {**kind.of_matrix(steps, s.now), 'before': s.now}
+            self._loop, self._kind = Loop(step, state, alike=True), kind
+        return self._loop
+
+    def product(self) -> Array:
+        """What comes to each vertex from the numbers of the last round."""
+        if self._loop is None:
+            return self.steps.comes(self.now)
+        return self.steps.read(self.steps.flow(self._loop.state.now))
+
+    def last(self, name: str) -> Array:
+        """What the last round made, also after one that was refused. It takes no step."""
+        if self._loop is None:
+            return self._made[name]
+        return self.steps.read(self._loop.state[name])
