@@ -8,6 +8,7 @@ from __future__ import annotations
 from typing import TYPE_CHECKING, Any, Callable, Dict, List, Optional, Tuple, TypeVar
 
 from . import aggregators, assignment, tiles, units
+from .backends.protocol import Job
 from .backends.unread import reading
 from .common_session import common_session
 from .errors import refusal
@@ -60,6 +61,8 @@ class Composites(Signs, metaclass=MatrixType):
         ewise_mult: Callable[..., Any]
         mxm: Callable[..., Any]
         reduce_rowwise: Callable[..., Any]
+        handle: Any
+        _visit: Callable[..., Any]
         _check_shape: Callable[..., None]
 
     # -- a part of it, and values by position
@@ -162,6 +165,9 @@ class Composites(Signs, metaclass=MatrixType):
         if where.complement:
             return self.dup(mask=~where, name=name)
         notes = notes_under(~where, self.shape, of_copy(self.notes))
+        fused: Optional[C] = self._visit(Job('apply', (unary.identity,), (self.handle,), self.shape), (self,), ~where, notes, name, 'dup')
+        if fused is not None:
+            return fused
         other = structure(where)
         if self.waits or other.waits:
             self.session.backend.run()
@@ -186,7 +192,12 @@ class Composites(Signs, metaclass=MatrixType):
             check_mask(where, self.shape, self.notes)
         op = None if accum is None else of_form('union', accum)
         notes = of_update(self.notes, other.notes, op, where, replace)
-        made = self._updated(other, accum, where, replace, name)
+        made: Optional[C] = None
+        if where is not None:
+            last = Job('union', (op or binary.first,), (self.handle, other.handle), self.shape)
+            made = self._visit(last, (self, other), where, notes, name, 'update', op, replace=replace)
+        if made is None:
+            made = self._updated(other, accum, where, replace, name)
         made.notes = notes
         return made
 

@@ -7,7 +7,7 @@ from typing import TYPE_CHECKING, Any, Iterator, Optional, Sequence, Tuple, Type
 import numpy
 
 from . import aggregators, metadata, overflow, oversized_jobs, units
-from .backends.protocol import Handle, Job
+from .backends.protocol import Handle, Job, OneVisit
 from .common_session import common_session
 from .composites import Composites, notes_under
 from .display import html
@@ -295,10 +295,26 @@ class Matrix(Composites):
             assert where is not None
             common_session(self.session, where.matrix.session)
             under = notes_under(where, job.shape, notes)
+            made = self._visit(job, operands, where, under, name) if where.value or where.complement else None
+            if made is not None:
+                return made
             if where.complement:
                 return self._queue(job, operands, notes, None, None).without(~where, name=name)
             cut, notes = structure(where), under
             job, operands = job._replace(mask=cut.handle), (*operands, cut)
+        return self._submit(job, operands, notes, name)
+
+    def _visit(self, job: Job, operands: Sequence['Matrix'], where: Mask, notes: metadata.Notes, name: Optional[str],
+               method: str = '', *args: Any, **options: Any) -> Optional['Matrix']:
+        """The result of a method under a mask, of which this job is the last, where one visit to a session makes all of them; else
+        None, and the caller queues them."""
+        if not self.session.backend.fuses(job):
+            return None
+        visit = OneVisit(where.value, where.complement, method, args, options)
+        job = job._replace(mask=where.matrix.handle, visit=visit)
+        return self._submit(job, (*operands, where.matrix), notes, name)
+
+    def _submit(self, job: Job, operands: Sequence['Matrix'], notes: metadata.Notes, name: Optional[str]) -> 'Matrix':
         session, is_vector = self.session, False
         for operand in operands:
             if operand.session is not session:

@@ -109,6 +109,19 @@ class Same(unittest.TestCase):
                             self.assertEqual(one.budget().spent - before[0], many.budget().spent - before[1])
         self.each(look)
 
+    def test_a_method_under_a_mask_is_one_visit(self):
+        """Of several jobs, too: each block's session makes all of them in one task, and what lies between comes to no client."""
+        with blocks.Sessions(3) as s:
+            A = Pair(s, s, 'random').sides[0][0]
+            asked, submit = [], s.engine.submit
+            s.engine.submit = lambda settings, place, label, function, *more: asked.append(function) or submit(settings, place, label, function, *more)
+            for mask in (A.V, ~A.S, ~A.V):
+                for call in (lambda: A.apply('abs', mask=mask), lambda: A.dup(mask=mask), lambda: A.ewise_mult(A, mask=mask), lambda: A.update(A, 'plus', mask),
+                             lambda: A.update(A, None, mask, True), lambda: A.update(A, None, A.S)):
+                    asked.clear()
+                    call().wait()
+                    self.assertEqual(asked, [worker_tasks.job] * 3 + [worker_tasks.counts_of] * 3)
+
     def test_what_is_read(self):
         def look(one, many, count):
             for case in CASES:

@@ -101,10 +101,20 @@ class Handle:
         return [matrix for matrix in (one() for one in self._matrices) if matrix is not None]
 
 
+class OneVisit(NamedTuple):
+    """What a backend makes in one visit to a session that `fuses`: a method of matrices, by default that of the job's form, under a mask
+    of any kind. None of the jobs before the last then comes to the client."""
+    by_value: bool
+    complement: bool
+    method: str = ''
+    args: Tuple[Any, ...] = ()
+    options: Dict[str, Any] = {}
+
+
 class Job(NamedTuple):
     """A job of one of the protocol's forms, under a structural mask or none. `thunk` is the number beside an index operator. A product
     that is too large `is_by_parts` where the caller makes it by parts of the rows then; loops want to know. `is_associative` is the
-    caller's word of its ADD, which blocks want to know."""
+    caller's word of its ADD, which blocks want to know. With a `visit` it is the last of several jobs."""
     form: str
     operators: Tuple[Operator, ...]
     operands: Tuple[Handle, ...]
@@ -113,6 +123,7 @@ class Job(NamedTuple):
     mask: Optional[Handle] = None
     is_by_parts: bool = False
     is_associative: Optional[bool] = None
+    visit: Optional[OneVisit] = None
 
 
 class Most(NamedTuple):
@@ -209,6 +220,11 @@ class Backend(abc.ABC):
     @abc.abstractmethod
     def budget(self) -> Budget:
         """What the budget holds."""
+
+    def fuses(self, job: Job) -> bool:
+        """Whether it takes this job with a `visit`, and makes the jobs before it itself."""
+        _ = job
+        return False
 
     def flush(self, handle: Handle) -> None:
         """Sends what waits to be sent, so that the price of a job is known. No run."""

@@ -175,9 +175,16 @@ class BlocksBackend(Backend):
         hold, and of whole matrices."""
         holds = [future for handle in operands if handle is not None for future in handle.holds]
         made = BlockHandle(self, cut, job.shape[1], futures, [*holds, *wholes], job.form)
-        made.most = most_of(job, 0).entries
+        # with a visit, entries may lie outside of the mask
+        made.most = most_of(job if job.visit is None else job._replace(mask=None), 0).entries
         self.sessions.begun(made)
         return made
+
+    def fuses(self, job: Job) -> bool:
+        """Unless each job is looked at before it is made, or a product is made of several."""
+        if job.form == 'product' and jobs.goes_by_blocks(self, job):
+            return False
+        return not self.sessions.is_metered
 
     def step_front(self, graph: Any, transpose: Any, front: 'Vector',
                    rings: Tuple[Semiring, Semiring], is_large: bool) -> 'Vector':

@@ -23,12 +23,24 @@ BY_ARRAYS: Dict[Operator, str] = {binary.min: 'minimum', binary.max: 'maximum', 
 
 
 
-def job_at(cut: Cut, block: int, form: str, pieces: Iterable[Any], mask: Optional['BlockHandle'],
+def job_at(cut: Cut, block: int, job: Job, pieces: Iterable[Any], mask: Optional['BlockHandle'],
            args: Sequence[Any], **options: Any) -> Work:
-    """A job at one block, by the method of matrices that makes it."""
-    under = None if mask is None else mask.futures[block]
-    sent = FORMS[form].method, list(pieces), under, list(args), options
+    """A job at one block, by the method of matrices that makes it, and the jobs before it in the
+    same visit."""
+    method, visit = FORMS[job.form].method, job.visit
+    if visit is not None and visit.method:
+        method, args, options = visit.method, visit.args, visit.options
+    under = _mask_at(job, mask, block)
+    sent = method, list(pieces), under, list(args), options
     return Work(block, cut.label(block), worker_tasks.job, sent)
+
+
+def _mask_at(job: Job, mask: Optional['BlockHandle'], block: int) -> Optional[Tuple[Any, bool, bool]]:
+    """A mask at one block, as `Mask` has it."""
+    if mask is None:
+        return None
+    by_value, complement = (False, False) if job.visit is None else job.visit[:2]
+    return mask.futures[block], by_value, complement
 
 
 def make_each(backend: 'BlocksBackend', job: Job) -> 'BlockHandle':
@@ -39,7 +51,7 @@ def make_each(backend: 'BlocksBackend', job: Job) -> 'BlockHandle':
     mask = _mask_of(job, first.cut)
     args: List[Any] = [*job.operators, *([] if job.thunk is None else [job.thunk])]
     pieces = zip(*(operand.futures for operand in operands))
-    futures = backend.sessions.batch([job_at(first.cut, block, job.form, some, mask, args)
+    futures = backend.sessions.batch([job_at(first.cut, block, job, some, mask, args)
                                       for block, some in enumerate(pieces)])
     return backend.result(job, first.cut, futures, [*operands, mask])
 
@@ -52,13 +64,18 @@ def multiply(backend: 'BlocksBackend', job: Job) -> 'BlockHandle':
     column, which isn't too large. Where the engine forgets what nobody holds it always waits: the
     caller holds then what a lost block is made of again."""
     _, second = job.operands
-    is_associative, wide = job.is_associative, second.shape[1] > 1
-    if is_associative is None:
-        is_associative = wide and job.operators[0] in backend.sessions.associative
+    is_associative = goes_by_blocks(backend, job)
     made = (_by_blocks if is_associative else _with_whole)(backend, job)
     if second.shape[1] != 1 or is_associative or backend.sessions.engine.forgets:
         made.counts()
     return made
+
+
+def goes_by_blocks(backend: 'BlocksBackend', job: Job) -> bool:
+    """Whether a product goes by the blocks of its second operand."""
+    if job.is_associative is None:
+        return job.operands[1].shape[1] > 1 and job.operators[0] in backend.sessions.associative
+    return job.is_associative
 
 
 def _mask_of(job: Job, cut: Cut) -> Optional['BlockHandle']:
@@ -75,7 +92,7 @@ def _with_whole(backend: 'BlocksBackend', job: Job) -> 'BlockHandle':
     args, parts = [Semiring(*job.operators)], job.is_by_parts and backend.halves_products
     blocks = [block for block, (first, end) in enumerate(a.cut.ranges()) if first < end]
     made = backend.sessions.batch([
-        job_at(a.cut, block, 'product', [a.futures[block], whole], mask, args, parts=parts)
+        job_at(a.cut, block, job, [a.futures[block], whole], mask, args, parts=parts)
         for block in blocks])
     futures = _filled(backend, job, a.cut, dict(zip(blocks, made)))
     return backend.result(job, a.cut, futures, [a, mask], [whole])
@@ -88,9 +105,9 @@ def _by_blocks(backend: 'BlocksBackend', job: Job) -> 'BlockHandle':
     mask, ring = _mask_of(job, a.cut), Semiring(*job.operators)
     blocks = [block for block, (first, end) in enumerate(a.cut.ranges())
               if first < end or not a.is_ones]
-    terms = _fold_ones(b, mask, blocks, ring) if a.is_ones else [
+    terms = _fold_ones(b, _mask_at(job, mask, blocks[0]), ring) if a.is_ones else [
         backend.sessions.batch([
-            job_at(a.cut, block, 'product', [a.futures[block], piece], mask, [ring],
+            job_at(a.cut, block, job, [a.futures[block], piece], mask, [ring],
                    parts=job.is_by_parts and backend.halves_products)
             for block in blocks]) for piece in b.futures]
     sofar = terms[0]
@@ -102,10 +119,9 @@ def _by_blocks(backend: 'BlocksBackend', job: Job) -> 'BlockHandle':
     return backend.result(job, a.cut, futures, [a, mask], b.holds)
 
 
-def _fold_ones(b: 'BlockHandle', mask: Optional['BlockHandle'], blocks: Sequence[int],
+def _fold_ones(b: 'BlockHandle', under: Optional[Tuple[Any, bool, bool]],
                ring: Semiring) -> List[List[Any]]:
     """The products of a row of ones with each block of B, at that block."""
-    under = None if mask is None else mask.futures[blocks[0]]
     works = [Work(block, label, worker_tasks.fold_rows, (piece, under, ring))
              for block, (label, piece) in enumerate(zip(b.labels, b.futures))]
     return [[future] for future in b.backend.sessions.batch(works)]

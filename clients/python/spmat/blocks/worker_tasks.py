@@ -27,6 +27,9 @@ from .worker_store import Counts, Piece, Store
 
 Lines = Tuple[bytes, int]
 """Lines of entries, and their number."""
+MaskPiece = Tuple[Piece, bool, bool]
+"""The matrix of a mask, whether its values count, and whether it is turned round."""
+
 
 def perform(find: Callable[[], Store], label: str, function: Callable[..., Any],
             args: Sequence[Any]) -> Any:
@@ -149,19 +152,19 @@ def fold_repeated(store: Store, triples: Triples, op: Operator) -> List[int]:
 
 # -- pieces from pieces
 
-def job(store: Store, method: str, pieces: Sequence[Piece], mask: Optional[Piece],
+def job(store: Store, method: str, pieces: Sequence[Piece], mask: Optional[MaskPiece],
         args: Sequence[Any], options: Dict[str, Any]) -> Piece:
-    """A method of Matrix on blocks, under the structure of a mask; of a job's result the price and
-    the steps are told."""
+    """A method of Matrix on blocks, under a mask; of a job's result the price and the steps are
+    told."""
     first, *others = [store.matrix(piece) for piece in pieces]
     return store.piece(getattr(first, method)(*others, *args, mask=_mask(store, mask), **options))
 
 
-def _mask(store: Store, mask: Optional[Piece]) -> Optional[Mask]:
-    return None if mask is None else store.matrix(mask).S
+def _mask(store: Store, mask: Optional[MaskPiece]) -> Optional[Mask]:
+    return None if mask is None else Mask(store.matrix(mask[0]), *mask[1:])
 
 
-def fold_rows(store: Store, block: Piece, mask: Optional[Piece], ring: Semiring) -> Piece:
+def fold_rows(store: Store, block: Piece, mask: Optional[MaskPiece], ring: Semiring) -> Piece:
     """A row of ones times a block."""
     matrix = store.matrix(block)
     return store.piece(store.session.ones(matrix.nrows).mxm(matrix, ring, mask=_mask(store, mask)))
