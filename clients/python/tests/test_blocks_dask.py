@@ -167,16 +167,31 @@ class Dask(unittest.TestCase):
                 self.assertEqual(many.budget().spent, near.budget().spent)
                 self.assertGreater(many.budget().spent, 0)
 
-    def test_each_content_is_taken_in_once(self):
-        """Whole matrices of one content are taken in once by each session; Dask may move some blocks to idle workers."""
-        with self.sessions() as s:
-            X = GRAPH.matrix(s)
-            Y = X.apply('identity')
-            before = self.uploads(s)
-            X.mxm(X, mask=X.S).nvals
-            X.mxm(X, 'min_plus', mask=X.S).nvals
-            X.mxm(Y, mask=X.S).nvals                                     # made anew, and of the same content
-            self.assertLess(self.uploads(s) - before, 3 * WORKERS)
+    def test_where_the_operands_are_nothing_moves(self):
+        """No block's text does, however many there are; two whole matrices of one content are taken in once by each session."""
+        for count in (WORKERS, 4 * WORKERS):
+            with self.subTest(blocks=count), self.sessions(blocks=count) as s:
+                X = GRAPH.matrix(s)
+                Y = X.apply('identity').wait()
+                before = self.uploads(s)
+                for _ in range(3):
+                    made = [X.ewise_add(Y), X.apply('minus', right=2, mask=~X.V), X.update(Y, 'plus', X.S), X.select('tril'), X.reduce_rowwise()]
+                    self.assertGreater(sum(matrix.nvals for matrix in made), 0)
+                self.assertEqual(self.uploads(s) - before, 0)
+                X.mxm(X, mask=X.S).nvals
+                self.assertEqual(self.uploads(s) - before, WORKERS)
+                X.mxm(X, 'min_plus', mask=X.S).nvals
+                X.mxm(Y, mask=X.S).nvals                                 # made anew, and of the same content
+                self.assertEqual(self.uploads(s) - before, WORKERS)
+
+    def test_workers_of_places(self):
+        """A place stays with its worker; one that comes gets the place of one that is lost, and without any a place goes to another."""
+        assign = blocks.dask.assign_workers
+        self.assertEqual(assign(['a', 'b', 'c'], ['a', 'b', 'c', 'd']), ['a', 'b', 'c'])
+        self.assertEqual(assign(['a', 'b', 'c'], ['a', 'c', 'd']), ['a', 'd', 'c'])
+        self.assertEqual(assign(['a', 'b', 'c'], ['a', 'c']), ['a', 'a', 'c'])
+        self.assertEqual(assign(['a', 'a', 'c'], ['a', 'c', 'd']), ['a', 'd', 'c'])
+        self.assertEqual(assign(['a', 'b'], []), ['a', 'b'])
 
     def uploads(self, sessions):
         return sum(sessions.engine.everywhere(sessions.settings, uploads_of).values())
@@ -328,6 +343,16 @@ class Dask(unittest.TestCase):
         with self.sessions(program=['sh', '-c', 'kill -9 $PPID'], blocks=1) as s:
             with self.assertRaisesRegex(blocks.BlockFailed, 'block 0 of 1, rows 0 to 2: KilledWorker'):
                 s.from_triples([(0, 0, 1)], 3, 3)
+
+    def test_the_only_worker_is_lost(self):
+        """Its tasks go to the one that its nanny starts, which they never wished for."""
+        from distributed import Client, LocalCluster
+        with tempfile.TemporaryDirectory() as folder, LocalCluster(
+                n_workers=1, threads_per_worker=1, dashboard_address=None, local_directory=folder, silence_logs=logging.CRITICAL) as cluster, \
+                Client(cluster) as client, blocks.Sessions(blocks.Dask(client)) as s:
+            X = s.identity(3).wait()
+            os.kill(client.run(os.getpid).popitem()[1], signal.SIGKILL)
+            self.assertEqual(X.apply('identity').to_text(), self.one.identity(3).to_text())
 
     def test_all_workers_are_lost_for_good(self):
         """Where no worker comes again, work ends, and says so."""

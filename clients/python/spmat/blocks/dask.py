@@ -5,6 +5,7 @@ import asyncio
 import contextlib
 import os
 import signal
+import time
 import uuid
 import warnings
 from typing import Any, Callable, Dict, Iterable, List, NamedTuple, Optional, Sequence, Tuple, cast
@@ -35,7 +36,7 @@ class Dask(Engine):
     workers that used it, where else all copies but one are dropped after some seconds, sent once
     more, and made again where that one is lost.
 
-    Dask's scheduler chooses the worker of each task, by where its blocks lie. A worker that is lost
+    Each task wishes for its block's worker, so that no block's text moves. A worker that is lost
     loses nothing: the scheduler computes its tasks again on others, from the tasks before them. So
     a worker whose program has ended (the system ends what holds the memory, and that is the
     program) ends itself, if a nanny starts it anew. A worker of which nothing is heard for
@@ -50,31 +51,45 @@ class Dask(Engine):
 
     def __init__(self, client: Any) -> None:
         self._client = client
-        self._places = len(self._live())
-        if not self._places:
+        self._addresses = sorted(self._live())
+        if not self._addresses:
             raise ValueError('the client has no workers yet: client.wait_for_workers(n)')
+        self._listed = time.monotonic()
         # the workers of some pieces, as far as that was asked
         self._where: Dict[str, str] = {}
         self._reported_again = 0
-        # where the scheduler doesn't find this package, it counts nothing
+        # where the scheduler doesn't find this package, it counts nothing, and a wish for a worker
+        # that is lost could hold a task up for good
+        self._wishes = False
         with contextlib.suppress(Exception):
             client.run_on_scheduler(begin_counting)
+            self._wishes = True
 
     @property
     def places(self) -> int:
-        return self._places
+        return len(self._addresses)
 
     def _live(self) -> List[str]:
         return list(self._client.scheduler_info()['workers'])
 
+    def _address(self, place: int) -> str:
+        """The worker of a place, as the scheduler listed the workers in the last second."""
+        if time.monotonic() - self._listed > LOOK:
+            self._listed = time.monotonic()
+            self._addresses = assign_workers(self._addresses, sorted(self._live()))
+        return self._addresses[place]
+
     def submit(self, settings: Settings, place: int, label: str, function: Callable[..., Any],
                *args: Any) -> Any:
         key = '%s%s-%s-%s' % (OURS, function.__name__, settings.token, uuid.uuid4().hex)
+        wish: Dict[str, Any] = {}
+        if self._wishes:
+            wish = {'workers': [self._address(place)], 'allow_other_workers': True}
         # a block's text in a task is what the task is made of again
         with warnings.catch_warnings():
             warnings.filterwarnings('ignore', 'Large object of size')
             return self._client.submit(_on_worker, settings, label, function, list(args), key=key,
-                                       pure=False)
+                                       pure=False, **wish)
 
     # -- calls without tasks
 
@@ -224,6 +239,17 @@ class Dask(Engine):
 
     def close(self, settings: Settings) -> None:
         self._client.run(_in_thread, close_store, settings, on_error='ignore')
+
+
+def assign_workers(before: Sequence[str], live: Sequence[str]) -> List[str]:
+    """The worker of each place: the one it had, where that is live and has no place yet, or else
+    one that came, or any."""
+    places: List[Optional[str]] = []
+    for address in before:
+        places.append(address if address in live and address not in places else None)
+    fresh = [address for address in live if address not in places]
+    rest = iter(fresh + [live[number % len(live)] for number in range(len(before)) if live])
+    return [address or next(rest, old) for address, old in zip(places, before)]
 
 
 def _is_lost(reply: Any) -> bool:

@@ -80,19 +80,26 @@ class Watch:
 # -- in Dask's scheduler, whose process has to find this package; else nothing is counted
 
 class Counting:
-    """A plugin of the scheduler, which changes nothing: how often tasks of some sessions, named by
-    the word behind `OURS`, were computed again."""
+    """A plugin of the scheduler, which counts how often tasks of some sessions, named by the word
+    behind `OURS`, were computed again.
+
+    Where no worker is left, it also takes away the wishes of tasks for theirs. The scheduler gives
+    a task to another worker than it wishes for, but not to one that comes when there was none."""
 
     name = 'spmat-counting'
     idempotent = True
 
-    def __init__(self) -> None:
+    def __init__(self, scheduler: Any) -> None:
+        self._scheduler = scheduler
         self._seen: Dict[str, Set[str]] = {}
         self.again: Dict[str, int] = {}
 
     def transition(self, key: Any, start: str, finish: str, *_: Any, **__: Any) -> None:
         """Each task that changes its state, by the scheduler."""
-        if finish not in ('memory', 'forgotten') or not str(key).startswith(OURS):
+        if finish not in ('memory', 'forgotten', 'no-worker') or not str(key).startswith(OURS):
+            return
+        if finish == 'no-worker':
+            self._scheduler.set_restrictions({key: ()})
             return
         token = str(key).split('-')[1]
         seen = self._seen.setdefault(token, set())
@@ -111,7 +118,7 @@ def begin_counting(dask_scheduler: Any) -> None:
     from distributed.diagnostics.plugin import SchedulerPlugin
     if Counting.name not in dask_scheduler.plugins:
         counted_here = type('Counted', (Counting, SchedulerPlugin), {})
-        dask_scheduler.add_plugin(counted_here(), name=Counting.name)
+        dask_scheduler.add_plugin(counted_here(dask_scheduler), name=Counting.name)
 
 
 def counted(token: str, dask_scheduler: Any = None) -> int:

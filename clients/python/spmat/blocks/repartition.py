@@ -50,7 +50,7 @@ def joined(matrix: 'BlockHandle') -> Any:
         blocks = list(matrix.futures)
         return sessions.submit(next(sessions.turns), label, worker_tasks.join_vector, blocks)
     parts = [_lines(matrix, block, *rows) for block, rows in enumerate(matrix.cut.ranges())]
-    return sessions.submit(next(sessions.turns), label, worker_tasks.assemble_whole, matrix.shape, parts)
+    return sessions.submit(next(sessions.turns), label, worker_tasks.assemble, matrix.shape, parts)
 
 
 def recut(matrix: 'BlockHandle', cut: Cut) -> 'BlockHandle':

@@ -98,7 +98,6 @@ class Piece:
                  text: Optional[bytes] = None, digest: Optional[bytes] = None) -> None:
         self.counts, self.matrix, self._text = counts, matrix, text
         self._digest = digest
-        self._is_whole = False
 
     def text(self) -> bytes:
         """The text, out of the session where it isn't here."""
@@ -145,16 +144,8 @@ class Piece:
             leave()                                # another worker asks for what this one has lost
             raise
 
-    def as_whole(self) -> 'Piece':
-        """The same piece, which goes to all workers: it seems to weigh little, so that a product's tasks
-        are done where the blocks are, and not where the whole was joined."""
-        self._is_whole = True
-        return self
-
     def __sizeof__(self) -> int:
         """About the bytes of its text, so that engines know what moving it takes."""
-        if self._is_whole:
-            return LEAST_SIZE
         return LEAST_SIZE + (len(self._text) if self._text is not None else 16 * self.counts.nvals)
 
 

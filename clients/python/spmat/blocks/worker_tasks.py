@@ -172,7 +172,7 @@ def fold_rows(store: Store, block: Piece, mask: Optional[MaskPiece], ring: Semir
 
 def hand_on(store: Store, piece: Piece) -> Piece:
     """A piece that has its text, for all who want it."""
-    return piece.as_whole()
+    return piece
 
 
 def push_front(store: Store, block: Piece, front: Vector, ring: Semiring) -> Vector:
@@ -209,16 +209,11 @@ def assemble(store: Store, shape: Tuple[int, int], parts: Sequence[Lines]) -> Pi
     return Piece(Counts(*shape, sum(part[1] for part in parts)), text=text)
 
 
-def assemble_whole(store: Store, shape: Tuple[int, int], parts: Sequence[Lines]) -> Piece:
-    """A whole matrix of the lines of its blocks."""
-    return assemble(store, shape, parts).as_whole()
-
-
 def join_vector(store: Store, blocks: Sequence[Piece]) -> Piece:
     """The whole of a vector from its blocks."""
     texts = [block.text() for block in blocks]
     parts = [(text[matrix_text.head_of(text).start:], block.counts.nvals) for text, block in zip(texts, blocks)]
-    return assemble(store, blocks[0].counts[:2], parts).marked().as_whole()
+    return assemble(store, blocks[0].counts[:2], parts).marked()
 
 
 def join_lines(store: Store, shape: Tuple[int, int], parts: Sequence[Lines]) -> Piece:
