@@ -1,5 +1,6 @@
 """The end of a server: spmat-drain lets sessions end by themselves, and a server that ignores SIGHUP goes on."""
 import os
+import re
 import signal
 import subprocess
 import time
@@ -30,6 +31,15 @@ class Drain(Room):
         self.addCleanup(drain.kill)
         return drain
 
+    def expect_account(self, drain: 'subprocess.Popen[bytes]', cut_off: int, steps: int) -> None:
+        """The line that it prints has the budget as it was at the end."""
+        said = drain.stdout.read().decode()
+        told = re.fullmatch(r'spmat: time=\d{4}-\d\d-\d\dT\d\d:\d\d:\d\d\.\d{3}Z server-end address=127\.0\.0\.1:%d end=drain '
+                            r'cut_off=(\d+) steps=(\d+) reserved=0 left=(\d+)\n' % self.port, said)
+        if told is None:
+            self.fail('it says %r' % said)
+        self.assertEqual(tuple(map(int, told.groups())), (cut_off, steps, 1000000 - steps))
+
     def is_busy(self) -> bool:
         """Whether a new client is told that there is no seat."""
         try:
@@ -49,12 +59,17 @@ class Drain(Room):
                 self.assertEqual(A.apply('plus', right=1).to_list(), [42])
             self.assertTrue(self.is_busy())
             self.assertIsNone(drain.poll())
+            spent = s.budget().spent
+            self.assertGreater(spent, 0)
         self.assertEqual((drain.wait(FOR_A_REPLY), child.wait(FOR_A_REPLY)), (0, -signal.SIGTERM))
+        self.expect_account(drain, 0, spent)
 
     def test_the_time_is_over(self) -> None:
         child = self.server([])
         with spmat.Session.connect(port=self.port, timeout=FOR_A_REPLY) as s:
-            self.assertEqual(self.drain(child, 2).wait(FOR_A_REPLY), 1)
+            drain = self.drain(child, 2)
+            self.assertEqual(drain.wait(FOR_A_REPLY), 1)
+            self.expect_account(drain, 1, 0)
             self.assertEqual(child.wait(FOR_A_REPLY), -signal.SIGTERM)
             with self.assertRaises(spmat.Closed):
                 s.budget()
