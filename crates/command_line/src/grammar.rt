@@ -124,7 +124,7 @@ fn log_option<'a>(alloc: Global) -> Arg<'a>
     Arg::new(alloc, "log")
         .long("log")
         .help(
-            "Write a line on standard error for each session that starts or ends, each client turned away, and refusals of steps, memory and threads",
+            "Write lines on standard error about the server, sessions that start or end, clients turned away, and refusals",
         )
         .action(ArgAction::SetTrue)
 }
@@ -146,8 +146,7 @@ fn log_every_option<'a>(alloc: Global) -> Arg<'a>
     ensures rule { rule_of result ≡ line.log_every_option }
     ensures local { result.global ≡ false }
 {
-    let help =
-        "Write what each session has reserved and spent after so many seconds each: 1 to 1000000";
+    let help = "Write how each running session stands after so many seconds each: 1 to 1000000";
     let numbers = value_parser!(u64).range(1..MOST_SECONDS + 1);
     number_option(alloc, "log-every", "SECONDS", help, numbers, false)
 }

@@ -1,4 +1,6 @@
 -- What serves this crate's own modules: contracts between them, invariants and proofs. No public contract reaches it.
 pub mod Speaking
 pub mod Starting
+pub mod Telling
+pub mod Untold
 pub mod Waiting

@@ -8,7 +8,7 @@ ghost use Rattle.listener.specs.Limits.{IsWithin, Meters};
 ghost use Rattle.listener.specs.inner.Speaking.{IsServedBy, beginning};
 
 use crate::acceptor::Caller;
-use crate::entry::{Account, Ending, Event};
+use crate::entry::{Account, Ending};
 use crate::journal::Journal;
 use crate::notice::{Notice, Noticing};
 use crate::retrying::{Retrying, Traffic, set_idle};
@@ -16,6 +16,7 @@ use crate::roster::Watch;
 use crate::seats::{Seat, take_seat};
 use crate::server::ServerState;
 use crate::streams::{Given, Served, serve_within};
+use crate::watching::Watching;
 use session::{End, FromRead, ServeFault, Session, Sink, Source, ToWrite};
 use std::io::{Read, Write};
 use std::marker::Brand;
@@ -71,7 +72,7 @@ fn note_turned_away<R: Wait + Clock, L: Ledger>(
             spent: 0,
             refused: 0,
         };
-        journal.note(rt, client, Event::End(account));
+        journal.note_end(rt, client, account);
     }
 }
 
@@ -200,14 +201,16 @@ fn attend<'a, R: Threads + Wait + Clock, L: Ledger>(
         None => None,
     };
     let (mut received, mut sent, mut refused) = (Traffic::none(), Traffic::none(), 0);
-    let reader = Retrying::new(&stream, &mut received);
+    let watch = watch_in(server.journal, address);
+    let reader = Watching::new(Retrying::new(&stream, &mut received), rt, watch);
     let notice = Notice::of(rt, server.journal, address);
-    let writer = Noticing::new(Retrying::new(&stream, &mut sent), notice, &mut refused);
+    let sending = Watching::new(Retrying::new(&stream, &mut sent), rt, watch);
+    let writer = Noticing::new(sending, notice, &mut refused);
     let given = Given {
         room,
         pass,
         limits: server.terms.limits,
-        watch: watch_in(server.journal, address),
+        watch,
     };
     let served = serve_over(rt, server, given, reader, writer);
     drop(seat);

@@ -2,20 +2,24 @@
 //!
 //! A session never waits for the writer: it leaves its line in a queue, under a lock that nobody holds while it writes. Where the
 //! queue is full, since standard error takes nothing, the line is dropped and counted, and the count is written once there is room.
-//! Of the refusals of one second a few have lines, and the others are counted (`Pace`).
+//! Of each kind of line a second has only so many, and the others are counted (`Pace`).
 ghost use Rattle.std.specs.Prelude.{◌≡◌, ◌+◌, ◌-◌, ◌^◌, ◌++◌, ◌∷◌, [], min, true, false};
 ghost use Rattle.listener.specs.inner.Waiting.{IsTaken};
 
-use crate::entry::{Account, AsJson, AsText, Entry, Event};
-use crate::pace::Pace;
+use crate::entry::{Account, Entry, Event};
+use crate::fault::ListenFault;
+use crate::line::{Closing, Line, Opening, Place};
 use crate::refusal::Refusal;
 use crate::roster::{Roster, Row, Watch};
 use crate::seats::SEATS;
+use crate::server::ServerTerms;
+use crate::tally::Tally;
 use std::alloc::{AllocError, Global};
 use std::collections::VecDeque;
 use std::net::SocketAddr;
 use std::sync::{Condvar, Mutex, Wait};
 use std::time::{Clock, Duration, Instant, SystemTime};
+use step_purse::Totals;
 
 /// How the lines of a log are written.
 #[derive(Clone, Copy, Debug, PartialEq, Eq)]
@@ -106,8 +110,7 @@ fn this_second<R: Clock>(rt: &R) -> u64 {
 fn runs<R: Clock>(rt: &R, row: &Row) -> Event {
     Event::Runs {
         time: row.began.and_then(|began| began.elapsed(rt).ok()),
-        reserved: row.reserved,
-        spent: row.spent,
+        standing: row.standing,
     }
 }
 
@@ -116,7 +119,7 @@ fn runs<R: Clock>(rt: &R, row: &Row) -> Event {
 pub struct Journal {
     waiting: Mutex<Waiting>,
     change: Condvar,
-    pace: Mutex<Pace>,
+    tally: Mutex<Tally>,
     format: LogFormat,
     every: Option<u64>,
     roster: Roster,
@@ -124,7 +127,7 @@ pub struct Journal {
 
 impl Journal {
     /// A log in which no line waits, with the room for all that may. It has lines of this format. Where a number of seconds is
-    /// given, it tells so often what each session has reserved and spent.
+    /// given, it tells so often how each session stands.
     ///
     /// # Errors
     ///
@@ -139,18 +142,34 @@ impl Journal {
         Ok(Journal {
             waiting: Mutex::new(waiting),
             change: Condvar::new(),
-            pace: Mutex::new(Pace::new()),
+            tally: Mutex::new(Tally::new()),
             format,
             every,
             roster: Roster::new(alloc, SEATS as usize)?,
         })
     }
 
-    /// Leaves a line to be written, or counts it as dropped. It doesn't wait for the writer.
-    pub fn note<R: Wait + Clock>(&self, rt: &R, client: SocketAddr, event: Event) {
-        let at = SystemTime::now(rt).ok();
-        self.waiting.lock(rt).add(Entry { at, client, event });
+    /// Leaves a line to be written, or counts it as dropped, and tells which. It doesn't wait for the writer.
+    fn add<R: Wait>(&self, rt: &R, entry: Entry) -> bool {
+        let is_kept = self.waiting.lock(rt).add(entry);
         self.change.notify_one();
+        is_kept
+    }
+
+    /// Leaves a line of an event, or counts the event alone, where this second has had the lines of its kind.
+    fn note<R: Wait + Clock>(&self, rt: &R, client: SocketAddr, event: Event) {
+        let mut entry = Entry::new(rt, client, event);
+        let Some((kind, steps)) = event.kind() else {
+            self.add(rt, entry);
+            return;
+        };
+        let told = self.tally.lock(rt).tell(kind, this_second(rt), steps);
+        if let Some(untold) = told {
+            entry.untold = untold;
+            if !self.add(rt, entry) {
+                self.tally.lock(rt).take_back(kind, untold);
+            }
+        }
     }
 
     /// Leaves a line that a session starts.
@@ -161,7 +180,7 @@ impl Journal {
         self.note(rt, client, Event::Start);
     }
 
-    /// Leaves a line of how a session ended.
+    /// Leaves a line of how a session ended, or that a client was turned away.
     pub fn note_end<R: Wait + Clock>(&self, rt: &R, client: SocketAddr, account: Account) {
         if self.every.is_some() {
             self.roster.leave(rt, client);
@@ -169,12 +188,9 @@ impl Journal {
         self.note(rt, client, Event::End(account));
     }
 
-    /// Leaves a line of a refusal, or counts it, where this second has had its lines.
+    /// Leaves a line of a refusal.
     pub fn note_refusal<R: Wait + Clock>(&self, rt: &R, client: SocketAddr, refusal: Refusal) {
-        let told = self.pace.lock(rt).tell(this_second(rt));
-        if let Some(untold) = told {
-            self.note(rt, client, Event::Refused { refusal, untold });
-        }
+        self.note(rt, client, Event::Refused(refusal));
     }
 
     /// Where what a session has reserved and spent is noted, if that is told.
@@ -215,10 +231,55 @@ impl Journal {
 
     /// Writes a line to standard error. One that it doesn't take is lost.
     fn write<R: Eprint>(&self, rt: &R, entry: &Entry) {
-        let _ = match self.format {
-            LogFormat::Text => rt.eprintln(AsText(entry)),
-            LogFormat::Json => rt.eprintln(AsJson(entry)),
-        };
+        let format = self.format;
+        let _ = rt.eprintln(Line { entry, format });
+    }
+
+    /// Where a line of the server stands that is written now.
+    fn place<R: Clock>(&self, rt: &R, address: SocketAddr) -> Place {
+        Place {
+            at: SystemTime::now(rt).ok(),
+            address,
+            format: self.format,
+        }
+    }
+
+    /// Writes that a server of these steps and terms listens on an address, and of which version its program is.
+    pub fn write_opening<R: Clock + Eprint>(
+        &self,
+        rt: &R,
+        address: SocketAddr,
+        version: &str,
+        steps: u64,
+        terms: ServerTerms,
+    ) {
+        let place = self.place(rt, address);
+        let _ = rt.eprintln(Opening {
+            place,
+            version,
+            steps,
+            terms,
+        });
+    }
+
+    /// Writes why the server that listened on an address has closed, and its totals. To be called once all else is written.
+    pub fn write_closing<R: Wait + Clock + Eprint>(
+        &self,
+        rt: &R,
+        address: SocketAddr,
+        served: &Result<(), ListenFault>,
+        totals: Totals,
+    ) {
+        let place = self.place(rt, address);
+        let tally = *self.tally.lock(rt);
+        let _ = rt.eprintln(Closing {
+            place,
+            served: *served,
+            counts: tally.counts,
+            spent: totals.spent,
+            left: totals.left,
+            untold: tally.untold(),
+        });
     }
 
     /// Writes how many lines were dropped.
@@ -229,14 +290,11 @@ impl Journal {
         };
     }
 
-    /// Writes what each session has reserved and spent.
+    /// Writes how each session stands.
     fn write_roster<R: Wait + Clock + Eprint>(&self, rt: &R) {
-        let at = SystemTime::now(rt).ok();
         for nth in 0..SEATS as usize {
             if let Some(row) = self.roster.at(rt, nth) {
-                let event = runs(rt, &row);
-                let client = row.client;
-                self.write(rt, &Entry { at, client, event });
+                self.write(rt, &Entry::new(rt, row.client, runs(rt, &row)));
             }
         }
     }

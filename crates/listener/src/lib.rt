@@ -17,7 +17,8 @@
 //! Read `streams` first (one session), with `meter` (its budget) and `limits`; then `seats`, `acceptor` (what connections come in
 //! by), `connection` (one connection from its start to its end), `retrying` (for how long a session waits for its client), `server`
 //! (what all sessions share) and `accepting`, from `serve_listener` and `serve_on_terms` down to one accept; then the log: `entry`,
-//! `refusal`, `notice` (how refusals come to it), `pace` (how many have lines), `roster` (the sessions that run), and `journal`.
+//! `line` (an entry as text or JSON), `refusal`, `notice` (how refusals come to it), `pace` and `tally` (how many lines there are),
+//! `roster` (the sessions that run) with `watching`, and `journal`.
 #![tactic(auto)]
 
 mod accepting;
@@ -27,6 +28,7 @@ mod entry;
 mod fault;
 mod journal;
 mod limits;
+mod line;
 mod meter;
 mod notice;
 mod pace;
@@ -36,6 +38,8 @@ mod roster;
 mod seats;
 mod server;
 mod streams;
+mod tally;
+mod watching;
 
 pub use accepting::{Supply, serve_acceptor, serve_listener, serve_on_terms};
 pub use acceptor::{AcceptFailed, Acceptor, Caller, FromListener};

@@ -3,7 +3,7 @@ ghost use Rattle.std.specs.Prelude.{◌≡◌};
 ghost use Rattle.listener.specs.Limits.{IsWithin, allowed};
 
 use crate::limits::Limits;
-use crate::roster::Watch;
+use crate::roster::{Note, Watch};
 use session::{Steps, Wallet};
 use std::marker::Model;
 use std::sync::Wait;
@@ -58,10 +58,19 @@ impl<'p> Meter<'p> {
         self.wallet.into_pass()
     }
 
-    /// Tells the watch, if there is one, what is reserved and spent.
-    fn tell_watch<H: Wait>(&self, rt: &H) {
+    /// Tells the watch, if there is one, that a job was to be queued, and what is reserved now.
+    fn tell_reserved<H: Wait>(&self, rt: &H, reply: Reply) {
         if let Some(watch) = &self.watch {
-            watch.note(rt, self.wallet.owed(), self.spent);
+            let reserved = self.wallet.owed();
+            watch.note(rt, Note::Reserved { reply, reserved });
+        }
+    }
+
+    /// Tells the watch, if there is one, that a job was settled, and what is reserved and spent now.
+    fn tell_settled<H: Wait>(&self, rt: &H) {
+        if let Some(watch) = &self.watch {
+            let (reserved, spent) = (self.wallet.owed(), self.spent);
+            watch.note(rt, Note::Settled { reserved, spent });
         }
     }
 
@@ -94,14 +103,14 @@ impl Steps for Meter<'_> {
             return Reply::NotEnough(self.allowed(totals.left));
         }
         let reply = self.wallet.reserve(rt, amount);
-        self.tell_watch(rt);
+        self.tell_reserved(rt, reply);
         reply
     }
 
     fn settle<H: Wait>(&mut self, rt: &H, amount: u64, spent: u64) {
         self.wallet.settle(rt, amount, spent);
         self.spent = self.spent.saturating_add(spent);
-        self.tell_watch(rt);
+        self.tell_settled(rt);
     }
 
     fn totals<H: Wait>(&mut self, rt: &H) -> Totals {

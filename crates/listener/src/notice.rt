@@ -89,7 +89,7 @@ fn look<R: Wait + Clock>(
     }
 }
 
-/// The written side of a connection: each line that refuses steps, memory or a thread is counted, and told to the log. No line of
+/// The written side of a connection: each line that refuses something is counted, and told to the log. No line of
 /// a text that follows a reply begins as a refusal does. Its bytes are those of the side below.
 #[derive(Drop)]
 pub struct Noticing<'s, W: Drop, R> {

@@ -1,9 +1,49 @@
-//! What the sessions that run have reserved and spent, for a log that tells it now and then.
+//! What the sessions that run have reserved and spent, and what they wait for, for a log that tells it now and then.
 
 use std::alloc::{AllocError, Global};
+use std::fmt;
 use std::net::SocketAddr;
 use std::sync::{Mutex, Wait};
 use std::time::{Clock, Instant};
+use step_purse::Reply;
+
+/// What a session is at.
+#[derive(Clone, Copy, Debug, PartialEq, Eq)]
+pub enum State {
+    /// It takes commands, or runs jobs.
+    Running,
+    /// It waits for a command.
+    Waiting,
+    /// It has read a part of a command, and waits for more of it.
+    Reading,
+    /// It waits until its client takes a reply.
+    Writing,
+}
+
+impl fmt::Display for State {
+    fn fmt<W: fmt::Write>(&self, f: &mut fmt::Formatter<W>) -> fmt::Result {
+        f.write_str(match self {
+            State::Running => "running",
+            State::Waiting => "waiting",
+            State::Reading => "reading",
+            State::Writing => "writing",
+        })
+    }
+}
+
+/// How a session that runs stands.
+#[derive(Clone, Copy, Debug)]
+pub struct Standing {
+    pub state: State,
+    /// The jobs that are queued, or that its batch runs.
+    pub jobs: u64,
+    /// The steps that its jobs have reserved, and those that they have spent.
+    pub reserved: u64,
+    pub spent: u64,
+    /// The bytes that the client sent, and those that it was sent.
+    pub received: u64,
+    pub sent: u64,
+}
 
 /// A session that runs.
 #[derive(Clone, Copy)]
@@ -11,9 +51,74 @@ pub struct Row {
     pub client: SocketAddr,
     /// When it started, where the clock could be read.
     pub began: Option<Instant>,
-    /// The steps that its jobs have reserved, and those that they have spent.
-    pub reserved: u64,
-    pub spent: u64,
+    pub standing: Standing,
+    /// Whether the client has sent something behind the last reply.
+    is_amid: bool,
+}
+
+impl Row {
+    /// A session that starts at a moment.
+    fn new(client: SocketAddr, began: Option<Instant>) -> Self {
+        Row {
+            client,
+            began,
+            standing: Standing {
+                state: State::Waiting,
+                jobs: 0,
+                reserved: 0,
+                spent: 0,
+                received: 0,
+                sent: 0,
+            },
+            is_amid: false,
+        }
+    }
+
+    /// Notes something of the session.
+    fn note(&mut self, note: Note) {
+        let standing = &mut self.standing;
+        match note {
+            Note::Reserved { reply, reserved } => {
+                if let Reply::Took(_) = reply {
+                    standing.jobs = standing.jobs.saturating_add(1);
+                }
+                standing.reserved = reserved;
+            }
+            Note::Settled { reserved, spent } => {
+                standing.jobs = standing.jobs.saturating_sub(1);
+                standing.reserved = reserved;
+                standing.spent = spent;
+            }
+            Note::Reads if self.is_amid => standing.state = State::Reading,
+            Note::Reads => standing.state = State::Waiting,
+            Note::Read(count) => {
+                standing.state = State::Running;
+                standing.received = standing.received.saturating_add(count);
+                self.is_amid = true;
+            }
+            Note::Writes => standing.state = State::Writing,
+            Note::Wrote(count) => {
+                standing.state = State::Running;
+                standing.sent = standing.sent.saturating_add(count);
+                self.is_amid = false;
+            }
+        }
+    }
+}
+
+/// What a session does.
+#[derive(Clone, Copy)]
+pub enum Note {
+    /// It asked to reserve steps for a job, had this reply, and has so many reserved now.
+    Reserved { reply: Reply, reserved: u64 },
+    /// It settled a job. It has so many steps reserved now, and spent.
+    Settled { reserved: u64, spent: u64 },
+    /// It waits for bytes of its client, or has so many.
+    Reads,
+    Read(u64),
+    /// It waits until its client takes bytes, or so many were taken.
+    Writes,
+    Wrote(u64),
 }
 
 /// The sessions that run.
@@ -37,22 +142,16 @@ impl Roster {
 
     /// Adds a session that starts now. Where there is no memory for it, it isn't told of.
     pub fn enter<R: Wait + Clock>(&self, rt: &R, client: SocketAddr) {
-        let row = Row {
-            client,
-            began: Instant::now(rt).ok(),
-            reserved: 0,
-            spent: 0,
-        };
+        let row = Row::new(client, Instant::now(rt).ok());
         let _ = self.rows.lock(rt).push(row);
     }
 
-    /// Notes what a session has reserved and spent.
-    pub fn note<R: Wait>(&self, rt: &R, client: SocketAddr, reserved: u64, spent: u64) {
+    /// Notes something of a session.
+    fn note<R: Wait>(&self, rt: &R, client: SocketAddr, note: Note) {
         let mut rows = self.rows.lock(rt);
         for row in rows.iter_mut() {
             if row.client == client {
-                row.reserved = reserved;
-                row.spent = spent;
+                row.note(note);
             }
         }
     }
@@ -80,8 +179,8 @@ pub struct Watch<'r> {
 }
 
 impl Watch<'_> {
-    /// Notes what the session has reserved and spent.
-    pub fn note<R: Wait>(&self, rt: &R, reserved: u64, spent: u64) {
-        self.roster.note(rt, self.client, reserved, spent);
+    /// Notes something of the session.
+    pub(crate) fn note<R: Wait>(&self, rt: &R, note: Note) {
+        self.roster.note(rt, self.client, note);
     }
 }

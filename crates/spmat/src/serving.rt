@@ -5,7 +5,7 @@ ghost use Rattle.command_line.specs.InRange.{IsInRange};
 ghost use Rattle.spmat.specs.inner.Address.{IsLocal};
 ghost use Rattle.spmat.specs.inner.Serving.{IsListening, IsOfServer, IsOpened, IsServerOf, MayNotOpen, MayRefuse};
 
-use command_line::{Failure, Settings};
+use command_line::{Failure, Settings, VERSION};
 use listener::{
     Cause, Journal, Limits, ListenFault, LogFormat, ServerTerms, Supply, serve_on_terms,
 };
@@ -93,12 +93,19 @@ fn journal_of(alloc: Global, log: Option<Log>) -> Result<Option<Journal>, AllocE
     }
 }
 
-/// As `serve_on_terms`, with a log that another thread writes to standard error meanwhile. Where no thread can be made for it,
-/// it is written at the end.
+/// A listener, and the address that it was bound to.
+#[derive(Clone, Copy)]
+struct Listening<'l> {
+    listener: &'l TcpListener,
+    address: SocketAddr,
+}
+
+/// As `serve_on_terms`, with a log that another thread writes to standard error meanwhile: first that the server opens, then what
+/// sessions leave. Last it is written why the server closed. Where no thread can be made, all is written at the end.
 fn serve_logged<H>(
     rt: &H,
     journal: &Journal,
-    listener: &TcpListener,
+    listening: Listening<'_>,
     purse: &Purse,
     pass: Pass,
     terms: ServerTerms,
@@ -108,20 +115,29 @@ where
     requires own { IsPassOf purse.now pass }
     ensures { OnOk result (terms.sessions ≢ None) }
 {
+    let Listening { listener, address } = listening;
+    let (mut own, given) = purse.split(rt, pass);
+    let steps = purse.totals(rt, &mut own).left;
     let served = move || -> Result<(), ListenFault>
-        requires own { IsPassOf purse.now pass }
+        requires own { IsPassOf purse.now given }
         ensures { OnOk result (terms.sessions ≢ None) }
     {
         let supply = Supply {
             alloc: rt.alloc(),
             purse,
-            pass,
+            pass: given,
         };
         let served = serve_on_terms(rt, listener, supply, terms, Some(journal));
         journal.end(rt);
         served
     };
-    let ((), served) = join(rt, || journal.write_out(rt), served);
+    let written = || {
+        journal.write_opening(rt, address, VERSION, steps, terms);
+        journal.write_out(rt);
+    };
+    let ((), served) = join(rt, written, served);
+    let totals = purse.totals(rt, &mut own);
+    journal.write_closing(rt, address, &served, totals);
     served
 }
 
@@ -216,14 +232,20 @@ where
 {
     let Server {
         listener,
-        address: _,
+        address,
         purse,
         pass,
         terms,
         journal,
     } = server;
     let served = match &journal {
-        Some(journal) => serve_logged(rt, journal, &listener, &purse, pass, terms),
+        Some(journal) => {
+            let listening = Listening {
+                listener: &listener,
+                address,
+            };
+            serve_logged(rt, journal, listening, &purse, pass, terms)
+        }
         None => {
             let supply = Supply {
                 alloc: rt.alloc(),

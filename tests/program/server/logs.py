@@ -1,5 +1,5 @@
 """What a server tells of its sessions on standard error, with --log: a line for each that starts or ends, for each client turned away, and
-for refusals of steps, memory and threads."""
+for refusals."""
 import fcntl
 import json
 import os
@@ -13,6 +13,7 @@ from typing import Callable, Dict, List, NamedTuple, Optional
 
 from tests.lib.commands import assembly_command, matrix_command, matrix_text
 from tests.lib.limits import MOST_SESSIONS, MOST_STEPS
+from tests.lib.paths import TOP
 from tests.lib.patience import CHECKED
 from tests.lib.ports import free_port
 from tests.lib.runs import Wrong, expect
@@ -22,9 +23,10 @@ from tests.program.server.sessions import PRODUCT, UPLOADED, UPLOADS
 
 TIME = r'spmat: time=\d{4}-\d\d-\d\dT\d\d:\d\d:\d\d\.\d{3}Z '
 LINE = re.compile(TIME + r'session client=127\.0\.0\.1:(\d+) end=([a-z-]+|refused-S\d) seconds=(\d+\.\d{3}) in=(\d+) out=(\d+) '
-                  r'commands=(\d+) steps=(\d+) refused=(\d+)')
-START = re.compile(TIME + r'start client=127\.0\.0\.1:(\d+)')
-REFUSED = re.compile(TIME + r'refused client=127\.0\.0\.1:(\d+) rule=(S8|memory|thread)(?: price=(\d+) left=(\d+))? untold=(\d+)')
+                  r'commands=(\d+) steps=(\d+) refused=(\d+) untold=(\d+) untold_steps=(\d+)')
+START = re.compile(TIME + r'start client=127\.0\.0\.1:(\d+) untold=(\d+)')
+REFUSED = re.compile(TIME + r'refused client=127\.0\.0\.1:(\d+) rule=([AJMSV]\d+|memory|thread)(?: price=(\d+) left=(\d+))? untold=(\d+)')
+SERVER = re.compile(TIME + r'server-(start|end) address=127\.0\.0\.1:(\d+)((?: [a-z_]+=\S+)+)')
 DROPPED = re.compile(r'spmat: (\d+) lines of the log were dropped')
 # how many lines wait for standard error at most
 QUEUE = 1024
@@ -40,6 +42,8 @@ class Entry(NamedTuple):
     commands: int
     steps: int
     refused: int
+    untold: int
+    untold_steps: int
 
 
 def entry_of(line: str) -> Entry:
@@ -47,13 +51,13 @@ def entry_of(line: str) -> Entry:
     told = LINE.fullmatch(line)
     if not told:
         raise Wrong('no line of the log: %.200r' % line)
-    port, end, seconds, received, sent, commands, steps, refused = told.groups()
-    return Entry(int(port), end, float(seconds), int(received), int(sent), int(commands), int(steps), int(refused))
+    port, end, seconds, *numbers = told.groups()
+    return Entry(int(port), end, float(seconds), *map(int, numbers))
 
 
 def entries_of(lines: List[str]) -> List[Entry]:
     """What the log tells of ends, in order."""
-    return [entry_of(line) for line in lines if not START.fullmatch(line) and not REFUSED.fullmatch(line)]
+    return [entry_of(line) for line in lines if not any(form.fullmatch(line) for form in (START, REFUSED, SERVER))]
 
 
 class Logging(Server):
@@ -86,7 +90,7 @@ class Logging(Server):
 def expect_entry(server: Logging, client: Client, end: str, received: int, sent: int, commands: int, steps: int = 0,
                  refused: int = 0) -> None:
     entry = server.entry(client)
-    expect('the line of the log', (end, received, sent, commands, steps, refused), tuple(entry[1:2] + entry[3:]))
+    expect('the line of the log', (end, received, sent, commands, steps, refused), tuple(entry[1:2] + entry[3:8]))
 
 
 def each_end_has_its_line(program: str) -> None:
@@ -101,14 +105,15 @@ def each_end_has_its_line(program: str) -> None:
             client.send(b'\n  \nfoo\n')
             client.send_no_more()
             expect('the reply', b'no S1\n', client.rest())
-            expect_entry(server, client, 'input-end', 8, 6, 1)
+            expect_entry(server, client, 'input-end', 8, 6, 1, refused=1)
         for data, reply, end in refused:
             with server.client() as client:
                 client.send(data)
                 client.send_no_more()
                 expect('the reply', reply, client.rest())
                 entry = server.entry(client)
-                expect('the line of the log', (end, len(reply), 1, 0), (entry.end, entry.sent, entry.commands, entry.steps))
+                expect('the line of the log', (end, len(reply), 1, 0, 1),
+                       (entry.end, entry.sent, entry.commands, entry.steps, entry.refused))
                 # what came behind the refusal is read away when the connection is closed, and is no part of the session
                 expect('whether all that was read is counted', True, 0 < entry.received <= len(data))
         with server.client() as client:
@@ -166,9 +171,11 @@ def broken_off(program: str) -> None:
 
 
 def sixteen_end_at_once(program: str) -> None:
-    """Sixteen sessions that end at one moment leave sixteen whole lines, one for each; twenty times."""
+    """Sixteen sessions that end at one moment leave sixteen whole lines, one for each; twenty times, in four seconds at least, as
+    a second has only a hundred such lines."""
     with Logging(program) as server:
         for turn in range(20):
+            time.sleep(0.2)
             clients = full_house(server)
             ports = {client.socket.getsockname()[1] for client in clients}
             with ThreadPoolExecutor(MOST_SESSIONS) as together:
@@ -190,6 +197,12 @@ def quick_sessions(port: int, count: int) -> None:
             expect('the end', b'', client.rest())
 
 
+def untold_in(line: str) -> int:
+    """How many lines before this one were only counted."""
+    told = re.search(r' untold=(\d+)', line)
+    return int(told.group(1)) if told else 0
+
+
 def start_with(program: str, error: int, sessions: int) -> 'subprocess.Popen[bytes]':
     """A server with a log on this descriptor, or on none where it is negative."""
     def prepared() -> None:
@@ -209,7 +222,7 @@ def port_of(child: 'subprocess.Popen[bytes]') -> int:
 
 def nobody_reads_the_log(program: str) -> None:
     """Where nobody takes the lines, each session is served all the same. Those that fit no more are counted: once they are read,
-    lines and dropped ones are two for each session."""
+    lines, dropped ones and those beyond a second's hundred of a kind are two for each session."""
     sessions = QUEUE + 400
     reads, writes = os.pipe()
     fcntl.fcntl(writes, fcntl.F_SETPIPE_SZ, 4096)
@@ -224,9 +237,9 @@ def nobody_reads_the_log(program: str) -> None:
         child.kill()
         child.stdout.close()
     dropped = [int(told.group(1)) for told in map(DROPPED.fullmatch, lines) if told]
-    kept = [line for line in lines if not DROPPED.fullmatch(line)]
-    expect('lines and dropped ones', 2 * sessions, len(kept) + sum(dropped))
+    kept = [line for line in lines if not DROPPED.fullmatch(line) and not SERVER.fullmatch(line)]
     expect('whether each is a line', True, all(START.fullmatch(line) or entry_of(line) for line in kept))
+    expect('lines, dropped ones and untold ones', 2 * sessions, len(kept) + sum(dropped) + sum(map(untold_in, lines)))
     if not dropped or len(kept) < QUEUE:
         raise Wrong('%d lines, %r dropped' % (len(kept), dropped))
 
@@ -256,7 +269,7 @@ def silent_without_the_flag(program: str) -> None:
 
 
 def starts_and_refusals(program: str) -> None:
-    """A line when a session starts, and one for each refusal of steps with its price and what is left, but at most ten in a second:
+    """A line when a session starts, and one for each refusal, of steps with its price and what is left, but at most ten in a second:
     the others are counted, in the next such line and in that of the end."""
     many = 300
     with Logging(program, steps=12) as server, server.client() as client:
@@ -273,10 +286,10 @@ def starts_and_refusals(program: str) -> None:
         client.expect(PRODUCT, b'no S8 12 0\n')
         client.expect(b'run\n', b'ok run 1 9\nC 1 1 1 9\n')
         client.expect(b'quit\n', b'ok quit\n')
-        expect('refused', many + 1, server.entry(client).refused)
+        expect('refused', many + 2, server.entry(client).refused)
         told = [match.groups() for match in map(REFUSED.fullmatch, list(server.lines)) if match]
-        expect('what refusals tell', {(str(port), 'S8', '12', '0')}, {groups[:4] for groups in told})
-        expect('refusals that are told or counted', many + 1, len(told) + sum(int(groups[4]) for groups in told))
+        expect('what refusals tell', {(str(port), 'S1', None, None), (str(port), 'S8', '12', '0')}, {groups[:4] for groups in told})
+        expect('refusals that are told or counted', many + 2, len(told) + sum(int(groups[4]) for groups in told))
         if len(told) > 60:
             raise Wrong('%d lines of refusals' % len(told))
 
@@ -319,38 +332,28 @@ def log_in_json(program: str) -> None:
         client.expect(b'quit\n', b'ok quit\n')
     objects = [json.loads(line) for line in child.communicate(timeout=60)[1].splitlines()]
     for told in objects:
+        if told['event'].startswith('server-'):
+            expect('the address of the server', True, bool(re.fullmatch(r'127\.0\.0\.1:\d+', told.pop('address'))))
+            told['client'] = name
         expect('time', True, bool(re.fullmatch(r'\d{4}-\d\d-\d\dT\d\d:\d\d:\d\d\.\d{3}Z', told.pop('time'))))
         expect('client', name, told.pop('client'))
-    seconds = objects[2].pop('seconds')
+    seconds = objects[3].pop('seconds')
     expect('whether a session has seconds', True, isinstance(seconds, float) and 0 <= seconds < 60)
     received = sum(map(len, UPLOADS)) + 2 * len(PRODUCT) + 5
     sent = sum(map(len, UPLOADED)) + len(b'ok queued 1 12\nno S8 12 0\nok quit\n')
-    expect('the log', [{'event': 'start'}, {'event': 'refused', 'rule': 'S8', 'price': 12, 'left': 0, 'untold': 0},
-                       {'event': 'session', 'end': 'quit', 'in': received, 'out': sent, 'commands': 7, 'steps': 0, 'refused': 1}], objects)
+    expect('the log', [{'event': 'server-start', 'version': version(), 'steps': 12, 'workers': 1, 'sessions': 1, 'idle': None,
+                        'session_steps': None, 'session_reserve': None},
+                       {'event': 'start', 'untold': 0}, {'event': 'refused', 'rule': 'S8', 'price': 12, 'left': 0, 'untold': 0},
+                       {'event': 'session', 'end': 'quit', 'in': received, 'out': sent, 'commands': 7, 'steps': 0, 'refused': 1,
+                        'untold': 0, 'untold_steps': 0},
+                       {'event': 'server-end', 'end': 'sessions', 'sessions': 1, 'turned_away': 0, 'refused': 1, 'steps': 0, 'left': 12,
+                        'untold': 0, 'untold_steps': 0}], objects)
 
 
-def told_every_second(program: str) -> None:
-    """With `--log-every 1` a line a second and session tells what each has reserved and spent so far, also of those that do nothing."""
-    runs = re.compile(TIME + r'runs client=127\.0\.0\.1:(\d+) seconds=\d+\.\d{3} reserved=(\d+) steps=(\d+)')
-    child = subprocess.Popen([program] + serve_words(free_port(), 100, sessions=2) + ['--log-every', '1'], stdin=subprocess.DEVNULL,
-                             stdout=subprocess.PIPE, stderr=subprocess.PIPE)
-    port = port_of(child)
-    with Client(port) as one, Client(port) as other:
-        for client in (one, other):
-            for command in UPLOADS:
-                client.reply(command)
-            client.expect(PRODUCT, b'ok queued 1 12\n')
-        one.expect(b'run\n', b'ok run 1 9\nC 1 1 1 9\n')
-        time.sleep(3.5)
-        names = [str(client.socket.getsockname()[1]) for client in (one, other)]
-        for client in (one, other):
-            client.expect(b'quit\n', b'ok quit\n')
-    lines = child.communicate(timeout=60)[1].decode().splitlines()
-    told = [match.groups() for match in map(runs.fullmatch, lines) if match]
-    for name, numbers in zip(names, (('0', '9'), ('12', '0'))):
-        last = [groups[1:] for groups in told if groups[0] == name][1:]
-        expect('what is told of a session', {numbers}, set(last))
-        expect('whether it is told each second', True, 1 <= len(last) <= 4)
+def version() -> str:
+    """The version of the program, by the file VERSION."""
+    with open(os.path.join(TOP, 'VERSION')) as file:
+        return file.read().strip()
 
 
 LOG_CASES: Dict[str, Callable[[str], None]] = {
@@ -363,6 +366,5 @@ LOG_CASES: Dict[str, Callable[[str], None]] = {
     'log-of-starts-and-refusals': starts_and_refusals,
     'log-of-refused-memory': memory_that_is_refused,
     'log-in-json': log_in_json,
-    'log-every-second': told_every_second,
     'no-log-without-the-flag': silent_without_the_flag,
 }
