@@ -9,11 +9,14 @@ import math
 from fractions import Fraction
 from typing import TYPE_CHECKING, Any, Callable, Dict, List, NamedTuple, Optional, Sequence, TypeVar, cast
 
+import numpy
+
 from . import units
 from .errors import BudgetExceeded, OverflowWarning
 from .io.coo import LEAST, MOST
+from .io.matrix_text import Triples
 from .mask import warn_user
-from .operators import READY, Operator
+from .operators import READY, Op, Operator, find
 
 if TYPE_CHECKING:
     from .backends.protocol import Backend, Job
@@ -84,6 +87,21 @@ def noted(matrix: M, span: Optional[Span]) -> M:
     if span is not None:
         cast(Any, matrix).kept[KEY] = span
     return matrix
+
+
+def folded(fold: Callable[[Triples, Optional[Op]], Triples], triples: Triples, dup_op: Optional[Op], unit: units.Unit) -> Triples:
+    """Triples that are read with a unit, of which those of one position are folded. ValueError where a sum is beyond 64 bits."""
+    if unit != 1 and dup_op is not None and find('binary', dup_op) == READY['binary'].plus and len(triples.values):
+        many, at = numpy.unique(triples.rows * max(triples.ncols, 1) + triples.columns, return_inverse=True)
+        high, low = numpy.zeros(len(many), numpy.int64), numpy.zeros(len(many), numpy.int64)
+        numpy.add.at(high, at, triples.values >> 32)
+        numpy.add.at(low, at, triples.values & 0xffffffff)
+        high += low >> 32
+        if len(many) < len(at) and ((high >= 1 << 31) | (high < -1 << 31)).any():
+            place = int(many[(high >= 1 << 31) | (high < -1 << 31)][0])
+            raise ValueError('the values at row %d, column %d add up to a number beyond 64 bits in %s: a smaller scale= has room' % (
+                *divmod(place, triples.ncols), units.told(unit)))
+    return fold(triples, dup_op)
 
 
 def of_applied(matrix: Any, sent: 'Applied') -> Optional[Span]:
@@ -184,7 +202,7 @@ def _mend(operands: Sequence[Any], found: Span, is_product: bool) -> str:
     digits = max(1, math.ceil(math.log10(Fraction(found.size, MOST))))
     by = 10 ** (-(-digits // len(scaled)) if is_product and scaled else digits)
     if not scaled or any(unit < by for _, unit in scaled):
-        return 'write A.rescale(.., exact=False) for a coarser unit' if not scaled else 'the numbers themselves are as large'
+        return 'write A.rescale(.., exact=False) for a coarser unit' if not scaled else 'no smaller unit has room'
     return 'write %s, with rounding' % ' and '.join('%s.rescale(%d, exact=False)' % (name, unit // by) for name, unit in scaled)
 
 

@@ -4,7 +4,7 @@ from __future__ import annotations
 import io
 from typing import TYPE_CHECKING, Any, Dict, List, Optional, Tuple, Type, Union
 
-from . import limits, units
+from . import limits, overflow, units
 from ._client.connection import SECONDS, Connection, Progress, checked_settings
 from ._client.server_program import Program
 from ._client.transport import Address, Timeouts
@@ -200,7 +200,11 @@ class Session(Sources[Matrix]):
             made = self.from_text(text, name)      # which refuses a first line of any other form
             return made, matrix_market.kind_of(text)
         triples, symmetry = matrix_market.parse(text, values)
-        made = self.from_text(matrix_text.write(matrix_market.mirrored(self._folded(triples, dup_op), symmetry)), name)
+        unit = units.of_read(values.scale, dup_op)
+        folded = overflow.folded(self._folded, triples, dup_op, unit)
+        made = self.from_text(matrix_text.write(matrix_market.mirrored(folded, symmetry)), name)
+        made.notes = made.notes._replace(unit=unit)
+        overflow.note(made, folded.values)
         return made, matrix_market.kind_of(text, values)
 
     def full(self, nrows: int, ncols: int, value: int = 1, *, name: Optional[str] = None) -> Matrix:

@@ -2,6 +2,7 @@
 from __future__ import annotations
 
 import decimal
+import fractions
 import numbers
 import re
 from typing import Any, Callable, List, NoReturn, Optional, Sequence, Tuple
@@ -96,11 +97,20 @@ def scaled_one(value: Any, scale: Optional[decimal.Decimal], rounding: Rounding,
         raise ValueError('%s is missing: it is %r' % (what, value))
     if not isinstance(value, (numbers.Real, decimal.Decimal)) and not hasattr(value, '__index__'):
         raise TypeError('a %s is a number, not %r' % (what, value))
-    exact = decimal.Decimal(str(float(value) if isinstance(value, numbers.Real) and not hasattr(value, '__index__') else value))
+    exact = _decimal_of(value)
     whole = whole_of(exact, str(value), scale, lambda words: ValueError('%s: %s' % (what, words)))
     apart = abs(exact * (scale or 1) - whole)
     rounding.note(1, bool(apart), float(apart))
     return whole
+
+
+def _decimal_of(value: Any) -> decimal.Decimal:
+    """A number in decimals, a float as it is written; a fraction by 60 digits, which tell how it is rounded."""
+    if isinstance(value, fractions.Fraction):
+        with decimal.localcontext() as context:
+            context.prec = 60
+            return decimal.Decimal(value.numerator) / value.denominator
+    return decimal.Decimal(str(float(value) if isinstance(value, numbers.Real) and not hasattr(value, '__index__') else value))
 
 
 def is_missing(field: str) -> bool:

@@ -54,7 +54,7 @@ class Sources(abc.ABC, Generic[Made]):
         if (square or symmetric) and nrows is None and ncols is None:
             triples = triples._replace(nrows=max(triples.nrows, triples.ncols), ncols=max(triples.nrows, triples.ncols))
         axes = axes_of(nodes, (triples.nrows, triples.ncols))
-        triples = self._folded(triples, dup_op)
+        triples = overflow.folded(self._folded, triples, dup_op, unit)
         if not symmetric:
             return _told(self._from(triples, name=name), rounding, unit, axes, triples.values)
         if triples.nrows != triples.ncols:
@@ -118,7 +118,7 @@ class Sources(abc.ABC, Generic[Made]):
         and 1 run where there are any). In python-graphblas `io.from_networkx`."""
         triples, notes = networkx_adjacency.triples_of(graph, weight, nodelist, networkx_adjacency.Asked(dup_op is not None, scale))
         unit = units.of_read(scale, dup_op) if weight is not None else 1
-        triples = self._folded(triples, dup_op)
+        triples = overflow.folded(self._folded, triples, dup_op, unit)
         made = self._from(triples, name=name)
         made.notes = notes._replace(unit=unit)
         overflow.note(made, triples.values)
@@ -374,7 +374,7 @@ class Sources(abc.ABC, Generic[Made]):
         triples, notes = graph
         if notes.weighted:
             notes = notes._replace(unit=units.of_read(layout.scale, dup_op, layout.unit))
-        triples = self._folded(triples, dup_op)
+        triples = overflow.folded(self._folded, triples, dup_op, notes.unit)
         made = self._from(triples, name=name) if notes.directed is not False else self._both_ways(triples, name)
         made.notes = notes if dup_op is None else notes._replace(weighted=True)
         overflow.note(made, triples.values)
