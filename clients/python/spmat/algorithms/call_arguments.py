@@ -27,6 +27,7 @@ HINTS: Dict[Tuple[str, str], str] = {
     ('pagerank', 'dangling'): DICTS,
     ('k_hop', 'k'): 'the number of edges stands before the vertices, which networkx\' ego_graph(G, n, radius) has before it',
 }
+LONGEST = 60                                       # words on what came
 WEIGHTS = ('weight', 'weights', 'weighted', 'distance')
 
 
@@ -86,8 +87,14 @@ def checks_arguments(function: Callable[..., Any]) -> Check:
             what, holds = kinds.get(called, ('', callable))
             if what and not (isinstance(one, Unread) or (one is None and called in optional) or holds(one)):
                 kind = ValueError if _is_number(one) and what.endswith('number') else TypeError
-                raise kind('%s= of %s is %s, not %r: %s' % (called, name, what, one, _advice(name, called, signature)))
+                raise kind('%s= of %s is %s, not %s: %s' % (called, name, what, _shown(one), _advice(name, called, signature)))
     return check
+
+
+def _shown(one: Any) -> str:
+    """What came, in a few words."""
+    words = repr(one)
+    return words if len(words) <= LONGEST and '\n' not in words else 'of type ' + type(one).__name__
 
 
 def _unknown(name: str, signature: inspect.Signature, said: str, named: Mapping[str, Any]) -> str:

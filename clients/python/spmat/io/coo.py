@@ -4,7 +4,7 @@ from __future__ import annotations
 import math
 import numbers
 import operator
-from typing import Any, Callable, Iterable, List, Optional, Tuple
+from typing import Any, Callable, Iterable, List, Mapping, Optional, Tuple
 
 import numpy
 
@@ -60,6 +60,19 @@ def columns_of(triples: Any) -> Tuple[Any, Any, Any]:
         many = [(*triple, 1) if len(triple) == 2 else triple for triple in many]
     parts = tuple(zip(*many)) if many else ((), (), ())
     return parts[0], parts[1], parts[2] if len(parts) == 3 else 1
+
+
+def list_edges(edges: Iterable[Any]) -> List[Any]:
+    """Edges as a list. TypeError for a dict, whose values would be lost, and for what has no order or no hash; ValueError for other lengths."""
+    if isinstance(edges, Mapping):
+        raise TypeError('edges are a list, and a dict would lose its values: from_edgelist([(*edge, value) for edge, value in edges.items()]) '
+                        'takes {(from, to): value}; networkx.from_dict_of_lists and from_dict_of_dicts take neighbours, and from_networkx the graph')
+    many: List[Any] = edges.tolist() if hasattr(edges, 'tolist') else list(edges)
+    for at, edge in enumerate(many):
+        if not hasattr(edge, '__getitem__') or len(edge) not in (2, 3):
+            kind = ValueError if hasattr(edge, '__getitem__') else TypeError
+            raise kind('an edge is (from, to) or (from, to, value), not %r (edge %d)' % (edge, at))
+    return many
 
 
 def whole(number: Any, what: str = 'value') -> int:

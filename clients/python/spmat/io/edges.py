@@ -8,7 +8,7 @@ from __future__ import annotations
 
 import operator
 import re
-from typing import Any, Callable, Dict, Iterable, List, Mapping, NamedTuple, NoReturn, Optional, Sequence, Tuple
+from typing import Any, Callable, Dict, Iterable, List, NamedTuple, NoReturn, Optional, Sequence, Tuple
 
 import numpy
 
@@ -241,7 +241,7 @@ def graph_of_list(edges: Iterable[Any], how: How, layout: Any) -> Graph:
     """The matrix of (from, to), (from, to, value) or (from, to, {'weight': value}), as networkx gives and takes them."""
     check_missing(layout.missing)
     clock = clock_of(layout.unit, layout.date_format, layout.scale)
-    many = _listed_edges(edges)
+    many = coo.list_edges(edges)
     lengths = set(map(len, many))
     columns: List[Any] = [[edge[0] for edge in many], [edge[1] for edge in many]]
     columns += [[_value_of(edge) for edge in many]] if 3 in lengths and layout.values else []
@@ -252,19 +252,6 @@ def graph_of_list(edges: Iterable[Any], how: How, layout: Any) -> Graph:
         return ValueError('edge %d: %s' % (places[at], words))
     values, done = whole_values_of(columns[2], layout.scale, clock, fault) if len(columns) > 2 else (None, '')
     return graph_of(Edges(columns[0], columns[1], values, fault, done, left_out), how)
-
-
-def _listed_edges(edges: Iterable[Any]) -> List[Any]:
-    """Edges as a list. TypeError for a dict, whose values would be lost, and for what has no order or no hash; ValueError for other lengths."""
-    if isinstance(edges, Mapping):
-        raise TypeError('edges are a list, and a dict would lose its values: from_edgelist([(*edge, value) for edge, value in edges.items()]) '
-                        'takes {(from, to): value}; networkx.from_dict_of_lists and from_dict_of_dicts take neighbours, and from_networkx the graph')
-    many = edges.tolist() if hasattr(edges, 'tolist') else list(edges)
-    for at, edge in enumerate(many):
-        if not hasattr(edge, '__getitem__') or len(edge) not in (2, 3):
-            kind = ValueError if hasattr(edge, '__getitem__') else TypeError
-            raise kind('an edge is (from, to) or (from, to, value), not %r (edge %d)' % (edge, at))
-    return many
 
 
 def whole_values_of(values: List[Any], scale: Optional[float], clock: Optional[Clock], fault: Callable[[int, str], Exception]) -> Tuple[Any, str]:

@@ -150,7 +150,8 @@ class Held(Written):
 
     def to_coo(self, *, arrays: Optional[bool] = None, dtype: Any = None) -> Tuple[Any, Any, Any]:
         """Rows, columns (from 0) and values, by ascending row and column: arrays of numpy, or with `arrays=False`
-        lists. Values are the stored whole numbers, with `dtype=float` what these stand for. In python-graphblas the same name."""
+        lists. Those of a part count within the part: `from_coo(*part.to_coo(), nodes=part.nodes)` has its names again, and `to_edgelist`
+        gives names. Values are the stored whole numbers, with `dtype=float` what these stand for. In python-graphblas the same name."""
         return self.entries(arrays=arrays, dtype=dtype)
 
     def entries(self, *, arrays: Optional[bool] = None, dtype: Any = None) -> Tuple[Any, Any, Any]:
