@@ -1,4 +1,6 @@
 """Results that are known to be undirected: each says so, is its own transpose, and becomes a Graph of networkx."""
+import contextlib
+import random
 import unittest
 
 import support
@@ -71,7 +73,39 @@ def others(s, G, U):
     yield 'a truss that nobody checks', algorithms.k_truss(both_ways(s), 3, check=False)
 
 
+BINARY = ('plus', 'times', 'min', 'max', 'minus', 'first', 'second', 'any', 'pair', 'eq', 'gt', 'absdiff', 'cdiv')
+STEPS = (                                          # of two matrices of one size, and a source of chance
+    lambda A, B, chance: A.ewise_add(B, chance.choice(BINARY)), lambda A, B, chance: A.ewise_mult(B, chance.choice(BINARY)),
+    lambda A, B, chance: A.mxm(B, 'plus_' + chance.choice(('times', 'pair', 'first', 'plus', 'minus'))),
+    lambda A, B, chance: A.apply(chance.choice(('rowindex', 'thunk', 'tril', 'offdiag', 'plus', 'minus')), chance.choice((0, 1))),
+    lambda A, B, chance: A.select(chance.choice(('tril', 'offdiag', 'valuegt', 'rowle')), chance.choice((0, 1))),
+    lambda A, B, chance: A[::-1, ::chance.choice((1, -1))], lambda A, B, chance: A.T,
+    lambda A, B, chance: A.update(B, chance.choice((None, 'plus', 'first')), mask=chance.choice((None, B.S, ~A.S, ~B.V)), replace=chance.random() < .5),
+    lambda A, B, chance: A.dup(mask=chance.choice((~B.S, B.V, A.S & B.S, A.S ^ B.S, A.S | ~B.S))),
+    lambda A, B, chance: A.power(chance.randint(0, 3), chance.choice(('plus_times', 'any_pair', 'min_plus'))),
+    lambda A, B, chance: A.kronecker(B).resize(A.nrows, A.nrows), lambda A, B, chance: A.ewise_union(B, 'minus', 0, 1),
+    lambda A, B, chance: A.assign(5, mask=B.S))
+
+
 class Undirected(unittest.TestCase):
+    def test_chance(self):
+        """Whatever is said to be undirected after a chain of methods is its own transpose."""
+        chance, known = random.Random(5), 0
+        with spmat.Session() as s:
+            for _ in range(20):
+                count = chance.randint(2, 5)
+                places = sorted({tuple(sorted(chance.choices(range(count), k=2))) for _ in range(6)})
+                values = [chance.randint(-3, 3) for _ in places]
+                made = [s.from_coo(*zip(*places), values, count, count, symmetric=one) for one in (False, True)] + [s.identity(count), s.full(count, count)]
+                for _ in range(20):
+                    A = chance.choice(made)
+                    with contextlib.suppress(spmat.NamesDiffer):
+                        found = chance.choice(STEPS)(A, chance.choice((A, A.T, *made)), chance)
+                        made.append(found)
+                        known += found.directed is False
+                        self.assertTrue(found.directed is not False or found.to_text() == found.T.to_text(), found)
+        self.assertGreater(known, 100)
+
     def graphs(self):
         for session in (spmat.Session(), blocks.Sessions(2)):
             with session as s:

@@ -148,8 +148,8 @@ def k_hop(G: Matrix, k: int, sources: Optional[Vertices] = None,
     to 262,144 places some levels in vain are among them.
 
     GraphBLAS: `mxm` over any and a level more, of a row for each source. networkx:
-    `single_source_shortest_path_length` with a cutoff; `ego_graph(G, n, radius)` has the vertices of
-    `k_hop(G, radius, [n])`.
+    `single_source_shortest_path_length` with a cutoff; `ego_graph(G, n, radius)` has the vertices
+    of `k_hop(G, radius, [n])`.
 
     Examples
     --------

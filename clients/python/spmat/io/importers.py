@@ -150,9 +150,9 @@ class Sources(abc.ABC, Generic[Made]):
                              bipartite: Optional[bool] = None, missing: Optional[str] = 'raise', unit: Optional[str] = None,
                              date_format: Optional[str] = None, dup_op: DupOp = None, name: Optional[str] = None) -> Made:
         """The adjacency matrix of a table of pandas: the columns `source` and `target` have the names, `edge_attr` the values (None: 1
-        each, with a warning where a column is called weight; False: 1 each; True: the one other column; a list of one column is taken too), multiplied by `scale` and rounded where that is given. The rest,
-        `missing` and `unit` among it, is as `from_edgelist` has it, but that `bipartite=` has to be said where the columns are called by two
-        kinds of vertices, such as user and item. In networkx the same name."""
+        each, with a warning where a column is called weight; False: 1 each; True: the one other column; a list of one column is taken too),
+        multiplied by `scale` and rounded where that is given. The rest, `missing` and `unit` among it, is as `from_edgelist` has it, but that
+        `bipartite=` has to be said where the columns are called by two kinds of vertices, such as user and item. In networkx the same name."""
         _check_kinds((source, target), bipartite)
         layout = Layout(scale=scale, missing=missing, unit=unit, date_format=date_format)
         edges = edges_of_frame(frame, (source, target), edge_attr, layout)
