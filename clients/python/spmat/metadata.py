@@ -156,8 +156,8 @@ Axes = Tuple[Axis, Axis]
 
 
 def list_of_names(names: Iterable[Any]) -> List[Any]:
-    """Names as a list. TypeError for a set, which has no order, for a dict, and for a text, whose letters nobody means."""
-    if isinstance(names, (str, bytes, Set, Mapping)) and not isinstance(names, KeysView):
+    """Names as a list. TypeError for a set, which has no order, and for a dict, whose values would be lost."""
+    if isinstance(names, (Set, Mapping)) and not isinstance(names, KeysView):
         raise TypeError('names are a list, one for each vertex in their order, and not a %s: write list(..)' % type(names).__name__)
     return list(names)
 

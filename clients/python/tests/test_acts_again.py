@@ -120,7 +120,7 @@ LISTS = [
     ('fractions', lambda s: edges(s.from_edgelist([('a', 'b', fractions.Fraction(1, 2))], scale=10)), [('a', 'b', .5)]),
     ('an edge given twice', lambda s: s.from_edgelist([('a', 'b'), ('a', 'b')]).notes.source, '1 edge given again, counted once'),
     ('a set of names', named({'x', 'y', 'z'}), Says('names are a list')),
-    ('a text as names', named('xyz'), Says('names are a list')),
+    ('letters as names', named('xyz'), ['x', 'y', 'z']),
     ('a dict of names', named({0: 'x', 1: 'y', 2: 'z'}), Says('names are a list')),
     ('a column of names', lambda s: named(series(['x', 'y', 'z'], [3, 4, 5]))(s), ['x', 'y', 'z']),
     ('sep=; of Excel', lambda s: read(s, 'sep=;\nfrom;to;w\na;b;7\n'), [('a', 'b', 7)]),
