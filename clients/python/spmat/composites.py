@@ -79,8 +79,8 @@ class Composites(Signs, metaclass=MatrixType):
         the end below 0, as in numpy. Where numbers are names, but for 0 to n - 1, a number in a slice could be either and is refused.
 
         1 job for the rows and 1 for the columns that are chosen, and 1 run where both are; a value comes with 1 run more. In the GraphBLAS
-        GrB_extract. Raises ValueError where there is no such vertex, or a name stands twice, IndexError where a filter has another length, TypeError for floats and
-        other things that are no index."""
+        GrB_extract. Raises ValueError where there is no such vertex, or a name stands twice, IndexError where a filter has another length,
+        TypeError for floats and other things that are no index."""
         return picked(self, at)  # type: ignore[arg-type]
 
     def assign(self: C, what: Any, rows: Any = None, columns: Any = None, *, accum: Optional[Op] = None, mask: 'MaskLike' = None,

@@ -15,6 +15,7 @@ def operations(s, G, U):
     two, turned = ['a', 'b'], ['d', 'c', 'b', 'a']
     yield 'undirected', algorithms.undirected(G)
     yield 'undirected, of a transpose', algorithms.undirected(G, G.T)
+    yield 'undirected, which is its own transpose', algorithms.undirected(U, U)
     yield 'the greater of both ways', G.ewise_add(G.T, 'max')
     yield 'both ways, in the other order', G.T.ewise_add(G, 'plus')
     yield 'edges both ways alone', G.ewise_mult(G.T, 'min')

@@ -199,7 +199,7 @@ class Head(NamedTuple):
     number: int
     first: List[str]
     rest: List[List[str]]
-    is_whole: bool = False
+    is_whole: bool = True
     delimiter: Optional[str] = ','
 
     def as_table(self) -> str:
@@ -258,8 +258,8 @@ def _chosen(head: Head, layout: Layout) -> Choice:
             '' if header else ', where commas, tabs, semicolons and blanks part fields'), head.first[0])
     found = pairs(head.first) if layout.header is not False else []
     if len(head.first) > MOST_COLUMNS and not found:
-        raise head.fault(head.as_table() or '%d columns: columns=(SOURCE, TARGET) or (SOURCE, TARGET, VALUE) says by name or by number, from 0, which are read'
-                         % len(head.first))
+        raise head.fault(head.as_table() or '%d columns: columns=(SOURCE, TARGET) or (SOURCE, TARGET, VALUE) says by name or by number, from 0, '
+                         'which are read' % len(head.first))
     header = layout.header if layout.header is not None else _is_header(head, found)
     if header and found:
         pair = _one_of(head, found, layout.values)
