@@ -149,6 +149,21 @@ class Nearness(support.InSession):
             if ended and spent:
                 self.assertLessEqual(priced.most, 20 * spent)
 
+    def test_pagerank(self):
+        """On graphs by chance, sparse or dense, of up to 200 vertices the rounds are those that are made."""
+        for seed in range(10):
+            count, many = ((21, 20), (30, 400), (60, 90), (100, 3000), (200, 150))[seed % 5]
+            graph = (graphs.undirected if seed % 2 else graphs.directed)('random', count, _random_pairs(seed, count, many, seed > 4))
+            for options in ({}, {'weighted': True}, {'damping': .3, 'personalization': {0: 1}, 'dangling': {1: 1}}):
+                with self.subTest(seed=seed, **options):
+                    G = graph.matrix(self.s)
+                    priced = spmat.price(lambda: algorithms.pagerank(G, **options))
+                    before = self.s.budget().spent
+                    found = algorithms.pagerank(G, **options)
+                    spent = self.s.budget().spent - before
+                    self.assertTrue(priced.least <= spent <= priced.most <= 6 * spent, (priced, spent))
+                    self.assertIn('%d rounds' % found.rounds, repr(priced))
+
     def test_rounds(self):
         """Where rounds are bounded by the caller, the bound is near."""
         G = graphs.UNDIRECTED[3].matrix(self.s)

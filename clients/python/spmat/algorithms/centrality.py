@@ -28,7 +28,7 @@ ROUNDS = 1000
 # bits by which Katz' numbers may grow, and so many more where they do
 ROOM, MORE_ROOM = 16, 8
 # the usual tolerance of these, and the bits that do for it
-USUAL, SMALLER = 1e-9, 36
+USUAL, SMALLER = 1e-9, 35
 LEAST_BITS = 16
 # what a few operations on floats take, as a share
 FLOATS = 2.0 ** -50

@@ -14,7 +14,7 @@ import numpy
 from ..io.matrix_text import Triples
 from ..pricing.call_price import Bound
 from ..pricing.call_sizes import CallSizes
-from . import server_loops, step_bounds
+from . import rank_model, server_loops, step_bounds
 from .bfs import Search, run_search
 from .centrality import find_eigenvector, find_hubs
 from .distance_measures import Eccentricities
@@ -145,6 +145,11 @@ def eigenvector(g: CallSizes) -> Optional[Bound]:
     """As `hits`."""
     most = (int(g.given['rounds']), None)
     return _flow(g, 8, lambda steps: find_eigenvector(steps, g.given['tolerance'], most, _show))
+
+
+def pagerank(g: CallSizes) -> Optional[Bound]:
+    """As `hits`."""
+    return rank_model.pagerank(g, _entries(g))
 
 
 def _show(*_: object) -> None:
@@ -372,7 +377,7 @@ def transitive_closure(g: CallSizes) -> Optional[int]:
 FORESEEN: Dict[str, Foreseen] = {
     one.__name__: one for one in (
         all_pairs, betweenness, bfs_levels, bfs_parents, closeness, diameter, eigenvector, has_path,
-        hits, k_shortest_paths, k_truss, maximal_independent_set, path_lengths, shortest_path,
+        hits, k_shortest_paths, k_truss, maximal_independent_set, pagerank, path_lengths, shortest_path,
         shortest_paths, sssp, transitive_closure)}
 
 

@@ -11,7 +11,7 @@ from ..operators import Semiring, binary
 from . import step_bounds
 from .cached_properties import extremes, found, is_both_ways
 from .types import Array
-from .rank_rounds import Damping, Rounds, System, Watch, damping_of, solve
+from .rank_rounds import Damping, Rounds, System, Units, Watch, damping_of, solve
 from .registry import algorithm
 from .results import Centrality, as_centrality, keep_partial
 from .traversal import (Columns, Traversal, Vector, find_flow, put_all, put_column, read_column,
@@ -77,9 +77,9 @@ class Aim(NamedTuple):
         return self.tolerance - self.rounding
 
 
-def rounded_flows(system: System, count: int, weight: int) -> float:
+def rounded_flows(units: Units, count: int, weight: int) -> float:
     """What rounding takes of all ranks, in as many rounds as there may be."""
-    return 2 * system.rounding(count, weight) / (1 - system.damping.value) + FLOATS
+    return 2 * units.rounding(count, weight) / (1 - units.damping.value) + FLOATS
 
 
 def usual_tolerance(weight: int, flows: float) -> float:

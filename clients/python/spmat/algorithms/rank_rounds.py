@@ -12,6 +12,7 @@ the damping.
 """
 from __future__ import annotations
 
+import abc
 import math
 from typing import Any, Dict, List, NamedTuple, Optional, Tuple
 
@@ -107,15 +108,31 @@ def damping_of(damping: float) -> Damping:
                      % (DIGITS[-1], damping))
 
 
-class System:
+class Units:
+    """In which units ranks are told, and what rounding takes of them."""
+
+    def __init__(self, damping: Damping, extrapolates: bool) -> None:
+        self.damping, self.extrapolates = damping, extrapolates and damping.weight >= .1
+        self.bits = damping.bits(self.extrapolates)
+
+    def rounding(self, count: int, weight: int) -> float:
+        """What rounding may take of all ranks together in one round, where edges weigh so much."""
+        damping = self.damping.value
+        return (damping * (SHARE_ROUNDING * weight + count) + count) / 2.0 ** self.bits
+
+    def rank(self, flow: float) -> float:
+        """The ranks of flows, as shares of all."""
+        return flow * self.damping.value / 2.0 ** self.bits
+
+
+class System(Units):
     """A graph along whose edges ranks flow: each vertex gives each edge that leaves it the share of
     its rank that the edge has of the weight of all. Ranks of vertices that no edge leaves are lost.
     """
 
     def __init__(self, lines: Traversal, out: Matrix, weighted: bool, damping: Damping) -> None:
-        self.lines, self.damping, self.weighted = lines, damping, weighted
-        self.extrapolates = _is_symmetric(lines.graph, weighted) and damping.weight >= .1
-        self.bits = damping.bits(self.extrapolates)
+        super().__init__(damping, _is_symmetric(lines.graph, weighted))
+        self.lines, self.weighted = lines, weighted
         self.fills = lines.wants_full(out)         # then all vertices have shares
         self._out = out
         self._ring = Semiring(binary.plus, binary.times if weighted else binary.first)
@@ -131,15 +148,6 @@ class System:
     def flow(self, shares: Matrix) -> Matrix:
         """What comes to each vertex."""
         return self.lines.step(shares, self._ring)
-
-    def rounding(self, count: int, weight: int) -> float:
-        """What rounding may take of all ranks together in one round, where edges weigh so much."""
-        damping = self.damping.value
-        return (damping * (SHARE_ROUNDING * weight + count) + count) / 2.0 ** self.bits
-
-    def rank(self, flow: float) -> float:
-        """The ranks of flows, as shares of all."""
-        return flow * self.damping.value / 2.0 ** self.bits
 
 
 def _is_symmetric(graph: Matrix, weighted: bool) -> bool:
@@ -201,23 +209,66 @@ class Watch:
         return self.rate is not None and LONGER * fewer + 1 < self._rounds_at(self.rate)
 
 
-class Rounds:
+class Looks(abc.ABC):
+    """Rounds with looks between them, after which they may extrapolate. `state` has the flow that
+    the last round made, the one that it began with, and the one that the round before began with;
+    `given` is what all vertices are given anew."""
+
+    def __init__(self, units: Units, watch: Watch, state: Any, given: int) -> None:
+        self.units, self.watch, self.extrapolates = units, watch, False
+        self._given = given
+        self._look = self._state = state
+        self._looked = watch.bound, watch.number   # at the last look
+        watch.tick(False)
+
+    @abc.abstractmethod
+    def advance(self) -> None:
+        """Rounds up to the next look."""
+
+    @abc.abstractmethod
+    def apart(self, one: str, other: str) -> int:
+        """How far two flows of the state are apart."""
+
+    @abc.abstractmethod
+    def sum(self) -> int:
+        """What all flows of the last round add up to."""
+
+    def look(self) -> bool:
+        """Whether the ranks are near enough. Where they aren't, and rounds that extrapolate would
+        be fewer, the next ones do; if that doesn't take them as far as others, they go on from
+        where they were, without."""
+        watch, units = self.watch, self.units
+        change, now = units.rank(self.apart('flow', 'before')), self.extrapolates
+        if watch.rate is None and units.extrapolates and watch.number > 2:
+            watch.rate = change / max(units.rank(self.apart('before', 'older')), 1e-300)
+        if watch.look(change, units.rank(self.sum() + self._given)):
+            return True
+        bound, number = self._looked
+        if now and watch.bound > bound * units.damping.value ** (watch.number - number):
+            self._state, watch.bound = self._look, bound
+            self.extrapolates = units.extrapolates = False
+        elif units.extrapolates and not now:
+            self.extrapolates = watch.would_gain()
+        self._look, self._looked = self._state, (watch.bound, watch.number)
+        return False
+
+
+class Rounds(Looks):
     """Rounds of a system, where each vertex is given so much in all. Those between two looks are a
-    loop that stays at the server. The state has the flow that the last round made, the one that it
-    began with, and the one that the round before began with."""
+    loop that stays at the server."""
 
     def __init__(self, system: System, given: Vector, watch: Watch) -> None:
         damping = system.damping
-        self.system, self.watch, self.extrapolates = system, watch, False
-        self.anew = _scaled(given, damping.whole - damping.parts, damping.parts)
+        self.system = system
+        self.anew = scaled(given, damping.whole - damping.parts, damping.parts)
         self._column: Optional[Matrix] = None
-        ranks = system.lines.put(_scaled(given, damping.whole, damping.parts))
+        ranks = system.lines.put(scaled(given, damping.whole, damping.parts))
         flow = system.flow(ranks.ewise_mult(system.reciprocals, SHARE_OF_ALL))
-        self._look = self._state = State({'flow': flow, 'before': flow, 'older': flow})
-        self._looked = watch.bound, watch.number   # at the last look
-        watch.tick(False)
+        super().__init__(system, watch, State({'flow': flow, 'before': flow, 'older': flow}),
+                         int(self.anew.values.sum()))
         self._turn = self._turn_of(flow)
         self._loop: Optional[Loop] = None
+        self._extrapolated = False                 # by the loop
 
     def _turn_of(self, flow: Matrix) -> Operator:
         """What makes shares of flows. Where all vertices are given the same it adds that; else, and
@@ -238,8 +289,9 @@ class Rounds:
 
     def advance(self) -> None:
         """Rounds up to the next look."""
-        if self._loop is None:
-            self._loop = self._begin()
+        if self._loop is None or self._extrapolated != self.extrapolates:
+            self._loop = None                      # which may have gone on in vain
+            self._loop, self._extrapolated = self._begin(), self.extrapolates
 
         def heard(_: int, rounds: List[Round]) -> None:
             for _round in rounds:
@@ -257,32 +309,12 @@ class Rounds:
             return {'flow': self._next(begin), 'before': begin, 'older': s.before}
         return Loop(step, self._state, alike=True)
 
-    def look(self) -> bool:
-        """Whether the ranks are near enough. Where they aren't, and rounds that extrapolate would
-        be fewer, the next ones do; if that doesn't take them as far as others, they go on from
-        where they were, without."""
-        watch, system = self.watch, self.system
-        change, now = self._moved('flow', 'before'), self.extrapolates
-        if watch.rate is None and system.extrapolates and watch.number > 2:
-            watch.rate = change / max(self._moved('before', 'older'), 1e-300)
-        total = (self._state.flow.reduce_scalar('plus') or 0) + int(self.anew.values.sum())
-        if watch.look(change, system.rank(total)):
-            return True
-        bound, number = self._looked
-        if now and watch.bound > bound * system.damping.value ** (watch.number - number):
-            self._state, watch.bound = self._look, bound
-            self.extrapolates = system.extrapolates = False
-        elif system.extrapolates and not now:
-            self.extrapolates = watch.would_gain()
-        if now != self.extrapolates:
-            self._loop = None
-        self._look, self._looked = self._state, (watch.bound, watch.number)
-        return False
-
-    def _moved(self, one: str, other: str) -> float:
-        """How far two flows of the state are apart, as a share of all ranks."""
+    def apart(self, one: str, other: str) -> int:
         apart = self._state[one].ewise_mult(self._state[other], 'absdiff')
-        return self.system.rank(apart.reduce_scalar('plus') or 0)
+        return apart.reduce_scalar('plus') or 0
+
+    def sum(self) -> int:
+        return self._state.flow.reduce_scalar('plus') or 0
 
     def flow(self) -> Tuple[Matrix, float]:
         """The flow of the last round whose distance from the true one is known, and that."""
@@ -308,7 +340,7 @@ def _comes_to_all(system: System, flow: Matrix) -> bool:
         flow.ewise_mult(reciprocals, 'first').nvals == reciprocals.nvals)))
 
 
-def _scaled(vector: Vector, times: int, by: int) -> Vector:
+def scaled(vector: Vector, times: int, by: int) -> Vector:
     """Values times a number by another, rounded down."""
     values = vector.values
     return Vector(vector.at, values // by * times + values % by * times // by)
@@ -323,11 +355,16 @@ class Solved(NamedTuple):
     rounds: int
 
 
-def solve(rounds: Rounds) -> Solved:
-    """The ranks, once they are near enough."""
-    watch = rounds.watch
+def settle(rounds: Looks) -> None:
+    """Rounds and looks until the ranks are near enough."""
     rounds.advance()
     while not rounds.look():
         rounds.advance()
+
+
+def solve(rounds: Rounds) -> Solved:
+    """The ranks, once they are near enough."""
+    watch = rounds.watch
+    settle(rounds)
     ranks = rounds.ranks(rounds.flow()[0])
     return Solved(ranks, watch.total, watch.distance, watch.number)

@@ -342,7 +342,7 @@ class Handed(NamedTuple):
 def handed(share: Fraction, unit: int, ring: Optional[Semiring], units: Optional[Matrix],
            most: float) -> Handed:
     """How numbers hand on a share of sums that are no greater than so much."""
-    size = max(HALF, math.ceil(math.log2(max(1.0, most))) + 1)
+    size = max(HALF, int(most * ABOVE).bit_length())
     bits, many = HALF, 2
     if size <= NARROW:                             # then all bits of a product fit into a word
         bits = min(HALF - 1, 63 - size)
