@@ -130,7 +130,8 @@ class Costs(unittest.TestCase):
         path = graphs.undirected('path', 90, [(i, i + 1) for i in range(89)]).matrix(self.session)
         for function in (algorithms.bfs_levels, algorithms.bfs_parents):
             told, runs = self.counted(function, path, 30)
-            self.assertEqual((len(told), runs), (59, 60))
+            self.assertEqual((len(told), runs), (59, 59))          # the last front isn't pushed: nobody is left
+            self.assertEqual(self.counted(function, graphs.undirected('one more', 91, [(i, i + 1) for i in range(89)]).matrix(self.session), 30)[1], 60)
             self.assertEqual(self.counted(function, path, 30, depth=7), ([('level', k, 0) for k in range(1, 8)], 7))
             self.assertEqual(self.counted(function, path, 30, target=33)[1], 3)
 

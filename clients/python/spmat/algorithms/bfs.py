@@ -57,15 +57,16 @@ def find_levels(G: Matrix, search: Search, GT: Optional[Matrix] = None,
 def run_search(lines: Traversal, search: Search, parents: bool,
                numbers: Optional[Array] = None) -> Array:
     """The level of each vertex that is found, or its parent; NONE for the others. They are noted in
-    `numbers`, where these are given."""
+    `numbers`, where these are given. Once all are found nobody looks at the edges that are left.
+    """
     if numbers is None:
         numbers = numpy.full(lines.count, NONE)
     front = numpy.array(search.sources, numpy.int64)
     unseen, before = Unseen(lines, front), front[:0]
     matrix: Optional[Matrix] = None
     numbers[front] = front if parents else 0
-    level = 0
-    while not search.is_over(level, numbers):
+    level, left = 0, lines.count - len(front)
+    while left and not search.is_over(level, numbers):
         if level >= server_loops.LONG and search.target is None and lines.may_loop():
             go_on = server_loops.continue_parents if parents else server_loops.continue_levels
             reached = server_loops.Reached(level, front, before)
@@ -74,7 +75,7 @@ def run_search(lines: Traversal, search: Search, parents: bool,
         new, matrix = _next_front(lines, numbers, front, matrix, unseen, parents)
         if not len(new.at):
             break
-        level += 1
+        level, left = level + 1, left - len(new.at)
         numbers[new.at] = new.values if parents else level
         unseen.note(new.at, matrix)
         if matrix is not None:                     # a small front is sent, which takes no step
@@ -155,9 +156,9 @@ def bfs_levels(G: Matrix, source: Vertices, GT: Optional[Matrix] = None, progres
     2^56 steps the levels of an undirected graph behind the 32nd are a loop that stays at the
     server, which takes less time, and more steps.
 
-    Runs: 1 a level, and 1; 2 more a level with a large front. Steps: up to 4 an edge; 4 a vertex
-    and level with a large front. In a loop 4 runs a level, and up to 30 steps an edge, with 15 to
-    see once that each leads both ways.
+    Runs: 1 a level, and 1 if some vertex isn't reached; 2 more a level with a large front. Steps:
+    up to 4 an edge; 4 a vertex and level with a large front. In a loop 4 runs a level, and up to 30
+    steps an edge, with 15 to see once that each leads both ways.
 
     GraphBLAS: `vxm` over any and first. LAGraph: `LAGr_BreadthFirstSearch`. networkx:
     `single_source_shortest_path_length`.
@@ -212,8 +213,9 @@ def bfs_parents(G: Matrix, source: Vertices, GT: Optional[Matrix] = None,
     -----
     It goes the way of `bfs_levels`.
 
-    Runs: 1 a level, and 1; 3 more a level with a large front. Steps: up to 6 an edge; 7 a vertex
-    and level with a large front. In a loop 5 runs a level, and up to 40 steps an edge.
+    Runs: 1 a level, and 1 if some vertex isn't reached; 3 more a level with a large front. Steps:
+    up to 6 an edge; 7 a vertex and level with a large front. In a loop 5 runs a level, and up to 40
+    steps an edge.
 
     GraphBLAS: `vxm` over min and first. LAGraph: `LAGr_BreadthFirstSearch`. networkx:
     `bfs_predecessors`.
