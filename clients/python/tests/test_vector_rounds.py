@@ -12,7 +12,8 @@ import support
 from spmat import algorithms
 from spmat.algorithms import centrality, vector_rounds
 from spmat.algorithms.graph_model import ModelSteps
-from spmat.algorithms.vector_rounds import MOST_AHEAD, Grown, Mutual, Rounds, Scale, Steps, handed, scale_of
+from spmat.algorithms.round_kinds import Grown, Mutual, handed
+from spmat.algorithms.vector_rounds import MOST_AHEAD, Rounds, Scale, Steps, scale_of
 from spmat.io.matrix_text import Triples
 
 SIDE = 9

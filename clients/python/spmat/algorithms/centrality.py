@@ -16,10 +16,11 @@ from . import step_bounds
 from .cached_properties import extremes
 from .types import Array
 from .registry import algorithm
+from .round_kinds import Grown, Mutual, handed
 from .results import CHANGE, Centrality, RESIDUAL, as_centrality, keep_partial, unit_of
 from .traversal import Columns, find_flow, put_all
 from .utils import Progress, beside, order, tell
-from .vector_rounds import SPARE, Grown, Mutual, Pace, Room, Rounds, Scale, Steps, handed
+from .vector_rounds import SPARE, Pace, Room, Rounds, Scale, Steps
 
 ONE = 1 << 40
 # of the greatest number of a vector, or fewer where sums leave no room

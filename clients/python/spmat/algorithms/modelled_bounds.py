@@ -377,8 +377,8 @@ def transitive_closure(g: CallSizes) -> Optional[int]:
 FORESEEN: Dict[str, Foreseen] = {
     one.__name__: one for one in (
         all_pairs, betweenness, bfs_levels, bfs_parents, closeness, diameter, eigenvector, has_path,
-        hits, k_shortest_paths, k_truss, maximal_independent_set, pagerank, path_lengths, shortest_path,
-        shortest_paths, sssp, transitive_closure)}
+        hits, k_shortest_paths, k_truss, maximal_independent_set, pagerank, path_lengths,
+        shortest_path, shortest_paths, sssp, transitive_closure)}
 
 
 def with_model(algorithm: Algorithm) -> Algorithm:

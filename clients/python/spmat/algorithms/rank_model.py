@@ -1,5 +1,5 @@
-"""PageRank's rounds on a graph whose entries the client has, with the server's numbers: how many there
-are is counted before a call, without a step."""
+"""PageRank's rounds on a graph whose entries the client has, with the server's numbers: how many
+there are is counted before a call, without a step."""
 from __future__ import annotations
 
 from typing import Any, Dict, List, NamedTuple, Optional
