@@ -65,8 +65,9 @@ class Shares(support.InSession):
     def test_scales(self):
         """A factor is rounded down by no more than is said, never wraps, and is the same at the server."""
         chance = random.Random(2)
-        for _ in range(60):
-            factor, bits = chance.choice((1.0, chance.random(), 2.0 ** -chance.uniform(0, 20))), chance.randint(16, 42)
+        some = [(1.0, 42), (2.0 ** -19, 42), (2.0 ** -18.3, 42), (2.0 ** -40.2, 20)]
+        some += [(chance.choice((1.0, chance.random(), 2.0 ** -chance.uniform(0, 20))), chance.randint(16, 42)) for _ in range(40)]
+        for factor, bits in some:
             scale = scale_of(factor, bits)
             self.assertTrue(.9 * factor < scale.value <= factor)
             most = min((1 << 62) - 1, int(2.0 ** bits / scale.value))
@@ -121,6 +122,16 @@ class Words(support.InSession):
                 self.assertGreater(self.check(graph, most > 1), 4)
         for graph in (STAR, GRID):
             self.check(graph, False)
+
+    def test_what_is_little_grows(self):
+        """A number of nearly 0 grows by any factor: one that the last round shows to hold for the others says nothing of it."""
+        for little in (16, 17, 1 << 20):
+            room, numbers = vector_rounds.Room(20, 1 << 30), [1 << 20, little, 0]
+            room.note(numpy.array([1 << 20, 0, 0]), numpy.array(numbers), Scale(0, 16, 4))
+            scale, count = room.choose(1 << 20, 8)
+            for _ in range(count):
+                numbers = [(x >> scale.first) * scale.times >> scale.then for x in (numbers[0], numbers[2] << 30, numbers[1] << 30)]
+                self.assertLessEqual(max(numbers), 1 << 22, little)
 
     def test_numbers_that_grow(self):
         """Without what a bound says of the next rounds, sums do pass a word: this test would see it."""
