@@ -8,7 +8,7 @@ from __future__ import annotations
 from typing import TYPE_CHECKING, Any, Callable, Dict, List, Optional, Tuple, TypeVar
 
 from . import aggregators, assignment, tiles, units
-from .backends.protocol import Job
+from .backends.protocol import Handle, Job
 from .backends.unread import reading
 from .common_session import common_session
 from .errors import refusal
@@ -61,7 +61,7 @@ class Composites(Signs, metaclass=MatrixType):
         ewise_mult: Callable[..., Any]
         mxm: Callable[..., Any]
         reduce_rowwise: Callable[..., Any]
-        handle: Any
+        handle: Handle
         _visit: Callable[..., Any]
         _check_shape: Callable[..., None]
 
@@ -165,7 +165,7 @@ class Composites(Signs, metaclass=MatrixType):
         if where.complement:
             return self.dup(mask=~where, name=name)
         notes = notes_under(~where, self.shape, of_copy(self.notes))
-        fused: Optional[C] = self._visit(Job('apply', (unary.identity,), (self.handle,), self.shape), (self,), ~where, notes, name, 'dup')
+        fused: Optional[C] = self._visit(Job('apply', (unary.identity,), (self.handle,), self.shape), (self,), ~where, notes, name, ('dup',))
         if fused is not None:
             return fused
         other = structure(where)
@@ -195,7 +195,7 @@ class Composites(Signs, metaclass=MatrixType):
         made: Optional[C] = None
         if where is not None:
             last = Job('union', (op or binary.first,), (self.handle, other.handle), self.shape)
-            made = self._visit(last, (self, other), where, notes, name, 'update', op, replace=replace)
+            made = self._visit(last, (self, other), where, notes, name, ('update', op), replace=replace)
         if made is None:
             made = self._updated(other, accum, where, replace, name)
         made.notes = notes

@@ -305,12 +305,12 @@ class Matrix(Composites):
         return self._submit(job, operands, notes, name)
 
     def _visit(self, job: Job, operands: Sequence['Matrix'], where: Mask, notes: metadata.Notes, name: Optional[str],
-               method: str = '', *args: Any, **options: Any) -> Optional['Matrix']:
+               method: Tuple[Any, ...] = (), **options: Any) -> Optional['Matrix']:
         """The result of a method under a mask, of which this job is the last, where one visit to a session makes all of them; else
         None, and the caller queues them."""
         if not self.session.backend.fuses(job):
             return None
-        visit = OneVisit(where.value, where.complement, method, args, options)
+        visit = OneVisit(where.value, where.complement, method, options)
         job = job._replace(mask=where.matrix.handle, visit=visit)
         return self._submit(job, (*operands, where.matrix), notes, name)
 

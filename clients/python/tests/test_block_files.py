@@ -163,11 +163,11 @@ class Files(unittest.TestCase):
     @support.needs('numpy')
     def test_a_file_that_changes_meanwhile(self):
         self.write(a_text(random.Random(4), n=50))
-        stamp = file_ranges.stamp_of(self.path)
-        part = file_ranges.cut_up(self.path, stamp, 80, 1000, 2)[0]
+        stamp = file_ranges.read_stamp(self.path)
+        part = file_ranges.cut_file(self.path, stamp, 80, 1000, 2)[0]
         self.write(a_text(random.Random(5), n=50))
         with self.assertRaisesRegex(ValueError, 'has changed while it was read'):
-            file_ranges.lines_in(part)
+            file_ranges.read_lines(part)
 
     def test_ranges(self):
         """Each line is in one range, wherever ranges end."""
@@ -176,8 +176,8 @@ class Files(unittest.TestCase):
             lines = [b'x' * chance.randrange(9) + b'\n' for _ in range(chance.randrange(1, 20))]
             text = b''.join(lines)[:-1 if chance.random() < .3 else None]
             self.write(b'head\n' + text)
-            parts = file_ranges.cut_up(self.path, file_ranges.stamp_of(self.path), 5, chance.randrange(1, 40), chance.randrange(1, 5))
-            found = b''.join(map(file_ranges.lines_in, parts))
+            parts = file_ranges.cut_file(self.path, file_ranges.read_stamp(self.path), 5, chance.randrange(1, 40), chance.randrange(1, 5))
+            found = b''.join(map(file_ranges.read_lines, parts))
             self.assertEqual(found, text if text.endswith(b'\n') or not text else text + b'\n')
 
     def test_packed_and_small_files_stay_with_the_caller(self):

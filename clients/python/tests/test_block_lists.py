@@ -36,13 +36,13 @@ class Lists(unittest.TestCase):
         self.addCleanup(folder.cleanup)
         self.folder = folder.name
         self.path = os.path.join(folder.name, 'graph.csv')
-        read, self.by_workers = parallel_edgelist.of_file, []
+        read, self.by_workers = parallel_edgelist.read_file, []
 
         def noted(*args):
             made = read(*args)
             self.by_workers.append(made is not None)
             return made
-        for module, name, value in ((parallel_read, 'LEAST', 1), (parallel_read, 'MOST', 120), (parallel_edgelist, 'of_file', noted)):
+        for module, name, value in ((parallel_read, 'LEAST', 1), (parallel_read, 'MOST', 120), (parallel_edgelist, 'read_file', noted)):
             patched = mock.patch.object(module, name, value)
             patched.start()
             self.addCleanup(patched.stop)
@@ -116,7 +116,7 @@ class Lists(unittest.TestCase):
     def test_matrix_market_by_read_graph(self):
         text = self.one.identity(30).to_text()
         self.write(text)
-        with blocks.Sessions(2) as s, mock.patch('spmat.blocks.importers.chunked_input.spool_of', side_effect=AssertionError):
+        with blocks.Sessions(2) as s, mock.patch('spmat.blocks.importers.chunked_input.spool_file', side_effect=AssertionError):
             self.assertEqual(s.read_graph(self.path).to_text(), text)
 
     def test_progress(self):

@@ -210,7 +210,7 @@ class Dask(unittest.TestCase):
         with self.sessions(Noting(self.client)) as s:
             G, engine = s.from_triples(path, n, n), s.engine
             key = G.handle.futures[0].key
-            for wrong in ({}, {key: next(one for one in engine._live() if one != self.worker_of(G, 0))}, {key: 'tcp://127.0.0.1:9'}):
+            for wrong in ({}, {key: next(one for one in engine._list_workers() if one != self.worker_of(G, 0))}, {key: 'tcp://127.0.0.1:9'}):
                 engine._where.update(wrong)
                 asked.clear()
                 self.assertEqual(algorithms.bfs_levels(G, 3, G, check=False).to_text(), want)
@@ -228,7 +228,7 @@ class Dask(unittest.TestCase):
                 path = os.path.join(folder, 'graph.mtx')
                 with open(path, 'wb') as file:
                     file.write(text)
-                with self.sessions(folder=folder if given else None) as s, mock.patch.object(blocks.chunked_input, 'spool_of', side_effect=AssertionError):
+                with self.sessions(folder=folder if given else None) as s, mock.patch.object(blocks.chunked_input, 'spool_file', side_effect=AssertionError):
                     self.assertEqual(s.mmread(path).to_text(), text)
                 self.assertEqual(os.listdir(folder), ['graph.mtx'])
 
@@ -333,10 +333,10 @@ class Dask(unittest.TestCase):
         with self.sessions(texts=True) as s:
             X = GRAPH.matrix(s)
             X.wait()
-            before = sorted(s.engine._live())
+            before = sorted(s.engine._list_workers())
             self.kill_program(self.worker_of(X, 2), s.settings)
             self.assertEqual(algorithms.triangle_count(X), algorithms.triangle_count(GRAPH.matrix(self.one)))
-            self.assertEqual(sorted(s.engine._live()), before)
+            self.assertEqual(sorted(s.engine._list_workers()), before)
 
     def test_killed_again_and_again(self):
         """A session whose opening kills its worker, as where the system has no memory left."""

@@ -12,16 +12,16 @@ from test_blocks import Pair, entries
 
 class Cuts(unittest.TestCase):
     def test_by_entries(self):
-        self.assertEqual(row_partition.by_entries([1] * 10, 3).bounds, (0, 3, 7, 10))
-        self.assertEqual(row_partition.by_entries([1, 1, 100, 1, 1], 3).bounds, (0, 2, 3, 5))
-        self.assertEqual(row_partition.by_entries([0, 0, 9, 0], 4).blocks, 4)
-        self.assertEqual(row_partition.by_entries([], 3).bounds, (0, 0, 0, 0))
+        self.assertEqual(row_partition.cut_by_entries([1] * 10, 3).bounds, (0, 3, 7, 10))
+        self.assertEqual(row_partition.cut_by_entries([1, 1, 100, 1, 1], 3).bounds, (0, 2, 3, 5))
+        self.assertEqual(row_partition.cut_by_entries([0, 0, 9, 0], 4).blocks, 4)
+        self.assertEqual(row_partition.cut_by_entries([], 3).bounds, (0, 0, 0, 0))
         for seed in range(200):
             random_ = random.Random(seed)
             counts = [random_.randrange(9) * (random_.random() < .6) for _ in range(random_.randrange(1, 40))]
             count = random_.randrange(1, 9)
-            cut = row_partition.by_entries(counts, count)
-            row_partition.checked(cut.bounds, len(counts))
+            cut = row_partition.cut_by_entries(counts, count)
+            row_partition.check_cut(cut.bounds, len(counts))
             self.assertEqual(cut.blocks, count)
             sizes = [sum(counts[first:end]) for first, end in cut.ranges()]
             self.assertLessEqual(max(sizes), sum(counts) / count + max(counts), counts)

@@ -102,12 +102,11 @@ class Handle:
 
 
 class OneVisit(NamedTuple):
-    """What a backend makes in one visit to a session that `fuses`: a method of matrices, by default that of the job's form, under a mask
-    of any kind. None of the jobs before the last then comes to the client."""
+    """What a backend that `fuses` makes in one visit to a session, under a mask of any kind: a method of matrices, by its name and
+    arguments, or by default that of the job's form. Of the jobs before the last nothing comes to the client."""
     by_value: bool
     complement: bool
-    method: str = ''
-    args: Tuple[Any, ...] = ()
+    method: Tuple[Any, ...] = ()
     options: Dict[str, Any] = {}
 
 

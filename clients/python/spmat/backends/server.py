@@ -175,7 +175,7 @@ class ServerBackend(Backend):
             try:
                 reply = self.command('%s %s %s' % ('op' if op.text is None else 'asm', name, op.kind), op.body, op.line_at)
             except OperatorRefused as refused:
-                raise diagnostics.mended(op, refused) from None
+                raise diagnostics.explain_refusal(op, refused) from None
             self._operators[op] = Uploaded(name, int(reply.words[-1]))
         return self._operators[op]
 

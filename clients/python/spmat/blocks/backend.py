@@ -94,18 +94,18 @@ class BlockHandle(Handle):
         """Raises what a block was refused for."""
         self.counts()
 
-    def whole(self) -> Any:
+    def join_whole(self) -> Any:
         """The future of the whole as one piece, or that piece, for all sessions. It is made
         once."""
         if self._whole is None:
-            self._whole = repartition.joined(self)
+            self._whole = repartition.join_blocks(self)
         return self._whole
 
-    def at_rows(self, cut: Cut) -> 'BlockHandle':
+    def recut_at(self, cut: Cut) -> 'BlockHandle':
         """The same matrix, cut at these rows."""
         return self if cut == self.cut else repartition.recut(self, cut)
 
-    def like(self, futures: Sequence[Any], cut: Cut, ncols: int) -> 'BlockHandle':
+    def derive(self, futures: Sequence[Any], cut: Cut, ncols: int) -> 'BlockHandle':
         """A matrix that is made of this one, and no job's result."""
         made = BlockHandle(self.backend, cut, ncols, futures, self.holds)
         made.most = self.most
@@ -132,14 +132,14 @@ class DeferredBlockHandle(BlockHandle):
     def check_made(self) -> None:
         """It is there."""
 
-    def whole(self) -> Any:
+    def join_whole(self) -> Any:
         if self._whole is None:
             counts = Counts(*self.shape, len(self.entries.rows))
-            piece = Piece(counts, text=matrix_text.write(self.entries)).marked()
+            piece = Piece(counts, text=matrix_text.write(self.entries)).mark()
             self._whole = self.backend.sessions.share(piece)
         return self._whole
 
-    def at_rows(self, cut: Cut) -> BlockHandle:
+    def recut_at(self, cut: Cut) -> BlockHandle:
         return self if cut == self.cut else DeferredBlockHandle(self.backend, self.entries, cut)
 
 
@@ -177,7 +177,7 @@ class BlocksBackend(Backend):
         made = BlockHandle(self, cut, job.shape[1], futures, [*holds, *wholes], job.form)
         # with a visit, entries may lie outside of the mask
         made.most = most_of(job if job.visit is None else job._replace(mask=None), 0).entries
-        self.sessions.begun(made)
+        self.sessions.note_result(made)
         return made
 
     def fuses(self, job: Job) -> bool:
@@ -213,12 +213,12 @@ class BlocksBackend(Backend):
         if 1 in (entries.nrows, entries.ncols):
             cut = self.sessions.cut_for(entries.nrows, None)
             if cut is None:
-                cut = row_partition.evenly(entries.nrows, self.sessions.blocks)
+                cut = row_partition.cut_evenly(entries.nrows, self.sessions.blocks)
             return DeferredBlockHandle(self, entries, cut)
         with chunked_input.InMemory(entries) as held:
-            return self.spooled(held, self.sessions.find_cut(held.nrows, held))
+            return self.load_spool(held, self.sessions.find_cut(held.nrows, held))
 
-    def spooled(self, spool: 'chunked_input.Spooled', cut: Cut,
+    def load_spool(self, spool: 'chunked_input.Spooled', cut: Cut,
                 fold: Optional[Callable[[Triples], Triples]] = None) -> BlockHandle:
         """A matrix of what lies in a spool, block by block."""
         futures = [self.sessions.put(block, cut.label(block), text)
@@ -236,7 +236,7 @@ class BlocksBackend(Backend):
         if isinstance(handle, DeferredBlockHandle):
             return matrix_text.write(handle.entries)
         nrows, ncols = handle.shape
-        return row_partition.text_of(nrows, ncols, repartition.all_lines(handle))
+        return row_partition.text_of(nrows, ncols, repartition.read_lines(handle))
 
     def texts(self, handle: Any) -> Iterator[bytes]:
         """The head of the text, and the lines of each block: one block's are held at a time."""
@@ -257,7 +257,7 @@ class BlocksBackend(Backend):
             found = None if handle.transposed is None else handle.transposed()
             if found is not None:
                 return found  # type: ignore[no-any-return]
-            handle.turned = repartition.transposed(handle)
+            handle.turned = repartition.transpose(handle)
             handle.turned.transposed = weakref.ref(handle)
         made: Handle = handle.turned
         return made

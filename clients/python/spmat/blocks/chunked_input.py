@@ -32,14 +32,14 @@ WIDTH = 24                                         # bytes of an entry in a spoo
 ENTRIES = 1 << 18                                  # entries that are sorted out at a time
 
 
-def put(path: str, text: bytes) -> bytes:
+def write_text(path: str, text: bytes) -> bytes:
     """Writes a text into a file; what tells its content."""
     with open(path, 'wb') as file:
         file.write(text)
     return hashlib.blake2b(text, digest_size=32).digest()
 
 
-def got(path: str, digest: bytes) -> bytes:
+def read_text(path: str, digest: bytes) -> bytes:
     """The text that was written there. ValueError where the file has changed since."""
     with open(path, 'rb') as file:
         text = file.read()
@@ -143,7 +143,7 @@ class Spool(Spooled):
         if len(rows) == 0:
             return
         self._counts = _count_rows(self._counts, rows)
-        self._file.write(_packed(triples))
+        self._file.write(_pack(triples))
         if self._ascends:
             self._ascends = self._last <= rows[0] and bool((rows[1:] >= rows[:-1]).all())
             self._last = rows[-1]
@@ -152,33 +152,33 @@ class Spool(Spooled):
         if self._ascends:
             self._file.seek(0)
             for first, end in cut.ranges():
-                yield self._unpacked(self._file.read(int(self._counts[first:end].sum()) * WIDTH))
+                yield self._unpack(self._file.read(int(self._counts[first:end].sum()) * WIDTH))
             return
-        yield from self._sorted_out(cut)
+        yield from self._sort_by_blocks(cut)
 
-    def _sorted_out(self, cut: Cut) -> Iterator[Triples]:
+    def _sort_by_blocks(self, cut: Cut) -> Iterator[Triples]:
         """The blocks, by a file for each."""
         parts = [tempfile.TemporaryFile() for _ in range(cut.blocks)]
         try:
             self._file.seek(0)
             for piece in iter(lambda: self._file.read(ENTRIES * WIDTH), b''):
-                with InMemory(self._unpacked(piece)) as held:
+                with InMemory(self._unpack(piece)) as held:
                     for part, triples in zip(parts, held.blocks(cut)):
-                        part.write(_packed(triples))
+                        part.write(_pack(triples))
             for part in parts:
                 part.seek(0)
-                yield self._unpacked(part.read())
+                yield self._unpack(part.read())
         finally:
             for part in parts:
                 part.close()
 
-    def _unpacked(self, data: bytes) -> Triples:
+    def _unpack(self, data: bytes) -> Triples:
         table = numpy.frombuffer(data, numpy.int64).reshape(-1, 3)
         rows, columns, values = (table[:, k].copy() for k in range(3))
         return Triples(rows, columns, values, self.nrows, self.ncols)
 
 
-def _packed(triples: Triples) -> bytes:
+def _pack(triples: Triples) -> bytes:
     return numpy.column_stack(triples[:3]).astype(numpy.int64, copy=False).tobytes()
 
 
@@ -193,7 +193,7 @@ def _count_rows(counts: Any, rows: Any) -> Any:
 
 # -- Matrix Market files
 
-def spool_of(source: Any, values: matrix_market.Values = matrix_market.Values(),
+def spool_file(source: Any, values: matrix_market.Values = matrix_market.Values(),
              progress: Progress = None, whole: bool = True,
              limit: files.Limit = files.Limit()) -> Spooled:
     """The entries of a file, which is read by pieces; an `array` file at once. What is refused
@@ -201,25 +201,25 @@ def spool_of(source: Any, values: matrix_market.Values = matrix_market.Values(),
     out."""
     try:
         if hasattr(source, 'read'):
-            return _spool_of_file(source, values, whole, _progress_of(progress, 0))
+            return _spool_opened(source, values, whole, _choose_report(progress, 0))
         with files.opened(source, limit) as file:
-            return _spool_of_file(file, values, whole, _progress_of(progress, os.path.getsize(source)))
+            return _spool_opened(file, values, whole, _choose_report(progress, os.path.getsize(source)))
     except Refused as fault:
         raise fault.of_file(name_of(source)) from None
 
 
-def _progress_of(progress: Progress, size: int) -> Callable[[int], None]:
+def _choose_report(progress: Progress, size: int) -> Callable[[int], None]:
     """What is told of so many bytes as they are read; a size of 0 isn't known."""
     if progress is None:
         return lambda done: None
-    return functools.partial(_tell, progress, size)
+    return functools.partial(_report, progress, size)
 
 
-def _tell(progress: Callable[[str, int, int], None], size: int, done: int) -> None:
+def _report(progress: Callable[[str, int, int], None], size: int, done: int) -> None:
     progress('read', done, size)
 
 
-def _spool_of_file(file: Any, values: matrix_market.Values, whole: bool,
+def _spool_opened(file: Any, values: matrix_market.Values, whole: bool,
                    progress: Callable[[int], None]) -> Spool:
     reader = matrix_market.Reader(file, values)
     spool = Spool(reader.nrows, reader.ncols)

@@ -12,10 +12,10 @@ from typing import Any, Callable, Dict, Iterable, List, NamedTuple, Optional, Se
 
 from ..errors import Closed, without_frames
 from . import dask_watch, worker_store, worker_tasks
-from .dask_watch import OURS, Watch, begin_counting, counted
+from .dask_watch import OURS, Watch, begin_counting, count_repeated
 from .errors import AtBlock
 from .executor import Call, Engine, Progress, Version
-from .worker_store import Settings, close_store, program_stopped, store_of, version_of
+from .worker_store import Settings, close_store, end_stopped_program, store_of, version_of
 
 LOOK = 1.0                                         # seconds after which it is seen what holds up
 TRIES = 5                                          # times to ask workers, where all are lost
@@ -51,7 +51,7 @@ class Dask(Engine):
 
     def __init__(self, client: Any) -> None:
         self._client = client
-        self._addresses = sorted(self._live())
+        self._addresses = sorted(self._list_workers())
         if not self._addresses:
             raise ValueError('the client has no workers yet: client.wait_for_workers(n)')
         self._listed = time.monotonic()
@@ -69,14 +69,14 @@ class Dask(Engine):
     def places(self) -> int:
         return len(self._addresses)
 
-    def _live(self) -> List[str]:
+    def _list_workers(self) -> List[str]:
         return list(self._client.scheduler_info()['workers'])
 
-    def _address(self, place: int) -> str:
+    def _find_worker(self, place: int) -> str:
         """The worker of a place, as the scheduler listed the workers in the last second."""
         if time.monotonic() - self._listed > LOOK:
             self._listed = time.monotonic()
-            self._addresses = assign_workers(self._addresses, sorted(self._live()))
+            self._addresses = assign_workers(self._addresses, sorted(self._list_workers()))
         return self._addresses[place]
 
     def submit(self, settings: Settings, place: int, label: str, function: Callable[..., Any],
@@ -84,11 +84,11 @@ class Dask(Engine):
         key = '%s%s-%s-%s' % (OURS, function.__name__, settings.token, uuid.uuid4().hex)
         wish: Dict[str, Any] = {}
         if self._wishes:
-            wish = {'workers': [self._address(place)], 'allow_other_workers': True}
+            wish = {'workers': [self._find_worker(place)], 'allow_other_workers': True}
         # a block's text in a task is what the task is made of again
         with warnings.catch_warnings():
             warnings.filterwarnings('ignore', 'Large object of size')
-            return self._client.submit(_on_worker, settings, label, function, list(args), key=key,
+            return self._client.submit(_perform_task, settings, label, function, list(args), key=key,
                                        pure=False, **wish)
 
     # -- calls without tasks
@@ -105,7 +105,7 @@ class Dask(Engine):
                 key = call.piece.key
                 asked = by_worker.setdefault(self._where[key], [])
                 asked.append((number, key, call._replace(piece=None)))
-            replies: Dict[str, Any] = self._client.sync(self._asked, settings, function, by_worker)
+            replies: Dict[str, Any] = self._client.sync(self._ask_workers, settings, function, by_worker)
             answers = dict(answer for many in replies.values() for answer in many)
         except Exception:  # pylint: disable=broad-exception-caught  # whatever it is, tasks mend it
             answers = {}
@@ -118,10 +118,10 @@ class Dask(Engine):
             self._where.pop(call.piece.key, None)
         return None
 
-    async def _asked(self, settings: Settings, function: Callable[..., Any],
+    async def _ask_workers(self, settings: Settings, function: Callable[..., Any],
                      by_worker: Dict[str, Any]) -> Dict[str, Any]:
         seconds = SECONDS if settings.patience is None else settings.patience
-        asked = self._client.run(_at_pieces, settings, function, by_worker, workers=list(by_worker))
+        asked = self._client.run(_answer_calls, settings, function, by_worker, workers=list(by_worker))
         return dict(await asyncio.wait_for(asked, seconds))
 
     def _find(self, pieces: Sequence[Any]) -> None:
@@ -138,7 +138,7 @@ class Dask(Engine):
     def results(self, settings: Settings, futures: Sequence[Any], labels: Sequence[str],
                 progress: Progress = None) -> List[Any]:
         try:
-            return self._gathered(settings, list(futures), progress)
+            return self._gather_watched(settings, list(futures), progress)
         except AtBlock as at:
             # the client keeps the exception, whose frames would keep the futures
             at.__traceback__ = None
@@ -149,25 +149,25 @@ class Dask(Engine):
                       if future.status in ('error', 'cancelled', 'lost')]
             raise AtBlock((failed or list(labels))[0], fault) from fault
 
-    def _gathered(self, settings: Settings, futures: List[Any], progress: Progress) -> List[Any]:
+    def _gather_watched(self, settings: Settings, futures: List[Any], progress: Progress) -> List[Any]:
         """The results, once they are there. Where they don't come, it is looked at what holds them
         up."""
         watch = Watch(self, settings, futures)
         while True:
             try:
-                found = list(self._client.sync(self._within, futures))
+                found = list(self._client.sync(self._gather_for_a_while, futures))
             except asyncio.TimeoutError:
                 watch.look()
-                self._tell(settings, futures, progress)
+                self._report_progress(settings, futures, progress)
                 continue
             if progress is not None:
                 progress('blocks', len(futures), len(futures))
             return found
 
-    async def _within(self, futures: List[Any]) -> List[Any]:
+    async def _gather_for_a_while(self, futures: List[Any]) -> List[Any]:
         return list(await asyncio.wait_for(self._client.gather(futures, asynchronous=True), LOOK))
 
-    def _tell(self, settings: Settings, futures: List[Any], progress: Progress) -> None:
+    def _report_progress(self, settings: Settings, futures: List[Any], progress: Progress) -> None:
         if progress is None:
             return
         progress('blocks', sum(future.done() for future in futures), len(futures))
@@ -176,19 +176,19 @@ class Dask(Engine):
             self._reported_again = again
             progress('again', again, 0)
 
-    def watched(self) -> Dict[str, float]:
+    def list_last_heard(self) -> Dict[str, float]:
         """When the scheduler last heard of each worker, by its own clock."""
         workers = self._client.scheduler_info()['workers']
         return {address: about['last_seen'] for address, about in workers.items()}
 
-    def doing(self, keys: Iterable[str]) -> List[str]:
+    def find_busy(self, keys: Iterable[str]) -> List[str]:
         """The workers that do some of these tasks; none where all workers do."""
         wanted, processing = set(keys), self._client.processing()
         found = [address for address, many in processing.items()
                  if not wanted.isdisjoint(map(str, many))]
         return found if len(found) < len(processing) else []
 
-    def ours(self, addresses: Iterable[str]) -> List[str]:
+    def find_ours(self, addresses: Iterable[str]) -> List[str]:
         """Those of some workers that have tasks or results of ours."""
         held, processing = self._client.has_what(), self._client.processing()
         return [address for address in addresses
@@ -204,12 +204,12 @@ class Dask(Engine):
     def end_stopped(self, settings: Settings, patience: float, workers: Sequence[str]) -> None:
         """Ends programs of some workers that stand still amid a command."""
         if workers:
-            self._client.run(_in_thread, program_stopped, settings, patience, workers=list(workers),
+            self._client.run(_run_in_thread, end_stopped_program, settings, patience, workers=list(workers),
                              on_error='ignore')
 
     def again(self, settings: Settings) -> int:
         try:
-            return int(self._client.run_on_scheduler(counted, settings.token))
+            return int(self._client.run_on_scheduler(count_repeated, settings.token))
         except Exception:  # pylint: disable=broad-exception-caught  # the scheduler doesn't find this package
             return 0
 
@@ -218,7 +218,7 @@ class Dask(Engine):
 
     def everywhere(self, settings: Settings, function: Callable[..., Any], *args: Any) -> Dict[str,
             Any]:
-        return self._run(_on_worker, settings, 'a session', function, list(args))
+        return self._run(_perform_task, settings, 'a session', function, list(args))
 
     def versions(self, settings: Settings) -> Dict[str, Version]:
         return self._run(version_of, settings.program)
@@ -227,7 +227,7 @@ class Dask(Engine):
         """What a function gives at each worker that answers. A worker that is lost meanwhile tells
         nothing; where all are, those are asked that come for them."""
         for _ in range(TRIES):
-            replies: Dict[str, Any] = self._client.run(_in_thread, function, *args, on_error='return')
+            replies: Dict[str, Any] = self._client.run(_run_in_thread, function, *args, on_error='return')
             heard = {worker: value for worker, value in replies.items() if not _is_lost(value)}
             for value in heard.values():
                 if isinstance(value, Exception):
@@ -238,7 +238,7 @@ class Dask(Engine):
         raise TimeoutError('no worker of the cluster answers: each was lost, %d times' % TRIES)
 
     def close(self, settings: Settings) -> None:
-        self._client.run(_in_thread, close_store, settings, on_error='ignore')
+        self._client.run(_run_in_thread, close_store, settings, on_error='ignore')
 
 
 def assign_workers(before: Sequence[str], live: Sequence[str]) -> List[str]:
@@ -249,7 +249,7 @@ def assign_workers(before: Sequence[str], live: Sequence[str]) -> List[str]:
         places.append(address if address in live and address not in places else None)
     fresh = [address for address in live if address not in places]
     rest = iter(fresh + [live[number % len(live)] for number in range(len(before)) if live])
-    return [address or next(rest, old) for address, old in zip(places, before)]
+    return [next(rest, old) if address is None else address for address, old in zip(places, before)]
 
 
 def _is_lost(reply: Any) -> bool:
@@ -259,7 +259,7 @@ def _is_lost(reply: Any) -> bool:
         isinstance(reply, OSError) and reply.errno is None)
 
 
-def _on_worker(settings: Settings, label: str, function: Callable[..., Any],
+def _perform_task(settings: Settings, label: str, function: Callable[..., Any],
                args: Sequence[Any]) -> Any:
     """A task in a worker process of Dask, which ends itself where its program has ended."""
     _end_with_program()
@@ -294,7 +294,7 @@ class Answer(NamedTuple):
     fault: Optional[AtBlock] = None
 
 
-async def _at_pieces(settings: Settings, function: Callable[..., Any], by_worker: Dict[str, Any],
+async def _answer_calls(settings: Settings, function: Callable[..., Any], by_worker: Dict[str, Any],
                      dask_worker: Any = None) -> List[Any]:
     """The answers to the calls for a worker, by their numbers, in a thread so that the worker goes
     on to answer."""
@@ -303,12 +303,12 @@ async def _at_pieces(settings: Settings, function: Callable[..., Any], by_worker
         answer = Answer(False)
         if key in dask_worker.data:
             args = settings, call.label, function, (dask_worker.data[key], *call.args)
-            answer = await asyncio.get_running_loop().run_in_executor(None, _called, *args)
+            answer = await asyncio.get_running_loop().run_in_executor(None, _call_function, *args)
         out.append((number, answer))
     return out
 
 
-def _called(settings: Settings, label: str, function: Callable[..., Any],
+def _call_function(settings: Settings, label: str, function: Callable[..., Any],
             args: Tuple[Any, ...]) -> Answer:
     try:
         return Answer(True, worker_tasks.perform(lambda: store_of(settings), label, function, args))
@@ -317,6 +317,6 @@ def _called(settings: Settings, label: str, function: Callable[..., Any],
         return Answer(refused, None, at if refused else None)
 
 
-async def _in_thread(function: Callable[..., Any], *args: Any) -> Any:
+async def _run_in_thread(function: Callable[..., Any], *args: Any) -> Any:
     """A function in a thread of its own, so that a worker goes on to answer."""
     return await asyncio.get_running_loop().run_in_executor(None, function, *args)

@@ -33,12 +33,12 @@ class Watch:
         if patience is None:
             return
         now = time.monotonic()
-        quiet = self._quiet(now)
+        quiet = self._measure_silence(now)
         self._give_up_alone(patience, now, bool(quiet))
         late = [address for address, passed in quiet.items() if passed > patience]
         if len(late) == len(quiet):                # that may be the scheduler's own fault
             late = [address for address in late if quiet[address] > 3 * patience]
-        late = self._engine.ours(late) if late else []
+        late = self._engine.find_ours(late) if late else []
         if late:
             self._engine.restart(late)
         if now - self._begun > patience:
@@ -47,9 +47,9 @@ class Watch:
             self._engine.end_stopped(self._settings, patience, heard)
         self._end_slow(now - self._begun, patience)
 
-    def _quiet(self, now: float) -> Dict[str, float]:
+    def _measure_silence(self, now: float) -> Dict[str, float]:
         """For how many seconds nothing was heard of each worker, by this machine's clock alone."""
-        watched = self._engine.watched()
+        watched = self._engine.list_last_heard()
         self._heard = {address: self._heard[address]
                        if self._heard.get(address, (None, 0))[0] == seen else (seen, now)
                        for address, seen in watched.items()}
@@ -74,7 +74,7 @@ class Watch:
         self._kin = self._kin or passed
         if waiting and not self._ended and passed > patience and passed > TIMES * self._kin:
             self._ended = True
-            self._engine.restart(self._engine.doing(future.key for future in waiting))
+            self._engine.restart(self._engine.find_busy(future.key for future in waiting))
 
 
 # -- in Dask's scheduler, whose process has to find this package; else nothing is counted
@@ -121,7 +121,7 @@ def begin_counting(dask_scheduler: Any) -> None:
         dask_scheduler.add_plugin(counted_here(dask_scheduler), name=Counting.name)
 
 
-def counted(token: str, dask_scheduler: Any = None) -> int:
+def count_repeated(token: str, dask_scheduler: Any = None) -> int:
     """How many tasks of some sessions were computed again."""
     found = dask_scheduler.plugins.get(Counting.name)
     return 0 if found is None else int(found.again.get(token, 0))

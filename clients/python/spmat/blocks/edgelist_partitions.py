@@ -71,12 +71,12 @@ class EdgePart(NamedTuple):
     left_out: LeftOut = LeftOut()
 
 
-def read(source: Source, bipartite: bool) -> Optional[EdgePart]:
+def read_part(source: Source, bipartite: bool) -> Optional[EdgePart]:
     """The edges of a part. None where a range has to be read line by line; ReadError, with file and
     line, where anything else can't be read."""
     if isinstance(source, ListRange):
-        found = tables.read_plain(file_ranges.lines_in(source.range), source.form, Rounding(None))
-        return None if found is None else _numbered(*found, bipartite)
+        found = tables.read_plain(file_ranges.read_lines(source.range), source.form, Rounding(None))
+        return None if found is None else _number_edges(*found, bipartite)
     if isinstance(source, Frame):
         frame = source.frame.compute() if hasattr(source.frame, 'compute') else source.frame
         edges = edges_of_frame(frame, source.ends, source.value, source.layout)
@@ -85,11 +85,11 @@ def read(source: Source, bipartite: bool) -> Optional[EdgePart]:
             edges = graph_formats.read_table(source.path, file.read(), source.layout)
     else:
         edges = tables.read(source.path, files.load(source.path), source.layout)
-    part = _numbered(edges.sources, edges.targets, edges.values, bipartite)
+    part = _number_edges(edges.sources, edges.targets, edges.values, bipartite)
     return part._replace(summary=edges.summary, left_out=edges.left_out)
 
 
-def _numbered(sources: Any, targets: Any, values: Any, bipartite: bool) -> EdgePart:
+def _number_edges(sources: Any, targets: Any, values: Any, bipartite: bool) -> EdgePart:
     codes: List[Any] = []
     names: List[Names] = []
     for columns in ([[sources], [targets]] if bipartite else [[sources, targets]]):
@@ -102,7 +102,7 @@ def _numbered(sources: Any, targets: Any, values: Any, bipartite: bool) -> EdgeP
 
 # -- names of all parts
 
-def merged(parts: Sequence[Names]) -> Optional[Names]:
+def merge_names(parts: Sequence[Names]) -> Optional[Names]:
     """The names of all parts; None where some are whole numbers and some aren't."""
     parts = [names for names in parts if len(names)]
     if all(isinstance(names, numpy.ndarray) for names in parts):
@@ -112,7 +112,7 @@ def merged(parts: Sequence[Names]) -> Optional[Names]:
     return list(dict.fromkeys(name for names in parts for name in names))
 
 
-def places_in(names: Names, all_names: Names, places: Any) -> Any:
+def number_part(names: Names, all_names: Names, places: Any) -> Any:
     """The number of each name of a part among all; `places` are those of texts."""
     if isinstance(names, numpy.ndarray):
         return numpy.searchsorted(all_names, names).astype(numpy.int32) if len(names) else numpy.zeros(0, numpy.int32)
@@ -138,14 +138,14 @@ def _triples(part: EdgePart, to: To) -> Triples:
     return triples if to.directed else matrix_market.mirrored(matrix_market.lowered(triples, 'symmetric'), 'symmetric')
 
 
-def row_counts(part: EdgePart, to: To, edges: Sequence[int]) -> Any:
+def count_rows(part: EdgePart, to: To, edges: Sequence[int]) -> Any:
     """How many entries lie in the rows from each edge to below the next."""
     return numpy.histogram(_triples(part, to).rows, numpy.array(edges))[0]
 
 
-def split(part: EdgePart, to: To, cut: Cut) -> List[Part]:
+def split_part(part: EdgePart, to: To, cut: Cut) -> List[Part]:
     """The lines of each block."""
-    return file_ranges.written(_triples(part, to), to.bare, cut)
+    return file_ranges.write_parts(_triples(part, to), to.bare, cut)
 
 
 class Repeated(ReadError):

@@ -42,41 +42,41 @@ class AtBlock(Exception):
         return AtBlock, (self.label, self.fault)
 
 
-def named(label: str, fault: BaseException) -> Exception:
+def name_block(label: str, fault: BaseException) -> Exception:
     """The exception that a caller gets: a refusal of the same class with the block in its words and
     as `block`, `BlockFailed` for anything else; what the package raises for callers' mistakes
     (VersionMismatch, ValueError, TypeError) with its own words."""
     if isinstance(fault, Refused):
-        return worded(fault, label)
+        return add_block(fault, label)
     if isinstance(fault, (ValueError, TypeError, VersionMismatch)):
         return fault
     return BlockFailed('%s: %s%s' % (label, type(fault).__name__, ': %s' % fault if str(fault) else ''), label)
 
 
-def worded(fault: Refused, block: str) -> Refused:
+def add_block(fault: Refused, block: str) -> Refused:
     """A refusal that names a block."""
-    out = type(fault)(fault.rule, fault.numbers, fault.command, fault.line, _joined(fault.detail, block))
+    out = type(fault)(fault.rule, fault.numbers, fault.command, fault.line, _join_words(fault.detail, block))
     out = out.of_file(fault.file, fault.said).on_line(fault.text_line)
     out.block = block  # type: ignore[attr-defined]
     return out
 
 
-def in_all(fault: BudgetExceeded, spent: int) -> BudgetExceeded:
+def add_spent(fault: BudgetExceeded, spent: int) -> BudgetExceeded:
     """A refusal for lack of steps with what all sessions have spent, as `spent_in_all` and in its
     words."""
     out = BudgetExceeded(fault.rule, fault.numbers, fault.command, fault.line,
-                         _joined(fault.detail, 'all sessions have spent %d' % spent))
+                         _join_words(fault.detail, 'all sessions have spent %d' % spent))
     out.block, out.spent_in_all = getattr(fault, 'block', ''), spent  # type: ignore[attr-defined]
     return out
 
 
-def _joined(*parts: str) -> str:
+def _join_words(*parts: str) -> str:
     return '; '.join(part for part in parts if part)
 
 
 # -- positions that repeat
 
-def first_repeated(triples: Triples) -> Optional[int]:
+def find_repeated(triples: Triples) -> Optional[int]:
     """The first entry whose position an earlier one has, as they were given; None where each
     position stands once."""
     key = triples.rows * max(triples.ncols, 1) + triples.columns
@@ -85,27 +85,27 @@ def first_repeated(triples: Triples) -> Optional[int]:
     return int(again.min()) if len(again) else None
 
 
-def of_repeated_triples(triples: Triples, fault: Refused) -> Refused:
+def refuse_triples(triples: Triples, fault: Refused) -> Refused:
     """The refusal of entries that came as lists or arrays."""
-    at = first_repeated(triples)
+    at = find_repeated(triples)
     return fault if at is None else coo.repeated(triples, at)
 
 
-def _positions(spool: 'Spooled', cut: Cut) -> Set[Tuple[int, int]]:
+def _find_positions(spool: 'Spooled', cut: Cut) -> Set[Tuple[int, int]]:
     """The positions that repeat, as they are found block by block; of each block one."""
     found = set()
     for triples in spool.blocks(cut):
-        at = first_repeated(triples)
+        at = find_repeated(triples)
         if at is not None:
             found.add((int(triples.rows[at]), int(triples.columns[at])))
     return found
 
 
-def of_repeated_line(source: Any, start: Optional[int], spool: 'Spooled', cut: Cut,
+def refuse_line(source: Any, start: Optional[int], spool: 'Spooled', cut: Cut,
                      fault: Refused) -> Refused:
     """The refusal of a file's line, which is found by reading the file once more; where it can't
     be, of the position."""
-    again = _positions(spool, cut)
+    again = _find_positions(spool, cut)
     row, column = min(again, default=(-1, -1))
     named = 'row %d, column %d is given twice; %s' % (row + 1, column + 1, coo.DUP_OP) if again else ''
     with contextlib.suppress(OSError, ValueError):

@@ -91,7 +91,7 @@ def digest_of(text: bytes) -> bytes:
     return hashlib.blake2b(text, digest_size=32).digest()
 
 
-def stamp_of(path: str) -> Optional[Stamp]:
+def read_stamp(path: str) -> Optional[Stamp]:
     """What tells a file apart, None where there is none here."""
     try:
         status = os.stat(path)
@@ -100,7 +100,7 @@ def stamp_of(path: str) -> Optional[Stamp]:
     return Stamp(status.st_size, status.st_mtime_ns)
 
 
-def lines_in(part: Range) -> bytes:
+def read_lines(part: Range) -> bytes:
     """The lines of a range, each with its LF. ValueError where the file isn't the one that was
     looked at."""
     with open(part.path, 'rb') as file:
@@ -116,7 +116,7 @@ def lines_in(part: Range) -> bytes:
     return text if text.endswith(b'\n') or not text else text + b'\n'
 
 
-def cut_up(path: str, stamp: Stamp, first: int, most: int, least: int) -> List[Range]:
+def cut_file(path: str, stamp: Stamp, first: int, most: int, least: int) -> List[Range]:
     """The ranges of a file from a byte on: of so many bytes at most, and at least so many of
     them."""
     many = max(least, -(-(stamp.size - first) // most))
@@ -129,25 +129,25 @@ def cut_up(path: str, stamp: Stamp, first: int, most: int, least: int) -> List[R
 def split(part: Range, about: About, cut: Cut) -> Tuple[List[Part], int]:
     """The lines of each block, and how many lines of the file they are; `UNUSUAL` where these are
     to be read one by one."""
-    body = lines_in(part)
+    body = read_lines(part)
     lengths = _field_lengths(body, about.kind.width) if about.is_plain and body else None
     if lengths is not None and int(lengths[::about.kind.width].max()) <= MOST_DIGITS:
         rows, = parse_integers.fields(body, (0,), about.kind.width)
         if _are_rows(rows, about.nrows) and bool((rows[1:] >= rows[:-1]).all()):
-            return _as_they_are(body, rows, cut), len(rows)
+            return _split_ascending(body, rows, cut), len(rows)
     triples = _triples(body, about) if lengths is not None and int(lengths.max()) <= MOST_DIGITS else None
     if triples is None:
         triples = matrix_market.read_quickly(about.kind, body, body.count(b'\n'), about.nrows, about.ncols)
     if triples is None:
         return [Part(b'', 0)] * cut.blocks, UNUSUAL if body else 0
-    return written(matrix_market.mirrored(triples, about.kind.symmetry), about.is_bare, cut), body.count(b'\n')
+    return write_parts(matrix_market.mirrored(triples, about.kind.symmetry), about.is_bare, cut), body.count(b'\n')
 
 
 def _are_rows(numbers: Any, nrows: int) -> bool:
     return len(numbers) == 0 or (int(numbers.min()) >= 1 and int(numbers.max()) <= nrows)
 
 
-def _as_they_are(body: bytes, rows: Any, cut: Cut) -> List[Part]:
+def _split_ascending(body: bytes, rows: Any, cut: Cut) -> List[Part]:
     """Lines whose rows ascend. What else stands in them a session looks at."""
     starts = numpy.append(0, numpy.flatnonzero(numpy.frombuffer(body, numpy.uint8) == LF) + 1)
     at = numpy.searchsorted(rows, numpy.array(cut.bounds) + 1)
@@ -180,7 +180,7 @@ def _triples(body: bytes, about: About) -> Optional[Triples]:
     return Triples(rows - 1, columns - 1, values[0] if values else numpy.ones(len(rows), numpy.int64), about.nrows, about.ncols)
 
 
-def written(triples: Triples, bare: bool, cut: Cut) -> List[Part]:
+def write_parts(triples: Triples, bare: bool, cut: Cut) -> List[Part]:
     """The lines of each block, in the order of the entries."""
     rows, columns, values, nrows, ncols = triples
     of = numpy.searchsorted(numpy.array(cut.bounds[1:-1], numpy.int64), rows, side='right')
@@ -194,7 +194,7 @@ def written(triples: Triples, bare: bool, cut: Cut) -> List[Part]:
     return parts
 
 
-def laid_out(parts: Sequence[Part], path: str) -> List[Part]:
+def lay_out(parts: Sequence[Part], path: str) -> List[Part]:
     """The same parts, whose lines lie in a file."""
     out, at = [], 0
     with open(path, 'wb') as file:

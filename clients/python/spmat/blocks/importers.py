@@ -41,7 +41,7 @@ class Inputs(Sources[BlockMatrix]):
     folder: Optional[str]
     progress: Progress
     submit: Callable[..., Any]
-    batch: Callable[[Sequence[Work]], List[Any]]
+    submit_batch: Callable[[Sequence[Work]], List[Any]]
     results: Callable[..., List[Any]]
     spool: Callable[[], Optional[str]]
     _backend: 'BlocksBackend'
@@ -59,7 +59,7 @@ class Inputs(Sources[BlockMatrix]):
         with chunked_input.Spool(coo.side(nrows, 0, 'nrows'), coo.side(ncols, 0, 'ncols')) as spool:
             spool.take(edges)
             spool.notes = BY_POSITIONS
-            return self._spooled(spool, cut, name, dup_op)
+            return self._load_spool(spool, cut, name, dup_op)
 
     def from_text(self, text: Union[bytes, str], name: Optional[str] = None) -> BlockMatrix:
         """A matrix from a Matrix Market text as a session reads it; see `Session.from_text`.
@@ -93,15 +93,15 @@ class Inputs(Sources[BlockMatrix]):
             return made
         start = source.tell() if hasattr(source, 'read') and hasattr(source, 'seekable') and source.seekable() else None
         limit = files.Limit(max_bytes)
-        with chunked_input.spool_of(source, matrix_market.Values(values, scale), self.progress, dup_op is None, limit) as spool:
+        with chunked_input.spool_file(source, matrix_market.Values(values, scale), self.progress, dup_op is None, limit) as spool:
             if dup_op is not None:
-                return self._refolded(spool, cut, name, dup_op)
+                return self._fold_file(spool, cut, name, dup_op)
             try:
-                return self._spooled(spool, cut, name)
+                return self._load_spool(spool, cut, name)
             except TextRefused as fault:
                 if fault.rule != 'M8':
                     raise
-                found = errors.of_repeated_line(source, start, spool, self.find_cut(spool.nrows, spool, cut), fault)
+                found = errors.refuse_line(source, start, spool, self.find_cut(spool.nrows, spool, cut), fault)
                 raise found.of_file(name_of(source)) from None
 
     def _read(self, path: Any, request: Request, dup_op: DupOp, name: Optional[str]) -> BlockMatrix:
@@ -113,7 +113,7 @@ class Inputs(Sources[BlockMatrix]):
         made = None if dup_op is not None or request.directed is False or request.format not in (None, 'mtx') else parallel_read.read_matrix_market(
             self, path, matrix_market.Values(layout.values, layout.scale), None, name)
         if made is None and request.format in (None, 'edges', 'csv', 'tsv', 'parquet'):
-            made = parallel_edgelist.of_file(self, path, request, reading)
+            made = parallel_edgelist.read_file(self, path, request, reading)
         return super()._read(path, request, dup_op, name) if made is None else made
 
     def from_dask_dataframe(self, frame: Any, source: Any = 'source', target: Any = 'target',
@@ -131,19 +131,19 @@ class Inputs(Sources[BlockMatrix]):
             raise ValueError(question)
         layout = Layout(missing=missing, unit=unit, date_format=date_format)
         reading = parallel_edgelist.Reading(directed, bool(bipartite), dup_op, name, times=unit)
-        return parallel_edgelist.of_frame(self, frame, Frame(None, (source, target), edge_attr, layout), reading)
+        return parallel_edgelist.read_frame(self, frame, Frame(None, (source, target), edge_attr, layout), reading)
 
-    def _refolded(self, spool: 'chunked_input.Spooled', cut: Optional[Sequence[int]],
+    def _fold_file(self, spool: 'chunked_input.Spooled', cut: Optional[Sequence[int]],
                   name: Optional[str], dup_op: DupOp) -> BlockMatrix:
         """A matrix of a file's entries, whose positions may repeat: they are folded as they stand
         in the file, and then the other triangle of a symmetric one is added."""
         with chunked_input.Spool(spool.nrows, spool.ncols) as folded:
-            for triples in spool.blocks(row_partition.by_entries(spool.counts, self.blocks)):
-                folded.add(matrix_market.mirrored(self._folded(triples, dup_op), spool.symmetry))
+            for triples in spool.blocks(row_partition.cut_by_entries(spool.counts, self.blocks)):
+                folded.add(matrix_market.mirrored(self._fold_triples(triples, dup_op), spool.symmetry))
             folded.notes = spool.notes._replace(weighted=True)
-            return self._spooled(folded, cut, name)
+            return self._load_spool(folded, cut, name)
 
-    def _market(self, file: str, text: bytes, request: Request, dup_op: DupOp,
+    def _read_market(self, file: str, text: bytes, request: Request, dup_op: DupOp,
                 name: Optional[str]) -> BlockMatrix:
         layout = request.layout
         try:
@@ -151,7 +151,7 @@ class Inputs(Sources[BlockMatrix]):
         except Refused as fault:
             raise fault.of_file(file) from None
 
-    def _folded(self, triples: Triples, dup_op: DupOp) -> Triples:
+    def _fold_triples(self, triples: Triples, dup_op: DupOp) -> Triples:
         if dup_op is None:
             return triples
         op = find('binary', dup_op)
@@ -162,7 +162,7 @@ class Inputs(Sources[BlockMatrix]):
         """A matrix with one value everywhere, made at the workers."""
         shape = coo.side(nrows, 0, 'nrows'), coo.side(ncols, 0, 'ncols')
         cut, value = self.find_cut(shape[0], None), coo.word(value, 'value')
-        return as_constant(self._each(cut, shape[1], name, lambda first, end: (worker_tasks.full, first, end, shape, value)))
+        return as_constant(self._make_each(cut, shape[1], name, lambda first, end: (worker_tasks.full, first, end, shape, value)))
 
     def ones(self, ncols: int) -> BlockMatrix:
         """A row of ones, which folds columns. It is made at a worker where a job wants it."""
@@ -175,9 +175,9 @@ class Inputs(Sources[BlockMatrix]):
     def identity(self, n: int, value: int = 1, *, name: Optional[str] = None) -> BlockMatrix:
         """A square matrix with one value on its diagonal, made at the workers."""
         n, value = coo.side(n, 0, 'n'), coo.word(value, 'value')
-        return as_constant(self._each(self.find_cut(n, None), n, name, lambda first, end: (worker_tasks.identity, first, end, n, value)))
+        return as_constant(self._make_each(self.find_cut(n, None), n, name, lambda first, end: (worker_tasks.identity, first, end, n, value)))
 
-    def _each(self, cut: Cut, ncols: int, name: Optional[str],
+    def _make_each(self, cut: Cut, ncols: int, name: Optional[str],
               task: Callable[[int, int], Tuple[Any, ...]]) -> BlockMatrix:
         return self.assemble(cut, ncols, self._submit_each(cut, task), name)
 
@@ -193,7 +193,7 @@ class Inputs(Sources[BlockMatrix]):
         """Where a new matrix is cut: as the caller says, or as the matrix that these sessions cut
         after; None where neither tells."""
         if given is not None:
-            return row_partition.checked(given.bounds if isinstance(given, Cut) else given, nrows)
+            return row_partition.check_cut(given.bounds if isinstance(given, Cut) else given, nrows)
         return self.cut if self.cut is not None and self.cut.nrows == nrows else None
 
     def find_cut(self, nrows: int, spool: Optional['chunked_input.Spooled'],
@@ -202,16 +202,16 @@ class Inputs(Sources[BlockMatrix]):
         found = self.cut_for(nrows, given)
         if found is not None:
             return found
-        return row_partition.evenly(nrows, self.blocks) if spool is None else row_partition.by_entries(spool.counts, self.blocks)
+        return row_partition.cut_evenly(nrows, self.blocks) if spool is None else row_partition.cut_by_entries(spool.counts, self.blocks)
 
-    def _from(self, triples: Triples, dup_op: DupOp = None,
+    def _put_triples(self, triples: Triples, dup_op: DupOp = None,
               name: Optional[str] = None) -> BlockMatrix:
-        folded = self._folded(triples, dup_op)
+        folded = self._fold_triples(triples, dup_op)
         with chunked_input.InMemory(folded) as held:
             try:
-                return self._spooled(held, None, name)
+                return self._load_spool(held, None, name)
             except TextRefused as fault:
-                raise (errors.of_repeated_triples(folded, fault) if fault.rule == 'M8' else fault) from None
+                raise (errors.refuse_triples(folded, fault) if fault.rule == 'M8' else fault) from None
 
     def share(self, piece: Piece) -> Any:
         """A piece that has its text, as tasks of all places take it: by Dask from one worker, which
@@ -222,15 +222,15 @@ class Inputs(Sources[BlockMatrix]):
 
     def _fold(self, many: Triples, op: Operator) -> Any:
         label = 'values that share a position'
-        folds = self.results(self.batch([Work(0, label, worker_tasks.fold_repeated, (many, op))]), [label])[0]
+        folds = self.results(self.submit_batch([Work(0, label, worker_tasks.fold_repeated, (many, op))]), [label])[0]
         return numpy.array(folds)
 
-    def _spooled(self, spool: 'chunked_input.Spooled', given: Union[Cut, Sequence[int], None],
+    def _load_spool(self, spool: 'chunked_input.Spooled', given: Union[Cut, Sequence[int], None],
                  name: Optional[str], dup_op: DupOp = None) -> BlockMatrix:
         """A matrix of what lies in a spool, block by block."""
         cut = self.find_cut(spool.nrows, spool, given)
-        fold = None if dup_op is None else lambda triples: self._folded(triples, dup_op)
-        made = BlockMatrix(self, self._backend.spooled(spool, cut, fold), name)
+        fold = None if dup_op is None else lambda triples: self._fold_triples(triples, dup_op)
+        made = BlockMatrix(self, self._backend.load_spool(spool, cut, fold), name)
         made.notes = spool.notes
         return made
 
@@ -239,7 +239,7 @@ class Inputs(Sources[BlockMatrix]):
         if (len(text) < SMALL and self.folder is None) or self.spool() is None:
             return self.submit(block, label, worker_tasks.source, text)
         path = self.new_file()
-        return self.submit(block, label, worker_tasks.read, path, chunked_input.put(path, text))
+        return self.submit(block, label, worker_tasks.read, path, chunked_input.write_text(path, text))
 
     def new_file(self) -> str:
         """The path of a file in `spool()` that isn't there yet, and that `close` removes."""

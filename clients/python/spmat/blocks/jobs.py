@@ -29,7 +29,7 @@ def job_at(cut: Cut, block: int, job: Job, pieces: Iterable[Any], mask: Optional
     same visit."""
     method, visit = FORMS[job.form].method, job.visit
     if visit is not None and visit.method:
-        method, args, options = visit.method, visit.args, visit.options
+        (method, *args), options = visit.method, visit.options
     under = _mask_at(job, mask, block)
     sent = method, list(pieces), under, list(args), options
     return Work(block, cut.label(block), worker_tasks.job, sent)
@@ -47,11 +47,11 @@ def make_each(backend: 'BlocksBackend', job: Job) -> 'BlockHandle':
     """A job of any form but a product: each block's by the same rows of all operands."""
     given: Any = job.operands
     first: 'BlockHandle' = given[0]
-    operands = [first, *(other.at_rows(first.cut) for other in given[1:])]
+    operands = [first, *(other.recut_at(first.cut) for other in given[1:])]
     mask = _mask_of(job, first.cut)
     args: List[Any] = [*job.operators, *([] if job.thunk is None else [job.thunk])]
     pieces = zip(*(operand.futures for operand in operands))
-    futures = backend.sessions.batch([job_at(first.cut, block, job, some, mask, args)
+    futures = backend.sessions.submit_batch([job_at(first.cut, block, job, some, mask, args)
                                       for block, some in enumerate(pieces)])
     return backend.result(job, first.cut, futures, [*operands, mask])
 
@@ -65,7 +65,7 @@ def multiply(backend: 'BlocksBackend', job: Job) -> 'BlockHandle':
     caller holds then what a lost block is made of again."""
     _, second = job.operands
     is_associative = goes_by_blocks(backend, job)
-    made = (_by_blocks if is_associative else _with_whole)(backend, job)
+    made = (_multiply_by_blocks if is_associative else _multiply_by_whole)(backend, job)
     if second.shape[1] != 1 or is_associative or backend.sessions.engine.forgets:
         made.counts()
     return made
@@ -80,25 +80,25 @@ def goes_by_blocks(backend: 'BlocksBackend', job: Job) -> bool:
 
 def _mask_of(job: Job, cut: Cut) -> Optional['BlockHandle']:
     mask: Any = job.mask
-    found: Optional['BlockHandle'] = None if mask is None else mask.at_rows(cut)
+    found: Optional['BlockHandle'] = None if mask is None else mask.recut_at(cut)
     return found
 
 
-def _with_whole(backend: 'BlocksBackend', job: Job) -> 'BlockHandle':
+def _multiply_by_whole(backend: 'BlocksBackend', job: Job) -> 'BlockHandle':
     """Each block of A times the whole of B. The result holds that whole, from which a block that is
     lost is made again: so what came before B is not."""
     a, b = _operands(job)
-    mask, whole = _mask_of(job, a.cut), b.whole()
+    mask, whole = _mask_of(job, a.cut), b.join_whole()
     args, parts = [Semiring(*job.operators)], job.is_by_parts and backend.halves_products
     blocks = [block for block, (first, end) in enumerate(a.cut.ranges()) if first < end]
-    made = backend.sessions.batch([
+    made = backend.sessions.submit_batch([
         job_at(a.cut, block, job, [a.futures[block], whole], mask, args, parts=parts)
         for block in blocks])
-    futures = _filled(backend, job, a.cut, dict(zip(blocks, made)))
+    futures = _fill_blocks(backend, job, a.cut, dict(zip(blocks, made)))
     return backend.result(job, a.cut, futures, [a, mask], [whole])
 
 
-def _by_blocks(backend: 'BlocksBackend', job: Job) -> 'BlockHandle':
+def _multiply_by_blocks(backend: 'BlocksBackend', job: Job) -> 'BlockHandle':
     """Each block of A times one block of B after the other, joined by union with ADD in the order
     of k. A row of ones goes to B's blocks, and a row comes from each."""
     a, b = _operands(job)
@@ -106,16 +106,16 @@ def _by_blocks(backend: 'BlocksBackend', job: Job) -> 'BlockHandle':
     blocks = [block for block, (first, end) in enumerate(a.cut.ranges())
               if first < end or not a.is_ones]
     terms = _fold_ones(b, _mask_at(job, mask, blocks[0]), ring) if a.is_ones else [
-        backend.sessions.batch([
+        backend.sessions.submit_batch([
             job_at(a.cut, block, job, [a.futures[block], piece], mask, [ring],
                    parts=job.is_by_parts and backend.halves_products)
             for block in blocks]) for piece in b.futures]
     sofar = terms[0]
     for more in terms[1:]:
-        sofar = backend.sessions.batch([
+        sofar = backend.sessions.submit_batch([
             Work(block, a.cut.label(block), worker_tasks.sum_of, (one, other, ring.add))
             for block, one, other in zip(blocks, sofar, more)])
-    futures = _filled(backend, job, a.cut, dict(zip(blocks, sofar)))
+    futures = _fill_blocks(backend, job, a.cut, dict(zip(blocks, sofar)))
     return backend.result(job, a.cut, futures, [a, mask], b.holds)
 
 
@@ -124,7 +124,7 @@ def _fold_ones(b: 'BlockHandle', under: Optional[Tuple[Any, bool, bool]],
     """The products of a row of ones with each block of B, at that block."""
     works = [Work(block, label, worker_tasks.fold_rows, (piece, under, ring))
              for block, (label, piece) in enumerate(zip(b.labels, b.futures))]
-    return [[future] for future in b.backend.sessions.batch(works)]
+    return [[future] for future in b.backend.sessions.submit_batch(works)]
 
 
 def _operands(job: Job) -> Tuple['BlockHandle', 'BlockHandle']:
@@ -132,7 +132,7 @@ def _operands(job: Job) -> Tuple['BlockHandle', 'BlockHandle']:
     return a, b  # type: ignore[return-value]
 
 
-def _filled(backend: 'BlocksBackend', job: Job, cut: Cut, made: Dict[int, Any]) -> List[Any]:
+def _fill_blocks(backend: 'BlocksBackend', job: Job, cut: Cut, made: Dict[int, Any]) -> List[Any]:
     """The futures of all blocks, from those of some: the others have no rows."""
     none = None
     if len(made) < cut.blocks:
@@ -157,21 +157,21 @@ def push_front(graph: 'BlockMatrix', front: Vector, ring: Semiring) -> Vector:
     handle, labels = graph.handle, graph.handle.labels
     works = [Work(block, labels[block], worker_tasks.push_front,
                   (handle.futures[block], part, ring))
-             for block, part in enumerate(_parts(graph, front)) if len(part.at)]
-    return _fold(handle.backend.sessions.asked(works), ring.add)
+             for block, part in enumerate(_split_front(graph, front)) if len(part.at)]
+    return _fold(handle.backend.sessions.ask(works), ring.add)
 
 
 def pull_front(transpose: 'BlockMatrix', front: Vector, ring: Semiring) -> Vector:
     """The same, by the rows of the transpose; `ring` has its MUL turned round."""
     column: Any = put_column(transpose, front)
     handle, sessions = transpose.handle, transpose.blocks.sessions
-    whole, labels = column.handle.whole(), handle.labels
+    whole, labels = column.handle.join_whole(), handle.labels
     works = [Work(k, labels[k], worker_tasks.pull_front, (handle.futures[k], whole, ring))
              for k, (first, end) in enumerate(transpose.cut.ranges()) if first < end]
-    return _concatenate(sessions.results(sessions.batch(works), [work.label for work in works]))
+    return _concatenate(sessions.results(sessions.submit_batch(works), [work.label for work in works]))
 
 
-def _parts(graph: 'BlockMatrix', front: Vector) -> List[Vector]:
+def _split_front(graph: 'BlockMatrix', front: Vector) -> List[Vector]:
     """The front's vertices by the blocks that have their rows."""
     ends = numpy.searchsorted(front.at, graph.cut.bounds).tolist()
     return [Vector(front.at[first:end], front.values[first:end])

@@ -63,7 +63,7 @@ class BlockMatrix(Matrix):
         return '<BlockMatrix %s %dx%d, %d blocks%s>' % about
 
     def _repr_html_(self) -> str:
-        return shown(self)
+        return show_blocks(self)
 
     @property
     def blocks(self) -> 'Blocks':
@@ -115,17 +115,17 @@ class Blocks(NamedTuple):
         """The same matrix, cut at other rows: by text, without steps. This matrix where it is cut
         so already."""
         bounds = cut.bounds if isinstance(cut, Cut) else cut
-        wanted = row_partition.checked(bounds, self.matrix.nrows)
-        return self.matrix if wanted == self.cut else self._like(self.matrix.handle.at_rows(wanted))
+        wanted = row_partition.check_cut(bounds, self.matrix.nrows)
+        return self.matrix if wanted == self.cut else self._wrap(self.matrix.handle.recut_at(wanted))
 
     def checkpoint(self) -> BlockMatrix:
         """The same matrix on texts that stand by themselves: should a worker be lost, nothing that
         came before is computed again. The texts lie in the sessions' `folder` where there is one,
         else with the engine's scheduler. For long loops whose result stands on all rounds; a
         product's result needs none of it (docs/scaling.md)."""
-        return self._like(repartition.checkpoint(self.matrix.handle))
+        return self._wrap(repartition.checkpoint(self.matrix.handle))
 
-    def _like(self, handle: 'BlockHandle') -> BlockMatrix:
+    def _wrap(self, handle: 'BlockHandle') -> BlockMatrix:
         made = BlockMatrix(self.matrix.session, handle, self.matrix.name)
         made.notes = self.matrix.notes
         return as_vector(made) if self.matrix.is_vector else made  # type: ignore[no-any-return]
@@ -133,7 +133,7 @@ class Blocks(NamedTuple):
 
 # -- what a notebook shows
 
-def shown(matrix: BlockMatrix) -> str:
+def show_blocks(matrix: BlockMatrix) -> str:
     """A matrix in row blocks: its sizes and entries, the rows and the entries of the first blocks,
     and a corner with values. It waits for no block. Up to 50,000 entries come to the client, which
     also shows where they are; of more the corner alone, by one job at each block that has any of
@@ -151,11 +151,11 @@ def shown(matrix: BlockMatrix) -> str:
         corner = html.corner(matrix, html.values_of(matrix, cells))
     except SpmatError as fault:
         return html.headed('BlockMatrix', about, '<div>%s</div>' % html.text_of(fault))
-    shown_beside = html.beside(_listed(matrix), corner, *more)
+    shown_beside = html.beside(_list_blocks(matrix), corner, *more)
     return html.headed('BlockMatrix', about + html.known(matrix), shown_beside)
 
 
-def _listed(matrix: BlockMatrix) -> str:
+def _list_blocks(matrix: BlockMatrix) -> str:
     """The first blocks, with their rows and entries."""
     rows: List[List[Any]] = []
     for block, (counts, (first, end)) in enumerate(zip(matrix.counts(), matrix.cut.ranges())):
@@ -171,5 +171,5 @@ def _first_cells(matrix: BlockMatrix) -> html.Cells:
     futures = matrix.handle.futures
     works = [Work(block, cut.label(block), worker_tasks.first_cells, (futures[block],))
              for block in cut.meeting(0, html.CORNER)]
-    found = sessions.results(sessions.batch(works), [work.label for work in works])
+    found = sessions.results(sessions.submit_batch(works), [work.label for work in works])
     return {(i, j): value for cells in found for i, j, value in cells}

@@ -55,24 +55,24 @@ class _Vertices(NamedTuple):
     places: List[List[Any]]
 
 
-def of_file(sessions: 'Inputs', path: Any, request: Request, reading: Reading) -> Optional[BlockMatrix]:
+def read_file(sessions: 'Inputs', path: Any, request: Request, reading: Reading) -> Optional[BlockMatrix]:
     """The matrix of a list, or of a folder of files; None where it is for the caller's process to
     read."""
     if isinstance(path, (str, os.PathLike)) and os.path.isdir(path):
-        return of_sources(sessions, _in_folder(os.fspath(path), request), reading)
+        return read_sources(sessions, _list_folder(os.fspath(path), request), reading)
     file = parallel_read.find_shared(sessions, path)
     layout = request.layout
     converts = layout.scale is not None or layout.nodetype or layout.unit
     if file is None or converts or request.nodelist is not None or layout.comments not in (True, None):
         return None
     try:
-        table = _table(file.path, request)
+        table = _find_table(file.path, request)
         if table is None:
             return None
         form = tables.Form.of(table)
         start = sum(len(line) + 1 for line in table.text.split(b'\n')[:table.skipped])
-        sources: List[Source] = [ListRange(part, form) for part in parallel_read.cut_up(sessions, file, start)]
-        made = of_sources(sessions, sources, reading)
+        sources: List[Source] = [ListRange(part, form) for part in parallel_read.cut_file(sessions, file, start)]
+        made = read_sources(sessions, sources, reading)
     except (Refused, ReadError):                   # whoever reads it line by line names the line
         return None
     if made is not None:
@@ -80,7 +80,7 @@ def of_file(sessions: 'Inputs', path: Any, request: Request, reading: Reading) -
     return made
 
 
-def _table(path: str, request: Request) -> Optional[tables.Table]:
+def _find_table(path: str, request: Request) -> Optional[tables.Table]:
     """How a list is written; None where the file is of another format, or parted by more than one
     byte."""
     with open(path, 'rb') as file:
@@ -94,7 +94,7 @@ def _table(path: str, request: Request) -> Optional[tables.Table]:
     return table if len((table.delimiter or ' ').encode()) == 1 and not is_of_networkx else None
 
 
-def _in_folder(folder: str, request: Request) -> List[Source]:
+def _list_folder(folder: str, request: Request) -> List[Source]:
     """The files of a folder, by their names; those that begin with a dot or a low line are passed
     over, as whoever writes such folders has it."""
     if request.nodelist is not None:
@@ -113,17 +113,17 @@ def _is_parquet(path: str) -> bool:
         return file.read(4) == b'PAR1'
 
 
-def of_frame(sessions: 'Inputs', frame: Any, read: Frame, reading: Reading) -> BlockMatrix:
+def read_frame(sessions: 'Inputs', frame: Any, read: Frame, reading: Reading) -> BlockMatrix:
     """The matrix of the partitions of a frame of Dask, each read as one frame is."""
     read = read._replace(value=choose_value_column(frame.columns, read.ends, read.value))
     parts = sessions.engine.frames(list(frame.to_delayed()))
-    made = of_sources(sessions, [read._replace(frame=part) for part in parts], reading)
+    made = read_sources(sessions, [read._replace(frame=part) for part in parts], reading)
     if made is None:
         raise ValueError('some partitions have whole numbers as names, and others have not: convert the columns to one type')
     return made
 
 
-def of_sources(sessions: 'Inputs', sources: Sequence[Source],
+def read_sources(sessions: 'Inputs', sources: Sequence[Source],
                reading: Reading) -> Optional[BlockMatrix]:
     """The matrix of the edges of all parts; None where a part has to be read line by line, or names
     are of several kinds."""
@@ -141,15 +141,15 @@ def of_sources(sessions: 'Inputs', sources: Sequence[Source],
     op = None if reading.dup_op is None else find('binary', reading.dup_op)
     sizes = [len(names) for names in vertices.names]
     to = [To(numbers, sizes[0], sizes[-1], reading.directed, not weighted and op is None) for numbers in vertices.places]
-    made = _Moved(sessions, places, labels, parts, to).made(op, weighted, vertices, reading.name)
+    made = _Moved(sessions, places, labels, parts, to).make_matrix(op, weighted, vertices, reading.name)
     rows = axis_of(vertices.names[0])
     columns = rows if len(sizes) == 1 else axis_of(vertices.names[-1])
-    made.notes = Notes(None, None, reading.directed, weighted or op is not None, _left_out(found).added_to(found[0][2]),
+    made.notes = Notes(None, None, reading.directed, weighted or op is not None, _add_left_out(found).added_to(found[0][2]),
                        units.of_read(reading.scale, reading.dup_op, reading.times) if weighted else 1, sides=int(reading.bipartite)).with_axes(rows, columns)
     return made
 
 
-def _left_out(found: Sequence[Any]) -> LeftOut:
+def _add_left_out(found: Sequence[Any]) -> LeftOut:
     """What all parts leave out."""
     return functools.reduce(LeftOut.plus, (part[3] for part in found), LeftOut())
 
@@ -170,14 +170,14 @@ def _vertices(names: Sequence[List[Any]]) -> Optional[_Vertices]:
     """All names, and the numbers of those of each part."""
     found, numbers = [], []
     for column in zip(*names):
-        every = edgelist_partitions.merged(column)
+        every = edgelist_partitions.merge_names(column)
         if every is None:
             return None
         if len(every) > limits.MOST_SIDE:
             raise refusal('M4', detail='%d vertices' % len(every))
         nodes = Nodes(every.tolist() if isinstance(every, numpy.ndarray) else every)
         found.append(nodes)
-        numbers.append([edgelist_partitions.places_in(one, every, nodes.places if not isinstance(every, numpy.ndarray) else None) for one in column])
+        numbers.append([edgelist_partitions.number_part(one, every, nodes.places if not isinstance(every, numpy.ndarray) else None) for one in column])
     return _Vertices(found, [list(many) for many in zip(*numbers)])
 
 
@@ -189,16 +189,16 @@ class _Moved(NamedTuple):
     parts: Sequence[Any]
     to: Sequence[To]
 
-    def made(self, op: Optional[Operator], weighted: bool, vertices: _Vertices,
+    def make_matrix(self, op: Optional[Operator], weighted: bool, vertices: _Vertices,
              name: Optional[str]) -> BlockMatrix:
         """The matrix. Edges that repeat are folded, or where they have no values count once;
         ReadError names them otherwise."""
         cut = self.find_cut(vertices)
         shape, bare = (self.to[0].nrows, self.to[0].ncols), self.to[0].bare
         works = [Work(block, cut.label(block), worker_tasks.of_edges, (bare, shape, lines, op, weighted))
-                 for block, lines in enumerate(self._lines(cut))]
+                 for block, lines in enumerate(self._split_edges(cut))]
         try:
-            futures = [self.sessions.submit(*work[:3], *work.args) for work in works] if op is None else self.sessions.batch(works)
+            futures = [self.sessions.submit(*work[:3], *work.args) for work in works] if op is None else self.sessions.submit_batch(works)
             return self.sessions.assemble(cut, shape[1], futures, name).wait()
         except Repeated as fault:
             ends = vertices.names[0][fault.row], vertices.names[-1][fault.column]
@@ -209,21 +209,21 @@ class _Moved(NamedTuple):
         nrows = len(vertices.names[0])
         given = self.sessions.cut_for(nrows, None)
         if given is not None or nrows == 0:
-            return given or row_partition.evenly(nrows, self.sessions.blocks)
+            return given or row_partition.cut_evenly(nrows, self.sessions.blocks)
         bins = min(BINS, nrows)
         edges = [nrows * k // bins for k in range(bins + 1)]
-        counts = self.sessions.results(self._each(worker_tasks.edge_counts, edges), self.labels)
-        found = row_partition.by_entries([int(sum(many)) for many in zip(*counts)], self.sessions.blocks)
+        counts = self.sessions.results(self._submit_each(worker_tasks.edge_counts, edges), self.labels)
+        found = row_partition.cut_by_entries([int(sum(many)) for many in zip(*counts)], self.sessions.blocks)
         return Cut(tuple(edges[bound] for bound in found.bounds))
 
-    def _each(self, function: Any, *more: Any) -> List[Any]:
+    def _submit_each(self, function: Any, *more: Any) -> List[Any]:
         return [self.sessions.submit(place, label, function, part, to, *more)
                 for place, label, part, to in zip(self.places, self.labels, self.parts, self.to)]
 
-    def _lines(self, cut: Cut) -> List[List[Any]]:
+    def _split_edges(self, cut: Cut) -> List[List[Any]]:
         """The lines of each block out of each part: where they lie, or their futures."""
         if self.sessions.spool() is None:
-            split = self._each(worker_tasks.split_edges, cut, '')
+            split = self._submit_each(worker_tasks.split_edges, cut, '')
             return [[self.sessions.submit(place, label, worker_tasks.pick, future, block) for place, label, future in zip(self.places, self.labels, split)]
                     for block in range(cut.blocks)]
         split = [self.sessions.submit(place, label, worker_tasks.split_edges, part, to, cut, self.sessions.new_file())

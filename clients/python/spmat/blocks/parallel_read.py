@@ -36,7 +36,7 @@ def find_shared(sessions: 'Inputs', source: Any) -> Optional[SharedFile]:
     if not isinstance(source, (str, os.PathLike)):
         return None
     path = os.path.abspath(os.fsdecode(source))
-    stamp = file_ranges.stamp_of(path)
+    stamp = file_ranges.read_stamp(path)
     if stamp is None or stamp.size < LEAST or not os.path.isfile(path):
         return None
     with open(path, 'rb') as file:
@@ -63,7 +63,7 @@ def read_matrix_market(sessions: 'Inputs', source: Any, values: matrix_market.Va
             cut = sessions.cut_for(head.nrows, given) or _cut_of(opened, file, about, sessions.blocks)
         if cut is None:
             return None
-        parts = cut_up(sessions, file, start)
+        parts = cut_file(sessions, file, start)
         split = _split(sessions, parts, about, cut)
         if _lines(sessions, parts, split) != head.count:
             return None
@@ -74,9 +74,9 @@ def read_matrix_market(sessions: 'Inputs', source: Any, values: matrix_market.Va
     return made
 
 
-def cut_up(sessions: 'Inputs', file: SharedFile, first: int) -> List[Range]:
+def cut_file(sessions: 'Inputs', file: SharedFile, first: int) -> List[Range]:
     """The ranges of a file from a byte on, at least one for each session."""
-    return file_ranges.cut_up(file.path, file.stamp, first, MOST, sessions.engine.places)
+    return file_ranges.cut_file(file.path, file.stamp, first, MOST, sessions.engine.places)
 
 
 def place_of(number: int, many: int, sessions: 'Inputs') -> int:
@@ -101,7 +101,7 @@ def _cut_of(file: Any, about_file: SharedFile, about: About, blocks: int) -> Opt
             return None
     rows.sort()
     inside = [min(max(rows[len(rows) * k // blocks] - 1, 0), about.nrows) for k in range(1, blocks)] if rows else []
-    return Cut((0, *inside, about.nrows)) if rows else row_partition.evenly(about.nrows, blocks)
+    return Cut((0, *inside, about.nrows)) if rows else row_partition.cut_evenly(about.nrows, blocks)
 
 
 def _split(sessions: 'Inputs', parts: Sequence[Range], about: About, cut: Cut) -> List[Any]:

@@ -49,7 +49,7 @@ class Cut(NamedTuple):
         return [k for k, (start, stop) in enumerate(self.ranges()) if max(start, first) < min(stop, end)]
 
 
-def checked(bounds: Iterable[int], nrows: int) -> Cut:
+def check_cut(bounds: Iterable[int], nrows: int) -> Cut:
     """A cut that a caller gives, looked at. ValueError where the bounds don't ascend from 0 to the
     number of rows."""
     cut = Cut(tuple(bounds))
@@ -58,14 +58,14 @@ def checked(bounds: Iterable[int], nrows: int) -> Cut:
     return cut
 
 
-def by_entries(counts: Sequence[int], blocks: int) -> Cut:
+def cut_by_entries(counts: Sequence[int], blocks: int) -> Cut:
     """The cut into so many blocks of about as many entries each, by the number of entries of each
     row. A row is never divided, so a row with most of the entries has a block to itself, and others
     may stay without a row."""
     ends: Any = numpy.cumsum(counts)
     total = int(ends[-1]) if len(ends) else 0
     if not total:
-        return evenly(len(counts), blocks)
+        return cut_evenly(len(counts), blocks)
     places = [_nearest(ends, total * k / blocks) for k in range(1, blocks)]
     return Cut((0, *places, len(counts)))
 
@@ -77,7 +77,7 @@ def _nearest(ends: Any, wanted: float) -> int:
     return at if wanted - before <= int(ends[at]) - wanted else at + 1
 
 
-def evenly(nrows: int, blocks: int) -> Cut:
+def cut_evenly(nrows: int, blocks: int) -> Cut:
     """The cut into so many blocks of about as many rows each, where nothing is known of the
     entries."""
     return Cut(tuple(nrows * k // blocks for k in range(blocks + 1)))

@@ -19,7 +19,7 @@ from ..limits import MOST_STEPS, MOST_WORKERS
 from ..operators import Op, Operator, diagnostics, find
 from . import worker_tasks
 from .backend import BlockHandle, BlocksBackend
-from .errors import AtBlock, VersionMismatch, in_all, named
+from .errors import AtBlock, VersionMismatch, add_spent, name_block
 from .executor import Call, Engine, Progress
 from .importers import Inputs
 from .row_partition import Cut
@@ -149,7 +149,7 @@ class Sessions(Inputs):
     def budgets(self) -> Dict[str, Budget]:
         """What each session has reserved and spent, by the name of its worker, and what all
         sessions have left; of workers in one process, which share a session, the first."""
-        workers = self._ask()
+        workers = self._ask_budgets()
         left = self.ledger.budget.left
         return {worker: Budget(left, budget.reserved, budget.spent) for worker, (_, budget) in workers.items()}
 
@@ -157,16 +157,16 @@ class Sessions(Inputs):
         """What all sessions together have left, reserved and spent, as one budget. What a worker
         spent that was lost since is in it as far as it was told: by the last time that was
         asked."""
-        self._ask()
+        self._ask_budgets()
         return self.ledger.budget
 
-    def _ask(self) -> Dict[str, Tuple[str, Budget]]:
+    def _ask_budgets(self) -> Dict[str, Tuple[str, Budget]]:
         """The name and the budget of each session, by the first of its workers."""
         found: Dict[str, Tuple[str, Tuple[str, Budget]]] = {}
         try:
             answers = self.engine.everywhere(self.settings, worker_tasks.budget)
         except AtBlock as at:
-            raise named(at.label, at.fault) from None
+            raise name_block(at.label, at.fault) from None
         for worker, (session, budget) in answers.items():
             found.setdefault(session, (worker, (session, budget)))
         self.ledger.note(dict(both for _, both in found.values()))
@@ -180,15 +180,15 @@ class Sessions(Inputs):
     def check(self, op: Operator) -> diagnostics.Check:
         """What the verifier says of an operator; see `Session.check`. One of the sessions is
         asked."""
-        return self._one('', worker_tasks.check, op)  # type: ignore[no-any-return]
+        return self._ask_one('', worker_tasks.check, op)  # type: ignore[no-any-return]
 
     def dis(self, op: Operator) -> str:
         """An operator as assembly text; see `Session.dis`."""
-        return str(self._one('', worker_tasks.dis, op))
+        return str(self._ask_one('', worker_tasks.dis, op))
 
     def types(self, op: Operator) -> List[str]:
         """What the verifier knows before each instruction; see `Session.types`."""
-        return list(self._one('', worker_tasks.types, op))
+        return list(self._ask_one('', worker_tasks.types, op))
 
     # -- tasks
 
@@ -202,7 +202,7 @@ class Sessions(Inputs):
             handle.counts()
         return Run([JobResult(next(iter(handle.matrices()), None), handle.form, handle.price or 0, handle.steps or 0) for handle in held])
 
-    def begun(self, handle: BlockHandle) -> None:
+    def note_result(self, handle: BlockHandle) -> None:
         """Notes the result of a job, for `run`."""
         if len(self._waiting) > MOST_WAITING:
             self._waiting[:] = [one for one in self._waiting if (held := one()) is not None and held.waits]
@@ -212,11 +212,11 @@ class Sessions(Inputs):
         """Takes a result from those that `run` waits for."""
         self._waiting[:] = [one for one in self._waiting if one() not in (None, handle)]
 
-    def _one(self, label: str, function: Callable[..., Any], *args: Any) -> Any:
+    def _ask_one(self, label: str, function: Callable[..., Any], *args: Any) -> Any:
         """What a task gives at one of the sessions, whichever."""
         return self.results([self.submit(0, label, function, *args)], [label])[0]
 
-    def batch(self, works: Sequence[Work]) -> List[Any]:
+    def submit_batch(self, works: Sequence[Work]) -> List[Any]:
         """The futures of tasks, each of which makes one job at its block. Where the budget is
         small, BudgetExceeded with the price of all of them before any is charged, and else they are
         done."""
@@ -237,9 +237,9 @@ class Sessions(Inputs):
                 self.budget()
         return futures
 
-    def asked(self, works: Sequence[Work]) -> List[Any]:
-        """What tasks give whose first argument is a piece and whose others are short, as `batch`
-        and `results` have it, and by a shorter way where there is one: nothing of it stays at the
+    def ask(self, works: Sequence[Work]) -> List[Any]:
+        """What tasks give whose first argument is a piece and whose others are short, as
+        `submit_batch` and `results` have it, and by a shorter way where there is one: nothing of it stays at the
         workers."""
         check_queued()
         labels = [work.label for work in works]
@@ -248,11 +248,11 @@ class Sessions(Inputs):
             try:
                 found = self.engine.ask(self.settings, works[0].function, calls)
             except AtBlock as at:
-                raise named(at.label, at.fault) from None
+                raise name_block(at.label, at.fault) from None
             if found is not None:
                 self.ledger.grant(len(works))
                 return found
-        return self.results(self.batch(works), labels)
+        return self.results(self.submit_batch(works), labels)
 
     def _check(self, price: int) -> None:
         """BudgetExceeded where jobs of this price together are above what is left, with what the
@@ -288,10 +288,10 @@ class Sessions(Inputs):
         try:
             return self.engine.results(self.settings, futures, labels, self.progress)
         except AtBlock as at:
-            fault, cause = named(at.label, at.fault), at.fault
+            fault, cause = name_block(at.label, at.fault), at.fault
         if isinstance(fault, BudgetExceeded):
             with contextlib.suppress(Exception):   # a worker that is lost meanwhile can't be asked
-                fault = in_all(fault, self.budget().spent)
+                fault = add_spent(fault, self.budget().spent)
         try:
             raise fault from (cause if cause is not fault else None)
         finally:

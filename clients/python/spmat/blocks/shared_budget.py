@@ -96,7 +96,7 @@ def bound_of(function: Any, store: Any, args: Sequence[Any]) -> int:
     queued."""
     _asked.bound = True
     try:
-        return _refused(function, store, args)
+        return _read_price(function, store, args)
     finally:
         _asked.bound = False
 
@@ -106,12 +106,12 @@ def price_of(function: Any, store: Any, args: Sequence[Any]) -> int:
     operands are sent there."""
     asking = store.without_steps()
     try:
-        return _refused(function, asking, args)
+        return _read_price(function, asking, args)
     finally:
         asking.close()
 
 
-def _refused(function: Any, store: Any, args: Sequence[Any]) -> int:
+def _read_price(function: Any, store: Any, args: Sequence[Any]) -> int:
     try:
         function(store, *args)
     except BudgetExceeded as fault:

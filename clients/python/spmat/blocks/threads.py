@@ -88,7 +88,7 @@ class Threads(Engine):
     def store(self, settings: Settings, place: int) -> Store:
         """The session of a place, opened at its first use, and anew where its program has ended."""
         held = self._stores.get((settings.token, place))
-        if held is None or held.lost():
+        if held is None or held.is_lost():
             self._stores[settings.token, place] = held = Store(settings, held.ended if held is not None else Ended())
         return held
 
@@ -106,7 +106,7 @@ class Threads(Engine):
         for task, label in zip(futures, labels):
             try:
                 self._wait(settings, task, progress)
-                out.append(_value(task))
+                out.append(_wait_for_value(task))
             except BaseException as fault:
                 for other in futures:
                     other.future.cancel()
@@ -159,8 +159,8 @@ class _Maker:
         their texts."""
         for attempt in range(ATTEMPTS):
             try:
-                values = self._there(args)
-                recipe.args = _cut(recipe.args, values)
+                values = self._find_values(args)
+                recipe.args = _shorten(recipe.args, values)
                 return self._make(recipe, values)
             except AtBlock as at:
                 if not isinstance(at.fault, Closed) or attempt + 1 == ATTEMPTS:
@@ -174,16 +174,16 @@ class _Maker:
             recipe.last = weakref.ref(value)
         return value
 
-    def _there(self, args: Any) -> Any:
+    def _find_values(self, args: Any) -> Any:
         """Arguments with the results of the tasks in them; what is lost is made again, here."""
         if isinstance(args, Task):
-            value = _value(args)
+            value = _wait_for_value(args)
             if _is_lost(value):
-                value = args.again = self._made_again(args.recipe)
+                value = args.again = self._make_again(args.recipe)
             return value
-        return type(args)(map(self._there, args)) if type(args) in (list, tuple) else args
+        return type(args)(map(self._find_values, args)) if type(args) in (list, tuple) else args
 
-    def _made_again(self, last: Recipe) -> Any:
+    def _make_again(self, last: Recipe) -> Any:
         """What a recipe gives, and before it what it stands on, as far back as that is lost. By a
         list, as a chain may be long."""
         made: Dict[Recipe, Any] = {}
@@ -201,18 +201,18 @@ class _Maker:
                 waiting.pop()
                 if recipe not in made:
                     self._engine.count_again(self._settings)
-                    made[recipe] = self._make(recipe, _filled(recipe.args, made))
+                    made[recipe] = self._make(recipe, _fill_recipe(recipe.args, made))
         return made[last]
 
 
-def _value(task: Task) -> Any:
+def _wait_for_value(task: Task) -> Any:
     """The result of a task, which is waited for."""
     first = task.future.result()
     return first if task.again is None else task.again
 
 
 def _is_lost(value: Any) -> bool:
-    return isinstance(value, Piece) and value.lost()
+    return isinstance(value, Piece) and value.is_lost()
 
 
 def _recipes(args: Any) -> Any:
@@ -231,18 +231,18 @@ def _recipes_in(args: Any) -> Iterator[Recipe]:
             yield from _recipes_in(one)
 
 
-def _filled(args: Any, made: Dict[Recipe, Any]) -> Any:
+def _fill_recipe(args: Any, made: Dict[Recipe, Any]) -> Any:
     """Arguments with what the recipes among them gave."""
     if isinstance(args, Recipe):
         return made[args]
-    return type(args)(_filled(one, made) for one in args) if type(args) in (list, tuple) else args
+    return type(args)(_fill_recipe(one, made) for one in args) if type(args) in (list, tuple) else args
 
 
-def _cut(args: Any, values: Any) -> Any:
+def _shorten(args: Any, values: Any) -> Any:
     """Arguments in which vectors and other short texts stand themselves, and not how they were
     made."""
     if isinstance(args, Recipe):
         return values if isinstance(values, Piece) and values.has_text and values.is_short else args
     if type(args) in (list, tuple):
-        return type(args)(_cut(one, value) for one, value in zip(args, values))
+        return type(args)(_shorten(one, value) for one, value in zip(args, values))
     return args

@@ -116,7 +116,7 @@ class Piece:
         """Whether it is a vector, or its text is short: it is kept with what was made of it."""
         return 1 in (self.counts.nrows, self.counts.ncols) or (self._text is not None and len(self._text) < SHORT)
 
-    def lost(self) -> bool:
+    def is_lost(self) -> bool:
         """Whether it has gone with the session that it was in."""
         return self._text is None and self.matrix is not None and not self.matrix.session.connection.usable()
 
@@ -131,7 +131,7 @@ class Piece:
             self._digest = hashlib.blake2b(self.text(), digest_size=32).digest()
         return self._digest
 
-    def marked(self) -> 'Piece':
+    def mark(self) -> 'Piece':
         """The same piece, told apart by a mark of its own and not by its content, which takes
         longer."""
         self._digest = uuid.uuid4().bytes
@@ -139,7 +139,7 @@ class Piece:
 
     def __reduce__(self) -> Any:
         try:
-            return _arrived, (self.counts, self.text(), self._digest)
+            return _unpickle_piece, (self.counts, self.text(), self._digest)
         except Closed:
             leave()                                # another worker asks for what this one has lost
             raise
@@ -149,7 +149,7 @@ class Piece:
         return LEAST_SIZE + (len(self._text) if self._text is not None else 16 * self.counts.nvals)
 
 
-def _arrived(counts: Counts, text: bytes, digest: Optional[bytes]) -> Piece:
+def _unpickle_piece(counts: Counts, text: bytes, digest: Optional[bytes]) -> Piece:
     return Piece(counts, text=text, digest=digest)
 
 
@@ -166,7 +166,7 @@ class Store:
     def __init__(self, settings: Settings, before: Ended = Ended()) -> None:
         if settings.version is not None and version_of(settings.program) != settings.version:
             raise VersionMismatch('this worker has another version than the others: %s, and %s is expected'
-                                  % (_words(version_of(settings.program)), _words(settings.version)))
+                                  % (_describe_version(version_of(settings.program)), _describe_version(settings.version)))
         self.settings, self.name = settings, before.name or uuid.uuid4().hex
         self.session = Metered(max(0, settings.steps - before.spent), settings.workers, settings.program)
         self._lock = threading.Lock()
@@ -177,7 +177,7 @@ class Store:
         self._seen: Optional[Tuple[float, int]] = None
         self._known = before.spent
         self._users, self._last_use = 0, time.monotonic()
-        self._made: 'weakref.WeakSet[Piece]' = weakref.WeakSet()
+        self._pieces: 'weakref.WeakSet[Piece]' = weakref.WeakSet()
 
     def matrix(self, piece: Piece) -> Matrix:
         """The piece as a matrix of this session. Its text is taken in where it isn't there, each
@@ -201,10 +201,10 @@ class Store:
         self._note_spent()
         counts = Counts(matrix.nrows, matrix.ncols, matrix.nvals, matrix.price or 0, matrix.steps or 0)
         piece = Piece(counts, matrix)
-        self._made.add(piece)
+        self._pieces.add(piece)
         return piece.keep_text() if self.settings.texts else piece
 
-    def lost(self) -> bool:
+    def is_lost(self) -> bool:
         """Whether the session has ended by itself: its program was killed, or the machine's memory
         was at its end."""
         return not self.session.connection.usable()
@@ -224,7 +224,7 @@ class Store:
     def is_abandoned(self, seconds: float) -> bool:
         """Whether no task has used this session for so long, and nobody holds a piece of it."""
         with self._lock:
-            return not self._users and time.monotonic() - self._last_use > seconds and not len(self._made)
+            return not self._users and time.monotonic() - self._last_use > seconds and not len(self._pieces)
 
     @property
     def ended(self) -> Ended:
@@ -298,7 +298,7 @@ def store_of(settings: Settings) -> Store:
     global _sweeper  # pylint: disable=global-statement  # one for the process
     with _lock:
         held = _stores.get(settings.token)
-        if held is None or held.lost():
+        if held is None or held.is_lost():
             if held is not None:
                 _ended[settings.token] = held.ended
             _stores[settings.token] = held = Store(settings, _ended.get(settings.token, Ended()))
@@ -323,7 +323,7 @@ def _sweep() -> None:
             store.close()
 
 
-def program_stopped(settings: Settings, patience: float) -> bool:
+def end_stopped_program(settings: Settings, patience: float) -> bool:
     """Ends the program of this process where it stands still."""
     store = _stores.get(settings.token)
     return store is not None and store.end_if_stopped(patience)
@@ -345,10 +345,10 @@ def agree(versions: Dict[str, Tuple[str, str]]) -> Tuple[str, str]:
     for worker, version in versions.items():
         told.setdefault(version, []).append(worker)
     if len(told) > 1:
-        parts = ['%s has %s' % (', '.join(sorted(workers)), _words(version)) for version, workers in sorted(told.items())]
+        parts = ['%s has %s' % (', '.join(sorted(workers)), _describe_version(version)) for version, workers in sorted(told.items())]
         raise VersionMismatch('workers have different versions of spmat: ' + '; '.join(parts))
     return next(iter(told))
 
 
-def _words(version: Tuple[str, str]) -> str:
+def _describe_version(version: Tuple[str, str]) -> str:
     return 'client %s with program %s' % (version[0], version[1][:16])

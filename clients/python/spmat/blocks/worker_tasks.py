@@ -21,7 +21,7 @@ from ..io.matrix_text import Triples
 from ..mask import Mask
 from ..operators import Operator, Semiring, diagnostics
 from . import chunked_input, edgelist_partitions, file_ranges, row_partition
-from .errors import AtBlock, first_repeated
+from .errors import AtBlock, find_repeated
 from .shared_budget import bound_of, price_of
 from .worker_store import Counts, Piece, Store
 
@@ -55,12 +55,12 @@ def source(store: Store, text: bytes) -> Piece:
 def read(store: Store, path: str, digest: bytes) -> Piece:
     """A block from a file that holds its text. ValueError where the file has changed since it was
     written."""
-    return source(store, chunked_input.got(path, digest))
+    return source(store, chunked_input.read_text(path, digest))
 
 
 def stamp(store: Store, path: str) -> Optional[file_ranges.Stamp]:
     """What tells a file apart that this worker sees."""
-    return file_ranges.stamp_of(path)
+    return file_ranges.read_stamp(path)
 
 
 def split_range(store: Store, part: file_ranges.Range, about: file_ranges.About,
@@ -68,7 +68,7 @@ def split_range(store: Store, part: file_ranges.Range, about: file_ranges.About,
     """The lines of a range of a file by blocks, in another file where a path is given; and last how
     many lines of the file they are."""
     parts, lines = file_ranges.split(part, about, cut)
-    return [*(file_ranges.laid_out(parts, path) if path else parts), lines]
+    return [*(file_ranges.lay_out(parts, path) if path else parts), lines]
 
 
 def of_parts(store: Store, banner: bytes, shape: Tuple[int, int],
@@ -81,7 +81,7 @@ def of_parts(store: Store, banner: bytes, shape: Tuple[int, int],
 def read_edges(store: Store, source: Sequence[Any], kind: Any,
                bipartite: bool) -> Optional[edgelist_partitions.EdgePart]:
     """The edges of a part of a list."""
-    return edgelist_partitions.read(kind(*source), bipartite)
+    return edgelist_partitions.read_part(kind(*source), bipartite)
 
 
 def names_of(store: Store, part: Optional[edgelist_partitions.EdgePart]) -> Any:
@@ -93,14 +93,14 @@ def names_of(store: Store, part: Optional[edgelist_partitions.EdgePart]) -> Any:
 def edge_counts(store: Store, part: edgelist_partitions.EdgePart, to: edgelist_partitions.To,
                 edges: Sequence[int]) -> Any:
     """How many entries of a part lie in the rows from each edge to below the next."""
-    return edgelist_partitions.row_counts(part, to, edges)
+    return edgelist_partitions.count_rows(part, to, edges)
 
 
 def split_edges(store: Store, part: edgelist_partitions.EdgePart, to: edgelist_partitions.To,
                 cut: row_partition.Cut, path: str) -> List[file_ranges.Part]:
     """The lines of each block out of a part, in a file where a path is given."""
-    parts = edgelist_partitions.split(part, to, cut)
-    return file_ranges.laid_out(parts, path) if path else parts
+    parts = edgelist_partitions.split_part(part, to, cut)
+    return file_ranges.lay_out(parts, path) if path else parts
 
 
 def of_edges(store: Store, bare: bool, shape: Tuple[int, int], parts: Sequence[file_ranges.Part],
@@ -121,7 +121,7 @@ def of_edges(store: Store, bare: bool, shape: Tuple[int, int], parts: Sequence[f
     if op is not None:
         return store.piece(store.session.from_coo(*triples, dup_op=op))
     if weighted:
-        again = first_repeated(triples)
+        again = find_repeated(triples)
         assert again is not None
         raise edgelist_partitions.Repeated(int(rows[again]), int(at[again]))
     first = numpy.unique(rows * max(shape[1], 1) + at, return_index=True)[1]
@@ -130,7 +130,7 @@ def of_edges(store: Store, bare: bool, shape: Tuple[int, int], parts: Sequence[f
 
 def write(store: Store, piece: Piece, path: str) -> bytes:
     """Writes a block's text into a file; what `read` wants of it."""
-    return chunked_input.put(path, piece.text())
+    return chunked_input.write_text(path, piece.text())
 
 
 def full(store: Store, first: int, end: int, shape: Tuple[int, int], value: int) -> Piece:
@@ -213,7 +213,7 @@ def join_vector(store: Store, blocks: Sequence[Piece]) -> Piece:
     """The whole of a vector from its blocks."""
     texts = [block.text() for block in blocks]
     parts = [(text[matrix_text.head_of(text).start:], block.counts.nvals) for text, block in zip(texts, blocks)]
-    return assemble(store, blocks[0].counts[:2], parts).marked()
+    return assemble(store, blocks[0].counts[:2], parts).mark()
 
 
 def join_lines(store: Store, shape: Tuple[int, int], parts: Sequence[Lines]) -> Piece:

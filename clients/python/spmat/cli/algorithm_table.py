@@ -163,7 +163,7 @@ CALLS: Dict[str, Call] = {
 ARGUMENTS: Dict[str, Callable[[Matrix, argparse.Namespace], Any]] = {'GT': transposed, 'WT': transposed, 'source': start, 'sources': many}
 
 
-def called(algorithm: Algorithm, graph: Matrix, options: argparse.Namespace, progress: Optional[Progress]) -> Any:
+def call_algorithm(algorithm: Algorithm, graph: Matrix, options: argparse.Namespace, progress: Optional[Progress]) -> Any:
     """What an algorithm gives, called with the options that are named as its arguments are."""
     _, *names = algorithm.parameters
     given = {name: ARGUMENTS[name](graph, options) for name in names if name in ARGUMENTS}
@@ -176,7 +176,7 @@ def called(algorithm: Algorithm, graph: Matrix, options: argparse.Namespace, pro
 
 def commands() -> Dict[str, Command]:
     """The commands by their names: one for each algorithm, and one for the edges that lead to a vertex."""
-    found = {name.replace('_', '-'): Command(one, CALLS.get(name) or functools.partial(called, one)) for name, one in ALGORITHMS.items()
+    found = {name.replace('_', '-'): Command(one, CALLS.get(name) or functools.partial(call_algorithm, one)) for name, one in ALGORITHMS.items()
              if one.command}
     back = found['degrees'].algorithm._replace(gives='edges that lead to each vertex', plot=None, says=(
         'How many edges lead to each vertex; nothing of a vertex to which none does.'))

@@ -118,7 +118,7 @@ def run(command: Command, options: argparse.Namespace) -> int:
 def check_values(algorithm: Algorithm, options: argparse.Namespace) -> None:
     """Ends the command where values count and the words leave them out. Says on standard error where values are asked for and don't count."""
     weighted = getattr(options, 'weighted', False)
-    asked = graph_options.values_asked(options)
+    asked = graph_options.choose_values(options)
     if options.pattern and (asked or weighted):
         options.parser.error('%s wants values of edges, and --pattern reads none' % (asked or '--weighted'))
     if algorithm.uses_values(weighted):
@@ -139,10 +139,10 @@ def lines_of(algorithm: Algorithm, result: Any, options: argparse.Namespace) -> 
         return output.lines(options, output.Result(algorithm.fields, result))
     if options.mtx:
         return [(result.apply('plus', right=1) if algorithm.are_vertices else result).to_text().decode()]
-    return output.lines(options, graph_options.rows_of(options, result, called, shown(algorithm, result)))
+    return output.lines(options, graph_options.rows_of(options, result, called, choose_shown(algorithm, result)))
 
 
-def shown(algorithm: Algorithm, result: Matrix) -> Callable[[int], Any]:
+def choose_shown(algorithm: Algorithm, result: Matrix) -> Callable[[int], Any]:
     """What makes a vertex, a fraction or a number of a value."""
     names, scale, unit = result.notes.rows, algorithm.scale, result.unit
     if algorithm.are_vertices:

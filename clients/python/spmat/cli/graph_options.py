@@ -59,7 +59,7 @@ def add_graph_options(command: argparse.ArgumentParser) -> None:
     group.add_argument('--dup-op', metavar='OP', help='joins the values of an edge that repeats: plus, max, first, ..')
 
 
-def values_asked(options: argparse.Namespace) -> str:
+def choose_values(options: argparse.Namespace) -> str:
     """The option that asks for the values of edges; nothing where none does."""
     if options.scale is not None:
         return '--scale'
@@ -126,10 +126,10 @@ def read_graph(session: Session, options: argparse.Namespace, needs: Needs) -> M
     if options.bipartite and not needs.rectangular:
         graph = bipartite(graph)
     if options.undirected and graph.nrows == graph.ncols:
-        graph = named_as(undirected(graph), graph)
+        graph = copy_names(undirected(graph), graph)
     elif graph.nrows == graph.ncols and options.both_ways:
         if options.dup_op is None:                 # else reading made it so
-            graph = named_as(graph.ewise_add(graph.T, 'min'), graph)
+            graph = copy_names(graph.ewise_add(graph.T, 'min'), graph)
             graph.notes = graph.notes._replace(directed=False)
         check_kind(graph, needs.kind, True)
     elif graph.nrows == graph.ncols:
@@ -160,7 +160,7 @@ def name_vertices(graph: Matrix, first: int) -> None:
     graph.notes = graph.notes._replace(rows=rows, columns=columns)
 
 
-def named_as(made: Matrix, graph: Matrix) -> Matrix:
+def copy_names(made: Matrix, graph: Matrix) -> Matrix:
     """A matrix with another's names."""
     made.notes = made.notes._replace(rows=graph.notes.rows, columns=graph.notes.columns)
     return made

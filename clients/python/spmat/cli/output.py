@@ -39,25 +39,25 @@ def add_form_options(command: Any, mtx: bool = False) -> None:
 def lines(options: argparse.Namespace, result: Result) -> Iterable[str]:
     """A result in the form that the options ask for."""
     if options.json:
-        return _json(result)
-    return _csv(result) if options.csv else _plain(result)
+        return _format_json(result)
+    return _format_csv(result) if options.csv else _format_plain(result)
 
 
-def _plain(result: Result) -> Iterator[str]:
+def _format_plain(result: Result) -> Iterator[str]:
     """A line a row, its fields parted by blanks, or by tabs where a name has blanks."""
-    rows = [[_written(cell) for cell in row] for row in result.rows]
+    rows = [[_format_cell(cell) for cell in row] for row in result.rows]
     between = TABS if any(len(cell.split()) != 1 for row in rows for cell in row) else BLANKS
     return (between.join(row) + '\n' for row in rows)
 
 
-def _csv(result: Result) -> Iterator[str]:
+def _format_csv(result: Result) -> Iterator[str]:
     """A header and a line a row. (Quoted where a name has commas, as RFC 4180 has it, with LF at the ends of lines.)"""
     yield csv_line(result.fields)
     for row in result.rows:
-        yield csv_line(map(_written, row))
+        yield csv_line(map(_format_cell, row))
 
 
-def _json(result: Result) -> Iterator[str]:
+def _format_json(result: Result) -> Iterator[str]:
     """An object a row, each on a line of its own."""
     objects = (json.dumps(dict(zip(result.fields, map(_plain_object, row))), ensure_ascii=False) for row in result.rows)
     if result.single:
@@ -79,7 +79,7 @@ def _plain_object(cell: Any) -> Any:
     return int(cell) if hasattr(cell, '__index__') else str(cell)
 
 
-def _written(cell: Any) -> str:
+def _format_cell(cell: Any) -> str:
     """A cell as text: fractions to nine decimals, decimals of the graph's unit as they are."""
     return '%.9f' % cell if isinstance(cell, float) else format(cell, 'f') if isinstance(cell, decimal.Decimal) else '' if cell is None else str(cell)
 

@@ -41,15 +41,15 @@ def whole_number(word: str) -> int:
 
 def steps(word: str) -> int:
     """A budget. ArgumentTypeError outside its range."""
-    return within(whole_number(word), 0, MOST_STEPS, 'a budget is 0 to 2^62 steps')
+    return check_range(whole_number(word), 0, MOST_STEPS, 'a budget is 0 to 2^62 steps')
 
 
 def workers(word: str) -> int:
     """A number of threads. ArgumentTypeError outside its range."""
-    return within(whole_number(word), 1, MOST_WORKERS, 'workers are 1 to %d' % MOST_WORKERS)
+    return check_range(whole_number(word), 1, MOST_WORKERS, 'workers are 1 to %d' % MOST_WORKERS)
 
 
-def within(number: int, least: int, most: int, words: str) -> int:
+def check_range(number: int, least: int, most: int, words: str) -> int:
     """A number within its range. ArgumentTypeError outside."""
     if not least <= number <= most:
         raise argparse.ArgumentTypeError('%s, not %d' % (words, number))
@@ -90,19 +90,19 @@ def tls_of(options: argparse.Namespace) -> Optional[ssl.SSLContext]:
         return None
     import ssl
     try:
-        made = ssl.create_default_context(cafile=checked(options.cacert))
+        made = ssl.create_default_context(cafile=check_file(options.cacert))
     except OSError as fault:
         raise Ended(Status.FILE, '%s: no certificates in PEM format: %s' % (options.cacert, fault.strerror or fault)) from None
     if options.cert:
         try:
-            made.load_cert_chain(checked(options.cert) or '', checked(options.key))
+            made.load_cert_chain(check_file(options.cert) or '', check_file(options.key))
         except OSError as fault:
             raise Ended(Status.FILE, '%s: no certificate with its key in PEM format: %s'
                         % (' and '.join(filter(None, (options.cert, options.key))), fault.strerror or fault)) from None
     return made
 
 
-def checked(path: Optional[str]) -> Optional[str]:
+def check_file(path: Optional[str]) -> Optional[str]:
     """A path that can be read: what is told of it elsewhere doesn't name it."""
     if path:
         try:

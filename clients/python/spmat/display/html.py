@@ -201,7 +201,7 @@ def _runs(shades: Mapping[Tuple[int, int], int]) -> Iterator[Tuple[Tuple[int, in
 def operator(op: 'Operator') -> str:
     """An operator that no server was asked about: its source beside its instructions."""
     from ..operators import diagnostics
-    shown = diagnostics.shown(op)
+    shown = diagnostics.list_operator(op)
     if shown is not None:
         return listing(shown)
     return '<div><b>%s operator</b> %s%s</div>' % (text_of(op.kind), text_of(op.name or ''), code(op.origin()[1]))

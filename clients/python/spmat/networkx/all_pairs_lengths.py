@@ -17,7 +17,7 @@ from .components import all_reached, connected
 from .backend import SIGNED, SIMPLE_UNDIRECTED, Terms, UNDIRECTED, serves
 from .single_source_lengths import Lengths, NEGATIVE, check_method, divided, from_one, lengths, need
 from .spmat_graph import SpmatGraph
-from .weight_scaling import limit, told
+from .weight_scaling import scale_cutoff, unscale_length
 
 BLOCK = MOST_SIDE // 4                             # pairs of a block of sources
 Blocks = Iterator[Tuple[int, Matrix]]
@@ -55,7 +55,7 @@ def pairs(G: SpmatGraph, weight: Any = None, cutoff: Any = None, signed: bool = 
     parts = blocks(G, weight, signed)
     first = next(parts, None)
     unit = None if weight is None else G.values(weight).unit
-    return _pairs(G, parts, first, _limit(limit(cutoff, unit), whole), unit)
+    return _pairs(G, parts, first, _limit(scale_cutoff(cutoff, unit), whole), unit)
 
 
 def _limit(cutoff: Any, whole: Callable[[float], int]) -> Optional[int]:
@@ -171,7 +171,7 @@ def wiener_index(G: SpmatGraph, weight: Any = None) -> float:
     if not all_reached(G):
         return float('inf')
     total, unit = sum(_totals(G, weight)), None if weight is None else G.values(weight).unit
-    length: float = told(total, unit)
+    length: float = unscale_length(total, unit)
     return length if G.is_directed() else total / (2 * (unit or 1))
 
 
@@ -233,14 +233,14 @@ def eccentricities(G: SpmatGraph, weight: Any) -> Lengths:
     return divided(dict(zip(G, found)), G.values(weight).unit)
 
 
-def _given(arguments: Mapping[str, Any]) -> Optional[str]:
+def _find_unserved(arguments: Mapping[str, Any]) -> Optional[str]:
     if arguments['sp'] is not None:
         return 'lengths that are given'
     graph, v = arguments['G'], arguments['v']
     return 'some nodes, if not all are reached, of a directed graph' if v is not None and graph.is_directed() else None
 
 
-@serves(Terms(unless=_given))
+@serves(Terms(unless=_find_unserved))
 def eccentricity(G: SpmatGraph, v: Any = None, sp: Any = None, weight: Any = None) -> Any:
     nodes = list(G.nbunch_iter(v))
     if v is None:

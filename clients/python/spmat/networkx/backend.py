@@ -16,7 +16,7 @@ import networkx as nx
 from .. import errors
 from . import process_session
 from .backend_info import NEVER, SERVED
-from .convert import convert_from_nx, convert_to_nx, fold_of, forget_changed, held, odd_graph, read_values
+from .convert import convert_from_nx, convert_to_nx, fold_of, forget_changed, find_conversion, odd_graph, read_values
 from .spmat_graph import BOUND, SpmatGraph
 
 MORE_STEPS = 'a greater nx.config.backends.spmat.steps opens another session, and 0 gives the most that there are'
@@ -171,7 +171,7 @@ def _little(name: str, graph: Any) -> Optional[str]:
     least = process_session.setting('least_edges')
     if least < 0:
         pays = SERVED[name].pays
-        least = pays.first if held(graph) is None else pays.again
+        least = pays.first if find_conversion(graph) is None else pays.again
     if least == NEVER:
         return 'networkx has it at hand'
     many = _edges(graph, least)

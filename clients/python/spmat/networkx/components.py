@@ -15,12 +15,12 @@ from .spmat_graph import SpmatGraph
 
 def labels(G: SpmatGraph) -> List[int]:
     """The least index of each one's component, edges leading both ways; kept with the graph."""
-    return G.kept('labels', lambda: algorithms.connected_components(G.A, G.both, check=False).to_list(0))
+    return G.cache_answer('labels', lambda: algorithms.connected_components(G.A, G.both, check=False).to_list(0))
 
 
 def strong_labels(G: SpmatGraph) -> List[int]:
     """The least index of each one's strong component; kept with the graph."""
-    return G.kept('strong labels', lambda: algorithms.strongly_connected_components(G.A, G.AT, check=False).to_list(0))
+    return G.cache_answer('strong labels', lambda: algorithms.strongly_connected_components(G.A, G.AT, check=False).to_list(0))
 
 
 def parts(G: SpmatGraph, found: List[int]) -> List[Set[Any]]:

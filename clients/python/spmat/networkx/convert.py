@@ -26,7 +26,7 @@ def fold_of(name: Optional[str]) -> str:
 
 def odd_graph(graph: Any) -> Optional[str]:
     """Why a graph can't be read by its adjacency, in words; None where it can, or has been read."""
-    if isinstance(graph, SpmatGraph) or held(graph) is not None:
+    if isinstance(graph, SpmatGraph) or find_conversion(graph) is not None:
         return None
     if not isinstance(graph, nx.Graph):
         return 'no graph of networkx: %s' % type(graph).__name__
@@ -40,7 +40,7 @@ def is_view(graph: Any) -> bool:
     return '_graph' in getattr(graph, '__dict__', {})
 
 
-def held(graph: Any) -> Optional[SpmatGraph]:
+def find_conversion(graph: Any) -> Optional[SpmatGraph]:
     """The conversion of a graph that networkx keeps with it, whatever attributes it was for. None of a view."""
     if not nx.config.cache_converted_graphs or is_view(graph):
         return None
@@ -64,7 +64,7 @@ def forget_changed(graph: Any, attributes: List[Any]) -> None:
         graph.__networkx_cache__ = None            # networkx keeps nothing with it then
         return
     _cache(graph).pop(WAITING, None)
-    made = held(graph)
+    made = find_conversion(graph)
     if made is not None and process_session.setting('compare_weights') and not made.has_values_of(graph, attributes):
         graph.__networkx_cache__.clear()
 
@@ -74,7 +74,7 @@ def read_values(graph: Any, attribute: Any, default: Any, fold: str) -> Values:
     isn't whole."""
     if isinstance(graph, SpmatGraph):
         return graph.values(attribute, default, fold)
-    made = held(graph)
+    made = find_conversion(graph)
     if made is not None and made.edge_data is not None:
         return made.values(attribute, default, fold)
     key = graph_arrays.key_of(attribute, default, fold if graph.is_multigraph() else None)
@@ -111,7 +111,7 @@ def convert_from_nx(graph: Any, *, edge_attrs: Optional[Dict[str, Any]] = None, 
     """
     if isinstance(graph, SpmatGraph):
         return graph
-    made = held(graph)
+    made = find_conversion(graph)
     if made is None:
         odd = odd_graph(graph)
         if odd is not None:
@@ -135,10 +135,10 @@ def convert_to_nx(thing: Any, *, name: Optional[str] = None) -> Any:
     name : str, optional
         The name of the function that gave it.
     """
-    return copied(thing) if isinstance(thing, SpmatGraph) else thing
+    return copy_graph(thing) if isinstance(thing, SpmatGraph) else thing
 
 
-def copied(G: SpmatGraph, keep: Optional[Set[Any]] = None, links: Optional[Tuple[List[int], List[int]]] = None) -> Any:
+def copy_graph(G: SpmatGraph, keep: Optional[Set[Any]] = None, links: Optional[Tuple[List[int], List[int]]] = None) -> Any:
     """A networkx graph of the nodes in `keep`, or all, and of the edges between them, or of those at the rows and columns in
     `links`; with the attributes that were converted."""
     graph = G.kind()
@@ -146,11 +146,11 @@ def copied(G: SpmatGraph, keep: Optional[Set[Any]] = None, links: Optional[Tuple
     data = G.node_data
     graph.add_nodes_from((node, dict(data[node]) if data else {}) for node in G if keep is None or node in keep)
     flags = None if keep is None else [node in keep for node in G]
-    graph.add_edges_from(list(_edges(G, _chosen(G, flags, links))))
+    graph.add_edges_from(list(_edges(G, _choose_edges(G, flags, links))))
     return graph
 
 
-def _chosen(G: SpmatGraph, flags: Optional[List[bool]], links: Optional[Tuple[List[int], List[int]]]) -> List[int]:
+def _choose_edges(G: SpmatGraph, flags: Optional[List[bool]], links: Optional[Tuple[List[int], List[int]]]) -> List[int]:
     """The entries that become edges: of an undirected edge the one whose row is less."""
     rows, columns, count = G.at.rows, G.at.columns, len(G)
     chosen = numpy.ones(len(rows), bool) if G.is_directed() else rows <= columns

@@ -12,11 +12,11 @@ from networkx import NetworkXError, NetworkXUnfeasible
 from .. import algorithms
 from ..algorithms.utils import product
 from ..matrix import Matrix
-from .convert import copied
+from .convert import copy_graph
 from .process_session import session
 from .backend import DIRECTED, Terms, serves
 from .spmat_graph import SpmatGraph
-from .weight_scaling import told
+from .weight_scaling import unscale_length
 
 UNFEASIBLE = 'Graph contains a cycle or graph changed during iteration'
 
@@ -32,7 +32,7 @@ def cyclic(G: SpmatGraph) -> bool:
 
 def _with_edges(G: SpmatGraph, matrix: Matrix) -> Any:
     """A copy of the networkx graph with an edge at each entry that it hasn't one at."""
-    closed = copied(G)
+    closed = copy_graph(G)
     had: Set[Tuple[int, int]] = set(zip(map(int, G.at.rows), map(int, G.at.columns)))
     rows, columns, _ = matrix.entries(arrays=False)
     nodes = G.nodes
@@ -97,4 +97,4 @@ def dag_longest_path_length(G: SpmatGraph, weight: Any = 'weight', default_weigh
         raise NetworkXUnfeasible(UNFEASIBLE) from None
     if weight is None:                             # then each edge is as long as one without the attribute
         return far * default_weight if far and default_weight > 0 else 0
-    return told(far, G.values(weight, default_weight, 'max').unit)
+    return unscale_length(far, G.values(weight, default_weight, 'max').unit)

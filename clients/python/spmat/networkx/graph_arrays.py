@@ -102,4 +102,4 @@ def _whole(found: List[Any], name: str, scale: float, floats: bool) -> Tuple[Lis
     try:
         return coo.whole_list(found, 'weight'), 1 if floats else None
     except ValueError:
-        return weight_scaling.whole_multiples(found, name, scale)
+        return weight_scaling.find_whole_multiples(found, name, scale)

@@ -11,7 +11,7 @@ from networkx import NetworkXNotImplemented, NetworkXUnfeasible
 from .. import algorithms
 from ..algorithms.core_decomposition import Peeling
 from ..algorithms.utils import as_many, product, iterate
-from .convert import copied
+from .convert import copy_graph
 from .backend import SIMPLE, SIMPLE_UNDIRECTED, UNDIRECTED, serves
 from .spmat_graph import SpmatGraph
 
@@ -28,7 +28,7 @@ def _check_loops(G: SpmatGraph, said: str = 'has') -> None:
 def cores(G: SpmatGraph) -> List[int]:
     """Core numbers by index; of a directed graph each direction counts. Kept with the graph."""
     _check_loops(G)
-    return G.kept('cores', lambda: _cores(G))
+    return G.cache_answer('cores', lambda: _cores(G))
 
 
 def _cores(G: SpmatGraph) -> List[int]:
@@ -54,13 +54,13 @@ def _part(G: SpmatGraph, core: Optional[Cores], k: Optional[int], keep: Callable
     """The part of the networkx graph whose nodes are kept."""
     found: Cores = dict(zip(G, cores(G))) if core is None else core
     wanted = default(found.values()) if k is None else k
-    return copied(G, {node for node in found if keep(node, wanted, found)})
+    return copy_graph(G, {node for node in found if keep(node, wanted, found)})
 
 
 @serves(SIMPLE)
 def k_core(G: SpmatGraph, k: Optional[int] = None, core_number: Optional[Cores] = None) -> Any:
     if core_number is None and k is not None and k >= 1 and not G.is_directed() and not G.loops:
-        return copied(G, set(G.named(algorithms.k_core(G.A, k, check=False)).by_node()))
+        return copy_graph(G, set(G.named(algorithms.k_core(G.A, k, check=False)).by_node()))
     return _part(G, core_number, k, lambda v, k, core: core[v] >= k)
 
 
@@ -92,7 +92,7 @@ def k_truss(G: SpmatGraph, k: int) -> Any:
     left = algorithms.k_truss(G.A, k, check=False) if k >= 3 else G.A
     rows, columns, _ = left.entries(arrays=False)
     nodes = G.nodes
-    return copied(G, {nodes[i] for i in rows}, (rows, columns))
+    return copy_graph(G, {nodes[i] for i in rows}, (rows, columns))
 
 
 @serves(SIMPLE_UNDIRECTED)

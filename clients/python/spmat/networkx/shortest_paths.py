@@ -30,7 +30,7 @@ class Found(NamedTuple):
     unit: Optional[int]
 
     def length(self, at: int) -> Any:
-        return weight_scaling.told(self.far[at], self.unit)
+        return weight_scaling.unscale_length(self.far[at], self.unit)
 
 
 class Query(NamedTuple):
@@ -47,7 +47,7 @@ def search(G: SpmatGraph, sources: Sequence[Any], query: Query) -> Found:
     far = _lengths(G, sources, query).by_node()
     starts = [G.index[source] for source in sources]
     if query.weight is not None and query.cutoff is not None:
-        most = weight_scaling.limit(query.cutoff, G.values(query.weight).unit)
+        most = weight_scaling.scale_cutoff(query.cutoff, G.values(query.weight).unit)
         far = {at: x for at, x in far.items() if x <= most or at in starts}
     near = _tight(G, far, query)
     order, before, seen = {}, {at: [] for at in starts}, set(starts)  # type: Dict[int, int], Dict[int, List[int]], Any

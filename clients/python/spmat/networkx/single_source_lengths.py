@@ -18,7 +18,7 @@ from ..matrix import Matrix
 from .degree import need_node
 from .backend import SIGNED, serves
 from .spmat_graph import SpmatGraph
-from .weight_scaling import limit, told
+from .weight_scaling import scale_cutoff, unscale_length
 
 NEGATIVE = 'Negative cycle detected.'
 Lengths = Dict[Any, Any]
@@ -74,7 +74,7 @@ def length_to(G: SpmatGraph, source: Any, target: Any, weight: Any, signed: bool
     at, place = G.index[target], bisect.bisect_left(rows, G.index[target])
     if place == len(rows) or rows[place] != at:
         return None
-    return values[place] if weight is None else told(values[place], G.values(weight).unit)
+    return values[place] if weight is None else unscale_length(values[place], G.values(weight).unit)
 
 
 def lengths(G: SpmatGraph, sources: Sequence[Any], weight: Any, back: bool = False, signed: bool = False,
@@ -87,7 +87,7 @@ def lengths(G: SpmatGraph, sources: Sequence[Any], weight: Any, back: bool = Fal
     values = G.values(weight)
     found = nearest_first(G, shortest(G, sources, weight, back))
     if cutoff is not None:
-        most = limit(cutoff, values.unit)
+        most = scale_cutoff(cutoff, values.unit)
         found = {node: far for node, far in found.items() if far <= most or node in sources}
     return divided(found, values.unit)
 

@@ -144,11 +144,11 @@ class SpmatGraph:
 
     # -- matrices
 
-    def made(self, key: Any, make: Callable[[], Matrix]) -> Matrix:
+    def derive_matrix(self, key: Any, make: Callable[[], Matrix]) -> Matrix:
         """A matrix that is kept as long as its session lives."""
-        return self._kept(key, lambda _: make())
+        return self._cache_matrix(key, lambda _: make())
 
-    def _kept(self, key: Any, make: Callable[[Session], Matrix]) -> Matrix:
+    def _cache_matrix(self, key: Any, make: Callable[[Session], Matrix]) -> Matrix:
         """The same, made in the session that is given."""
         now = session()
         held = self._matrices.get(key)
@@ -156,13 +156,13 @@ class SpmatGraph:
             self._matrices[key] = held = make(now)
         return held
 
-    def kept(self, key: str, make: Callable[[], List[int]]) -> List[int]:
+    def cache_answer(self, key: str, make: Callable[[], List[int]]) -> List[int]:
         """An answer by index that several functions use; callers don't change it."""
         if key not in self._answers:
             self._answers[key] = make()
         return self._answers[key]
 
-    def _sent(self, now: Session, values: Any, back: bool) -> Matrix:
+    def _send_matrix(self, now: Session, values: Any, back: bool) -> Matrix:
         rows, columns = (self.at.columns, self.at.rows) if back else (self.at.rows, self.at.columns)
         if isinstance(values, list):
             values = graph_arrays.sequence(values, self.entries)
@@ -196,9 +196,9 @@ class SpmatGraph:
         """
         back = back and self._directed
         if weight is None:
-            return self._kept((None, back), lambda now: self._sent(now, 1, back))
+            return self._cache_matrix((None, back), lambda now: self._send_matrix(now, 1, back))
         key = (*graph_arrays.key_of(weight, default, fold if self._multigraph else None), back)
-        return self._kept(key, lambda now: self._sent(now, self.values(weight, default, fold).many, back))
+        return self._cache_matrix(key, lambda now: self._send_matrix(now, self.values(weight, default, fold).many, back))
 
     @property
     def A(self) -> Matrix:
@@ -214,7 +214,7 @@ class SpmatGraph:
         """How many edges lead from i to j."""
         if not self.parallel:
             return self.matrix(back=back)
-        return self._kept(('many', back and self._directed), lambda now: self._sent(now, self.at.counts, back and self._directed))
+        return self._cache_matrix(('many', back and self._directed), lambda now: self._send_matrix(now, self.at.counts, back and self._directed))
 
     @property
     def both(self) -> Optional[Matrix]:
@@ -224,17 +224,17 @@ class SpmatGraph:
     @property
     def simple(self) -> Matrix:
         """Ones without loops."""
-        return self.made('simple', lambda: self.A.select('offdiag')) if self.loops else self.A
+        return self.derive_matrix('simple', lambda: self.A.select('offdiag')) if self.loops else self.A
 
     @property
     def near(self) -> Matrix:
         """Ones both ways, without loops."""
-        return self.made('near', lambda: algorithms.undirected(self.A, self.AT)) if self._directed else self.simple
+        return self.derive_matrix('near', lambda: algorithms.undirected(self.A, self.AT)) if self._directed else self.simple
 
     @property
     def around(self) -> Matrix:
         """Ones both ways, with loops."""
-        return self.made('around', lambda: self.A.ewise_add(self.AT, 'first')) if self._directed else self.A
+        return self.derive_matrix('around', lambda: self.A.ewise_add(self.AT, 'first')) if self._directed else self.A
 
     def spots(self, nodes: Iterable[Any], value: int = 1) -> Matrix:
         """A column with entries at some nodes."""

@@ -26,7 +26,7 @@ class Whole(NamedTuple):
     unit: int
 
 
-def whole_multiples(found: List[Any], name: Any, scale: float) -> Whole:
+def find_whole_multiples(found: List[Any], name: Any, scale: float) -> Whole:
     """Weights as whole multiples of a unit; with a scale rounded to them. NotImplementedError where there is no such unit, TypeError
     for what is no number, ValueError for what isn't finite."""
     several = set(found)
@@ -67,12 +67,12 @@ def _exact(value: Any, unit: int) -> fractions.Fraction:
     return fractions.Fraction(repr(float(value))) if unit % 5 == 0 else fractions.Fraction(float(value))
 
 
-def told(length: int, unit: Optional[int]) -> Any:
+def unscale_length(length: int, unit: Optional[int]) -> Any:
     """A length, or a sum of lengths, as networkx has it: None of whole weights, 1 of floats that are whole."""
     return length if unit is None else length / unit
 
 
-def limit(cutoff: Any, unit: Optional[int]) -> Any:
+def scale_cutoff(cutoff: Any, unit: Optional[int]) -> Any:
     """A length up to which paths count, in the same units."""
     if cutoff is None or unit in (None, 1) or math.isinf(cutoff):
         return cutoff

@@ -291,7 +291,7 @@ def check_lowered(text: str, version: int) -> None:
                                                     SIGNED, GET))
 
 
-def _place(rest: str) -> str:
+def _find_debug(rest: str) -> str:
     """Where an instruction comes from, for each that takes its place."""
     found = DEBUG.search(rest)
     return found.group(0) if found else ''
@@ -318,7 +318,7 @@ def _part(name: str, part: str) -> str:
 
 def _divide(found: Match[str]) -> str:
     name, what, width, first, second, rest = found.groups()
-    bits, at = int(width), _place(rest)
+    bits, at = int(width), _find_debug(rest)
     left, x = _widen(_part(name, 'x'), first, bits, 'sext', at)
     right, y = _widen(_part(name, 'y'), second, bits, 'sext', at)
     made = _part(name, 'made')
@@ -329,7 +329,7 @@ def _divide(found: Match[str]) -> str:
 def _count_zeros(found: Match[str]) -> str:
     """Of a word of fewer bits those before it are taken off, or a bit above them ends the count."""
     name, width, what, word, rest = found.groups()
-    bits, at, made = int(width), _place(rest), _part(name, 'made')
+    bits, at, made = int(width), _find_debug(rest), _part(name, 'made')
     lines, x = _widen(_part(name, 'x'), word, bits, 'zext', at)
     if bits < 64 and what == 'cttz':
         lines.append('  %s = or i64 %s, %d%s' % (_part(name, 'end'), x, 1 << bits, at))

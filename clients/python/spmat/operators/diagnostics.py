@@ -122,7 +122,7 @@ def _one_of_two(text: str) -> str:
     return 'more than 4,096 slots' if has_some else 'no instruction at all'
 
 
-def mended(operator: Operator, refused: OperatorRefused) -> OperatorRefused:
+def explain_refusal(operator: Operator, refused: OperatorRefused) -> OperatorRefused:
     """A refusal with what can be told of this operator: the line, the register and the way of V11
     and V12, and how to mend a line."""
     if refused.at is None or refused.detail:
@@ -134,7 +134,7 @@ def mended(operator: Operator, refused: OperatorRefused) -> OperatorRefused:
         number = next((line.number for line in assembly.lines_of(operator.text)
                        if line.slot == refused.at), None)
     if refused.rule.startswith('A') and operator.text is not None:
-        detail = how_to_mend(operator.text, refused.rule, refused.at)
+        detail = suggest_repair(operator.text, refused.rule, refused.at)
     said = _one_of_two(operator.text) if refused.rule == 'A6' and operator.text is not None else ''
     out = refused.of_file(said=said).on_line(number, detail)
     assert isinstance(out, OperatorRefused)
@@ -176,7 +176,7 @@ def _way(way: dataflow.Way, texts: 'dict[int, str]') -> str:
     return 'where ' + ('.. ' if len(way) > 3 else '') + ' and '.join(jumps)
 
 
-def how_to_mend(text: str, rule: str, at: int) -> str:
+def suggest_repair(text: str, rule: str, at: int) -> str:
     """How to mend a line that breaks a rule of assembly text."""
     lines = text.split('\n')
     line = lines[at - 1] if 0 < at <= len(lines) else ''
@@ -259,7 +259,7 @@ class Listing:
         return html.listing(self)
 
 
-def given(op: Op, kind: Optional[str] = None) -> Operator:
+def find_operator(op: Op, kind: Optional[str] = None) -> Operator:
     """An operator that is given as itself, as a function, or by name. Without a kind a function is
     looked at for its number of parameters, and a name in all kinds."""
     if isinstance(op, Operator):
@@ -304,7 +304,7 @@ def code_of(op: Op, kind: Optional[str] = None) -> Listing:
     add64 r0, r2
     exit
     """
-    found = given(op, kind)
+    found = find_operator(op, kind)
     language, source = found.origin()
     slots = [slot for slot, _ in found.lines()]
     texts: Dict[str, str] = {str(slot): text for slot, text in found.lines()}
@@ -373,11 +373,11 @@ def explain(op: Op, kind: Optional[str] = None) -> Explained:
     >>> spmat.explain("plus").instructions
     3
     """
-    found = given(op, kind)
+    found = find_operator(op, kind)
     return Explained(found, len(found.lines()), longest_way(found))
 
 
-def shown(op: Operator) -> Any:
+def list_operator(op: Operator) -> Any:
     """The listing of an operator, or None where its text stands for no program."""
     try:
         return code_of(op)

@@ -144,13 +144,13 @@ class Weights(unittest.TestCase):
     def test_units(self):
         for found, unit, values in (([.5, 1, 2.25], 100, [50, 100, 225]), ([1e-9, 3.0], 10 ** 9, [1, 3 * 10 ** 9]), ([2.0 ** -30], 1 << 30, [1]),
                                     ([.1, 1e22], 10, [1, 10 ** 23])):
-            self.assertEqual(weight_scaling.whole_multiples(found, 'w', 0), (values, unit))
+            self.assertEqual(weight_scaling.find_whole_multiples(found, 'w', 0), (values, unit))
         for found in ([math.pi], [2.0 ** -41], [1e-12, .1]):
             with self.assertRaises(NotImplementedError):
-                weight_scaling.whole_multiples(found, 'w', 0)
+                weight_scaling.find_whole_multiples(found, 'w', 0)
         for found in ([math.nan], [math.inf, .5]):
             with self.assertRaises(ValueError):
-                weight_scaling.whole_multiples(found, 'w', 0)
+                weight_scaling.find_whole_multiples(found, 'w', 0)
 
 
 if __name__ == '__main__':

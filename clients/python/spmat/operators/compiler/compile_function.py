@@ -57,7 +57,7 @@ def compile_function(kind: str, function: Function, name: Optional[str] = None,
             compare(function, Machine(compiled.instructions), len(NAMES[kind]), len(names),
                     _numbers(function, explored.root))
     except (CompileError, Impure) as fault:
-        place = getattr(fault, 'place', None) or _defined(function)
+        place = getattr(fault, 'place', None) or _find_definition(function)
         raise CompileError('`%s`%s: %s' % (called, ' (%s)' % place if place else '',
                                            IMPURE if isinstance(fault, Impure) else fault)
                            ) from fault.__cause__
@@ -154,28 +154,28 @@ def _result(function: Function, used: int, path: Path) -> Node:
     if path.note_probe(raised):
         return path.operands[0]
     if path.refused is None and raised is not None:
-        raise _placed(RAISES % (type(raised).__name__, raised, path.conditions()),
-                      _raised_at(raised)) from raised
+        raise _locate_fault(RAISES % (type(raised).__name__, raised, path.conditions()),
+                      _find_raise(raised)) from raised
     if path.refused is not None:
-        raise _placed(str(path.refused) + path.conditions(), path.line)
+        raise _locate_fault(str(path.refused) + path.conditions(), path.line)
     if result is None:
-        raise _placed(NO_RESULT + path.conditions(), None)
+        raise _locate_fault(NO_RESULT + path.conditions(), None)
     try:
         node = node_of(path, result)
     except CompileError as fault:                  # its line is none of the function's
-        raise _placed(str(fault) + path.conditions(), None) from None
+        raise _locate_fault(str(fault) + path.conditions(), None) from None
     while node.op == 'select' and path.truth(node.args[0]) is not None:
         node = node.args[1 if path.truth(node.args[0]) else 2]
     return path.graph.const(0) if path.ranges.of(node) == (0, 0) else node
 
 
-def _placed(text: str, line: Optional[Line]) -> CompileError:
+def _locate_fault(text: str, line: Optional[Line]) -> CompileError:
     fault = CompileError(text)
     fault.place = describe_line(line) if line else ''  # type: ignore[attr-defined]
     return fault
 
 
-def _raised_at(fault: BaseException) -> Optional[Line]:
+def _find_raise(fault: BaseException) -> Optional[Line]:
     """The line of the user's that raised."""
     at, line = fault.__traceback__, None
     while at is not None:
@@ -193,7 +193,7 @@ def _code_of(function: Function) -> Optional[types.CodeType]:
     return getattr(inner, '__code__', None) or getattr(type(inner).__call__, '__code__', None)
 
 
-def _defined(function: Function) -> str:
+def _find_definition(function: Function) -> str:
     """The line at which a function begins."""
     code = _code_of(function)
     return describe_line((code.co_filename, code.co_firstlineno)) if code is not None else ''

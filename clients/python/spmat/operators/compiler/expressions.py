@@ -121,23 +121,23 @@ class Graph:
     """Makes nodes, each once."""
 
     def __init__(self) -> None:
-        self._made: Dict[Any, Node] = {}
+        self._nodes: Dict[Any, Node] = {}
         # ways that are run again ask the same
         self._simplified: Dict[Tuple[str, Node, Node], Node] = {}
         self._chosen: Dict[Tuple[Condition, Node, Node], Node] = {}
 
     def node(self, op: str, *args: Node) -> Node:
         """The node of an operation, as it is."""
-        made = self._made.get((op, args))
+        made = self._nodes.get((op, args))
         if made is None:
-            made = self._made[op, args] = Node(op, args, 0, len(self._made))
+            made = self._nodes[op, args] = Node(op, args, 0, len(self._nodes))
         return made
 
     def leaf(self, op: str, number: int) -> Node:
         """The node of an operand (`arg`), or of a number that fits in a word (`const`)."""
-        made = self._made.get((op, number))
+        made = self._nodes.get((op, number))
         if made is None:
-            made = self._made[op, number] = Node(op, (), number, len(self._made))
+            made = self._nodes[op, number] = Node(op, (), number, len(self._nodes))
         return made
 
     def const(self, number: int) -> Node:
@@ -331,10 +331,10 @@ class _Merge:
         if a is b:
             return a
         if (a, b) not in self.known:
-            self.known[a, b] = self._made(a, b)
+            self.known[a, b] = self._merge(a, b)
         return self.known[a, b]
 
-    def _made(self, a: Node, b: Node) -> Node:
+    def _merge(self, a: Node, b: Node) -> Node:
         (base, more), (other, less) = split_sum(a), split_sum(b)
         if base is other:
             hole = self._hole(self.graph.const(more - less), self.graph.const(0))

@@ -59,13 +59,13 @@ def is_move(each: Instruction) -> bool:
     return each[0] == 'mov64' and isinstance(each[1][1], Reg)
 
 
-def has_result_apart(each: Instruction) -> bool:
+def has_separate_result(each: Instruction) -> bool:
     """Whether this is an operation whose result stands apart from its operands."""
     return (not is_jump(each) and each[0] not in ('stx64', 'ldx64') and
             len(each[1]) == (2 if each[0] == 'neg64' else 3))
 
 
-def written(each: Instruction) -> Optional[Reg]:
+def word_written(each: Instruction) -> Optional[Reg]:
     """The word that an instruction writes."""
     if is_jump(each) or each[0] in ('stx64', 'label', 'exit'):
         return None
@@ -74,18 +74,18 @@ def written(each: Instruction) -> Optional[Reg]:
     return to
 
 
-def read(each: Instruction) -> List[Reg]:
+def words_read(each: Instruction) -> List[Reg]:
     """The words that an instruction reads."""
     if each[0] == 'exit':
         return [Reg(0)]
-    first = 1 if each[0] in ('mov64', 'wide', 'ldx64') or has_result_apart(each) else 0
+    first = 1 if each[0] in ('mov64', 'wide', 'ldx64') or has_separate_result(each) else 0
     return [operand for operand in each[1][first:] if isinstance(operand, Reg)]
 
 
 def words_in(each: Instruction) -> List[Reg]:
     """The word that an instruction writes, and those that it reads."""
-    to = written(each)
-    return read(each) if to is None else [to, *read(each)]
+    to = word_written(each)
+    return words_read(each) if to is None else [to, *words_read(each)]
 
 
 def needed_later(code: Code) -> List[int]:
@@ -99,10 +99,10 @@ def needed_later(code: Code) -> List[int]:
         elif each[0] == 'exit':
             live = 0
         out.append(live)
-        to = written(each)
+        to = word_written(each)
         if to is None or live >> to & 1:
             live &= ~(1 << to) if to is not None else -1
-            for word in read(each):
+            for word in words_read(each):
                 live |= 1 << word
         if each[0] == 'label':
             at[each[1][0]] = live
@@ -139,10 +139,10 @@ def _with_two_operands(code: Code) -> Code:
     left out."""
     out: Code = []
     for each, live in zip(code, needed_later(code)):
-        to = written(each)
+        to = word_written(each)
         if to is not None and not live >> to & 1:
             continue
-        if to is not None and has_result_apart(each):
+        if to is not None and has_separate_result(each):
             left, rest = each[1][1], each[1][2:]
             assert not isinstance(left, str)
             if left != to or not isinstance(left, Reg):
@@ -156,7 +156,7 @@ def _interference(code: Code, words: int) -> List[int]:
     """Of each word, as bits, those that it can't share a register with."""
     apart = [0] + [OPERANDS] * (FIXED - 1) + [0] * (words - FIXED)
     for each, live in zip(code, needed_later(code)):
-        to = written(each)
+        to = word_written(each)
         if to is None:
             continue
         others = live & ~(1 << to)
@@ -212,7 +212,7 @@ def _spill(code: Code, word: int, at: int, words: int) -> Tuple[Code, int]:
     """The code with a word at a place on the stack, and the number of words that it uses now."""
     out = [ins('stx64', 'r10', at, Reg(word))] if word < FIXED else []
     for each in code:
-        is_read, is_written = word in read(each), written(each) == word
+        is_read, is_written = word in words_read(each), word_written(each) == word
         if is_read or is_written:
             each = each[0], tuple(Reg(words) if isinstance(operand, Reg) and operand == word else
                                   operand for operand in each[1])
