@@ -139,11 +139,11 @@ class Inputs(Sources[BlockMatrix]):
         in the file, and then the other triangle of a symmetric one is added."""
         with chunked_input.Spool(spool.nrows, spool.ncols) as folded:
             for triples in spool.blocks(row_partition.cut_by_entries(spool.counts, self.blocks)):
-                folded.add(matrix_market.mirrored(self._fold_triples(triples, dup_op), spool.symmetry))
+                folded.add(matrix_market.mirrored(self._folded(triples, dup_op), spool.symmetry))
             folded.notes = spool.notes._replace(weighted=True)
             return self._load_spool(folded, cut, name)
 
-    def _read_market(self, file: str, text: bytes, request: Request, dup_op: DupOp,
+    def _market(self, file: str, text: bytes, request: Request, dup_op: DupOp,
                 name: Optional[str]) -> BlockMatrix:
         layout = request.layout
         try:
@@ -151,7 +151,7 @@ class Inputs(Sources[BlockMatrix]):
         except Refused as fault:
             raise fault.of_file(file) from None
 
-    def _fold_triples(self, triples: Triples, dup_op: DupOp) -> Triples:
+    def _folded(self, triples: Triples, dup_op: DupOp) -> Triples:
         if dup_op is None:
             return triples
         op = find('binary', dup_op)
@@ -204,9 +204,9 @@ class Inputs(Sources[BlockMatrix]):
             return found
         return row_partition.cut_evenly(nrows, self.blocks) if spool is None else row_partition.cut_by_entries(spool.counts, self.blocks)
 
-    def _put_triples(self, triples: Triples, dup_op: DupOp = None,
+    def _from(self, triples: Triples, dup_op: DupOp = None,
               name: Optional[str] = None) -> BlockMatrix:
-        folded = self._fold_triples(triples, dup_op)
+        folded = self._folded(triples, dup_op)
         with chunked_input.InMemory(folded) as held:
             try:
                 return self._load_spool(held, None, name)
@@ -229,7 +229,7 @@ class Inputs(Sources[BlockMatrix]):
                  name: Optional[str], dup_op: DupOp = None) -> BlockMatrix:
         """A matrix of what lies in a spool, block by block."""
         cut = self.find_cut(spool.nrows, spool, given)
-        fold = None if dup_op is None else lambda triples: self._fold_triples(triples, dup_op)
+        fold = None if dup_op is None else lambda triples: self._folded(triples, dup_op)
         made = BlockMatrix(self, self._backend.load_spool(spool, cut, fold), name)
         made.notes = spool.notes
         return made
