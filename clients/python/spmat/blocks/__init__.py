@@ -16,4 +16,5 @@ from .row_partition import Cut
 from .sessions import Sessions
 from .threads import Threads
 
-__all__ = ['BlockFailed', 'BlockMatrix', 'Cut', 'Dask', 'Engine', 'Sessions', 'Threads', 'VersionMismatch']
+__all__ = ['BlockFailed', 'BlockMatrix', 'Cut', 'Dask', 'Engine', 'Sessions', 'Threads',
+           'VersionMismatch']

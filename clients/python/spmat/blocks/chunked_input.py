@@ -81,10 +81,12 @@ class Spooled(abc.ABC):
         for block, triples in enumerate(self.blocks(cut)):
             triples = triples if fold is None else fold(triples)
             if len(triples.rows) > limits.MOST_SIDE:
-                raise refusal('M4', detail='%d entries in %s' % (len(triples.rows), cut.label(block)))
+                raise refusal('M4',
+                              detail='%d entries in %s' % (len(triples.rows), cut.label(block)))
             text = matrix_text.write(triples)
             if len(text) > limits.MOST_TEXT:
-                raise refusal('S7', detail='the text of %s has %d bytes' % (cut.label(block), len(text)))
+                raise refusal('S7',
+                              detail='the text of %s has %d bytes' % (cut.label(block), len(text)))
             yield text
 
 
@@ -203,7 +205,8 @@ def spool_file(source: Any, values: matrix_market.Values = matrix_market.Values(
         if hasattr(source, 'read'):
             return _spool_opened(source, values, whole, _choose_report(progress, 0))
         with files.opened(source, limit) as file:
-            return _spool_opened(file, values, whole, _choose_report(progress, os.path.getsize(source)))
+            return _spool_opened(file, values, whole,
+                                 _choose_report(progress, os.path.getsize(source)))
     except Refused as fault:
         raise fault.of_file(name_of(source)) from None
 

@@ -88,8 +88,8 @@ class Dask(Engine):
         # a block's text in a task is what the task is made of again
         with warnings.catch_warnings():
             warnings.filterwarnings('ignore', 'Large object of size')
-            return self._client.submit(_perform_task, settings, label, function, list(args), key=key,
-                                       pure=False, **wish)
+            return self._client.submit(_perform_task, settings, label, function, list(args),
+                                       key=key, pure=False, **wish)
 
     # -- calls without tasks
 
@@ -105,7 +105,8 @@ class Dask(Engine):
                 key = call.piece.key
                 asked = by_worker.setdefault(self._where[key], [])
                 asked.append((number, key, call._replace(piece=None)))
-            replies: Dict[str, Any] = self._client.sync(self._ask_workers, settings, function, by_worker)
+            replies: Dict[str, Any] = self._client.sync(
+                self._ask_workers, settings, function, by_worker)
             answers = dict(answer for many in replies.values() for answer in many)
         except Exception:  # pylint: disable=broad-exception-caught  # whatever it is, tasks mend it
             answers = {}
@@ -121,7 +122,8 @@ class Dask(Engine):
     async def _ask_workers(self, settings: Settings, function: Callable[..., Any],
                      by_worker: Dict[str, Any]) -> Dict[str, Any]:
         seconds = SECONDS if settings.patience is None else settings.patience
-        asked = self._client.run(_answer_calls, settings, function, by_worker, workers=list(by_worker))
+        asked = self._client.run(_answer_calls, settings, function, by_worker,
+                                 workers=list(by_worker))
         return dict(await asyncio.wait_for(asked, seconds))
 
     def _find(self, pieces: Sequence[Any]) -> None:
@@ -149,7 +151,8 @@ class Dask(Engine):
                       if future.status in ('error', 'cancelled', 'lost')]
             raise AtBlock((failed or list(labels))[0], fault) from fault
 
-    def _gather_watched(self, settings: Settings, futures: List[Any], progress: Progress) -> List[Any]:
+    def _gather_watched(self, settings: Settings, futures: List[Any],
+                        progress: Progress) -> List[Any]:
         """The results, once they are there. Where they don't come, it is looked at what holds them
         up."""
         watch = Watch(self, settings, futures)
@@ -204,8 +207,8 @@ class Dask(Engine):
     def end_stopped(self, settings: Settings, patience: float, workers: Sequence[str]) -> None:
         """Ends programs of some workers that stand still amid a command."""
         if workers:
-            self._client.run(_run_in_thread, end_stopped_program, settings, patience, workers=list(workers),
-                             on_error='ignore')
+            self._client.run(_run_in_thread, end_stopped_program, settings, patience,
+                             workers=list(workers), on_error='ignore')
 
     def again(self, settings: Settings) -> int:
         try:
@@ -227,7 +230,8 @@ class Dask(Engine):
         """What a function gives at each worker that answers. A worker that is lost meanwhile tells
         nothing; where all are, those are asked that come for them."""
         for _ in range(TRIES):
-            replies: Dict[str, Any] = self._client.run(_run_in_thread, function, *args, on_error='return')
+            replies: Dict[str, Any] = self._client.run(_run_in_thread, function, *args,
+                                                       on_error='return')
             heard = {worker: value for worker, value in replies.items() if not _is_lost(value)}
             for value in heard.values():
                 if isinstance(value, Exception):

@@ -115,7 +115,8 @@ def merge_names(parts: Sequence[Names]) -> Optional[Names]:
 def number_part(names: Names, all_names: Names, places: Any) -> Any:
     """The number of each name of a part among all; `places` are those of texts."""
     if isinstance(names, numpy.ndarray):
-        return numpy.searchsorted(all_names, names).astype(numpy.int32) if len(names) else numpy.zeros(0, numpy.int32)
+        return (numpy.searchsorted(all_names, names).astype(numpy.int32) if len(names)
+                else numpy.zeros(0, numpy.int32))
     return numpy.array([places[name] for name in names], numpy.int32)
 
 
@@ -132,10 +133,12 @@ class To(NamedTuple):
 
 
 def _triples(part: EdgePart, to: To) -> Triples:
-    rows, columns = (to.places[min(at, len(to.places) - 1)][codes].astype(numpy.int64) for at, codes in enumerate(part.codes))
+    rows, columns = (to.places[min(at, len(to.places) - 1)][codes].astype(numpy.int64)
+                     for at, codes in enumerate(part.codes))
     values = numpy.ones(len(rows), numpy.int64) if part.values is None else part.values
     triples = Triples(rows, columns, values, to.nrows, to.ncols)
-    return triples if to.directed else matrix_market.mirrored(matrix_market.lowered(triples, 'symmetric'), 'symmetric')
+    return (triples if to.directed
+            else matrix_market.mirrored(matrix_market.lowered(triples, 'symmetric'), 'symmetric'))
 
 
 def count_rows(part: EdgePart, to: To, edges: Sequence[int]) -> Any:
@@ -153,7 +156,8 @@ class Repeated(ReadError):
     isn't."""
 
     def __init__(self, row: int, column: int) -> None:
-        super().__init__('the edges', None, 'the edge between %d and %d is there already' % (row, column))
+        super().__init__('the edges', None,
+                         'the edge between %d and %d is there already' % (row, column))
         self.row, self.column = row, column
 
     def __reduce__(self) -> Tuple[Any, ...]:

@@ -50,12 +50,14 @@ def name_block(label: str, fault: BaseException) -> Exception:
         return add_block(fault, label)
     if isinstance(fault, (ValueError, TypeError, VersionMismatch)):
         return fault
-    return BlockFailed('%s: %s%s' % (label, type(fault).__name__, ': %s' % fault if str(fault) else ''), label)
+    return BlockFailed('%s: %s%s' %
+                       (label, type(fault).__name__, ': %s' % fault if str(fault) else ''), label)
 
 
 def add_block(fault: Refused, block: str) -> Refused:
     """A refusal that names a block."""
-    out = type(fault)(fault.rule, fault.numbers, fault.command, fault.line, _join_words(fault.detail, block))
+    out = type(fault)(fault.rule, fault.numbers, fault.command, fault.line,
+                      _join_words(fault.detail, block))
     out = out.of_file(fault.file, fault.said).on_line(fault.text_line)
     out.block = block  # type: ignore[attr-defined]
     return out
@@ -107,7 +109,8 @@ def refuse_line(source: Any, start: Optional[int], spool: 'Spooled', cut: Cut,
     be, of the position."""
     again = _find_positions(spool, cut)
     row, column = min(again, default=(-1, -1))
-    named = 'row %d, column %d is given twice; %s' % (row + 1, column + 1, coo.DUP_OP) if again else ''
+    named = ('row %d, column %d is given twice; %s' % (row + 1, column + 1, coo.DUP_OP) if again
+             else '')
     with contextlib.suppress(OSError, ValueError):
         if hasattr(source, 'read'):
             if start is not None:

@@ -57,7 +57,9 @@ class About(NamedTuple):
     def is_plain(self) -> bool:
         """Whether a session reads the lines as they are."""
         kind = self.kind
-        return kind.symmetry == 'general' and (kind.field == 'pattern' or (kind.field == 'integer' and kind.values == matrix_market.Values()))
+        return (kind.symmetry == 'general'
+                and (kind.field == 'pattern'
+                     or (kind.field == 'integer' and kind.values == matrix_market.Values())))
 
     @property
     def banner(self) -> bytes:
@@ -135,12 +137,15 @@ def split(part: Range, about: About, cut: Cut) -> Tuple[List[Part], int]:
         rows, = parse_integers.fields(body, (0,), about.kind.width)
         if _are_rows(rows, about.nrows) and bool((rows[1:] >= rows[:-1]).all()):
             return _split_ascending(body, rows, cut), len(rows)
-    triples = _triples(body, about) if lengths is not None and int(lengths.max()) <= MOST_DIGITS else None
+    triples = (_triples(body, about) if lengths is not None and int(lengths.max()) <= MOST_DIGITS
+               else None)
     if triples is None:
-        triples = matrix_market.read_quickly(about.kind, body, body.count(b'\n'), about.nrows, about.ncols)
+        triples = matrix_market.read_quickly(about.kind, body, body.count(b'\n'), about.nrows,
+                                             about.ncols)
     if triples is None:
         return [Part(b'', 0)] * cut.blocks, UNUSUAL if body else 0
-    return write_parts(matrix_market.mirrored(triples, about.kind.symmetry), about.is_bare, cut), body.count(b'\n')
+    return write_parts(matrix_market.mirrored(triples, about.kind.symmetry), about.is_bare,
+                       cut), body.count(b'\n')
 
 
 def _are_rows(numbers: Any, nrows: int) -> bool:
@@ -153,7 +158,8 @@ def _split_ascending(body: bytes, rows: Any, cut: Cut) -> List[Part]:
     at = numpy.searchsorted(rows, numpy.array(cut.bounds) + 1)
     at[-1] = len(rows)
     places = starts[at].tolist()
-    return [Part(body[first:end], int(many)) for first, end, many in zip(places, places[1:], numpy.diff(at))]
+    return [Part(body[first:end], int(many))
+            for first, end, many in zip(places, places[1:], numpy.diff(at))]
 
 
 def _field_lengths(body: bytes, width: int) -> Optional[Any]:
@@ -161,11 +167,14 @@ def _field_lengths(body: bytes, width: int) -> Optional[Any]:
     between two; else None."""
     if body.translate(None, b'0123456789- \n'):
         return None
-    if b'-' in body and (b'--' in body or b'- ' in body or b'-\n' in body or body.count(b'-') != body.count(b' -')):
+    if (b'-' in body
+        and (b'--' in body or b'- ' in body or b'-\n' in body
+             or body.count(b'-') != body.count(b' -'))):
         return None
     marks = numpy.frombuffer(body, numpy.uint8)
     ends = numpy.flatnonzero(marks < parse_integers.MINUS)
-    if len(ends) % width or bool((marks[ends[width - 1::width]] != LF).any()) or len(ends) != width * body.count(b'\n'):
+    if (len(ends) % width or bool((marks[ends[width - 1::width]] != LF).any())
+        or len(ends) != width * body.count(b'\n')):
         return None
     lengths = numpy.diff(ends, prepend=-1)
     return lengths if int(lengths.min()) > 1 else None
@@ -177,19 +186,22 @@ def _triples(body: bytes, about: About) -> Optional[Triples]:
     rows, columns, *values = parse_integers.fields(body, range(width), width)
     if not _are_rows(rows, about.nrows) or not _are_rows(columns, about.ncols):
         return None
-    return Triples(rows - 1, columns - 1, values[0] if values else numpy.ones(len(rows), numpy.int64), about.nrows, about.ncols)
+    return Triples(rows - 1, columns - 1, values[0] if values
+                   else numpy.ones(len(rows), numpy.int64), about.nrows, about.ncols)
 
 
 def write_parts(triples: Triples, bare: bool, cut: Cut) -> List[Part]:
     """The lines of each block, in the order of the entries."""
     rows, columns, values, nrows, ncols = triples
     of = numpy.searchsorted(numpy.array(cut.bounds[1:-1], numpy.int64), rows, side='right')
-    order = numpy.argsort(of.astype(numpy.uint16 if cut.blocks < 1 << 16 else numpy.int64), kind='stable')
+    order = numpy.argsort(of.astype(numpy.uint16 if cut.blocks < 1 << 16 else numpy.int64),
+                          kind='stable')
     ends = numpy.searchsorted(of[order], numpy.arange(cut.blocks + 1)).tolist()
     parts = []
     for first, end in zip(ends, ends[1:]):
         at = order[first:end]
-        text = matrix_text.write(Triples(rows[at], columns[at], values[at], nrows, ncols), ones=bare)
+        text = matrix_text.write(Triples(rows[at], columns[at], values[at], nrows, ncols),
+                                 ones=bare)
         parts.append(Part(text[matrix_text.head_of(text).start:], end - first))
     return parts
 

@@ -88,12 +88,17 @@ class Inputs(Sources[BlockMatrix]):
         piece, with bytes. In python-graphblas `io.mmread`."""
         units.of_read(scale, dup_op)
         files.check_length(source, max_bytes)
-        made = None if dup_op is not None else parallel_read.read_matrix_market(self, source, matrix_market.Values(values, scale), cut, name)
+        made = (None if dup_op is not None
+                else parallel_read.read_matrix_market(self, source,
+                                                      matrix_market.Values(values, scale), cut,
+                                                      name))
         if made is not None:
             return made
-        start = source.tell() if hasattr(source, 'read') and hasattr(source, 'seekable') and source.seekable() else None
+        start = (source.tell() if hasattr(source, 'read') and hasattr(source, 'seekable')
+                 and source.seekable() else None)
         limit = files.Limit(max_bytes)
-        with chunked_input.spool_file(source, matrix_market.Values(values, scale), self.progress, dup_op is None, limit) as spool:
+        with chunked_input.spool_file(source, matrix_market.Values(values, scale), self.progress,
+                                      dup_op is None, limit) as spool:
             if dup_op is not None:
                 return self._fold_file(spool, cut, name, dup_op)
             try:
@@ -101,7 +106,8 @@ class Inputs(Sources[BlockMatrix]):
             except TextRefused as fault:
                 if fault.rule != 'M8':
                     raise
-                found = errors.refuse_line(source, start, spool, self.find_cut(spool.nrows, spool, cut), fault)
+                found = errors.refuse_line(source, start, spool,
+                                           self.find_cut(spool.nrows, spool, cut), fault)
                 raise found.of_file(name_of(source)) from None
 
     def _read(self, path: Any, request: Request, dup_op: DupOp, name: Optional[str]) -> BlockMatrix:
@@ -147,7 +153,8 @@ class Inputs(Sources[BlockMatrix]):
                 name: Optional[str]) -> BlockMatrix:
         layout = request.layout
         try:
-            return self.mmread(io.BytesIO(text), values=layout.values, scale=layout.scale, dup_op=dup_op, name=name)
+            return self.mmread(io.BytesIO(text), values=layout.values, scale=layout.scale,
+                               dup_op=dup_op, name=name)
         except Refused as fault:
             raise fault.of_file(file) from None
 
@@ -162,12 +169,16 @@ class Inputs(Sources[BlockMatrix]):
         """A matrix with one value everywhere, made at the workers."""
         shape = coo.side(nrows, 0, 'nrows'), coo.side(ncols, 0, 'ncols')
         cut, value = self.find_cut(shape[0], None), coo.word(value, 'value')
-        return as_constant(self._make_each(cut, shape[1], name, lambda first, end: (worker_tasks.full, first, end, shape, value)))
+        return as_constant(
+            self._make_each(cut, shape[1], name,
+                            lambda first, end: (worker_tasks.full, first, end, shape, value)))
 
     def ones(self, ncols: int) -> BlockMatrix:
         """A row of ones, which folds columns. It is made at a worker where a job wants it."""
         cut = self.find_cut(1, None)
-        futures = functools.partial(self._submit_each, cut, lambda first, end: (worker_tasks.full, first, end, (1, ncols), 1))
+        futures = functools.partial(self._submit_each, cut,
+                                    lambda first, end: (
+                                        worker_tasks.full, first, end, (1, ncols), 1))
         handle = BlockHandle(self._backend, cut, ncols, futures)
         handle.is_ones = True
         return BlockMatrix(self, handle)
@@ -175,7 +186,9 @@ class Inputs(Sources[BlockMatrix]):
     def identity(self, n: int, value: int = 1, *, name: Optional[str] = None) -> BlockMatrix:
         """A square matrix with one value on its diagonal, made at the workers."""
         n, value = coo.side(n, 0, 'n'), coo.word(value, 'value')
-        return as_constant(self._make_each(self.find_cut(n, None), n, name, lambda first, end: (worker_tasks.identity, first, end, n, value)))
+        return as_constant(
+            self._make_each(self.find_cut(n, None), n, name,
+                            lambda first, end: (worker_tasks.identity, first, end, n, value)))
 
     def _make_each(self, cut: Cut, ncols: int, name: Optional[str],
               task: Callable[[int, int], Tuple[Any, ...]]) -> BlockMatrix:
@@ -187,7 +200,8 @@ class Inputs(Sources[BlockMatrix]):
         return BlockMatrix(self, BlockHandle(self._backend, cut, ncols, futures), name)
 
     def _submit_each(self, cut: Cut, task: Callable[[int, int], Tuple[Any, ...]]) -> List[Any]:
-        return [self.submit(block, cut.label(block), *task(first, end)) for block, (first, end) in enumerate(cut.ranges())]
+        return [self.submit(block, cut.label(block), *task(first, end))
+                for block, (first, end) in enumerate(cut.ranges())]
 
     def cut_for(self, nrows: int, given: Union[Cut, Sequence[int], None]) -> Optional[Cut]:
         """Where a new matrix is cut: as the caller says, or as the matrix that these sessions cut
@@ -202,7 +216,8 @@ class Inputs(Sources[BlockMatrix]):
         found = self.cut_for(nrows, given)
         if found is not None:
             return found
-        return row_partition.cut_evenly(nrows, self.blocks) if spool is None else row_partition.cut_by_entries(spool.counts, self.blocks)
+        return (row_partition.cut_evenly(nrows, self.blocks) if spool is None
+                else row_partition.cut_by_entries(spool.counts, self.blocks))
 
     def _from(self, triples: Triples, dup_op: DupOp = None,
               name: Optional[str] = None) -> BlockMatrix:
@@ -211,7 +226,8 @@ class Inputs(Sources[BlockMatrix]):
             try:
                 return self._load_spool(held, None, name)
             except TextRefused as fault:
-                raise (errors.refuse_triples(folded, fault) if fault.rule == 'M8' else fault) from None
+                raise (errors.refuse_triples(folded, fault) if fault.rule == 'M8'
+                       else fault) from None
 
     def share(self, piece: Piece) -> Any:
         """A piece that has its text, as tasks of all places take it: by Dask from one worker, which
@@ -222,7 +238,8 @@ class Inputs(Sources[BlockMatrix]):
 
     def _fold(self, many: Triples, op: Operator) -> Any:
         label = 'values that share a position'
-        folds = self.results(self.submit_batch([Work(0, label, worker_tasks.fold_repeated, (many, op))]), [label])[0]
+        folds = self.results(
+            self.submit_batch([Work(0, label, worker_tasks.fold_repeated, (many, op))]), [label])[0]
         return numpy.array(folds)
 
     def _load_spool(self, spool: 'chunked_input.Spooled', given: Union[Cut, Sequence[int], None],
@@ -239,7 +256,8 @@ class Inputs(Sources[BlockMatrix]):
         if (len(text) < SMALL and self.folder is None) or self.spool() is None:
             return self.submit(block, label, worker_tasks.source, text)
         path = self.new_file()
-        return self.submit(block, label, worker_tasks.read, path, chunked_input.write_text(path, text))
+        return self.submit(block, label, worker_tasks.read, path,
+                           chunked_input.write_text(path, text))
 
     def new_file(self) -> str:
         """The path of a file in `spool()` that isn't there yet, and that `close` removes."""

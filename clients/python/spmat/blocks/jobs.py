@@ -35,7 +35,8 @@ def job_at(cut: Cut, block: int, job: Job, pieces: Iterable[Any], mask: Optional
     return Work(block, cut.label(block), worker_tasks.job, sent)
 
 
-def _mask_at(job: Job, mask: Optional['BlockHandle'], block: int) -> Optional[Tuple[Any, bool, bool]]:
+def _mask_at(job: Job, mask: Optional['BlockHandle'],
+             block: int) -> Optional[Tuple[Any, bool, bool]]:
     """A mask at one block, as `Mask` has it."""
     if mask is None:
         return None
@@ -168,7 +169,8 @@ def pull_front(transpose: 'BlockMatrix', front: Vector, ring: Semiring) -> Vecto
     whole, labels = column.handle.join_whole(), handle.labels
     works = [Work(k, labels[k], worker_tasks.pull_front, (handle.futures[k], whole, ring))
              for k, (first, end) in enumerate(transpose.cut.ranges()) if first < end]
-    return _concatenate(sessions.results(sessions.submit_batch(works), [work.label for work in works]))
+    return _concatenate(
+        sessions.results(sessions.submit_batch(works), [work.label for work in works]))
 
 
 def _split_front(graph: 'BlockMatrix', front: Vector) -> List[Vector]:

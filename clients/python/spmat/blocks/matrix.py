@@ -116,7 +116,8 @@ class Blocks(NamedTuple):
         so already."""
         bounds = cut.bounds if isinstance(cut, Cut) else cut
         wanted = row_partition.check_cut(bounds, self.matrix.nrows)
-        return self.matrix if wanted == self.cut else self._wrap(self.matrix.handle.recut_at(wanted))
+        return (self.matrix if wanted == self.cut
+                else self._wrap(self.matrix.handle.recut_at(wanted)))
 
     def checkpoint(self) -> BlockMatrix:
         """The same matrix on texts that stand by themselves: should a worker be lost, nothing that

@@ -55,7 +55,8 @@ class _Vertices(NamedTuple):
     places: List[List[Any]]
 
 
-def read_file(sessions: 'Inputs', path: Any, request: Request, reading: Reading) -> Optional[BlockMatrix]:
+def read_file(sessions: 'Inputs', path: Any, request: Request,
+              reading: Reading) -> Optional[BlockMatrix]:
     """The matrix of a list, or of a folder of files; None where it is for the caller's process to
     read."""
     if isinstance(path, (str, os.PathLike)) and os.path.isdir(path):
@@ -63,7 +64,8 @@ def read_file(sessions: 'Inputs', path: Any, request: Request, reading: Reading)
     file = parallel_read.find_shared(sessions, path)
     layout = request.layout
     converts = layout.scale is not None or layout.nodetype or layout.unit
-    if file is None or converts or request.nodelist is not None or layout.comments not in (True, None):
+    if (file is None or converts or request.nodelist is not None
+        or layout.comments not in (True, None)):
         return None
     try:
         table = _find_table(file.path, request)
@@ -71,12 +73,14 @@ def read_file(sessions: 'Inputs', path: Any, request: Request, reading: Reading)
             return None
         form = tables.Form.of(table)
         start = sum(len(line) + 1 for line in table.text.split(b'\n')[:table.skipped])
-        sources: List[Source] = [ListRange(part, form) for part in parallel_read.cut_file(sessions, file, start)]
+        sources: List[Source] = [ListRange(part, form)
+                                 for part in parallel_read.cut_file(sessions, file, start)]
         made = read_sources(sessions, sources, reading)
     except (Refused, ReadError):                   # whoever reads it line by line names the line
         return None
     if made is not None:
-        made.notes = made.notes._replace(source=table.left_out.added_to(table.summary.replace(file.path, os.fspath(path))))
+        made.notes = made.notes._replace(
+            source=table.left_out.added_to(table.summary.replace(file.path, os.fspath(path))))
     return made
 
 
@@ -89,8 +93,10 @@ def _find_table(path: str, request: Request) -> Optional[tables.Table]:
     if check_format(path, head, request.format) not in ('edges', 'csv', 'tsv'):
         return None
     delimiter = {'csv': ',', 'tsv': '\t'}.get(request.format or '')
-    table = tables.lay_out(path, head, request.layout if request.layout.delimiter else request.layout._replace(delimiter=delimiter))
-    is_of_networkx = request.layout.columns is None and has_dictionaries(head, request.layout.comments)
+    table = tables.lay_out(path, head, request.layout if request.layout.delimiter
+                           else request.layout._replace(delimiter=delimiter))
+    is_of_networkx = (request.layout.columns is None
+                      and has_dictionaries(head, request.layout.comments))
     return table if len((table.delimiter or ' ').encode()) == 1 and not is_of_networkx else None
 
 
@@ -99,12 +105,14 @@ def _list_folder(folder: str, request: Request) -> List[Source]:
     over, as whoever writes such folders has it."""
     if request.nodelist is not None:
         raise ValueError('nodelist is of a single file, not of a folder')
-    paths = [os.path.abspath(os.path.join(folder, name)) for name in sorted(os.listdir(folder)) if not name.startswith(('.', '_'))]
+    paths = [os.path.abspath(os.path.join(folder, name)) for name in sorted(os.listdir(folder))
+             if not name.startswith(('.', '_'))]
     paths = [path for path in paths if os.path.isfile(path)]
     if not paths:
         raise ReadError(folder, None, 'a folder without a file')
     delimiter = {'csv': ',', 'tsv': '\t'}.get(request.format or '')
-    layout = request.layout if request.layout.delimiter else request.layout._replace(delimiter=delimiter)
+    layout = (request.layout if request.layout.delimiter
+              else request.layout._replace(delimiter=delimiter))
     return [WholeFile(path, _is_parquet(path), layout) for path in paths]
 
 
@@ -130,9 +138,11 @@ def read_sources(sessions: 'Inputs', sources: Sequence[Source],
     if reading.bipartite and not reading.directed:
         raise ValueError('a bipartite matrix has rows and columns of two kinds, so an edge has no second direction: directed=True')
     labels = [source.label for source in sources]
-    places = [parallel_read.place_of(number, len(sources), sessions) for number in range(len(sources))]
-    parts = [sessions.submit(place, label, worker_tasks.read_edges, list(source), type(source), reading.bipartite)
-             for place, label, source in zip(places, labels, sources)]
+    places = [parallel_read.place_of(number, len(sources), sessions)
+              for number in range(len(sources))]
+    parts = [
+        sessions.submit(place, label, worker_tasks.read_edges, list(source), type(source),
+                        reading.bipartite) for place, label, source in zip(places, labels, sources)]
     found = _read_names(sessions, places, labels, parts, sources)
     vertices = None if found is None else _vertices([names for names, *_ in found])
     if found is None or vertices is None:
@@ -140,8 +150,10 @@ def read_sources(sessions: 'Inputs', sources: Sequence[Source],
     weighted = any(valued for _, valued, *_ in found)
     op = None if reading.dup_op is None else find('binary', reading.dup_op)
     sizes = [len(names) for names in vertices.names]
-    to = [To(numbers, sizes[0], sizes[-1], reading.directed, not weighted and op is None) for numbers in vertices.places]
-    made = _Moved(sessions, places, labels, parts, to).make_matrix(op, weighted, vertices, reading.name)
+    to = [To(numbers, sizes[0], sizes[-1], reading.directed, not weighted and op is None)
+          for numbers in vertices.places]
+    made = _Moved(sessions, places, labels, parts,
+                  to).make_matrix(op, weighted, vertices, reading.name)
     rows = axis_of(vertices.names[0])
     columns = rows if len(sizes) == 1 else axis_of(vertices.names[-1])
     made.notes = Notes(None, None, reading.directed, weighted or op is not None, _add_left_out(found).added_to(found[0][2]),
@@ -158,7 +170,8 @@ def _read_names(sessions: 'Inputs', places: Sequence[int], labels: Sequence[str]
                 parts: Sequence[Any], sources: Sequence[Source]) -> Optional[List[Any]]:
     """The names of each part, whether it has values, and what was taken of it. It tells of the
     bytes as they were read."""
-    out, futures = [], [sessions.submit(place, label, worker_tasks.names_of, part) for place, label, part in zip(places, labels, parts)]
+    out, futures = [], [sessions.submit(place, label, worker_tasks.names_of, part)
+                        for place, label, part in zip(places, labels, parts)]
     for future, label, source in zip(futures, labels, sources):
         out.append(sessions.results([future], [label])[0])
         if sessions.progress is not None and isinstance(source, ListRange):
@@ -177,7 +190,10 @@ def _vertices(names: Sequence[List[Any]]) -> Optional[_Vertices]:
             raise refusal('M4', detail='%d vertices' % len(every))
         nodes = Nodes(every.tolist() if isinstance(every, numpy.ndarray) else every)
         found.append(nodes)
-        numbers.append([edgelist_partitions.number_part(one, every, nodes.places if not isinstance(every, numpy.ndarray) else None) for one in column])
+        numbers.append(
+            [edgelist_partitions.number_part(one, every, nodes.places
+                                             if not isinstance(every, numpy.ndarray) else None)
+             for one in column])
     return _Vertices(found, [list(many) for many in zip(*numbers)])
 
 
@@ -195,14 +211,18 @@ class _Moved(NamedTuple):
         ReadError names them otherwise."""
         cut = self.find_cut(vertices)
         shape, bare = (self.to[0].nrows, self.to[0].ncols), self.to[0].bare
-        works = [Work(block, cut.label(block), worker_tasks.of_edges, (bare, shape, lines, op, weighted))
-                 for block, lines in enumerate(self._split_edges(cut))]
+        works = [
+            Work(block, cut.label(block), worker_tasks.of_edges, (bare, shape, lines, op, weighted))
+            for block, lines in enumerate(self._split_edges(cut))]
         try:
-            futures = [self.sessions.submit(*work[:3], *work.args) for work in works] if op is None else self.sessions.submit_batch(works)
+            futures = ([self.sessions.submit(*work[:3], *work.args) for work in works] if op is None
+                       else self.sessions.submit_batch(works))
             return self.sessions.assemble(cut, shape[1], futures, name).wait()
         except Repeated as fault:
             ends = vertices.names[0][fault.row], vertices.names[-1][fault.column]
-            raise ReadError('the edges', None, 'the edge between %r and %r is given twice; %s' % (*ends, FOLDS)) from None
+            raise ReadError('the edges', None,
+                            'the edge between %r and %r is given twice; %s' %
+                            (*ends, FOLDS)) from None
 
     def find_cut(self, vertices: _Vertices) -> Cut:
         """Where to cut, by the entries in ranges of rows."""
@@ -212,8 +232,10 @@ class _Moved(NamedTuple):
             return given or row_partition.cut_evenly(nrows, self.sessions.blocks)
         bins = min(BINS, nrows)
         edges = [nrows * k // bins for k in range(bins + 1)]
-        counts = self.sessions.results(self._submit_each(worker_tasks.edge_counts, edges), self.labels)
-        found = row_partition.cut_by_entries([int(sum(many)) for many in zip(*counts)], self.sessions.blocks)
+        counts = self.sessions.results(self._submit_each(worker_tasks.edge_counts, edges),
+                                       self.labels)
+        found = row_partition.cut_by_entries([int(sum(many)) for many in zip(*counts)],
+                                             self.sessions.blocks)
         return Cut(tuple(edges[bound] for bound in found.bounds))
 
     def _submit_each(self, function: Any, *more: Any) -> List[Any]:
@@ -224,8 +246,12 @@ class _Moved(NamedTuple):
         """The lines of each block out of each part: where they lie, or their futures."""
         if self.sessions.spool() is None:
             split = self._submit_each(worker_tasks.split_edges, cut, '')
-            return [[self.sessions.submit(place, label, worker_tasks.pick, future, block) for place, label, future in zip(self.places, self.labels, split)]
-                    for block in range(cut.blocks)]
-        split = [self.sessions.submit(place, label, worker_tasks.split_edges, part, to, cut, self.sessions.new_file())
-                 for place, label, part, to in zip(self.places, self.labels, self.parts, self.to)]
+            return [
+                [self.sessions.submit(place, label, worker_tasks.pick, future, block)
+                 for place, label, future in zip(self.places, self.labels, split)]
+                for block in range(cut.blocks)]
+        split = [
+            self.sessions.submit(place, label, worker_tasks.split_edges, part, to, cut,
+                                 self.sessions.new_file())
+            for place, label, part, to in zip(self.places, self.labels, self.parts, self.to)]
         return [list(many) for many in zip(*self.sessions.results(split, self.labels))]

@@ -60,14 +60,16 @@ def read_matrix_market(sessions: 'Inputs', source: Any, values: matrix_market.Va
             if head.kind.array:
                 return None
             about = About(head.kind, head.nrows, head.ncols)
-            cut = sessions.cut_for(head.nrows, given) or _cut_of(opened, file, about, sessions.blocks)
+            cut = (sessions.cut_for(head.nrows, given)
+                   or _cut_of(opened, file, about, sessions.blocks))
         if cut is None:
             return None
         parts = cut_file(sessions, file, start)
         split = _split(sessions, parts, about, cut)
         if _lines(sessions, parts, split) != head.count:
             return None
-        made = sessions.assemble(cut, head.ncols, _blocks(sessions, parts, split, about, cut), name).wait()
+        made = sessions.assemble(cut, head.ncols, _blocks(sessions, parts, split, about, cut),
+                                 name).wait()
     except Refused:                                # its words are of a text that nobody saw
         return None
     made.notes = about.kind.notes
@@ -100,22 +102,28 @@ def _cut_of(file: Any, about_file: SharedFile, about: About, blocks: int) -> Opt
         except ValueError:
             return None
     rows.sort()
-    inside = [min(max(rows[len(rows) * k // blocks] - 1, 0), about.nrows) for k in range(1, blocks)] if rows else []
+    inside = (
+        [min(max(rows[len(rows) * k // blocks] - 1, 0), about.nrows) for k in range(1, blocks)]
+        if rows else [])
     return Cut((0, *inside, about.nrows)) if rows else row_partition.cut_evenly(about.nrows, blocks)
 
 
 def _split(sessions: 'Inputs', parts: Sequence[Range], about: About, cut: Cut) -> List[Any]:
     """The futures of the lines of each block, a list for each range, and behind them the number of
     lines."""
-    return [sessions.submit(place_of(number, len(parts), sessions), part.label, worker_tasks.split_range, part, about, cut,
-                            sessions.new_file() if sessions.spool() is not None else '') for number, part in enumerate(parts)]
+    return [
+        sessions.submit(place_of(number, len(parts), sessions), part.label,
+                        worker_tasks.split_range, part, about, cut, sessions.new_file()
+                        if sessions.spool() is not None else '')
+        for number, part in enumerate(parts)]
 
 
 def _lines(sessions: 'Inputs', parts: Sequence[Range], split: Sequence[Any]) -> int:
     """The lines of all ranges; a negative number where some are unusual. It tells of the bytes as
     they have been read."""
-    counted = [sessions.submit(place_of(number, len(parts), sessions), part.label, worker_tasks.pick, future, -1)
-               for number, (part, future) in enumerate(zip(parts, split))]
+    counted = [
+        sessions.submit(place_of(number, len(parts), sessions), part.label, worker_tasks.pick,
+                        future, -1) for number, (part, future) in enumerate(zip(parts, split))]
     total, usual = 0, True
     for part, future in zip(parts, counted):
         found = sessions.results([future], [part.label])[0]
@@ -133,8 +141,10 @@ def _blocks(sessions: 'Inputs', parts: Sequence[Range], split: Sequence[Any], ab
     if sessions.spool() is not None:
         found: Any = sessions.results(split, [part.label for part in parts])
     else:
-        found = [[sessions.submit(place, part.label, worker_tasks.pick, future, block) for block in range(cut.blocks)]
-                 for place, part, future in zip(places, parts, split)]
+        found = [
+            [sessions.submit(place, part.label, worker_tasks.pick, future, block)
+             for block in range(cut.blocks)] for place, part, future in zip(places, parts, split)]
     shape = about.nrows, about.ncols
-    return [sessions.submit(block, cut.label(block), worker_tasks.of_parts, about.banner, shape, [many[block] for many in found])
-            for block in range(cut.blocks)]
+    return [
+        sessions.submit(block, cut.label(block), worker_tasks.of_parts, about.banner, shape,
+                        [many[block] for many in found]) for block in range(cut.blocks)]

@@ -36,7 +36,8 @@ def lines(matrix: 'BlockHandle') -> Iterator[worker_tasks.Lines]:
 
 def read_lines(matrix: 'BlockHandle') -> List[worker_tasks.Lines]:
     """The lines of each block, in order, all asked for at a time."""
-    futures = [_submit_lines(matrix, block, *rows) for block, rows in enumerate(matrix.cut.ranges())]
+    futures = [_submit_lines(matrix, block, *rows)
+               for block, rows in enumerate(matrix.cut.ranges())]
     return matrix.backend.sessions.results(futures, matrix.labels)
 
 
@@ -97,7 +98,8 @@ def checkpoint(matrix: 'BlockHandle') -> 'BlockHandle':
     sessions, futures = matrix.backend.sessions, []
     for block, label in enumerate(matrix.labels):
         if sessions.spool() is None:
-            part, = sessions.results([_submit_lines(matrix, block, *matrix.cut.rows(block))], [label])
+            part, = sessions.results([_submit_lines(matrix, block, *matrix.cut.rows(block))],
+                                     [label])
             text = row_partition.text_of(*matrix.shape, [part])
             futures.append(sessions.submit(block, label, worker_tasks.source, text))
         else:

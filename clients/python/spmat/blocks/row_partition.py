@@ -46,15 +46,18 @@ class Cut(NamedTuple):
 
     def meeting(self, first: int, end: int) -> List[int]:
         """The blocks that have any of the rows from `first` to below `end`."""
-        return [k for k, (start, stop) in enumerate(self.ranges()) if max(start, first) < min(stop, end)]
+        return [k for k, (start, stop) in enumerate(self.ranges())
+                if max(start, first) < min(stop, end)]
 
 
 def check_cut(bounds: Iterable[int], nrows: int) -> Cut:
     """A cut that a caller gives, looked at. ValueError where the bounds don't ascend from 0 to the
     number of rows."""
     cut = Cut(tuple(bounds))
-    if len(cut.bounds) < 2 or cut.bounds[0] != 0 or cut.nrows != nrows or any(a > b for a, b in cut.ranges()):
-        raise ValueError('a cut ascends from 0 to the %d rows, and this is %s' % (nrows, cut.bounds))
+    if (len(cut.bounds) < 2 or cut.bounds[0] != 0 or cut.nrows != nrows
+        or any(a > b for a, b in cut.ranges())):
+        raise ValueError('a cut ascends from 0 to the %d rows, and this is %s' %
+                         (nrows, cut.bounds))
     return cut
 
 

@@ -65,8 +65,10 @@ class Sessions(Inputs):
                  folder: Optional[str] = None, associative: Iterable[Op] = (), texts: bool = False,
                  progress: Progress = None, patience: Optional[float] = 10) -> None:
         _check_settings(steps, workers, patience)
-        self.engine = engine if isinstance(engine, Engine) else Threads() if engine is None else Threads(engine)
-        self.blocks = self.engine.places if blocks is None else coo.whole(blocks, 'number of blocks')
+        self.engine = (engine if isinstance(engine, Engine) else Threads() if engine is None
+                       else Threads(engine))
+        self.blocks = (self.engine.places if blocks is None
+                       else coo.whole(blocks, 'number of blocks'))
         if self.blocks < 1:
             raise ValueError('1 block at least, not %d' % self.blocks)
         self.folder, self.progress = folder, progress
@@ -85,7 +87,8 @@ class Sessions(Inputs):
         from .. import __version__
         version = agree(self.engine.versions(settings))
         if version[0] != __version__:
-            raise VersionMismatch('the workers have client %s, and this process has %s' % (version[0], __version__))
+            raise VersionMismatch('the workers have client %s, and this process has %s' %
+                                  (version[0], __version__))
         return version
 
     def __enter__(self) -> 'Sessions':
@@ -151,7 +154,8 @@ class Sessions(Inputs):
         sessions have left; of workers in one process, which share a session, the first."""
         workers = self._ask_budgets()
         left = self.ledger.budget.left
-        return {worker: Budget(left, budget.reserved, budget.spent) for worker, (_, budget) in workers.items()}
+        return {worker: Budget(left, budget.reserved, budget.spent)
+                for worker, (_, budget) in workers.items()}
 
     def budget(self) -> Budget:
         """What all sessions together have left, reserved and spent, as one budget. What a worker
@@ -200,12 +204,15 @@ class Sessions(Inputs):
         held = [handle for handle in (one() for one in waiting) if handle is not None]
         for handle in held:
             handle.counts()
-        return Run([JobResult(next(iter(handle.matrices()), None), handle.form, handle.price or 0, handle.steps or 0) for handle in held])
+        return Run(
+            [JobResult(next(iter(handle.matrices()), None), handle.form, handle.price or 0,
+                       handle.steps or 0) for handle in held])
 
     def note_result(self, handle: BlockHandle) -> None:
         """Notes the result of a job, for `run`."""
         if len(self._waiting) > MOST_WAITING:
-            self._waiting[:] = [one for one in self._waiting if (held := one()) is not None and held.waits]
+            self._waiting[:] = [one for one in self._waiting if (held := one()) is not None
+                                and held.waits]
         self._waiting.append(weakref.ref(handle))
 
     def forget(self, handle: BlockHandle) -> None:
@@ -231,7 +238,9 @@ class Sessions(Inputs):
         self._check(price)
         futures = [self.submit(*work[:3], *work.args) for work in works]
         try:
-            self.results([self.submit(work.block, work.label, worker_tasks.done, future) for work, future in zip(works, futures)], labels)
+            self.results(
+                [self.submit(work.block, work.label, worker_tasks.done, future)
+                 for work, future in zip(works, futures)], labels)
         finally:
             with contextlib.suppress(SpmatError):  # what came first is raised
                 self.budget()
@@ -239,8 +248,8 @@ class Sessions(Inputs):
 
     def ask(self, works: Sequence[Work]) -> List[Any]:
         """What tasks give whose first argument is a piece and whose others are short, as
-        `submit_batch` and `results` have it, and by a shorter way where there is one: nothing of it stays at the
-        workers."""
+        `submit_batch` and `results` have it, and by a shorter way where there is one: nothing of it
+        stays at the workers."""
         check_queued()
         labels = [work.label for work in works]
         if works and not self.is_metered:
@@ -275,8 +284,11 @@ class Sessions(Inputs):
 
     def _price(self, works: Sequence[Work], exact: bool) -> int:
         """The price of jobs together, or a bound of it."""
-        return sum(self.results([self.submit(work.block, work.label, worker_tasks.price_job, work.function, list(work.args), exact) for work in works],
-                                [work.label for work in works]))
+        return sum(
+            self.results(
+                [self.submit(work.block, work.label, worker_tasks.price_job, work.function,
+                             list(work.args), exact) for work in works],
+                [work.label for work in works]))
 
     def submit(self, block: int, label: str, function: Callable[..., Any], *args: Any) -> Any:
         """The future of a task at a block's place."""

@@ -56,7 +56,8 @@ class Threads(Engine):
     def __init__(self, count: int = 2) -> None:
         if not 1 <= count <= 64:
             raise ValueError('1 to 64 sessions, not %r' % (count,))
-        self._pools = [concurrent.futures.ThreadPoolExecutor(1, 'spmat-%d' % place) for place in range(count)]
+        self._pools = [concurrent.futures.ThreadPoolExecutor(1, 'spmat-%d' % place)
+                       for place in range(count)]
         self._stores: Dict[Tuple[str, int], Store] = {}
         self._again: Dict[str, int] = {}
         self._reported: Dict[str, int] = {}
@@ -72,7 +73,8 @@ class Threads(Engine):
         earlier ones: so none waits for ever."""
         recipe = Recipe(label, function, _recipes(args))
         task = Task(recipe, concurrent.futures.Future())
-        self._pools[place].submit(self._perform, _Maker(self, settings, place), recipe, args, task.future)
+        self._pools[place].submit(self._perform, _Maker(self, settings, place), recipe, args,
+                                  task.future)
         return task
 
     @staticmethod
@@ -89,7 +91,8 @@ class Threads(Engine):
         """The session of a place, opened at its first use, and anew where its program has ended."""
         held = self._stores.get((settings.token, place))
         if held is None or held.is_lost():
-            self._stores[settings.token, place] = held = Store(settings, held.ended if held is not None else Ended())
+            self._stores[settings.token, place] = held = Store(
+                settings, held.ended if held is not None else Ended())
         return held
 
     def count_again(self, settings: Settings) -> None:
@@ -123,17 +126,20 @@ class Threads(Engine):
         begun = time.monotonic()
         while not task.done():
             concurrent.futures.wait([task.future], LOOK)
-            if progress is not None and self.again(settings) > self._reported.get(settings.token, 0):
+            if (progress is not None
+                and self.again(settings) > self._reported.get(settings.token, 0)):
                 self._reported[settings.token] = self.again(settings)
                 progress('again', self._reported[settings.token], 0)
             if settings.patience is not None and time.monotonic() - begun > settings.patience:
-                for store in [store for (token, _), store in self._stores.items() if token == settings.token]:
+                for store in [store for (token, _), store in self._stores.items()
+                              if token == settings.token]:
                     store.end_if_stopped(settings.patience)
 
     def everywhere(self, settings: Settings, function: Callable[..., Any], *args: Any) -> Dict[str,
             Any]:
         names = ['session %d' % place for place in range(self.places)]
-        futures = [self.submit(settings, place, name, function, *args) for place, name in enumerate(names)]
+        futures = [self.submit(settings, place, name, function, *args)
+                   for place, name in enumerate(names)]
         return dict(zip(names, self.results(settings, futures, names)))
 
     def versions(self, settings: Settings) -> Dict[str, Version]:
@@ -169,7 +175,8 @@ class _Maker:
         raise AssertionError
 
     def _make(self, recipe: Recipe, values: Any) -> Any:
-        value = worker_tasks.perform(lambda: self._engine.store(self._settings, self._place), recipe.label, recipe.function, values)
+        value = worker_tasks.perform(lambda: self._engine.store(self._settings, self._place),
+                                     recipe.label, recipe.function, values)
         if isinstance(value, Piece):
             recipe.last = weakref.ref(value)
         return value
@@ -235,7 +242,8 @@ def _fill_recipe(args: Any, made: Dict[Recipe, Any]) -> Any:
     """Arguments with what the recipes among them gave."""
     if isinstance(args, Recipe):
         return made[args]
-    return type(args)(_fill_recipe(one, made) for one in args) if type(args) in (list, tuple) else args
+    return (type(args)(_fill_recipe(one, made) for one in args) if type(args) in (list, tuple)
+            else args)
 
 
 def _shorten(args: Any, values: Any) -> Any:

@@ -114,11 +114,13 @@ class Piece:
     @property
     def is_short(self) -> bool:
         """Whether it is a vector, or its text is short: it is kept with what was made of it."""
-        return 1 in (self.counts.nrows, self.counts.ncols) or (self._text is not None and len(self._text) < SHORT)
+        return (1 in (self.counts.nrows, self.counts.ncols)
+                or (self._text is not None and len(self._text) < SHORT))
 
     def is_lost(self) -> bool:
         """Whether it has gone with the session that it was in."""
-        return self._text is None and self.matrix is not None and not self.matrix.session.connection.usable()
+        return (self._text is None and self.matrix is not None
+                and not self.matrix.session.connection.usable())
 
     def keep_text(self) -> 'Piece':
         """The same piece, which has its text from now on."""
@@ -165,10 +167,13 @@ class Store:
 
     def __init__(self, settings: Settings, before: Ended = Ended()) -> None:
         if settings.version is not None and version_of(settings.program) != settings.version:
-            raise VersionMismatch('this worker has another version than the others: %s, and %s is expected'
-                                  % (_describe_version(version_of(settings.program)), _describe_version(settings.version)))
+            raise VersionMismatch(
+                'this worker has another version than the others: %s, and %s is expected' %
+                (_describe_version(version_of(settings.program)),
+                 _describe_version(settings.version)))
         self.settings, self.name = settings, before.name or uuid.uuid4().hex
-        self.session = Metered(max(0, settings.steps - before.spent), settings.workers, settings.program)
+        self.session = Metered(max(0, settings.steps - before.spent), settings.workers,
+                               settings.program)
         self._lock = threading.Lock()
         self._here: 'weakref.WeakKeyDictionary[Piece, Matrix]' = weakref.WeakKeyDictionary()
         self._contents: 'weakref.WeakValueDictionary[bytes, Matrix]' = weakref.WeakValueDictionary()
@@ -199,7 +204,8 @@ class Store:
         """A matrix of this session as a piece, once it is made."""
         matrix.wait()
         self._note_spent()
-        counts = Counts(matrix.nrows, matrix.ncols, matrix.nvals, matrix.price or 0, matrix.steps or 0)
+        counts = Counts(matrix.nrows, matrix.ncols, matrix.nvals, matrix.price or 0, matrix.steps
+                        or 0)
         piece = Piece(counts, matrix)
         self._pieces.add(piece)
         return piece.keep_text() if self.settings.texts else piece
@@ -224,7 +230,8 @@ class Store:
     def is_abandoned(self, seconds: float) -> bool:
         """Whether no task has used this session for so long, and nobody holds a piece of it."""
         with self._lock:
-            return not self._users and time.monotonic() - self._last_use > seconds and not len(self._pieces)
+            return (not self._users and time.monotonic() - self._last_use > seconds
+                    and not len(self._pieces))
 
     @property
     def ended(self) -> Ended:
@@ -315,7 +322,8 @@ def _sweep() -> None:
     while True:
         time.sleep(ABANDONED / 12)
         with _lock:
-            left = [(token, store) for token, store in _stores.items() if store.is_abandoned(ABANDONED)]
+            left = [(token, store) for token, store in _stores.items()
+                    if store.is_abandoned(ABANDONED)]
             for token, store in left:
                 _ended[token] = store.ended
                 del _stores[token]
@@ -345,7 +353,8 @@ def agree(versions: Dict[str, Tuple[str, str]]) -> Tuple[str, str]:
     for worker, version in versions.items():
         told.setdefault(version, []).append(worker)
     if len(told) > 1:
-        parts = ['%s has %s' % (', '.join(sorted(workers)), _describe_version(version)) for version, workers in sorted(told.items())]
+        parts = ['%s has %s' % (', '.join(sorted(workers)), _describe_version(version))
+                 for version, workers in sorted(told.items())]
         raise VersionMismatch('workers have different versions of spmat: ' + '; '.join(parts))
     return next(iter(told))
 

@@ -40,7 +40,8 @@ def perform(find: Callable[[], Store], label: str, function: Callable[..., Any],
     except AtBlock:
         raise
     except NotMade as fault:
-        raise AtBlock(label, fault.__cause__ if isinstance(fault.__cause__, Exception) else fault) from fault
+        raise AtBlock(label, fault.__cause__ if isinstance(fault.__cause__, Exception)
+                      else fault) from fault
     except Exception as fault:
         raise AtBlock(label, fault) from fault
 
@@ -87,7 +88,8 @@ def read_edges(store: Store, source: Sequence[Any], kind: Any,
 def names_of(store: Store, part: Optional[edgelist_partitions.EdgePart]) -> Any:
     """The names that stand in a part, whether its edges have values, what was taken of it, and what
     was left out."""
-    return None if part is None else (part.names, part.values is not None, part.summary, part.left_out)
+    return (None if part is None
+            else (part.names, part.values is not None, part.summary, part.left_out))
 
 
 def edge_counts(store: Store, part: edgelist_partitions.EdgePart, to: edgelist_partitions.To,
@@ -116,7 +118,8 @@ def of_edges(store: Store, bare: bool, shape: Tuple[int, int], parts: Sequence[f
     # `matrix_text.write` signs each value where one is below 0
     unsigned = b''.join(part.text() for part in parts).replace(b'+', b'0')
     columns = parse_integers.fields(unsigned, range(2 if bare else 3), 2 if bare else 3)
-    rows, at, values = columns[0] - 1, columns[1] - 1, columns[2] if not bare else columns[0] * 0 + 1
+    rows, at, values = columns[0] - 1, columns[1] - 1, columns[2] if not bare else columns[
+        0] * 0 + 1
     triples = Triples(rows, at, values, *shape)
     if op is not None:
         return store.piece(store.session.from_coo(*triples, dup_op=op))
@@ -125,7 +128,9 @@ def of_edges(store: Store, bare: bool, shape: Tuple[int, int], parts: Sequence[f
         assert again is not None
         raise edgelist_partitions.Repeated(int(rows[again]), int(at[again]))
     first = numpy.unique(rows * max(shape[1], 1) + at, return_index=True)[1]
-    return source(store, matrix_text.write(Triples(rows[first], at[first], values[first], *shape), ones=True))
+    return source(store,
+                  matrix_text.write(Triples(rows[first], at[first], values[first], *shape),
+                                    ones=True))
 
 
 def write(store: Store, piece: Piece, path: str) -> bytes:
@@ -178,7 +183,8 @@ def hand_on(store: Store, piece: Piece) -> Piece:
 def push_front(store: Store, block: Piece, front: Vector, ring: Semiring) -> Vector:
     """What comes to each vertex along the edges of a block that leave some vertices: the vertices,
     and a value for each."""
-    row = store.session.backend.keep(Triples(front.at * 0, front.at, front.values, 1, block.counts.nrows))
+    row = store.session.backend.keep(
+        Triples(front.at * 0, front.at, front.values, 1, block.counts.nrows))
     return read_vector(row.mxm(store.matrix(block), ring).to_text(), 1)
 
 
@@ -193,7 +199,8 @@ def sum_of(store: Store, sofar: Piece, terms: Piece, add: Operator) -> Piece:
     gave. Prices and steps are those of all of them."""
     joined = job(store, 'ewise_add', [sofar, terms], None, [add], {})
     three = (sofar.counts, terms.counts, joined.counts)
-    joined.counts = joined.counts._replace(price=sum(c.price for c in three), steps=sum(c.steps for c in three))
+    joined.counts = joined.counts._replace(price=sum(c.price for c in three),
+                                           steps=sum(c.steps for c in three))
     return joined
 
 
@@ -212,7 +219,8 @@ def assemble(store: Store, shape: Tuple[int, int], parts: Sequence[Lines]) -> Pi
 def join_vector(store: Store, blocks: Sequence[Piece]) -> Piece:
     """The whole of a vector from its blocks."""
     texts = [block.text() for block in blocks]
-    parts = [(text[matrix_text.head_of(text).start:], block.counts.nvals) for text, block in zip(texts, blocks)]
+    parts = [(text[matrix_text.head_of(text).start:], block.counts.nvals)
+             for text, block in zip(texts, blocks)]
     return assemble(store, blocks[0].counts[:2], parts).mark()
 
 

@@ -1,9 +1,9 @@
 """The command line `spmat-graph COMMAND ..`, which is `python3 -m spmat COMMAND ..`, too.
 
-A command for each algorithm of `spmat.algorithms` (`algorithm_table`), `spy` and `draw` (`graph_commands`), `types` and `script`
-(`session_commands`), and `completion`. Results go to standard output, progress to standard error where that is a terminal, and a fault is one line there.
-`exit_status` has the exit statuses.
-"""
+A command for each algorithm of `spmat.algorithms` (`algorithm_table`), `spy` and `draw`
+(`graph_commands`), `types` and `script` (`session_commands`), and `completion`. Results go to
+standard output, progress to standard error where that is a terminal, and a fault is one line there.
+`exit_status` has the exit statuses. """
 from __future__ import annotations
 
 import argparse
@@ -35,18 +35,22 @@ from 1. `%%(prog)s COMMAND --help` tells more of each command. The server itself
 exit status:
 %s
 """
-FORMER = 'run'                                     # what `script` is called where the program is `python3 -m spmat`
+# what `script` is called where the program is `python3 -m spmat`
+FORMER = 'run'
 
 
 def epilog() -> str:
     """Examples, and the exit statuses."""
-    return EPILOG % (READABLE, ', '.join(ENDINGS), '\n'.join('  %3d  %s' % pair for pair in MEANINGS.items()))
+    return EPILOG % (READABLE, ', '.join(ENDINGS),
+                     '\n'.join('  %3d  %s' % pair for pair in MEANINGS.items()))
 
 
 def parser(program: str = PROGRAM) -> argparse.ArgumentParser:
     """The grammar of the words, of a program of this name."""
-    made = Parser(prog=program, description=DESCRIPTION, epilog=epilog(), formatter_class=argparse.RawDescriptionHelpFormatter)
-    made.add_argument('--version', action='version', version='spmat %s, the client' % __version__, help="tell the client's version")
+    made = Parser(prog=program, description=DESCRIPTION, epilog=epilog(),
+                  formatter_class=argparse.RawDescriptionHelpFormatter)
+    made.add_argument('--version', action='version', version='spmat %s, the client' % __version__,
+                      help="tell the client's version")
     commands = made.add_subparsers(dest='command', metavar='COMMAND', required=True)
     graph_commands.add_commands(commands)
     session_commands.add_commands(commands, () if program == PROGRAM else (FORMER,))
@@ -67,7 +71,8 @@ def main(words: Optional[List[str]] = None, program: str = PROGRAM) -> int:
 
 
 def end(*_: Any) -> NoReturn:
-    """Ends as the shell's status has it, with the program that was started: it may be amid a batch, which nothing cancels."""
+    """Ends as the shell's status has it, with the program that was started: it may be amid a batch,
+    which nothing cancels."""
     sys.exit(Status.TERMINATED)
 
 

@@ -1,4 +1,5 @@
-"""The algorithms as commands: each of the list that `spmat.algorithms` fills, and what calls it with the options of the command line."""
+"""The algorithms as commands: each of the list that `spmat.algorithms` fills, and what calls it
+with the options of the command line."""
 from __future__ import annotations
 
 import argparse
@@ -41,7 +42,10 @@ def vertex(graph: Matrix, word: str) -> Any:
     for name in (word, int(word) if NUMBER.fullmatch(word) else word):
         if name in names.places:
             return name
-    raise Ended(Status.WORDS, 'no vertex %s: %s' % (word, near(word, names) or 'they are ' + told(names) if names else 'the graph has none'))
+    raise Ended(Status.WORDS,
+                'no vertex %s: %s' %
+                (word, near(word, names) or 'they are ' + told(names) if names
+                 else 'the graph has none'))
 
 
 def start(graph: Matrix, options: argparse.Namespace) -> Any:
@@ -59,7 +63,8 @@ def many(graph: Matrix, options: argparse.Namespace) -> Optional[List[Any]]:
 
 
 def with_rows(result: Matrix, names: Optional[List[Any]]) -> Matrix:
-    """A result whose rows are these vertices, in their order; those of the graph where they are None."""
+    """A result whose rows are these vertices, in their order; those of the graph where they are
+    None."""
     if names is not None:
         result.notes = result.notes._replace(rows=Nodes(names))
     return result
@@ -75,23 +80,27 @@ def lengths(graph: Matrix, options: argparse.Namespace, progress: Optional[Progr
     """`path_lengths`, with the sources' names for its rows."""
     names = many(graph, options)
     if names is None:
-        raise Ended(Status.WORDS, '--source is missing; all-pairs gives the lengths from all vertices')
+        raise Ended(Status.WORDS,
+                    '--source is missing; all-pairs gives the lengths from all vertices')
     return with_rows(algorithms.path_lengths(graph, names, progress), names)
 
 
 def shared(graph: Matrix, options: argparse.Namespace, _: Optional[Progress]) -> List[Any]:
     """`shared_neighbours`, a line for each pair in their order."""
     pairs = [tuple(vertex(graph, word) for word in pair) for pair in options.pair]
-    counts = algorithms.shared_neighbours(graph, [first for first, _ in pairs], [second for _, second in pairs]).to_list(0)
+    counts = algorithms.shared_neighbours(graph, [first for first, _ in pairs],
+                                          [second for _, second in pairs]).to_list(0)
     return [(*pair, count) for pair, count in zip(pairs, counts)]
 
 
-def distances(graph: Matrix, options: argparse.Namespace, progress: Optional[Progress]) -> List[Any]:
+def distances(graph: Matrix, options: argparse.Namespace,
+              progress: Optional[Progress]) -> List[Any]:
     """`distance_counts`, a line for each vertex and distance."""
     names = graph.notes.rows
     assert names is not None
     columns = algorithms.distance_counts(graph, transposed(graph, options), progress)
-    found = [(i, distance, count) for distance, column in enumerate(columns, 1) for i, _, count in column.to_triples()]
+    found = [(i, distance, count) for distance, column in enumerate(columns, 1)
+             for i, _, count in column.to_triples()]
     return [(names[i], distance, count) for i, distance, count in sorted(found)]
 
 
@@ -101,40 +110,48 @@ def end(graph: Matrix, options: argparse.Namespace) -> Any:
 
 
 def exact(lengths: Iterable[Any]) -> List[Any]:
-    """Lengths as they are printed: those of a graph whose values have a unit by the digits that they have."""
+    """Lengths as they are printed: those of a graph whose values have a unit by the digits that
+    they have."""
     return [Decimal(repr(length)) if isinstance(length, float) else length for length in lengths]
 
 
 def path(graph: Matrix, options: argparse.Namespace, progress: Optional[Progress]) -> List[Any]:
     """`shortest_path`, a line for each vertex, with how far along the path it is."""
-    found = algorithms.shortest_path(graph, start(graph, options), end(graph, options), transposed(graph, options), progress,
+    found = algorithms.shortest_path(graph, start(graph, options), end(graph, options),
+                                     transposed(graph, options), progress,
                                      weighted=options.weighted)
     return list(zip(found, exact(found.lengths)))
 
 
 def tree(graph: Matrix, options: argparse.Namespace, progress: Optional[Progress]) -> List[Any]:
     """`shortest_paths`, a line for each vertex: its length, and the vertex before it."""
-    found = algorithms.shortest_paths(graph, start(graph, options), transposed(graph, options), progress, weighted=options.weighted)
+    found = algorithms.shortest_paths(graph, start(graph, options), transposed(graph, options),
+                                      progress, weighted=options.weighted)
     far, before = found.lengths.by_node(), found.predecessors.by_node()
     return [(name, length, before[name]) for name, length in zip(far, exact(far.values()))]
 
 
 def some_paths(graph: Matrix, options: argparse.Namespace, _: Optional[Progress]) -> List[Any]:
-    """`k_shortest_paths`, a line for each vertex of each path: the path's number, the vertex, and how far along it is."""
-    found = algorithms.k_shortest_paths(graph, start(graph, options), end(graph, options), options.k, transposed(graph, options),
+    """`k_shortest_paths`, a line for each vertex of each path: the path's number, the vertex, and
+    how far along it is."""
+    found = algorithms.k_shortest_paths(graph, start(graph, options), end(graph, options),
+                                        options.k, transposed(graph, options),
                                         weighted=options.weighted)
-    return [(number, *step) for number, one in enumerate(found, 1) for step in zip(one, exact(one.lengths))]
+    return [(number, *step) for number, one in enumerate(found, 1)
+            for step in zip(one, exact(one.lengths))]
 
 
 def reaches(graph: Matrix, options: argparse.Namespace, _: Optional[Progress]) -> List[Any]:
     """`has_path`, as a word."""
-    found = algorithms.has_path(graph, start(graph, options), end(graph, options), transposed(graph, options))
+    found = algorithms.has_path(graph, start(graph, options), end(graph, options),
+                                transposed(graph, options))
     return [('yes' if found else 'no',)]
 
 
 def communities(graph: Matrix, options: argparse.Namespace, progress: Optional[Progress]) -> Matrix:
     """`louvain`'s labels; the modularity goes to standard error."""
-    found = algorithms.louvain(graph, options.resolution, options.seed, progress, weighted=options.weighted)
+    found = algorithms.louvain(graph, options.resolution, options.seed, progress,
+                               weighted=options.weighted)
     if not options.quiet:
         print('modularity %.6f' % found.modularity, file=sys.stderr)
     return found
@@ -142,7 +159,8 @@ def communities(graph: Matrix, options: argparse.Namespace, progress: Optional[P
 
 def ranks(graph: Matrix, options: argparse.Namespace, progress: Optional[Progress]) -> Matrix:
     """`pagerank`, in the unit that is printed."""
-    return algorithms.pagerank(graph, transposed(graph, options), options.damping, options.tolerance, ONE, progress, weighted=options.weighted)
+    return algorithms.pagerank(graph, transposed(graph, options), options.damping,
+                               options.tolerance, ONE, progress, weighted=options.weighted)
 
 
 def forest(graph: Matrix, _: argparse.Namespace, progress: Optional[Progress]) -> Matrix:
@@ -152,22 +170,28 @@ def forest(graph: Matrix, _: argparse.Namespace, progress: Optional[Progress]) -
 
 def authorities(graph: Matrix, options: argparse.Namespace, progress: Optional[Progress]) -> Matrix:
     """`hits`: hubs, or authorities."""
-    return algorithms.hits(graph, transposed(graph, options), progress=progress, weighted=options.weighted)[options.authorities]
+    return algorithms.hits(graph, transposed(graph, options), progress=progress,
+                           weighted=options.weighted)[options.authorities]
 
 
-# What isn't called by the options that are named as its arguments are, or whose result isn't printed as it is.
-CALLS: Dict[str, Call] = {
-    'distance_counts': distances, 'has_path': reaches, 'hits': authorities, 'k_hop': hops, 'k_shortest_paths': some_paths, 'louvain': communities,
-    'minimum_spanning_forest': forest, 'pagerank': ranks, 'path_lengths': lengths, 'shared_neighbours': shared, 'shortest_path': path,
-    'shortest_paths': tree}
-ARGUMENTS: Dict[str, Callable[[Matrix, argparse.Namespace], Any]] = {'GT': transposed, 'WT': transposed, 'source': start, 'sources': many}
+# What isn't called by the options that are named as its arguments are, or whose result isn't
+# printed as it is.
+CALLS: Dict[str, Call] = {'distance_counts': distances, 'has_path': reaches, 'hits': authorities,
+                          'k_hop': hops, 'k_shortest_paths': some_paths, 'louvain': communities,
+                          'minimum_spanning_forest': forest, 'pagerank': ranks,
+                          'path_lengths': lengths, 'shared_neighbours': shared,
+                          'shortest_path': path, 'shortest_paths': tree}
+ARGUMENTS: Dict[str, Callable[[Matrix, argparse.Namespace], Any]] = {
+    'GT': transposed, 'WT': transposed, 'source': start, 'sources': many}
 
 
-def call_algorithm(algorithm: Algorithm, graph: Matrix, options: argparse.Namespace, progress: Optional[Progress]) -> Any:
+def call_algorithm(algorithm: Algorithm, graph: Matrix, options: argparse.Namespace,
+                   progress: Optional[Progress]) -> Any:
     """What an algorithm gives, called with the options that are named as its arguments are."""
     _, *names = algorithm.parameters
     given = {name: ARGUMENTS[name](graph, options) for name in names if name in ARGUMENTS}
-    given.update((name, getattr(options, name)) for name in names if name in algorithm.flags and name not in given)
+    given.update((name, getattr(options, name)) for name in names if name in algorithm.flags
+                 and name not in given)
     if 'progress' in names:
         given['progress'] = progress
     found = getattr(algorithms, algorithm.function.__name__)(graph, **given)
@@ -175,12 +199,16 @@ def call_algorithm(algorithm: Algorithm, graph: Matrix, options: argparse.Namesp
 
 
 def commands() -> Dict[str, Command]:
-    """The commands by their names: one for each algorithm, and one for the edges that lead to a vertex."""
-    found = {name.replace('_', '-'): Command(one, CALLS.get(name) or functools.partial(call_algorithm, one)) for name, one in ALGORITHMS.items()
-             if one.command}
+    """The commands by their names: one for each algorithm, and one for the edges that lead to a
+    vertex."""
+    found = {
+        name.replace('_', '-'): Command(one, CALLS.get(name)
+                                        or functools.partial(call_algorithm, one))
+        for name, one in ALGORITHMS.items() if one.command}
     back = found['degrees'].algorithm._replace(gives='edges that lead to each vertex', plot=None, says=(
         'How many edges lead to each vertex; nothing of a vertex to which none does.'))
-    found['in-degrees'] = Command(back, lambda graph, options, progress: algorithms.degrees(graph.T))
+    found['in-degrees'] = Command(back,
+                                  lambda graph, options, progress: algorithms.degrees(graph.T))
     return dict(sorted(found.items()))
 
 
@@ -208,8 +236,10 @@ def at_least(least: int, words: str) -> Callable[[str], int]:
 
 
 # what --k means to each command
-K_HELP = {'k_core': 'each vertex has at least K neighbours in the core', 'k_truss': 'each edge is in at least K - 2 triangles of the truss',
-          'k_hop': 'vertices that lie at most K edges away', 'k_shortest_paths': 'how many paths, at most'}
+K_HELP = {'k_core': 'each vertex has at least K neighbours in the core',
+          'k_truss': 'each edge is in at least K - 2 triangles of the truss',
+          'k_hop': 'vertices that lie at most K edges away',
+          'k_shortest_paths': 'how many paths, at most'}
 SOURCE = 'by its name in the file; those of a Matrix Market file count from 1'
 OPTIONS: Dict[str, Dict[str, Any]] = {
     'source': dict(flag='--source', metavar='V', help='the vertex to begin with, %s (default: the first)' % SOURCE),

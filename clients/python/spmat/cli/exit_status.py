@@ -1,4 +1,5 @@
-"""How a command ends: the exit status of each cause, and the one line that tells it. The manual page spmat-graph(1) has the same list."""
+"""How a command ends: the exit status of each cause, and the one line that tells it. The manual
+page spmat-graph(1) has the same list."""
 from __future__ import annotations
 
 import contextlib
@@ -12,11 +13,12 @@ import sys
 import zlib
 from typing import Iterator, Optional, Tuple, Type
 
-from ..errors import (BudgetExceeded, Busy, Closed, CompileError, NoThread, NotMade, OutOfMemory, ReadError, Refused,
-                      SpmatError, TextRefused, arguments_in)
+from ..errors import (BudgetExceeded, Busy, Closed, CompileError, NoThread, NotMade, OutOfMemory,
+                      ReadError, Refused, SpmatError, TextRefused, arguments_in)
 
 PROGRAM = 'spmat-graph'                            # what its lines on standard error begin with
-TRACE = 'SPMAT_TRACE'                              # a variable: a fault of the program itself is shown whole
+# a variable: a fault of the program itself is shown whole
+TRACE = 'SPMAT_TRACE'
 
 
 class Status(enum.IntEnum):
@@ -111,17 +113,20 @@ def words_of(fault: BaseException) -> str:
     if isinstance(fault, MemoryError):
         return 'this machine has too little memory for it'
     if isinstance(fault, OSError) and fault.strerror:
-        return '%s: %s' % (os.fsdecode(fault.filename), fault.strerror) if fault.filename else fault.strerror
+        return ('%s: %s' % (os.fsdecode(fault.filename), fault.strerror) if fault.filename
+                else fault.strerror)
     told = ' '.join(str(fault).split()) or type(fault).__name__
     if status_of(fault) is Status.FAULT:
-        return 'a fault of %s itself: %s: %s (%s=1 shows where)' % (PROGRAM, type(fault).__name__, told, TRACE)
+        return 'a fault of %s itself: %s: %s (%s=1 shows where)' % (
+            PROGRAM, type(fault).__name__, told, TRACE)
     return told + describe_flags(fault)
 
 
 # Arguments of Python whose flags have other names; '' for what the command line doesn't have.
-FLAGS = {'bipartite': '--bipartite or --one-kind', 'check': '', 'comments': '--comments or --no-comments',
-         'directed': '--both-ways', 'header': '--header or --no-header', 'missing': '--missing',
-         'name': '--function', 'tls': '--tls, --cacert, --cert or --key', 'token': '', 'values': '--pattern'}
+FLAGS = {'bipartite': '--bipartite or --one-kind', 'check': '',
+         'comments': '--comments or --no-comments', 'directed': '--both-ways',
+         'header': '--header or --no-header', 'missing': '--missing', 'name': '--function',
+         'tls': '--tls, --cacert, --cert or --key', 'token': '', 'values': '--pattern'}
 
 
 def describe_flags(fault: BaseException) -> str:

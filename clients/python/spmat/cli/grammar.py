@@ -1,4 +1,5 @@
-"""The grammar of the command line: a parser whose faults are one line, and completion by argcomplete."""
+"""The grammar of the command line: a parser whose faults are one line, and completion by
+argcomplete."""
 from __future__ import annotations
 
 import argparse
@@ -15,7 +16,8 @@ GIVEN = '_given'                                   # which options of one value 
 
 
 class Once(argparse.Action):
-    """Stores the value of an option that may be given once: of two the second would hide the first."""
+    """Stores the value of an option that may be given once: of two the second would hide the
+    first."""
 
     def __call__(self, parser: argparse.ArgumentParser, namespace: argparse.Namespace, values: Any,
                  option_string: Optional[str] = None) -> None:
@@ -27,7 +29,8 @@ class Once(argparse.Action):
 
 
 class Parser(argparse.ArgumentParser):
-    """A grammar of words. What is wrong with them is told in one line; a word that is the server's as such."""
+    """A grammar of words. What is wrong with them is told in one line; a word that is the server's
+    as such."""
 
     def __init__(self, *words: Any, **settings: Any) -> None:
         super().__init__(*words, **settings)
@@ -44,13 +47,15 @@ class Parser(argparse.ArgumentParser):
         """What is said of a word that is no command."""
         if word in SERVERS:
             return '`%s` is a command of the server, `spmat %s`; here `%s script FILE` runs a file of commands' % (word, word, self.prog)
-        names = next(tuple(action.choices or ()) for action in self._actions if action.dest == 'command')
+        names = next(tuple(action.choices or ()) for action in self._actions
+                     if action.dest == 'command')
         near = difflib.get_close_matches(word.replace('_', '-'), names, 2)
         return 'no command %s%s' % (word, ': did you mean %s?' % ' or '.join(near) if near else '')
 
 
 def add_command(commands: Any, name: str, summary: str, **settings: Any) -> Parser:
-    """Adds a command with its help in plain lines. `summary` is what the list of commands says of it."""
+    """Adds a command with its help in plain lines. `summary` is what the list of commands says of
+    it."""
     command: Parser = commands.add_parser(name, help=summary, **settings,
                                           formatter_class=argparse.RawDescriptionHelpFormatter)
     return command
@@ -102,4 +107,5 @@ def print_completion(options: argparse.Namespace) -> int:
 def complete(parser: argparse.ArgumentParser) -> None:
     """Answer a shell that asks for the words which may follow, and end; else do nothing."""
     if '_ARGCOMPLETE' in os.environ:
-        import_extra('argcomplete', 'completion').autocomplete(parser, always_complete_options=False)
+        import_extra('argcomplete',
+                     'completion').autocomplete(parser, always_complete_options=False)

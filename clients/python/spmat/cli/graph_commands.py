@@ -1,8 +1,7 @@
 """Commands that read a graph: one for each algorithm, and `spy` and `draw`, which draw it.
 
-Vertices have the names of the file: in options, in results, and where a value is a vertex. Those of a
-Matrix Market file count from 1.
-"""
+Vertices have the names of the file: in options, in results, and where a value is a vertex. Those of
+a Matrix Market file count from 1. """
 from __future__ import annotations
 
 import argparse
@@ -22,8 +21,10 @@ from .grammar import add_command
 from .session_options import add_session_options, open_session
 
 WIDTH = 100                                        # of descriptions
-# A sentence of a docstring that speaks of Python's arguments, and what is said of a column that is printed.
-PYTHONIC = re.compile(r'`[^`]*[(=][^`]*`|`(G|W|GT|WT|sources|pairs|scale|tolerance|searches)`|\bNone\b')
+# A sentence of a docstring that speaks of Python's arguments, and what is said of a column that is
+# printed.
+PYTHONIC = re.compile(
+    r'`[^`]*[(=][^`]*`|`(G|W|GT|WT|sources|pairs|scale|tolerance|searches)`|\bNone\b')
 COLUMN = re.compile(r',? as (a column|bounds)( of (labels|ones))?( in units of [^:.;,]*)?|,? in units of [^:.;,]*|A column; | \(see `undirected`\)')
 SECTION = re.compile(r'^\w+\n-{3,}\n', re.M)      # the heads of a docstring's sections
 COSTS = re.compile(r'(Runs|Steps|GraphBLAS|LAGraph|networkx|igraph): ')
@@ -52,7 +53,8 @@ def add_algorithms(commands: Any) -> None:
     """Add a command for each algorithm."""
     for name, called in COMMANDS.items():
         algorithm = called.algorithm
-        command = add_command(commands, name, algorithm.gives, description=description(algorithm), epilog=epilog(algorithm))
+        command = add_command(commands, name, algorithm.gives, description=description(algorithm),
+                              epilog=epilog(algorithm))
         graph_options.add_graph_options(command)
         for option in algorithm.flags:
             grammar = dict(OPTIONS[option])
@@ -61,19 +63,25 @@ def add_algorithms(commands: Any) -> None:
             command.add_argument(grammar.pop('flag'), **grammar)
         graph_options.add_output_options(command, algorithm.ranked)
         if algorithm.plot:
-            command.add_argument('--plot', metavar='FILE.png', help='a picture of the result; needs matplotlib')
+            command.add_argument('--plot', metavar='FILE.png',
+                                 help='a picture of the result; needs matplotlib')
         add_session_options(command)
         command.set_defaults(run=functools.partial(run, called), parser=command)
 
 
 def description(algorithm: Algorithm) -> str:
-    """What the function says of itself in its first paragraph, less what is said of Python's arguments; and what it costs."""
+    """What the function says of itself in its first paragraph, less what is said of Python's
+    arguments; and what it costs."""
     text = SECTION.sub('', inspect.getdoc(algorithm.function) or '')
     paragraphs = [list(sentences(paragraph)) for paragraph in text.split('\n\n')]
-    first = [COLUMN.sub('', sentence) for sentence in paragraphs[0] if not PYTHONIC.search(sentence)]
-    costs = [sentence for paragraph in paragraphs[1:] for sentence in paragraph if COSTS.match(sentence) and not PYTHONIC.search(sentence)]
+    first = [COLUMN.sub('', sentence) for sentence in paragraphs[0]
+             if not PYTHONIC.search(sentence)]
+    costs = [sentence for paragraph in paragraphs[1:] for sentence in paragraph
+             if COSTS.match(sentence) and not PYTHONIC.search(sentence)]
     begin = [algorithm.gives[0].upper() + algorithm.gives[1:] + '.']
-    return '\n\n'.join(textwrap.fill(' '.join(told), WIDTH) for told in ([algorithm.says] if algorithm.says else first or begin, costs) if told)
+    return '\n\n'.join(textwrap.fill(' '.join(told), WIDTH)
+                       for told in ([algorithm.says] if algorithm.says else first or begin, costs)
+                       if told)
 
 
 def sentences(paragraph: str) -> Iterable[str]:
@@ -101,12 +109,18 @@ def run(command: Command, options: argparse.Namespace) -> int:
         pictures.check(options.plot)
     graph_options.check_output(options)
     check_values(algorithm, options)
-    with graph_options.open_progress(options) as progress, open_session(options, progress) as session:
-        graph = graph_options.read_graph(session, options, graph_options.Needs(algorithm.wanted, algorithm.uses_values(getattr(options, 'weighted', False))))
+    with graph_options.open_progress(options) as progress, open_session(
+        options, progress) as session:
+        graph = graph_options.read_graph(session, options,
+                                         graph_options.Needs(
+                                             algorithm.wanted,
+                                             algorithm.uses_values(
+                                                 getattr(options, 'weighted', False))))
         result = command.call(graph, options, progress)
         if isinstance(result, Matrix):
             is_column = result.ncols == 1 and result.column_nodes is None
-            result.notes = result.notes._replace(rows=result.notes.rows or graph.notes.rows, columns=None if is_column else graph.notes.columns)
+            result.notes = result.notes._replace(rows=result.notes.rows or graph.notes.rows,
+                                                 columns=None if is_column else graph.notes.columns)
         if getattr(options, 'plot', None):
             with graph_options.writing(options.plot):
                 draw(algorithm, graph, result, options)
@@ -116,18 +130,21 @@ def run(command: Command, options: argparse.Namespace) -> int:
 
 
 def check_values(algorithm: Algorithm, options: argparse.Namespace) -> None:
-    """Ends the command where values count and the words leave them out. Says on standard error where values are asked for and don't count."""
+    """Ends the command where values count and the words leave them out. Says on standard error
+    where values are asked for and don't count."""
     weighted = getattr(options, 'weighted', False)
     asked = graph_options.choose_values(options)
     if options.pattern and (asked or weighted):
-        options.parser.error('%s wants values of edges, and --pattern reads none' % (asked or '--weighted'))
+        options.parser.error('%s wants values of edges, and --pattern reads none' %
+                             (asked or '--weighted'))
     if algorithm.uses_values(weighted):
         if options.undirected and not options.pattern:
             options.parser.error('%s, which --undirected drops: --both-ways keeps them, and --pattern takes each edge as 1' % (
                 '--weighted counts values of edges' if weighted else '%s counts values of edges' % options.command))
     elif asked and not options.quiet:
-        print('%s: values of edges are read, and %s does not use them%s' % (
-            asked, options.command, ': --weighted does' if 'weighted' in algorithm.flags else ''), file=sys.stderr)
+        print('%s: values of edges are read, and %s does not use them%s' %
+              (asked, options.command, ': --weighted does' if 'weighted' in algorithm.flags
+               else ''), file=sys.stderr)
 
 
 def lines_of(algorithm: Algorithm, result: Any, options: argparse.Namespace) -> Iterable[str]:
@@ -138,8 +155,12 @@ def lines_of(algorithm: Algorithm, result: Any, options: argparse.Namespace) -> 
     if isinstance(result, list):
         return output.lines(options, output.Result(algorithm.fields, result))
     if options.mtx:
-        return [(result.apply('plus', right=1) if algorithm.are_vertices else result).to_text().decode()]
-    return output.lines(options, graph_options.rows_of(options, result, called, choose_shown(algorithm, result)))
+        return [
+            (result.apply('plus', right=1) if algorithm.are_vertices
+             else result).to_text().decode()]
+    return output.lines(options,
+                        graph_options.rows_of(options, result, called,
+                                              choose_shown(algorithm, result)))
 
 
 def choose_shown(algorithm: Algorithm, result: Matrix) -> Callable[[int], Any]:
@@ -173,7 +194,8 @@ def add_pictures(commands: Any) -> None:
                       description='Draws where a matrix has its entries.')
     graph = add_command(commands, 'draw', 'a picture of a graph', epilog=DRAW,
                         description='Draws a graph: its vertices, and a line or an arrow for each edge.')
-    for command, needs in ((spy, graph_options.Needs(rectangular=True)), (graph, graph_options.Needs())):
+    for command, needs in ((spy, graph_options.Needs(rectangular=True)),
+                           (graph, graph_options.Needs())):
         graph_options.add_graph_options(command)
         command.add_argument('--plot', metavar='FILE.png', required=True, help=PLOT)
         if command is graph:
@@ -190,7 +212,8 @@ def run_picture(needs: graph_options.Needs, options: argparse.Namespace) -> int:
     pictures.check(options.plot)
     graph_options.check_output(options)
     needs = needs._replace(values=getattr(options, 'weights', False))
-    with graph_options.open_progress(options) as progress, open_session(options, progress) as session:
+    with graph_options.open_progress(options) as progress, open_session(
+        options, progress) as session:
         matrix = graph_options.read_graph(session, options, needs)
         with graph_options.writing(options.plot):
             if options.command == 'spy':

@@ -31,32 +31,46 @@ BOTH_WAYS = ', --both-ways each edge both ways with its value'
 
 def add_graph_options(command: argparse.ArgumentParser) -> None:
     """What is read, and how its values are joined."""
-    command.add_argument('graph', metavar='GRAPH', help='a file in Matrix Market format, %s (also %s), or - for '
+    command.add_argument('graph', metavar='GRAPH',
+                         help='a file in Matrix Market format, %s (also %s), or - for '
                          'standard input' % (READABLE, ', '.join(matrix_market.ENDINGS)))
-    command.add_argument('--undirected', action='store_true', help='take the graph without directions, weights and loops')
+    command.add_argument('--undirected', action='store_true',
+                         help='take the graph without directions, weights and loops')
     command.add_argument('--both-ways', action='store_true',
                          help='each edge leads both ways, with its value; of two the lesser counts, or what --dup-op makes of them')
     kinds = command.add_mutually_exclusive_group()
-    kinds.add_argument('--bipartite', action='store_true', default=None, help='sources and targets (rows and columns) are two kinds of vertices')
-    kinds.add_argument('--one-kind', dest='bipartite', action='store_false', help='.. are one kind, also where the header names two')
+    kinds.add_argument('--bipartite', action='store_true', default=None,
+                       help='sources and targets (rows and columns) are two kinds of vertices')
+    kinds.add_argument('--one-kind', dest='bipartite', action='store_false',
+                       help='.. are one kind, also where the header names two')
     group = command.add_argument_group('how the file is read')
-    group.add_argument('--format', choices=FORMATS, help='what it is (default: by what stands in it)')
+    group.add_argument('--format', choices=FORMATS,
+                       help='what it is (default: by what stands in it)')
     group.add_argument('--delimiter', type=character, metavar='C', help='what parts the fields of a list (default: tab, comma, semicolon or blanks)')
     first = group.add_mutually_exclusive_group()
-    first.add_argument('--header', action='store_true', default=None, help='the first line of a list names its columns')
-    first.add_argument('--no-header', dest='header', action='store_false', help='.. is an edge (default: by what stands there)')
-    group.add_argument('--columns', metavar='FROM,TO[,VALUE]', help='which columns of a list are read: by name, or from 0')
+    first.add_argument('--header', action='store_true', default=None,
+                       help='the first line of a list names its columns')
+    first.add_argument('--no-header', dest='header', action='store_false',
+                       help='.. is an edge (default: by what stands there)')
+    group.add_argument('--columns', metavar='FROM,TO[,VALUE]',
+                       help='which columns of a list are read: by name, or from 0')
     comments = group.add_mutually_exclusive_group()
-    comments.add_argument('--comments', action='append', metavar='TEXT', help='what begins a comment in any line of a list; may stand several '
+    comments.add_argument('--comments', action='append', metavar='TEXT',
+                          help='what begins a comment in any line of a list; may stand several '
                           'times (default: lines above the first row that begin with # or %%)')
-    comments.add_argument('--no-comments', dest='comments', action='store_const', const=[], help='no line is a comment')
-    group.add_argument('--missing', choices=('raise', 'skip', 'keep'), default='raise', help='lines with a missing name or value are refused or '
+    comments.add_argument('--no-comments', dest='comments', action='store_const', const=[],
+                          help='no line is a comment')
+    group.add_argument('--missing', choices=('raise', 'skip', 'keep'), default='raise',
+                       help='lines with a missing name or value are refused or '
                        'left out; keep: nan is a name as any other (default: raise)')
-    group.add_argument('--unit', choices=tuple(UNITS), help='values are times: so many days, seconds, .. since 1970-01-01')
+    group.add_argument('--unit', choices=tuple(UNITS),
+                       help='values are times: so many days, seconds, .. since 1970-01-01')
     group.add_argument('--date-format', metavar='FORMAT', help='how these times are written, as %%d.%%m.%%Y (default: as ISO 8601 has it)')
     group.add_argument('--pattern', action='store_true', help='read no values: each edge has 1')
-    group.add_argument('--scale', type=float, metavar='N', help='multiply values by N and round them to whole numbers')
-    group.add_argument('--dup-op', metavar='OP', help='joins the values of an edge that repeats: plus, max, first, ..')
+    group.add_argument('--scale', type=float, metavar='N',
+                       help='multiply values by N and round them to whole numbers')
+    group.add_argument('--dup-op', metavar='OP',
+                       help='joins the values of an edge that repeats: plus, max, first, ..')
 
 
 def choose_values(options: argparse.Namespace) -> str:
@@ -84,14 +98,16 @@ def add_output_options(command: argparse.ArgumentParser, ranked: bool = False) -
     add_form_options(command, mtx=True)
     command.set_defaults(top=None)
     if ranked:
-        command.add_argument('--top', type=int, metavar='N', help='the N greatest alone, the greatest first')
-    command.add_argument('--output', metavar='FILE', help='where the result goes (default: standard output)')
+        command.add_argument('--top', type=int, metavar='N',
+                             help='the N greatest alone, the greatest first')
+    command.add_argument('--output', metavar='FILE',
+                         help='where the result goes (default: standard output)')
 
 
 @contextlib.contextmanager
 def open_progress(options: argparse.Namespace) -> Iterator[Optional[Bar]]:
-    """Show progress if standard error is a terminal and tqdm is installed. Standard output may be the
-    same terminal: write to it after this, or clear the bar before."""
+    """Show progress if standard error is a terminal and tqdm is installed. Standard output may be
+    the same terminal: write to it after this, or clear the bar before."""
     if options.quiet or not sys.stderr.isatty() or importlib.util.find_spec('tqdm') is None:
         yield None
         return
@@ -103,25 +119,28 @@ def open_progress(options: argparse.Namespace) -> Iterator[Optional[Bar]]:
 
 
 class Needs(NamedTuple):
-    """What an algorithm needs of a graph: its kind, whether values count, and whether rows and columns may be of two kinds."""
+    """What an algorithm needs of a graph: its kind, whether values count, and whether rows and
+    columns may be of two kinds."""
     kind: Wanted = Wanted.ANY
     values: bool = False
     rectangular: bool = False
 
 
 def read_graph(session: Session, options: argparse.Namespace, needs: Needs) -> Matrix:
-    """The graph of the file that the options name, with names for its vertices: those of the file, or numbers from 1 where it is a
-    Matrix Market file. Ended where it isn't of the wanted kind."""
+    """The graph of the file that the options name, with names for its vertices: those of the file,
+    or numbers from 1 where it is a Matrix Market file. Ended where it isn't of the wanted kind."""
     file = 'standard input' if options.graph == '-' else options.graph
     with reading(file):
         text = matrix_market.load(sys.stdin.buffer if options.graph == '-' else options.graph)
     if not text.strip():
         raise ReadError(file, None, 'it is empty')
     request = request_of(options, text, needs)
-    graph = session.read_graph(Loaded(file, text), request.format, directed=request.directed, dup_op=options.dup_op, nodelist=request.nodelist,
+    graph = session.read_graph(Loaded(file, text), request.format, directed=request.directed,
+                               dup_op=options.dup_op, nodelist=request.nodelist,
                                **request.layout._asdict())
     if graph.notes.source and not options.quiet:
-        print(graph.notes.source, file=sys.stderr)             # which columns were taken, so that a wrong guess is seen
+        # which columns were taken, so that a wrong guess is seen
+        print(graph.notes.source, file=sys.stderr)
     name_vertices(graph, 1 if format_of(text) == 'mtx' else 0)
     if options.bipartite and not needs.rectangular:
         graph = bipartite(graph)
@@ -141,22 +160,30 @@ def read_graph(session: Session, options: argparse.Namespace, needs: Needs) -> M
 
 
 def request_of(options: argparse.Namespace, text: bytes, needs: Needs) -> Request:
-    """What the options ask of a file. Values that don't count are read only where the server reads them by itself."""
-    columns = None if options.columns is None else [int(word) if word.isdigit() else word for word in options.columns.split(',')]
+    """What the options ask of a file. Values that don't count are read only where the server reads
+    them by itself."""
+    columns = (None if options.columns is None
+               else [int(word) if word.isdigit() else word for word in options.columns.split(',')])
     plain = format_of(text) == 'mtx' and matrix_market.is_plain(text)
-    values = not options.pattern and (plain or (needs.values and not options.undirected) or options.scale is not None or options.unit is not None)
+    values = (not options.pattern
+              and (plain or (needs.values and not options.undirected) or options.scale is not None
+                   or options.unit is not None))
     two = options.bipartite if format_of(text) not in ('mtx', *GRAPH_FORMATS) else False
-    layout = Layout(options.delimiter, options.header, columns, values, options.scale, two, True if options.comments is None else options.comments,
-                    None if options.missing == 'keep' else options.missing, None, options.unit, options.date_format)
+    layout = Layout(options.delimiter, options.header, columns, values, options.scale, two, True
+                    if options.comments is None else options.comments, None
+                    if options.missing == 'keep' else options.missing, None, options.unit,
+                    options.date_format)
     directed = False if options.both_ways and options.dup_op is not None else None
     return Request(options.format, layout, directed)
 
 
 def name_vertices(graph: Matrix, first: int) -> None:
     """Gives rows and columns without names numbers as their names."""
-    rows = graph.notes.rows if graph.notes.rows is not None else Nodes(range(first, first + graph.nrows))
+    rows = (graph.notes.rows if graph.notes.rows is not None
+            else Nodes(range(first, first + graph.nrows)))
     alike = graph.nrows == graph.ncols and graph.notes.columns in (None, graph.notes.rows)
-    columns = rows if alike else graph.notes.columns if graph.notes.columns is not None else Nodes(range(first, first + graph.ncols))
+    columns = (rows if alike else graph.notes.columns if graph.notes.columns is not None
+               else Nodes(range(first, first + graph.ncols)))
     graph.notes = graph.notes._replace(rows=rows, columns=columns)
 
 
@@ -167,15 +194,21 @@ def copy_names(made: Matrix, graph: Matrix) -> Matrix:
 
 
 def check_kind(graph: Matrix, wanted: Wanted, symmetric: bool) -> None:
-    """Ends the command where a graph isn't of the wanted kind; `symmetric` where its file says so."""
-    if wanted is not Wanted.ANY and not symmetric and graph.ewise_mult(graph.T, 'pair').nvals < graph.nvals:
-        raise Ended(Status.FILE, 'expected an undirected graph, but an edge leads one way alone' + UNDIRECTED + BOTH_WAYS)
+    """Ends the command where a graph isn't of the wanted kind; `symmetric` where its file says
+    so."""
+    if (wanted is not Wanted.ANY and not symmetric
+        and graph.ewise_mult(graph.T, 'pair').nvals < graph.nvals):
+        raise Ended(Status.FILE, 'expected an undirected graph, but an edge leads one way alone'
+                    + UNDIRECTED + BOTH_WAYS)
     if wanted is Wanted.WITHOUT_LOOPS and graph.select('diag').nvals:
-        raise Ended(Status.FILE, 'expected a graph without loops, but there is an edge from a vertex to itself' + UNDIRECTED)
+        raise Ended(Status.FILE,
+                    'expected a graph without loops, but there is an edge from a vertex to itself'
+                    + UNDIRECTED)
 
 
 def check_output(options: argparse.Namespace) -> None:
-    """Says before the work where the words don't go together, or the result, or its picture, can go nowhere."""
+    """Says before the work where the words don't go together, or the result, or its picture, can go
+    nowhere."""
     check_graph(options)
     if options.mtx and options.top is not None:
         options.parser.error('argument --top: not with --mtx, which has the whole result')
@@ -187,13 +220,16 @@ def check_output(options: argparse.Namespace) -> None:
 
 @contextlib.contextmanager
 def writing(path: Optional[str]) -> Iterator[None]:
-    """What is done here writes a result, to standard output where there is no path: a failure is told as such."""
+    """What is done here writes a result, to standard output where there is no path: a failure is
+    told as such."""
     try:
         yield
     except BrokenPipeError:
         raise
     except OSError as fault:
-        raise Ended(Status.OTHER, '%s: not written: %s' % (path or 'standard output', fault.strerror or fault)) from None
+        raise Ended(Status.OTHER,
+                    '%s: not written: %s' %
+                    (path or 'standard output', fault.strerror or fault)) from None
 
 
 def write(options: argparse.Namespace, lines: Iterable[str]) -> None:
@@ -207,12 +243,14 @@ def write(options: argparse.Namespace, lines: Iterable[str]) -> None:
             file.writelines(lines)
 
 
-def rows_of(options: argparse.Namespace, matrix: Matrix, called: str, value_of: Callable[[int], Any] = int) -> Result:
-    """A matrix as rows, one an entry: the names of its row and its column, of a column the row's alone, and the value, which is called
-    so. A result's only column has no name, which tells it from a matrix of one vertex. Nothing is asked of the server once they are handed
-    out."""
+def rows_of(options: argparse.Namespace, matrix: Matrix, called: str,
+            value_of: Callable[[int], Any] = int) -> Result:
+    """A matrix as rows, one an entry: the names of its row and its column, of a column the row's
+    alone, and the value, which is called so. A result's only column has no name, which tells it
+    from a matrix of one vertex. Nothing is asked of the server once they are handed out."""
     is_column = matrix.ncols == 1 and matrix.column_nodes is None
-    entries: List[Tuple[Any, ...]] = [*(matrix.by_node(raw=True).items() if is_column else matrix.to_edgelist(raw=True))]
+    entries: List[Tuple[Any, ...]] = [
+        *(matrix.by_node(raw=True).items() if is_column else matrix.to_edgelist(raw=True))]
     if options.top is not None:
         entries = heapq.nlargest(options.top, entries, key=operator.itemgetter(-1))
     return named([(*entry[:-1], value_of(entry[-1])) for entry in entries], called, is_column)

@@ -1,9 +1,10 @@
-"""What commands print: plain lines, CSV (`--csv`) or JSON (`--json`), all of the same fields and rows.
+"""What commands print: plain lines, CSV (`--csv`) or JSON (`--json`), all of the same fields and
+rows.
 
-A command adds the options by `add_form_options`, makes a `Result` of what it found, and hands `lines(options, result)` to
-`graph_options.write`. Plain lines have no header; CSV has one, in words that `read_graph` knows; JSON is a list with an object a row, or an
-object alone where the result is `single`. Rows may come one by one from a generator.
-"""
+A command adds the options by `add_form_options`, makes a `Result` of what it found, and hands
+`lines(options, result)` to `graph_options.write`. Plain lines have no header; CSV has one, in words
+that `read_graph` knows; JSON is a list with an object a row, or an object alone where the result is
+`single`. Rows may come one by one from a generator. """
 from __future__ import annotations
 
 import argparse
@@ -19,9 +20,9 @@ BLANKS, TABS = ' ', '\t'
 
 
 class Result(NamedTuple):
-    """The names of the fields, and rows of so many: names of vertices, whole numbers, floats where a value is a fraction, and decimals
-    where values have a unit.
-    `single` says that there is one row, such as a number that is the whole result."""
+    """The names of the fields, and rows of so many: names of vertices, whole numbers, floats where
+    a value is a fraction, and decimals where values have a unit. `single` says that there is one
+    row, such as a number that is the whole result."""
     fields: Sequence[str]
     rows: Iterable[Sequence[Any]]
     single: bool = False
@@ -33,7 +34,8 @@ def add_form_options(command: Any, mtx: bool = False) -> None:
     if mtx:
         form.add_argument('--mtx', action='store_true', help='the result as Matrix Market text')
     form.add_argument('--csv', action='store_true', help='the result as CSV, with a header')
-    form.add_argument('--json', action='store_true', help='the result as JSON: a list with an object a row')
+    form.add_argument('--json', action='store_true',
+                      help='the result as JSON: a list with an object a row')
 
 
 def lines(options: argparse.Namespace, result: Result) -> Iterable[str]:
@@ -51,7 +53,8 @@ def _format_plain(result: Result) -> Iterator[str]:
 
 
 def _format_csv(result: Result) -> Iterator[str]:
-    """A header and a line a row. (Quoted where a name has commas, as RFC 4180 has it, with LF at the ends of lines.)"""
+    """A header and a line a row. (Quoted where a name has commas, as RFC 4180 has it, with LF at
+    the ends of lines.)"""
     yield csv_line(result.fields)
     for row in result.rows:
         yield csv_line(map(_format_cell, row))
@@ -59,7 +62,8 @@ def _format_csv(result: Result) -> Iterator[str]:
 
 def _format_json(result: Result) -> Iterator[str]:
     """An object a row, each on a line of its own."""
-    objects = (json.dumps(dict(zip(result.fields, map(_plain_object, row))), ensure_ascii=False) for row in result.rows)
+    objects = (json.dumps(dict(zip(result.fields, map(_plain_object, row))), ensure_ascii=False)
+               for row in result.rows)
     if result.single:
         yield from (text + '\n' for text in objects)
         return
@@ -71,7 +75,8 @@ def _format_json(result: Result) -> Iterator[str]:
 
 
 def _plain_object(cell: Any) -> Any:
-    """A cell as JSON has it: whole numbers as such, also those of numpy; names that are no text or number by their words."""
+    """A cell as JSON has it: whole numbers as such, also those of numpy; names that are no text or
+    number by their words."""
     if cell is None or isinstance(cell, (bool, int, float, str, list, dict)):
         return cell
     if isinstance(cell, decimal.Decimal):
@@ -81,11 +86,13 @@ def _plain_object(cell: Any) -> Any:
 
 def _format_cell(cell: Any) -> str:
     """A cell as text: fractions to nine decimals, decimals of the graph's unit as they are."""
-    return '%.9f' % cell if isinstance(cell, float) else format(cell, 'f') if isinstance(cell, decimal.Decimal) else '' if cell is None else str(cell)
+    return ('%.9f' % cell if isinstance(cell, float) else format(cell, 'f')
+            if isinstance(cell, decimal.Decimal) else '' if cell is None else str(cell))
 
 
 def named(entries: Iterable[Tuple[Any, ...]], called: str, single_column: bool) -> Result:
-    """The result of a column, or of a matrix: (name, value) or (name, name, value), with values of this name."""
+    """The result of a column, or of a matrix: (name, value) or (name, name, value), with values of
+    this name."""
     return Result((*(NODE if single_column else EDGE), called), entries)
 
 

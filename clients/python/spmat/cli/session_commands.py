@@ -1,4 +1,5 @@
-"""Commands that work on a session itself: `script` runs its commands, and `types` shows an operator."""
+"""Commands that work on a session itself: `script` runs its commands, and `types` shows an
+operator."""
 from __future__ import annotations
 
 import argparse
@@ -48,15 +49,19 @@ def add_commands(commands: Any, aliases: Sequence[str] = ()) -> None:
     """Add `types`, and `script` also by other names."""
     command = add_command(commands, 'types', 'an operator beside what the verifier knows', epilog=TYPES,
                           description='Shows an operator beside what the verifier knows at each line.')
-    command.add_argument('operator', metavar='OPERATOR', help='a file, or KIND.NAME of a ready operator')
-    command.add_argument('--kind', choices=KINDS, help='which operands a call has (wanted for .asm and .hex)')
-    command.add_argument('--function', metavar='NAME', help='which function of a C file with several')
+    command.add_argument('operator', metavar='OPERATOR',
+                         help='a file, or KIND.NAME of a ready operator')
+    command.add_argument('--kind', choices=KINDS,
+                         help='which operands a call has (wanted for .asm and .hex)')
+    command.add_argument('--function', metavar='NAME',
+                         help='which function of a C file with several')
     output.add_form_options(command)
     add_session_options(command)
     command.set_defaults(run=run_types, parser=command)
-    command = add_command(commands, 'script', 'the commands of a session', aliases=aliases, epilog=SCRIPT,
-                          description='Runs the commands of a session.')
-    command.add_argument('script', metavar='SCRIPT', help='a file of commands, or - for standard input')
+    command = add_command(commands, 'script', 'the commands of a session', aliases=aliases,
+                          epilog=SCRIPT, description='Runs the commands of a session.')
+    command.add_argument('script', metavar='SCRIPT',
+                         help='a file of commands, or - for standard input')
     command.add_argument('--keep-going', action='store_true', help='go on behind a refused command')
     output.add_form_options(command)
     add_session_options(command)
@@ -66,7 +71,8 @@ def add_commands(commands: Any, aliases: Sequence[str] = ()) -> None:
 # -- script
 
 def read_script(stream: IO[bytes]) -> Iterator[Command]:
-    """Read the commands of a script, each with its body. Ended names the line of one that has no such form."""
+    """Read the commands of a script, each with its body. Ended names the line of one that has no
+    such form."""
     number = 0
     for line in iter(stream.readline, b''):
         number += 1
@@ -88,8 +94,9 @@ def read_body(stream: IO[bytes], words: Sequence[str], number: int) -> bytes:
                     '--help shows how a shell takes bodies from files' % (number, words[0], words[-1]))
     body = stream.read(int(words[-1]))
     if len(body) < int(words[-1]):
-        raise Ended(Status.FILE, 'line %d: expected a body of %s bytes, and the script ends after %d'
-                    % (number, words[-1], len(body)))
+        raise Ended(Status.FILE,
+                    'line %d: expected a body of %s bytes, and the script ends after %d' %
+                    (number, words[-1], len(body)))
     return body
 
 
@@ -105,7 +112,8 @@ def run_script(options: argparse.Namespace) -> int:
 def run_commands(stream: IO[bytes], options: argparse.Namespace) -> int:
     """Run the commands of a stream in one session."""
     status, names, replies = Status.DONE, Names(), Replies(options)
-    with graph_options.open_progress(options) as progress, open_session(options, progress) as session:
+    with graph_options.open_progress(options) as progress, open_session(
+        options, progress) as session:
         for command in read_script(stream):
             try:
                 reply = session.connection.command(command.line, command.body, find_line(command))
@@ -136,7 +144,8 @@ def clear(progress: Optional[Bar]) -> None:
 def tell_refusal(command: Command, fault: Refused, names: 'Names') -> None:
     """Write the line of a refused command to standard error, with the rule and what it means."""
     detail = fault.detail or (names.describe_unknown(command.line) if fault.rule == 'S4' else '')
-    bare = type(fault)(fault.rule, fault.numbers, line=fault.line, detail=detail)   # without the command
+    # without the command
+    bare = type(fault)(fault.rule, fault.numbers, line=fault.line, detail=detail)
     print('line %d: `%s` is refused: %s' % (command.number, command.line, bare), file=sys.stderr)
 
 
@@ -160,8 +169,9 @@ class Names:
 
     def describe_unknown(self, line: str) -> str:
         """Say which names of a command mean nothing."""
-        return '; '.join('%s is the result of a job that waits: `run` makes it' % name if name in self._waiting else
-                         'nothing is called %s' % name for name in operands(line) if name not in self._bound)
+        return '; '.join('%s is the result of a job that waits: `run` makes it' % name
+                         if name in self._waiting else 'nothing is called %s' % name
+                         for name in operands(line) if name not in self._bound)
 
 
 def operands(line: str) -> List[str]:
@@ -187,7 +197,8 @@ def find_line(command: Command) -> Any:
 
 
 class Replies:
-    """What the server answers: printed as it comes, or as CSV or JSON at the end, a row a command."""
+    """What the server answers: printed as it comes, or as CSV or JSON at the end, a row a
+    command."""
 
     def __init__(self, options: argparse.Namespace) -> None:
         self._options, self._at_once = options, not (options.csv or options.json)
@@ -222,28 +233,35 @@ class Replies:
 # -- types
 
 def read_operator(options: argparse.Namespace) -> Operator:
-    """The operator that the options name. Ended where there is none, or its kind is wanted and not given."""
+    """The operator that the options name. Ended where there is none, or its kind is wanted and not
+    given."""
     name = options.operator
     kind, _, ready = name.partition('.')
     if not os.path.exists(name) and kind in READY:
         if ready not in READY[kind]:
-            raise Ended(Status.WORDS, 'no ready %s operator is called %r; there are %s' % (kind, ready, ', '.join(READY[kind])))
+            raise Ended(Status.WORDS,
+                        'no ready %s operator is called %r; there are %s' %
+                        (kind, ready, ', '.join(READY[kind])))
         return READY[kind][ready]
     named = ['%s.%s' % (kind, name) for kind in KINDS if name in READY[kind]]
     if named and not os.path.exists(name):
-        raise Ended(Status.WORDS, 'no file %s; the ready operator is %s' % (name, ' or '.join(named)))
+        raise Ended(Status.WORDS,
+                    'no file %s; the ready operator is %s' % (name, ' or '.join(named)))
     with reading(name), open(name, encoding='utf-8') as file:
         text = file.read()
     if name.endswith('.c'):
         return from_c.c(text, options.function)
     if options.kind is None:
-        raise Ended(Status.WORDS, 'which operands has a call of %s? say --kind unary, binary or index' % name)
+        raise Ended(Status.WORDS,
+                    'which operands has a call of %s? say --kind unary, binary or index' % name)
     title = os.path.splitext(os.path.basename(name))[0]
-    return code(options.kind, text, title) if name.endswith('.hex') else asm(options.kind, text, title)
+    return (code(options.kind, text, title) if name.endswith('.hex')
+            else asm(options.kind, text, title))
 
 
 def run_types(options: argparse.Namespace) -> int:
-    """Uploads the operator, and prints it beside what is known; of one that is refused up to the instruction that is, and why."""
+    """Uploads the operator, and prints it beside what is known; of one that is refused up to the
+    instruction that is, and why."""
     operator = read_operator(options)
     with open_session(options) as session:
         check = session.check(operator)
@@ -256,7 +274,8 @@ def run_types(options: argparse.Namespace) -> int:
         print(''.join(line + '\n' for line in diagnostics.table(check.rows)), end='')
     if check.refusal is None:
         return 0
-    raise check.refusal.of_file(options.operator if operator.text is not None and check.refusal.rule.startswith('A') else '')
+    raise check.refusal.of_file(options.operator if operator.text is not None
+                                and check.refusal.rule.startswith('A') else '')
 
 
 def rows_of(check: diagnostics.Check) -> output.Result:

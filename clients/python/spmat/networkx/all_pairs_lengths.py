@@ -36,7 +36,8 @@ def whole_matrix(G: SpmatGraph, weight: Any = None, signed: bool = False) -> Mat
 
 
 def blocks(G: SpmatGraph, weight: Any = None, signed: bool = False, back: bool = False) -> Blocks:
-    """All lengths by rows: the first source of each block, and the lengths from its sources; to them where `back` is set."""
+    """All lengths by rows: the first source of each block, and the lengths from its sources; to
+    them where `back` is set."""
     count = len(G)
     if count ** 2 <= MOST_SIDE:
         found = whole_matrix(G, weight, signed)
@@ -51,7 +52,8 @@ def blocks(G: SpmatGraph, weight: Any = None, signed: bool = False, back: bool =
 
 def pairs(G: SpmatGraph, weight: Any = None, cutoff: Any = None, signed: bool = False,
           whole: Callable[[float], int] = math.floor) -> Iterator[Tuple[Any, Lengths]]:
-    """(node, {node: length}) for each node, nearest first. The first block is made at the call, so that it raises here."""
+    """(node, {node: length}) for each node, nearest first. The first block is made at the call, so
+    that it raises here."""
     parts = blocks(G, weight, signed)
     first = next(parts, None)
     unit = None if weight is None else G.values(weight).unit
@@ -72,16 +74,20 @@ def _pairs(G: SpmatGraph, parts: Blocks, first: Optional[Tuple[int, Matrix]], mo
         first = next(parts, None)
 
 
-def all_pairs_shortest_path_length(G: SpmatGraph, cutoff: Any = None) -> Iterator[Tuple[Any, Lengths]]:
-    return pairs(G, cutoff=cutoff, whole=math.ceil)    # by edges a cutoff of 2.5 is one of 3 in networkx, by weights one of 2
+def all_pairs_shortest_path_length(G: SpmatGraph,
+                                   cutoff: Any = None) -> Iterator[Tuple[Any, Lengths]]:
+    # by edges a cutoff of 2.5 is one of 3 in networkx, by weights one of 2
+    return pairs(G, cutoff=cutoff, whole=math.ceil)
 
 
-def all_pairs_dijkstra_path_length(G: SpmatGraph, cutoff: Any = None, weight: Any = 'weight') -> Iterator[Tuple[Any, Lengths]]:
+def all_pairs_dijkstra_path_length(G: SpmatGraph, cutoff: Any = None,
+                                   weight: Any = 'weight') -> Iterator[Tuple[Any, Lengths]]:
     return pairs(G, weight, cutoff)
 
 
 @serves(SIGNED)
-def all_pairs_bellman_ford_path_length(G: SpmatGraph, weight: Any = 'weight') -> Iterator[Tuple[Any, Lengths]]:
+def all_pairs_bellman_ford_path_length(G: SpmatGraph,
+                                       weight: Any = 'weight') -> Iterator[Tuple[Any, Lengths]]:
     return pairs(G, weight, signed=True)
 
 
@@ -91,14 +97,16 @@ def floyd_warshall(G: SpmatGraph, weight: Any = 'weight') -> Dict[Any, Dict[Any,
     try:
         return {u: {v: row.get(v, never) for v in G} for u, row in pairs(G, weight, signed=True)}
     except nx.NetworkXUnbounded:
-        raise NotImplementedError('a cycle of negative length, which networkx passes over') from None
+        raise NotImplementedError(
+            'a cycle of negative length, which networkx passes over') from None
 
 
 def shortest_path_length(G: SpmatGraph, source: Any = None, target: Any = None, weight: Any = None,
                          method: str = 'dijkstra') -> Any:
     check_method(method)
     signed = method == 'bellman-ford'
-    known = signed and weight is not None and source is not None     # of these networkx looks at the target last
+    # of these networkx looks at the target last
+    known = (signed and weight is not None and source is not None)
     for node in (source,) if known else (source, target):
         if node is not None:
             need(G, node, 'Source %s not in G' if known else 'Node %s is not in G')
@@ -117,7 +125,8 @@ def power(G: SpmatGraph, k: int) -> Any:
     H.add_nodes_from(G)
     for first, far in blocks(G):
         rows, columns, _ = far.select('valuele', k).entries(arrays=False)
-        H.add_edges_from((G.nodes[first + i], G.nodes[j]) for i, j in zip(rows, columns) if first + i < j)
+        H.add_edges_from((G.nodes[first + i], G.nodes[j]) for i, j in zip(rows, columns) if first
+                         + i < j)
     return H
 
 
@@ -137,7 +146,8 @@ def length_sums(G: SpmatGraph, weight: Any, signed: bool = False) -> Tuple[List[
     """The same by weights."""
     many, total = [0] * len(G), [0] * len(G)
     for first, far in blocks(G, weight, signed, back=True):
-        for sums, found in ((many, far.apply('one').reduce_rowwise('plus')), (total, far.reduce_rowwise('plus'))):
+        for sums, found in ((many, far.apply('one').reduce_rowwise('plus')),
+                            (total, far.reduce_rowwise('plus'))):
             for i, value in found.by_node().items():
                 sums[first + i] = value
     return many, total
@@ -146,16 +156,19 @@ def length_sums(G: SpmatGraph, weight: Any, signed: bool = False) -> Tuple[List[
 METHODS = (None, 'unweighted', 'dijkstra', 'bellman-ford', 'floyd-warshall', 'floyd-warshall-numpy')
 
 
-def average_shortest_path_length(G: SpmatGraph, weight: Any = None, method: Optional[str] = None) -> float:
+def average_shortest_path_length(G: SpmatGraph, weight: Any = None,
+                                 method: Optional[str] = None) -> float:
     if method not in METHODS:
         raise ValueError('method not supported: %s' % method)
     n = len(G)
     if n == 0:
-        raise NetworkXPointlessConcept('the null graph has no paths, thus there is no average shortest path length')
+        raise NetworkXPointlessConcept(
+            'the null graph has no paths, thus there is no average shortest path length')
     if n == 1:
         return 0
     if not all_reached(G):
-        raise NetworkXError('Graph is not strongly connected.' if G.is_directed() else 'Graph is not connected.')
+        raise NetworkXError('Graph is not strongly connected.' if G.is_directed()
+                            else 'Graph is not connected.')
     weight = None if method == 'unweighted' else weight
     unit = (None if weight is None else G.values(weight).unit) or 1
     return sum(_totals(G, weight, method not in (None, 'dijkstra'))) / (n * (n - 1) * unit)
@@ -175,14 +188,16 @@ def wiener_index(G: SpmatGraph, weight: Any = None) -> float:
     return length if G.is_directed() else total / (2 * (unit or 1))
 
 
-def closeness_centrality(G: SpmatGraph, u: Any = None, distance: Any = None, wf_improved: bool = True) -> Any:
+def closeness_centrality(G: SpmatGraph, u: Any = None, distance: Any = None,
+                         wf_improved: bool = True) -> Any:
     if u is not None:
         need(G, u, 'Source %s is not in G')
         far = lengths(G, [u], distance, back=True)
         return _closeness(len(far), sum(far.values()), len(G), wf_improved)
     many, total = distance_sums(G) if distance is None else length_sums(G, distance)
     unit = (None if distance is None else G.values(distance).unit) or 1
-    return {node: _closeness(m, t / unit, len(G), wf_improved) for node, m, t in zip(G, many, total)}
+    return {node: _closeness(m, t / unit, len(G), wf_improved)
+            for node, m, t in zip(G, many, total)}
 
 
 def _closeness(reached: int, total: float, count: int, wf_improved: bool) -> float:
@@ -192,7 +207,8 @@ def _closeness(reached: int, total: float, count: int, wf_improved: bool) -> flo
     return found * ((reached - 1.0) / (count - 1)) if wf_improved else found
 
 
-def harmonic_centrality(G: SpmatGraph, nbunch: Any = None, distance: Any = None, sources: Any = None) -> Dict[Any, Any]:
+def harmonic_centrality(G: SpmatGraph, nbunch: Any = None, distance: Any = None,
+                        sources: Any = None) -> Dict[Any, Any]:
     wanted, starts = set(G.nbunch_iter(nbunch)), set(G.nbunch_iter(sources))
     found: Dict[Any, Any] = dict.fromkeys(wanted, 0)
     if distance is None and len(starts) == len(G):
@@ -212,14 +228,16 @@ def harmonic_centrality(G: SpmatGraph, nbunch: Any = None, distance: Any = None,
 def global_efficiency(G: SpmatGraph) -> float:
     n = len(G)
     shares = sum((counts.reduce_scalar('plus') or 0) / level
-                 for level, counts in enumerate(algorithms.distance_counts(G.A, G.AT, check=False), 1))
+                 for level, counts in enumerate(algorithms.distance_counts(G.A, G.AT, check=False),
+                                                1))
     return shares / (n * (n - 1)) if n > 1 else 0
 
 
 # -- the greatest length
 
 def eccentricities(G: SpmatGraph, weight: Any) -> Lengths:
-    """{node: the length of the longest of its shortest paths}. NetworkXError where one doesn't reach all."""
+    """{node: the length of the longest of its shortest paths}. NetworkXError where one doesn't
+    reach all."""
     if not len(G):
         return {}
     if not all_reached(G):
@@ -237,7 +255,8 @@ def _find_unserved(arguments: Mapping[str, Any]) -> Optional[str]:
     if arguments['sp'] is not None:
         return 'lengths that are given'
     graph, v = arguments['G'], arguments['v']
-    return 'some nodes, if not all are reached, of a directed graph' if v is not None and graph.is_directed() else None
+    return ('some nodes, if not all are reached, of a directed graph' if v is not None
+            and graph.is_directed() else None)
 
 
 @serves(Terms(unless=_find_unserved))
@@ -247,7 +266,8 @@ def eccentricity(G: SpmatGraph, v: Any = None, sp: Any = None, weight: Any = Non
         return eccentricities(G, weight)
     if G.is_directed() or (nodes and not connected(G)):
         raise NotImplementedError('some nodes of a graph in which not all are reached')
-    found = {node: max(lengths(G, [node], weight).values()) for node in nodes} if len(nodes) < len(G) // 8 else None
+    found = ({node: max(lengths(G, [node], weight).values()) for node in nodes}
+             if len(nodes) < len(G) // 8 else None)
     found = found or (eccentricities(G, weight) if nodes else {})
     return found[v] if v in G else {node: found[node] for node in nodes}
 
@@ -265,7 +285,8 @@ def _some_node(arguments: Mapping[str, Any]) -> Optional[str]:
 
 
 @serves(Terms(unless=_some_node))
-def periphery(G: SpmatGraph, e: Any = None, usebounds: bool = False, weight: Any = None) -> List[Any]:
+def periphery(G: SpmatGraph, e: Any = None, usebounds: bool = False,
+              weight: Any = None) -> List[Any]:
     return _those(eccentricities(G, weight) if e is None else e, max)
 
 

@@ -1,4 +1,5 @@
-"""The entry point networkx.backends: an object with the functions that are served, which says of a call whether it can and should be run."""
+"""The entry point networkx.backends: an object with the functions that are served, which says of a
+call whether it can and should be run."""
 from __future__ import annotations
 
 # networkx calls these by its own arguments
@@ -21,9 +22,11 @@ from .spmat_graph import BOUND, SpmatGraph
 
 MORE_STEPS = 'a greater nx.config.backends.spmat.steps opens another session, and 0 gives the most that there are'
 FALLS_BACK = (errors.TooLarge, errors.OutOfMemory, errors.NoThread)
-WEIGHTS = ('weight', 'distance')                   # arguments that name an edge attribute where a function reads any
+# arguments that name an edge attribute where a function reads any
+WEIGHTS = ('weight', 'distance')
 
-_handed = threading.local()                        # whether networkx hands this thread's call over by itself
+# whether networkx hands this thread's call over by itself
+_handed = threading.local()
 
 Arguments = Mapping[str, Any]
 Refusal = Callable[[Arguments], Optional[str]]
@@ -31,8 +34,8 @@ Function = TypeVar('Function', bound=Callable[..., Any])
 
 
 class Terms(NamedTuple):
-    """What a function is served for: whether of directed graphs, undirected ones and multigraphs, whether with weights below 0,
-    and a reason against given arguments."""
+    """What a function is served for: whether of directed graphs, undirected ones and multigraphs,
+    whether with weights below 0, and a reason against given arguments."""
     directed: bool = True
     undirected: bool = True
     multigraph: bool = True
@@ -49,7 +52,8 @@ SIGNED = Terms(negative=True)
 
 
 def serves(terms: Terms) -> Callable[[Function], Function]:
-    """Mark a function as served on terms; one without a mark is served of any graph whose weights are 0 or more."""
+    """Mark a function as served on terms; one without a mark is served of any graph whose weights
+    are 0 or more."""
     def mark(function: Function) -> Function:
         setattr(function, 'terms', terms)
         return function
@@ -58,39 +62,46 @@ def serves(terms: Terms) -> Callable[[Function], Function]:
 
 @functools.lru_cache(maxsize=None)
 def find_function(name: str) -> Callable[..., Any]:
-    """Find what serves networkx' function of a name; its module is imported when it is first asked for."""
+    """Find what serves networkx' function of a name; its module is imported when it is first asked
+    for."""
     module = importlib.import_module('.' + SERVED[name].module, __package__)
     function: Callable[..., Any] = getattr(module, name)
     return function
 
 
 class Backend:
-    """The object that networkx calls: a function for each that is served, and what networkx asks of a backend."""
+    """The object that networkx calls: a function for each that is served, and what networkx asks of
+    a backend."""
     Graph = SpmatGraph
     convert_from_nx = staticmethod(convert_from_nx)
     convert_to_nx = staticmethod(convert_to_nx)
 
     @staticmethod
     def can_run(name: str, args: Any, kwargs: Dict[str, Any]) -> Union[bool, str]:
-        """True: a call that has to be left to networkx is told so by `should_run`, or by the function, whose words networkx shows. (Of what
-        this says networkx shows nothing; its own tests alone ask for it.) Forgets what was made of a graph whose weights changed since."""
+        """True: a call that has to be left to networkx is told so by `should_run`, or by the
+        function, whose words networkx shows. (Of what this says networkx shows nothing; its own
+        tests alone ask for it.) Forgets what was made of a graph whose weights changed since."""
         _handed.over = False
         arguments = _bound(name, args, kwargs)
         if arguments is not None:
-            forget_changed(next(iter(arguments.values())), [arguments[key] for key in _weight_arguments(name) if arguments[key] is not None])
+            forget_changed(next(iter(arguments.values())),
+                           [arguments[key] for key in _weight_arguments(name)
+                            if arguments[key] is not None])
         return (_is_tested() and Backend.reason(name, args, kwargs)) or True
 
     @staticmethod
     def reason(name: str, args: Any, kwargs: Mapping[str, Any]) -> Optional[str]:
-        """Why a call is left to networkx, in words: arguments, kinds of graphs and weights for which the answer would differ. None where it is
-        not, or its arguments don't fit, which networkx says better."""
+        """Why a call is left to networkx, in words: arguments, kinds of graphs and weights for
+        which the answer would differ. None where it is not, or its arguments don't fit, which
+        networkx says better."""
         arguments = _bound(name, args, kwargs)
         return None if arguments is None else _reason(name, arguments)
 
     @staticmethod
     def should_run(name: str, args: Any, kwargs: Dict[str, Any]) -> Union[bool, str]:
-        """True where the graph has so many edges that it pays, or is on the server, where the answer is networkx', and a session can be had;
-        else why not, in words. networkx asks this only of calls that it hands over by itself."""
+        """True where the graph has so many edges that it pays, or is on the server, where the
+        answer is networkx', and a session can be had; else why not, in words. networkx asks this
+        only of calls that it hands over by itself."""
         graph = args[0] if args else next(iter(kwargs.values()))
         said = None if isinstance(graph, SpmatGraph) else _little(name, graph)
         said = said or Backend.reason(name, args, kwargs) or process_session.missing()
@@ -133,11 +144,13 @@ def serve(name: str, /, *args: Any, **kwargs: Any) -> Any:
     Raises
     ------
     NotImplementedError
-        If the call is left to networkx, also if the server has no room for it: networkx does the work itself.
+        If the call is left to networkx, also if the server has no room for it: networkx does the
+        work itself.
     BudgetExceeded
         If the session's budget is spent.
     NoSession
-        If there is no session, unless networkx handed the call over by itself: then networkx does the work.
+        If there is no session, unless networkx handed the call over by itself: then networkx does
+        the work.
     """
     said = Backend.reason(name, args, kwargs)
     if said:
@@ -152,7 +165,8 @@ def serve(name: str, /, *args: Any, **kwargs: Any) -> Any:
 
 
 def _answer(name: str, call: Callable[[], Any]) -> Any:
-    """What a call gives. Where the program died before it, or in it, once more with another; NoSession where that one dies, too."""
+    """What a call gives. Where the program died before it, or in it, once more with another;
+    NoSession where that one dies, too."""
     for is_last in (False, True):
         try:
             return call()
@@ -184,7 +198,8 @@ def _is_tested() -> bool:
 
 
 def _bound(name: str, args: Any, kwargs: Mapping[str, Any]) -> Optional[Arguments]:
-    """The arguments of a call by their names; None where they don't fit, which networkx says better."""
+    """The arguments of a call by their names; None where they don't fit, which networkx says
+    better."""
     try:
         bound = _signature(name).bind(*args, **kwargs)
     except TypeError:
@@ -196,7 +211,8 @@ def _bound(name: str, args: Any, kwargs: Mapping[str, Any]) -> Optional[Argument
 def _dispatched(name: str) -> Any:
     """networkx' function, with what it says of its arguments."""
     places = (nx, nx.algorithms.bipartite, nx.algorithms.dag)
-    return next(vars(place)[name] for place in places if hasattr(vars(place).get(name), 'orig_func'))
+    return next(vars(place)[name] for place in places
+                if hasattr(vars(place).get(name), 'orig_func'))
 
 
 @functools.lru_cache(maxsize=None)
@@ -206,7 +222,8 @@ def _signature(name: str) -> inspect.Signature:
 
 @functools.lru_cache(maxsize=None)
 def _weight_arguments(name: str) -> Tuple[str, ...]:
-    """The arguments that name an edge attribute. The distance of `descendants_at_distance` is a number."""
+    """The arguments that name an edge attribute. The distance of `descendants_at_distance` is a
+    number."""
     function = _dispatched(name)
     reads = function.edge_attrs is not None or function.preserve_edge_attrs
     return tuple(key for key in WEIGHTS if reads and key in _signature(name).parameters)
@@ -246,7 +263,8 @@ def _reason(name: str, arguments: Arguments) -> Optional[str]:
     return None
 
 
-def _weights(name: str, graph: Any, arguments: Arguments, key: str, negative: bool) -> Optional[str]:
+def _weights(name: str, graph: Any, arguments: Arguments, key: str,
+             negative: bool) -> Optional[str]:
     """Why the values of an edge attribute don't do, in words."""
     attribute = arguments[key]
     if callable(attribute):

@@ -1,25 +1,28 @@
-"""What networkx asks when it is imported: the functions that are served, and the settings with their defaults. It imports nothing
-else of spmat that it needn't."""
+"""What networkx asks when it is imported: the functions that are served, and the settings with
+their defaults. It imports nothing else of spmat that it needn't."""
 from __future__ import annotations
 
 import os
 from typing import Any, Callable, Dict, List, NamedTuple
 
-DEFAULTS: Dict[str, Any] = {'program': '', 'connect': '', 'steps': 0, 'workers': 0, 'least_edges': -1, 'scale': 0,
-                            'compare_weights': True}
-"""`nx.config.backends.spmat`: the words that start the program (empty: the variable SPMAT, the one that this package carries, or
-`spmat` on the PATH), or
-`HOST:PORT` or the socket file of a server; the session's budget of steps (0: 2^62) and its threads (0: one for each processor, 8 at most); from how
-many edges on networkx hands work over by itself (-1: a number for each function); what weights that are no whole numbers are multiplied by
-before they are rounded (0: they have to be whole multiples of a power of ten or two, and then nothing is rounded); whether weights of a graph
-that was converted are compared at each call, since `G[u][v]['weight'] = 5` leaves no trace that networkx would see."""
+DEFAULTS: Dict[str, Any] = {'program': '', 'connect': '', 'steps': 0, 'workers': 0,
+                            'least_edges': -1, 'scale': 0, 'compare_weights': True}
+"""`nx.config.backends.spmat`: the words that start the program (empty: the variable SPMAT, the one
+that this package carries, or `spmat` on the PATH), or `HOST:PORT` or the socket file of a server;
+the session's budget of steps (0: 2^62) and its threads (0: one for each processor, 8 at most); from
+how many edges on networkx hands work over by itself (-1: a number for each function); what weights
+that are no whole numbers are multiplied by before they are rounded (0: they have to be whole
+multiples of a power of ten or two, and then nothing is rounded); whether weights of a graph that
+was converted are compared at each call, since `G[u][v]['weight'] = 5` leaves no trace that networkx
+would see."""
 
 NEVER = 1 << 62
 
 
 class Pays(NamedTuple):
-    """From how many edges on it pays to hand a function over: for a graph that has to be converted, and for one that is on the server.
-    `work` says of which functions that is so; `tools/networkx_table` writes all of it into docs/networkx.md."""
+    """From how many edges on it pays to hand a function over: for a graph that has to be converted,
+    and for one that is on the server. `work` says of which functions that is so;
+    `tools/networkx_table` writes all of it into docs/networkx.md."""
     first: int
     again: int
     work: str
@@ -128,14 +131,15 @@ _classes: List[Any] = []                           # the class of the settings, 
 
 
 def _settings_class() -> Any:
-    """Define the class of the settings. It waits for the first use: networkx imports this module while it is imported itself, and has the
-    base class from 3.3 on."""
+    """Define the class of the settings. It waits for the first use: networkx imports this module
+    while it is imported itself, and has the base class from 3.3 on."""
     from networkx.utils.configs import Config      # pylint: disable=import-error
     if _classes:                                   # importing networkx may have called this
         return _classes[0]
 
     class Settings(Config):                         # type: ignore[misc]  # networkx has no types
-        """The settings as networkx holds them. Setting one raises ValueError if no session could be opened with it."""
+        """The settings as networkx holds them. Setting one raises ValueError if no session could be
+        opened with it."""
         program: Any
         connect: str
         steps: int
@@ -158,7 +162,8 @@ def __getattr__(name: str) -> Any:
 
 
 def check_setting(name: str, value: Any) -> Any:
-    """Check a setting, and bring it into one form. ValueError if no session can be opened with it."""
+    """Check a setting, and bring it into one form. ValueError if no session can be opened with
+    it."""
     default = DEFAULTS.get(name)
     if name not in CHECKS or (type(value) is type(default) and value == default):
         return value
@@ -168,7 +173,8 @@ def check_setting(name: str, value: Any) -> Any:
 def _program(value: Any) -> Any:
     if isinstance(value, (str, os.PathLike)):
         return os.fspath(value)
-    if isinstance(value, (list, tuple)) and value and all(isinstance(word, (str, os.PathLike)) for word in value):
+    if (isinstance(value, (list, tuple)) and value
+        and all(isinstance(word, (str, os.PathLike)) for word in value)):
         return tuple(map(os.fspath, value))
     raise ValueError('program is the path of the program, or the words that start it, as a text or a list; not %r' % (value,))
 
@@ -189,15 +195,18 @@ def _steps(value: Any) -> int:
 
 def _workers(value: Any) -> int:
     from ..limits import MOST_WORKERS
-    return _within('workers', value, 0, MOST_WORKERS, '0 (one for each processor) to %d' % MOST_WORKERS)
+    return _within('workers', value, 0, MOST_WORKERS,
+                   '0 (one for each processor) to %d' % MOST_WORKERS)
 
 
 def _least_edges(value: Any) -> int:
-    return _within('least_edges', value, -1, 1 << 62, '0 or more, or -1 (a number for each function)')
+    return _within('least_edges', value, -1, 1 << 62,
+                   '0 or more, or -1 (a number for each function)')
 
 
 def _scale(value: Any) -> int:
-    return _within('scale', value, 0, 1 << 62, '0 (weights are whole multiples of a power of ten or two) or more, also 1e6')
+    return _within('scale', value, 0, 1 << 62,
+                   '0 (weights are whole multiples of a power of ten or two) or more, also 1e6')
 
 
 def _compare_weights(value: Any) -> bool:
@@ -220,6 +229,7 @@ def _within(name: str, value: Any, least: int, most: int, said: str) -> int:
     return number
 
 
-CHECKS: Dict[str, Callable[[Any], Any]] = {
-    'program': _program, 'connect': _connect, 'steps': _steps, 'workers': _workers, 'least_edges': _least_edges,
-    'scale': _scale, 'compare_weights': _compare_weights}
+CHECKS: Dict[str, Callable[[Any], Any]] = {'program': _program, 'connect': _connect,
+                                           'steps': _steps, 'workers': _workers,
+                                           'least_edges': _least_edges, 'scale': _scale,
+                                           'compare_weights': _compare_weights}

@@ -61,17 +61,20 @@ def clustering(G: SpmatGraph, nodes: Any = None, weight: Any = None) -> Any:
 
 
 def _directed_clustering(G: SpmatGraph) -> List[float]:
-    """Triangles in which each side counts once for each direction that it has: the diagonal of a cube."""
+    """Triangles in which each side counts once for each direction that it has: the diagonal of a
+    cube."""
     back = G.AT.select('offdiag') if G.loops else G.AT
     ways = G.simple.ewise_add(back, 'plus')
-    three = product(ways, ways, 'plus_times', ways).ewise_mult(ways, 'times').reduce_rowwise('plus').to_list(0)
+    three = product(ways, ways, 'plus_times',
+                    ways).ewise_mult(ways, 'times').reduce_rowwise('plus').to_list(0)
     total = ways.reduce_rowwise('plus').to_list(0)
     both = G.simple.ewise_mult(back, 'pair').reduce_rowwise('plus').to_list(0)
     return [t / ((d * (d - 1) - 2 * b) * 2) if t else 0 for t, d, b in zip(three, total, both)]
 
 
 @serves(Terms(unless=_weighted))
-def average_clustering(G: SpmatGraph, nodes: Any = None, weight: Any = None, count_zeros: bool = True) -> float:
+def average_clustering(G: SpmatGraph, nodes: Any = None, weight: Any = None,
+                       count_zeros: bool = True) -> float:
     shares: List[float] = list(clustering(G, nodes).values())
     if not count_zeros:
         shares = [share for share in shares if share > 0]

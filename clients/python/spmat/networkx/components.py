@@ -15,12 +15,16 @@ from .spmat_graph import SpmatGraph
 
 def labels(G: SpmatGraph) -> List[int]:
     """The least index of each one's component, edges leading both ways; kept with the graph."""
-    return G.cache_answer('labels', lambda: algorithms.connected_components(G.A, G.both, check=False).to_list(0))
+    return G.cache_answer('labels',
+                          lambda: algorithms.connected_components(G.A, G.both, check=False).to_list(
+                              0))
 
 
 def strong_labels(G: SpmatGraph) -> List[int]:
     """The least index of each one's strong component; kept with the graph."""
-    return G.cache_answer('strong labels', lambda: algorithms.strongly_connected_components(G.A, G.AT, check=False).to_list(0))
+    return G.cache_answer('strong labels',
+                          lambda: algorithms.strongly_connected_components(
+                              G.A, G.AT, check=False).to_list(0))
 
 
 def parts(G: SpmatGraph, found: List[int]) -> List[Set[Any]]:
@@ -81,7 +85,8 @@ def is_weakly_connected(G: SpmatGraph) -> bool:
 # -- strong
 
 def condensed(G: SpmatGraph) -> Tuple[List[Set[Any]], Matrix]:
-    """The strong components in the order of their first nodes, and which of them has an edge to which."""
+    """The strong components in the order of their first nodes, and which of them has an edge to
+    which."""
     found = strong_labels(G)
     number: Dict[int, int] = {}
     at = [number.setdefault(label, len(number)) for label in found]
@@ -89,7 +94,8 @@ def condensed(G: SpmatGraph) -> Tuple[List[Set[Any]], Matrix]:
     rows = list(range(count))
     inside = session().from_coo(rows, at, 1, count, many)
     out = session().from_coo(at, rows, 1, many, count)
-    between = algorithms.utils.product(algorithms.utils.product(out, G.A, 'any_pair'), inside, 'any_pair')
+    between = algorithms.utils.product(algorithms.utils.product(out, G.A, 'any_pair'), inside,
+                                       'any_pair')
     return parts(G, found), between.select('offdiag')
 
 
@@ -97,7 +103,8 @@ def condensed(G: SpmatGraph) -> Tuple[List[Set[Any]], Matrix]:
 def strongly_connected_components(G: SpmatGraph) -> Iterator[Set[Any]]:
     found, between = condensed(G)
     level: List[int] = algorithms.topological_levels(between).to_list()
-    return iter([found[at] for at in sorted(range(len(found)), key=level.__getitem__, reverse=True)])
+    return iter(
+        [found[at] for at in sorted(range(len(found)), key=level.__getitem__, reverse=True)])
 
 
 @serves(DIRECTED)

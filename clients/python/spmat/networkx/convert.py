@@ -15,12 +15,14 @@ from .graph_arrays import Values
 from .spmat_graph import SpmatGraph
 
 WAITING = 'spmat: values that can_run read'
-SUMMED = frozenset(['pagerank'])                   # whose parallel edges weigh as much as all of them together
+# whose parallel edges weigh as much as all of them together
+SUMMED = frozenset(['pagerank'])
 LONGEST = frozenset(['dag_longest_path_length'])   # whose parallel edges are as long as the longest
 
 
 def fold_of(name: Optional[str]) -> str:
-    """How a function takes the weights of parallel edges together: the shortest is that of a path."""
+    """How a function takes the weights of parallel edges together: the shortest is that of a
+    path."""
     return 'plus' if name in SUMMED else 'max' if name in LONGEST else 'min'
 
 
@@ -36,12 +38,14 @@ def odd_graph(graph: Any) -> Optional[str]:
 
 
 def is_view(graph: Any) -> bool:
-    """Whether a graph shows another one, whose changes clear nothing that networkx keeps with this one."""
+    """Whether a graph shows another one, whose changes clear nothing that networkx keeps with this
+    one."""
     return '_graph' in getattr(graph, '__dict__', {})
 
 
 def find_conversion(graph: Any) -> Optional[SpmatGraph]:
-    """The conversion of a graph that networkx keeps with it, whatever attributes it was for. None of a view."""
+    """The conversion of a graph that networkx keeps with it, whatever attributes it was for. None
+    of a view."""
     if not nx.config.cache_converted_graphs or is_view(graph):
         return None
     kept = (getattr(graph, '__networkx_cache__', None) or {}).get('backends', {}).get('spmat', {})
@@ -49,15 +53,17 @@ def find_conversion(graph: Any) -> Optional[SpmatGraph]:
 
 
 def _cache(graph: Any) -> Dict[Any, Any]:
-    """Where networkx keeps what was made of a graph until it is changed; a dict of one's own where it keeps nothing."""
+    """Where networkx keeps what was made of a graph until it is changed; a dict of one's own where
+    it keeps nothing."""
     keeps = nx.config.cache_converted_graphs and not is_view(graph)
     kept: Optional[Dict[Any, Any]] = getattr(graph, '__networkx_cache__', None) if keeps else None
     return {} if kept is None else kept
 
 
 def forget_changed(graph: Any, attributes: List[Any]) -> None:
-    """Has networkx forget what was made of a graph if the values of an edge attribute have changed since, as by `G[u][v]["weight"] = 5`,
-    of which networkx notices nothing. Views are never kept."""
+    """Has networkx forget what was made of a graph if the values of an edge attribute have changed
+    since, as by `G[u][v]["weight"] = 5`, of which networkx notices nothing. Views are never
+    kept."""
     if isinstance(graph, SpmatGraph) or not hasattr(graph, 'adjacency'):
         return
     if is_view(graph):
@@ -65,13 +71,14 @@ def forget_changed(graph: Any, attributes: List[Any]) -> None:
         return
     _cache(graph).pop(WAITING, None)
     made = find_conversion(graph)
-    if made is not None and process_session.setting('compare_weights') and not made.has_values_of(graph, attributes):
+    if (made is not None and process_session.setting('compare_weights')
+        and not made.has_values_of(graph, attributes)):
         graph.__networkx_cache__.clear()
 
 
 def read_values(graph: Any, attribute: Any, default: Any, fold: str) -> Values:
-    """The values of an edge attribute, for `can_run`; the conversion that follows takes them over. NotImplementedError where one
-    isn't whole."""
+    """The values of an edge attribute, for `can_run`; the conversion that follows takes them over.
+    NotImplementedError where one isn't whole."""
     if isinstance(graph, SpmatGraph):
         return graph.values(attribute, default, fold)
     made = find_conversion(graph)
@@ -84,8 +91,9 @@ def read_values(graph: Any, attribute: Any, default: Any, fold: str) -> Values:
     return waiting[key]
 
 
-def convert_from_nx(graph: Any, *, edge_attrs: Optional[Dict[str, Any]] = None, node_attrs: Optional[Dict[str, Any]] = None,
-                    preserve_edge_attrs: bool = False, preserve_node_attrs: bool = False, preserve_graph_attrs: bool = False,
+def convert_from_nx(graph: Any, *, edge_attrs: Optional[Dict[str, Any]] = None,
+                    node_attrs: Optional[Dict[str, Any]] = None, preserve_edge_attrs: bool = False,
+                    preserve_node_attrs: bool = False, preserve_graph_attrs: bool = False,
                     name: Optional[str] = None, graph_name: Optional[str] = None) -> SpmatGraph:
     """Convert a networkx graph, as networkx asks a backend to.
 
@@ -118,9 +126,11 @@ def convert_from_nx(graph: Any, *, edge_attrs: Optional[Dict[str, Any]] = None, 
             raise NotImplementedError(odd)
         made = SpmatGraph(graph)
     made.take(_cache(graph).pop(WAITING, {}))
-    made.keep(graph, preserve_node_attrs or bool(node_attrs), preserve_edge_attrs or bool(edge_attrs), preserve_graph_attrs)
+    made.keep(graph, preserve_node_attrs or bool(node_attrs), preserve_edge_attrs
+              or bool(edge_attrs), preserve_graph_attrs)
     for attribute, default in (edge_attrs or {}).items():
-        with contextlib.suppress(NotImplementedError):     # the function says why; networkx would keep it as a graph that can't be converted
+        # the function says why; networkx would keep it as a graph that can't be converted
+        with contextlib.suppress(NotImplementedError):
             made.values(attribute, default, fold_of(name))
     return made
 
@@ -138,19 +148,22 @@ def convert_to_nx(thing: Any, *, name: Optional[str] = None) -> Any:
     return copy_graph(thing) if isinstance(thing, SpmatGraph) else thing
 
 
-def copy_graph(G: SpmatGraph, keep: Optional[Set[Any]] = None, links: Optional[Tuple[List[int], List[int]]] = None) -> Any:
-    """A networkx graph of the nodes in `keep`, or all, and of the edges between them, or of those at the rows and columns in
-    `links`; with the attributes that were converted."""
+def copy_graph(G: SpmatGraph, keep: Optional[Set[Any]] = None,
+               links: Optional[Tuple[List[int], List[int]]] = None) -> Any:
+    """A networkx graph of the nodes in `keep`, or all, and of the edges between them, or of those
+    at the rows and columns in `links`; with the attributes that were converted."""
     graph = G.kind()
     graph.graph.update(G.graph)
     data = G.node_data
-    graph.add_nodes_from((node, dict(data[node]) if data else {}) for node in G if keep is None or node in keep)
+    graph.add_nodes_from((node, dict(data[node]) if data else {}) for node in G if keep is None
+                         or node in keep)
     flags = None if keep is None else [node in keep for node in G]
     graph.add_edges_from(list(_edges(G, _choose_edges(G, flags, links))))
     return graph
 
 
-def _choose_edges(G: SpmatGraph, flags: Optional[List[bool]], links: Optional[Tuple[List[int], List[int]]]) -> List[int]:
+def _choose_edges(G: SpmatGraph, flags: Optional[List[bool]],
+                  links: Optional[Tuple[List[int], List[int]]]) -> List[int]:
     """The entries that become edges: of an undirected edge the one whose row is less."""
     rows, columns, count = G.at.rows, G.at.columns, len(G)
     chosen = numpy.ones(len(rows), bool) if G.is_directed() else rows <= columns
@@ -171,7 +184,8 @@ def _edges(G: SpmatGraph, chosen: List[int]) -> Iterator[Tuple[Any, ...]]:
     for at in chosen:
         u, v = nodes[rows[at]], nodes[columns[at]]
         if many:
-            keys = data[at] if data else dict.fromkeys(range(G.at.counts[at] if G.at.counts else 1), {})
+            keys = (data[at] if data
+                    else dict.fromkeys(range(G.at.counts[at] if G.at.counts else 1), {}))
             for key, had in keys.items():
                 yield u, v, key, dict(had)
         else:

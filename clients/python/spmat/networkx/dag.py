@@ -53,7 +53,8 @@ def transitive_closure(G: SpmatGraph, reflexive: Any = False) -> Any:
 
 
 def _in_order(arguments: Mapping[str, Any]) -> Optional[str]:
-    return None if arguments['topo_order'] is None else 'an order that is given decides what is closed'
+    return (None if arguments['topo_order'] is None
+            else 'an order that is given decides what is closed')
 
 
 @serves(Terms(undirected=False, unless=_in_order))
@@ -86,15 +87,19 @@ def number_of_walks(G: SpmatGraph, walk_length: int) -> Dict[Any, Dict[Any, int]
 
 def _one_edge_each(arguments: Mapping[str, Any]) -> Optional[str]:
     """networkx takes the path by the least of parallel edges, and its length by the greatest."""
-    return 'parallel edges' if arguments['G'].is_multigraph() else 'no node' if not len(arguments['G']) else None
+    return ('parallel edges' if arguments['G'].is_multigraph() else 'no node'
+            if not len(arguments['G']) else None)
 
 
 @serves(Terms(undirected=False, unless=_one_edge_each, negative=True))
 def dag_longest_path_length(G: SpmatGraph, weight: Any = 'weight', default_weight: Any = 1) -> Any:
     try:
-        far = algorithms.longest_paths(G.matrix(weight, default_weight, 'max')).reduce_scalar('max') or 0
+        far = (
+            algorithms.longest_paths(G.matrix(weight, default_weight, 'max')).reduce_scalar('max')
+            or 0)
     except algorithms.CycleError:
         raise NetworkXUnfeasible(UNFEASIBLE) from None
-    if weight is None:                             # then each edge is as long as one without the attribute
+    # then each edge is as long as one without the attribute
+    if weight is None:
         return far * default_weight if far and default_weight > 0 else 0
     return unscale_length(far, G.values(weight, default_weight, 'max').unit)

@@ -35,8 +35,9 @@ def one_or_all(G: SpmatGraph, nodes: Any, values: List[Any]) -> Any:
 
 
 def degree(G: SpmatGraph, back: bool = False) -> List[int]:
-    """Degrees by index, those that come in where `back` is set: of an undirected graph loops count twice. The conversion knows
-    the edges that leave a node, and where edges lead; parallel ones are one job."""
+    """Degrees by index, those that come in where `back` is set: of an undirected graph loops count
+    twice. The conversion knows the edges that leave a node, and where edges lead; parallel ones are
+    one job."""
     if back and G.is_directed():
         found = G.many().reduce_columnwise('plus').to_list(0) if G.parallel else _came(G)
     else:
@@ -55,7 +56,8 @@ def _came(G: SpmatGraph) -> List[int]:
 
 def total_degree(G: SpmatGraph) -> List[int]:
     """In and out together."""
-    return [a + b for a, b in zip(degree(G), degree(G, back=True))] if G.is_directed() else degree(G)
+    return ([a + b for a, b in zip(degree(G), degree(G, back=True))] if G.is_directed()
+            else degree(G))
 
 
 def _centrality(G: SpmatGraph, degrees: List[int]) -> Dict[Any, Any]:
@@ -101,7 +103,8 @@ def s_metric(G: SpmatGraph) -> float:
 
 def _sides(arguments: Mapping[str, Any]) -> Optional[str]:
     graph, weight = arguments['G'], arguments['weight']
-    if weight is not None and (graph.is_multigraph() or not isinstance(graph, SpmatGraph) and graph.is_directed()):
+    if (weight is not None
+        and (graph.is_multigraph() or not isinstance(graph, SpmatGraph) and graph.is_directed())):
         return 'weights of directed graphs and multigraphs'
     if {arguments['source'], arguments['target']} - {'out', 'in', 'in+out'}:
         return 'source and target are out, in or in+out'
@@ -109,20 +112,22 @@ def _sides(arguments: Mapping[str, Any]) -> Optional[str]:
 
 
 @serves(Terms(unless=_sides, negative=True))
-def average_neighbor_degree(G: SpmatGraph, source: str = 'out', target: str = 'out', nodes: Any = None,
-                            weight: Any = None) -> Dict[Any, Any]:
+def average_neighbor_degree(G: SpmatGraph, source: str = 'out', target: str = 'out',
+                            nodes: Any = None, weight: Any = None) -> Dict[Any, Any]:
     if not G.is_directed() and (source, target) != ('out', 'out'):
         raise NetworkXError('source and target arguments are only supported for directed graphs')
     if weight is not None and G.is_directed():
         raise NotImplementedError('weights of directed graphs')
     target_degree = _side_degree(G, target)
-    ways: List[Matrix] = [G.matrix(weight, back=back) for back, side in ((False, 'out'), (True, 'in')) if side in source]
+    ways: List[Matrix] = [G.matrix(weight, back=back)
+                          for back, side in ((False, 'out'), (True, 'in')) if side in source]
     found = [0] * len(G)
     for way in ways:
         for i, near in enumerate(way.mxv(put_all(way, target_degree), 'plus_times').to_list(0)):
             found[i] += near
     own = _side_degree(G, source) if weight is None else _weighted_degree(G, weight)
-    return {node: found[i] / own[i] if own[i] else 0.0 for node, i in ((node, G.index[node]) for node in G.nbunch_iter(nodes))}
+    return {node: found[i] / own[i] if own[i] else 0.0
+            for node, i in ((node, G.index[node]) for node in G.nbunch_iter(nodes))}
 
 
 def _side_degree(G: SpmatGraph, side: str) -> List[int]:

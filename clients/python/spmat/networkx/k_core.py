@@ -38,7 +38,9 @@ def _cores(G: SpmatGraph) -> List[int]:
     core, k, left = [0] * len(G), 0, G.full()
     while left.nvals:
         k += 1
-        left = iterate(left, lambda had: near.mxv(had, 'plus_first', mask=had.S).select('valuege', k), as_many)
+        left = iterate(left,
+                       lambda had: near.mxv(had, 'plus_first', mask=had.S).select('valuege', k),
+                       as_many)
         for i in left.entries(arrays=False)[0]:
             core[i] = k
     return core
@@ -49,7 +51,8 @@ def core_number(G: SpmatGraph) -> Cores:
     return dict(zip(G, cores(G)))
 
 
-def _part(G: SpmatGraph, core: Optional[Cores], k: Optional[int], keep: Callable[[Any, int, Cores], bool],
+def _part(G: SpmatGraph, core: Optional[Cores], k: Optional[int],
+          keep: Callable[[Any, int, Cores], bool],
           default: Callable[[Iterable[int]], int] = max) -> Any:
     """The part of the networkx graph whose nodes are kept."""
     found: Cores = dict(zip(G, cores(G))) if core is None else core
@@ -122,5 +125,6 @@ def maximal_independent_set(G: SpmatGraph, nodes: Any = None, seed: Any = None) 
     free = G.full().without(near.ewise_add(column, 'any'))
     keep = free.diag()
     rest = product(product(keep, G.A, 'any_pair'), keep, 'any_pair')
-    more = algorithms.maximal_independent_set(rest, seed.getrandbits(32), check=False).ewise_mult(free, 'first')
+    more = algorithms.maximal_independent_set(rest, seed.getrandbits(32),
+                                              check=False).ewise_mult(free, 'first')
     return list(chosen) + list(G.named(more).by_node())

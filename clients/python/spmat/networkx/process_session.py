@@ -16,7 +16,8 @@ from ..session import Session
 from .backend_info import DEFAULTS, check_setting
 
 MOST_WORKERS = 8
-SECONDS = 30.0                                     # how long a session that couldn't be opened isn't tried again by priority
+# how long a session that couldn't be opened isn't tried again by priority
+SECONDS = 30.0
 
 
 class NoSession(RuntimeError):
@@ -24,8 +25,8 @@ class NoSession(RuntimeError):
 
 
 class Settings(NamedTuple):
-    """What a session is opened with. `connect` is `HOST:PORT` of `spmat serve` or the path of its socket file, or empty for a
-    program of one's own."""
+    """What a session is opened with. `connect` is `HOST:PORT` of `spmat serve` or the path of its
+    socket file, or empty for a program of one's own."""
     program: Program
     connect: str
     steps: int
@@ -40,7 +41,8 @@ class Failure(NamedTuple):
 
 
 class Warned:
-    """What calls by priority have met: the last failure, and whether this process was told of one."""
+    """What calls by priority have met: the last failure, and whether this process was told of
+    one."""
     last: Optional[Failure] = None
     is_told = False
 
@@ -50,12 +52,15 @@ _open: Dict[Tuple[int, Settings], Session] = {}
 
 
 def setting(name: str) -> Any:
-    """A value of `nx.config.backends.spmat`, or the default where networkx doesn't know the backend's settings."""
-    return check_setting(name, getattr(getattr(nx.config.backends, 'spmat', None), name, DEFAULTS[name]))
+    """A value of `nx.config.backends.spmat`, or the default where networkx doesn't know the
+    backend's settings."""
+    return check_setting(name,
+                         getattr(getattr(nx.config.backends, 'spmat', None), name, DEFAULTS[name]))
 
 
 def settings() -> Settings:
-    """The settings as they are now; 0 steps are as many as a session can have, 0 workers one for each processor, 8 at most."""
+    """The settings as they are now; 0 steps are as many as a session can have, 0 workers one for
+    each processor, 8 at most."""
     workers = setting('workers') or min(MOST_WORKERS, _processors())
     return Settings(setting('program'), setting('connect'), setting('steps') or MOST_STEPS, workers)
 
@@ -67,8 +72,8 @@ def _processors() -> int:
 def session() -> Session:
     """Return the one session of this process that the backend uses.
 
-    A new one is opened at the first call, after a change of the settings, after the last one has ended or
-    its program died, and in a process that was forked off.
+    A new one is opened at the first call, after a change of the settings, after the last one has
+    ended or its program died, and in a process that was forked off.
 
     Returns
     -------
@@ -77,15 +82,16 @@ def session() -> Session:
     Raises
     ------
     NoSession
-        If there is no program, or one that isn't spmat, or nobody listens, or a server has no seat left.
-        It is a RuntimeError.
+        If there is no program, or one that isn't spmat, or nobody listens, or a server has no seat
+        left. It is a RuntimeError.
     """
     with _lock:
         key = (os.getpid(), settings())
         held = _open.get(key)
         if held is not None and held.connection.usable():
             return held
-        for old in list(_open):                    # one session a process; those of a parent are left alone
+        # one session a process; those of a parent are left alone
+        for old in list(_open):
             last = _open.pop(old)
             if old[0] == key[0]:
                 last.close()
@@ -104,7 +110,8 @@ def _words(wanted: Settings, fault: BaseException) -> str:
         said = fault.strerror + (': ' + str(fault.filename) if fault.filename else '')
     if wanted.connect:
         return '%s (nx.config.backends.spmat.connect is %r)' % (said, wanted.connect)
-    return '%s (nx.config.backends.spmat.program is %r)' % (said, wanted.program) if wanted.program else said
+    return ('%s (nx.config.backends.spmat.program is %r)' % (said, wanted.program) if wanted.program
+            else said)
 
 
 def _opened(wanted: Settings) -> Session:
@@ -117,8 +124,9 @@ def _opened(wanted: Settings) -> Session:
 
 
 def missing() -> Optional[str]:
-    """Why no session can be had, in words, for a call that networkx hands over by itself: None where one is open, or can be opened.
-    The first such call of a process warns; after a failure some time passes before it is tried again, unless settings change."""
+    """Why no session can be had, in words, for a call that networkx hands over by itself: None
+    where one is open, or can be opened. The first such call of a process warns; after a failure
+    some time passes before it is tried again, unless settings change."""
     wanted, now, last = settings(), time.monotonic(), Warned.last
     if last is not None and last.wanted == wanted and now - last.when < SECONDS:
         return last.words
@@ -136,7 +144,8 @@ def warn(words: str) -> None:
     with _lock:
         told, Warned.is_told = Warned.is_told, True
     if not told:
-        warnings.warn('%s; networkx does the work itself. This is said once' % words, RuntimeWarning, stacklevel=2)
+        warnings.warn('%s; networkx does the work itself. This is said once' % words,
+                      RuntimeWarning, stacklevel=2)
 
 
 def close() -> None:

@@ -1,5 +1,6 @@
-"""Shortest paths as the nodes that they go through. The server finds the lengths; the client walks along the edges that are as long as
-their ends are apart, in networkx' order, so that of equal paths it takes those that networkx takes."""
+"""Shortest paths as the nodes that they go through. The server finds the lengths; the client walks
+along the edges that are as long as their ends are apart, in networkx' order, so that of equal paths
+it takes those that networkx takes."""
 from __future__ import annotations
 
 # networkx calls these by the names of its own arguments, served or not
@@ -23,8 +24,9 @@ Paths = Dict[Any, List[Any]]
 
 
 class Found(NamedTuple):
-    """What a search finds, by index: the nodes in the order in which they are found, with their lengths, and before each one all nodes
-    that a shortest path comes by, in the order in which these were found."""
+    """What a search finds, by index: the nodes in the order in which they are found, with their
+    lengths, and before each one all nodes that a shortest path comes by, in the order in which
+    these were found."""
     far: Dict[int, int]
     before: Dict[int, List[int]]
     unit: Optional[int]
@@ -34,7 +36,8 @@ class Found(NamedTuple):
 
 
 class Query(NamedTuple):
-    """Lengths by edges or by an attribute, which may be negative; how far; to one node alone; against the edges."""
+    """Lengths by edges or by an attribute, which may be negative; how far; to one node alone;
+    against the edges."""
     weight: Any = None
     signed: bool = False
     cutoff: Any = None
@@ -72,8 +75,10 @@ def _lengths(G: SpmatGraph, sources: Sequence[Any], query: Query) -> Matrix:
 
 
 def _tight(G: SpmatGraph, far: Dict[int, int], query: Query) -> Dict[int, List[int]]:
-    """Of each node that was found those that edges lead to which are as long as their ends are apart, in the graph's order."""
-    rows, columns = (G.at.columns, G.at.rows) if query.back and G.is_directed() else (G.at.rows, G.at.columns)
+    """Of each node that was found those that edges lead to which are as long as their ends are
+    apart, in the graph's order."""
+    rows, columns = ((G.at.columns, G.at.rows) if query.back and G.is_directed()
+                     else (G.at.rows, G.at.columns))
     many = 1 if query.weight is None else G.values(query.weight).many
     length = numpy.full(len(G), -1 << 63, numpy.int64)
     length[list(far)] = list(far.values())
@@ -91,7 +96,8 @@ def paths_of(G: SpmatGraph, found: Found, sources: Sequence[Any], forth: bool = 
     starts, paths = {G.index[source] for source in sources}, {}  # type: Any, Dict[int, List[Any]]
     for at in found.far:
         node = [G.nodes[at]]
-        paths[at] = node if at in starts else paths[found.before[at][0]] + node if forth else node + paths[found.before[at][0]]
+        paths[at] = (node if at in starts else paths[found.before[at][0]] + node if forth else node
+                     + paths[found.before[at][0]])
     return {G.nodes[at]: path for at, path in paths.items()}
 
 
@@ -113,8 +119,10 @@ def predecessors_of(G: SpmatGraph, found: Found) -> Dict[Any, List[Any]]:
     return {G.nodes[at]: [G.nodes[i] for i in found.before[at]] for at in found.far}
 
 
-def between(G: SpmatGraph, source: Any, target: Any, query: Query, said: str) -> Tuple[Any, List[Any]]:
-    """The length and the nodes of a shortest path between two nodes. NetworkXNoPath in these words where there is none."""
+def between(G: SpmatGraph, source: Any, target: Any, query: Query,
+            said: str) -> Tuple[Any, List[Any]]:
+    """The length and the nodes of a shortest path between two nodes. NetworkXNoPath in these words
+    where there is none."""
     if target not in G:
         raise NetworkXNoPath(said % (target,))
     found = search(G, [source], query._replace(target=target))
@@ -140,7 +148,8 @@ def _quoted(node: Any) -> str:
     return str(node).replace('%', '%%')
 
 
-def predecessor(G: SpmatGraph, source: Any, target: Any = None, cutoff: Any = None, return_seen: Any = None) -> Any:
+def predecessor(G: SpmatGraph, source: Any, target: Any = None, cutoff: Any = None,
+                return_seen: Any = None) -> Any:
     need(G, source, 'Source %s not in G')
     found = search(G, [source], Query(cutoff=max(1, cutoff) if cutoff else None))
     before, seen = predecessors_of(G, found), lengths_of(G, found)
@@ -152,12 +161,13 @@ def predecessor(G: SpmatGraph, source: Any, target: Any = None, cutoff: Any = No
 # -- by weights
 
 def _longest(cutoff: Any) -> Any:
-    """The cutoff of a search by Dijkstra, which keeps lengths up to it. Counted in edges these are whole, and searches by edges round
-    their depth up."""
+    """The cutoff of a search by Dijkstra, which keeps lengths up to it. Counted in edges these are
+    whole, and searches by edges round their depth up."""
     return cutoff if cutoff is None or math.isinf(cutoff) else math.floor(cutoff)
 
 
-def multi_source_dijkstra(G: SpmatGraph, sources: Any, target: Any = None, cutoff: Any = None, weight: Any = 'weight') -> Any:
+def multi_source_dijkstra(G: SpmatGraph, sources: Any, target: Any = None, cutoff: Any = None,
+                          weight: Any = 'weight') -> Any:
     need_some(G, sources)
     if target in sources:
         return 0, [target]
@@ -173,16 +183,19 @@ def multi_source_dijkstra(G: SpmatGraph, sources: Any, target: Any = None, cutof
     return found.length(at), paths_of(G, found, starts)[target]
 
 
-def multi_source_dijkstra_path(G: SpmatGraph, sources: Any, cutoff: Any = None, weight: Any = 'weight') -> Paths:
+def multi_source_dijkstra_path(G: SpmatGraph, sources: Any, cutoff: Any = None,
+                               weight: Any = 'weight') -> Paths:
     paths: Paths = multi_source_dijkstra(G, sources, cutoff=cutoff, weight=weight)[1]
     return paths
 
 
-def single_source_dijkstra(G: SpmatGraph, source: Any, target: Any = None, cutoff: Any = None, weight: Any = 'weight') -> Any:
+def single_source_dijkstra(G: SpmatGraph, source: Any, target: Any = None, cutoff: Any = None,
+                           weight: Any = 'weight') -> Any:
     return multi_source_dijkstra(G, [source], target, cutoff, weight)
 
 
-def single_source_dijkstra_path(G: SpmatGraph, source: Any, cutoff: Any = None, weight: Any = 'weight') -> Paths:
+def single_source_dijkstra_path(G: SpmatGraph, source: Any, cutoff: Any = None,
+                                weight: Any = 'weight') -> Paths:
     return multi_source_dijkstra_path(G, [source], cutoff, weight)
 
 
@@ -191,19 +204,24 @@ def dijkstra_path(G: SpmatGraph, source: Any, target: Any, weight: Any = 'weight
     return path
 
 
-def dijkstra_predecessor_and_distance(G: SpmatGraph, source: Any, cutoff: Any = None, weight: Any = 'weight') -> Any:
+def dijkstra_predecessor_and_distance(G: SpmatGraph, source: Any, cutoff: Any = None,
+                                      weight: Any = 'weight') -> Any:
     need(G, source, 'Node %s is not found in the graph')
-    found = search(G, [source], Query(weight, cutoff=cutoff if weight is not None else _longest(cutoff)))
+    found = search(G, [source],
+                   Query(weight, cutoff=cutoff if weight is not None else _longest(cutoff)))
     return predecessors_of(G, found), lengths_of(G, found)
 
 
 @serves(SIGNED)
-def single_source_bellman_ford(G: SpmatGraph, source: Any, target: Any = None, weight: Any = 'weight') -> Any:
-    need(G, source, 'Node %s is not found in the graph' if source == target else 'Source %s not in G')
+def single_source_bellman_ford(G: SpmatGraph, source: Any, target: Any = None,
+                               weight: Any = 'weight') -> Any:
+    need(G, source, 'Node %s is not found in the graph' if source == target
+         else 'Source %s not in G')
     if source == target:
         return 0, [source]
     if target is not None:
-        return between(G, source, target, Query(weight, True), 'Node %%s not reachable from %s' % _quoted(source))
+        return between(G, source, target, Query(weight, True),
+                       'Node %%s not reachable from %s' % _quoted(source))
     found = search(G, [source], Query(weight, True))
     return lengths_of(G, found), paths_of(G, found, [source])
 
@@ -225,11 +243,12 @@ def _one_target(arguments: Mapping[str, Any]) -> Optional[str]:
 
 
 @serves(Terms(negative=True, unless=_one_target))
-def bellman_ford_predecessor_and_distance(G: SpmatGraph, source: Any, target: Any = None, weight: Any = 'weight',
-                                          heuristic: bool = False) -> Any:
+def bellman_ford_predecessor_and_distance(G: SpmatGraph, source: Any, target: Any = None,
+                                          weight: Any = 'weight', heuristic: bool = False) -> Any:
     need(G, source, 'Node %s is not found in the graph')
     _check_loops(G, weight)
-    if len(G) == 1:                                # of which networkx reads no edge, not even one of length 0
+    # of which networkx reads no edge, not even one of length 0
+    if len(G) == 1:
         return {source: []}, {source: 0}
     found = search(G, [source], Query(weight, True))
     return predecessors_of(G, found), lengths_of(G, found)
@@ -237,19 +256,24 @@ def bellman_ford_predecessor_and_distance(G: SpmatGraph, source: Any, target: An
 
 def _check_loops(G: SpmatGraph, weight: Any) -> None:
     """NetworkXUnbounded for an edge of negative length from a node to itself, wherever it is."""
-    if weight is not None and any(i == j and x < 0 for i, j, x in zip(G.at.rows, G.at.columns, G.values(weight).many)):
+    if (weight is not None
+        and any(i == j and x < 0
+                for i, j, x in zip(G.at.rows, G.at.columns, G.values(weight).many))):
         raise NetworkXUnbounded(NEGATIVE)
 
 
 # -- by either
 
 @serves(SIGNED)
-def all_shortest_paths(G: SpmatGraph, source: Any, target: Any, weight: Any = None, method: str = 'dijkstra') -> Iterator[List[Any]]:
+def all_shortest_paths(G: SpmatGraph, source: Any, target: Any, weight: Any = None,
+                       method: str = 'dijkstra') -> Iterator[List[Any]]:
     return _all_paths(G, source, target, weight, method)
 
 
-def _all_paths(G: SpmatGraph, source: Any, target: Any, weight: Any, method: str) -> Iterator[List[Any]]:
-    """All shortest paths, by the nodes before each, the first ones first. It begins when the first is asked for, as networkx' does."""
+def _all_paths(G: SpmatGraph, source: Any, target: Any, weight: Any,
+               method: str) -> Iterator[List[Any]]:
+    """All shortest paths, by the nodes before each, the first ones first. It begins when the first
+    is asked for, as networkx' does."""
     if weight is not None:
         check_method(method)
     need(G, source, 'Source %s not in G' if weight is None else 'Node %s is not found in the graph')
@@ -262,7 +286,8 @@ def _all_paths(G: SpmatGraph, source: Any, target: Any, weight: Any, method: str
         raise NetworkXNoPath('Target %s cannot be reached from given sources' % (target,))
     path, at, on_path = [end], [0], {end}
     while path:
-        if path[-1] == start:                      # with edges of 0 a path may be told twice, as by networkx
+        # with edges of 0 a path may be told twice, as by networkx
+        if path[-1] == start:
             yield [G.nodes[i] for i in reversed(path)]
         if at[-1] == len(found.before[path[-1]]):
             on_path.discard(path.pop())

@@ -48,28 +48,34 @@ def _depth(cutoff: Any) -> Optional[int]:
     return None if cutoff is None or math.isinf(cutoff) else max(0, math.ceil(cutoff))
 
 
-def level_column(G: SpmatGraph, sources: Sequence[Any], cutoff: Any = None, back: bool = False, target: Any = None) -> Matrix:
-    """How many edges lead to each node from the nearest of some, or from it where `back` is set, as far as the cutoff, or until the
-    target's is known."""
+def level_column(G: SpmatGraph, sources: Sequence[Any], cutoff: Any = None, back: bool = False,
+                 target: Any = None) -> Matrix:
+    """How many edges lead to each node from the nearest of some, or from it where `back` is set, as
+    far as the cutoff, or until the target's is known."""
     at = [G.index[source] for source in sources]
     until = None if target is None else G.index[target]
-    return algorithms.bfs_levels(G.AT if back else G.A, at, G.both, depth=_depth(cutoff), target=until, check=False)
+    return algorithms.bfs_levels(G.AT if back else G.A, at, G.both, depth=_depth(cutoff),
+                                 target=until, check=False)
 
 
-def levels(G: SpmatGraph, sources: Sequence[Any], cutoff: Any = None, back: bool = False) -> Lengths:
+def levels(G: SpmatGraph, sources: Sequence[Any], cutoff: Any = None,
+           back: bool = False) -> Lengths:
     return nearest_first(G, level_column(G, sources, cutoff, back))
 
 
 def check_weights(G: SpmatGraph, weight: Any, signed: bool) -> None:
-    """NotImplementedError for weights below 0, of which networkx says what it likes, unless these are meant."""
+    """NotImplementedError for weights below 0, of which networkx says what it likes, unless these
+    are meant."""
     if weight is not None and not signed and G.values(weight).least < 0:
         raise NotImplementedError('weights below 0, of which networkx says what it likes')
 
 
-def length_to(G: SpmatGraph, source: Any, target: Any, weight: Any, signed: bool = False) -> Optional[Any]:
+def length_to(G: SpmatGraph, source: Any, target: Any, weight: Any,
+              signed: bool = False) -> Optional[Any]:
     """The length of the shortest path between two nodes, None where no path leads."""
     check_weights(G, weight, signed)
-    column = level_column(G, [source], target=target) if weight is None else shortest(G, [source], weight, False, target)
+    column = (level_column(G, [source], target=target) if weight is None
+              else shortest(G, [source], weight, False, target))
     rows, _, values = column.entries(arrays=False)
     at, place = G.index[target], bisect.bisect_left(rows, G.index[target])
     if place == len(rows) or rows[place] != at:
@@ -77,9 +83,10 @@ def length_to(G: SpmatGraph, source: Any, target: Any, weight: Any, signed: bool
     return values[place] if weight is None else unscale_length(values[place], G.values(weight).unit)
 
 
-def lengths(G: SpmatGraph, sources: Sequence[Any], weight: Any, back: bool = False, signed: bool = False,
-            cutoff: Any = None) -> Lengths:
-    """{node: the length of the shortest path} from some nodes, nearest first. NetworkXUnbounded for a negative cycle."""
+def lengths(G: SpmatGraph, sources: Sequence[Any], weight: Any, back: bool = False,
+            signed: bool = False, cutoff: Any = None) -> Lengths:
+    """{node: the length of the shortest path} from some nodes, nearest first. NetworkXUnbounded for
+    a negative cycle."""
     if weight is None:
         whole = cutoff if cutoff is None or math.isinf(cutoff) else math.floor(cutoff)
         return levels(G, sources, whole, back)
@@ -97,13 +104,16 @@ def divided(found: Lengths, unit: Optional[int]) -> Lengths:
     return found if unit is None else {node: length / unit for node, length in found.items()}
 
 
-def shortest(G: SpmatGraph, sources: Sequence[Any], weight: Any, back: bool, target: Any = None) -> Matrix:
-    """The lengths of the shortest paths from some nodes, as a column. NetworkXUnbounded for a cycle of negative length."""
+def shortest(G: SpmatGraph, sources: Sequence[Any], weight: Any, back: bool,
+             target: Any = None) -> Matrix:
+    """The lengths of the shortest paths from some nodes, as a column. NetworkXUnbounded for a cycle
+    of negative length."""
     try:
         if len(sources) == 1:
             until = None if target is None else G.index[target]
             W = G.matrix(weight, back=back)
-            return algorithms.sssp(W, G.index[sources[0]], None if G.is_directed() else W, target=until)
+            return algorithms.sssp(W, G.index[sources[0]], None if G.is_directed() else W,
+                                   target=until)
         near = G.matrix(weight, back=not back).ewise_add(loops(G.A, 0), 'min')
         return settle(lambda far: near.mxv(far, 'min_plus'), G.spots(sources, 0), most=len(G))
     except (NotSettled, ValueError):
@@ -147,24 +157,29 @@ def bfs_layers(G: SpmatGraph, sources: Any) -> Iterator[List[Any]]:
 
 # -- by weights
 
-def single_source_dijkstra_path_length(G: SpmatGraph, source: Any, cutoff: Any = None, weight: Any = 'weight') -> Lengths:
+def single_source_dijkstra_path_length(G: SpmatGraph, source: Any, cutoff: Any = None,
+                                       weight: Any = 'weight') -> Lengths:
     need(G, source)
     return lengths(G, [source], weight, cutoff=cutoff)
 
 
-def multi_source_dijkstra_path_length(G: SpmatGraph, sources: Any, cutoff: Any = None, weight: Any = 'weight') -> Lengths:
+def multi_source_dijkstra_path_length(G: SpmatGraph, sources: Any, cutoff: Any = None,
+                                      weight: Any = 'weight') -> Lengths:
     need_some(G, sources)
     return lengths(G, list(sources), weight, cutoff=cutoff)
 
 
 @serves(SIGNED)
-def single_source_bellman_ford_path_length(G: SpmatGraph, source: Any, weight: Any = 'weight') -> Lengths:
+def single_source_bellman_ford_path_length(G: SpmatGraph, source: Any,
+                                           weight: Any = 'weight') -> Lengths:
     need(G, source, 'Source %s not in G')
     return lengths(G, [source], weight, signed=True)
 
 
-def _far(G: SpmatGraph, source: Any, target: Any, weight: Any, said: str, signed: bool = False) -> Any:
-    """The length of the shortest path between two nodes, of which the first is there. NetworkXNoPath where there is none."""
+def _far(G: SpmatGraph, source: Any, target: Any, weight: Any, said: str,
+         signed: bool = False) -> Any:
+    """The length of the shortest path between two nodes, of which the first is there.
+    NetworkXNoPath where there is none."""
     if source == target:
         return 0
     far = length_to(G, source, target, weight, signed) if target in G else None
@@ -179,7 +194,8 @@ def dijkstra_path_length(G: SpmatGraph, source: Any, target: Any, weight: Any = 
 
 
 @serves(SIGNED)
-def bellman_ford_path_length(G: SpmatGraph, source: Any, target: Any, weight: Any = 'weight') -> Any:
+def bellman_ford_path_length(G: SpmatGraph, source: Any, target: Any,
+                             weight: Any = 'weight') -> Any:
     need(G, source, 'Source %s not in G')
     return _far(G, source, target, weight, 'node %s not reachable from %s', signed=True)
 

@@ -15,8 +15,8 @@ from .spmat_graph import SpmatGraph
 
 
 class Ordered(NamedTuple):
-    """The entries of a graph's edges in the order of their weights, those of one weight as the graph has them: positions among all
-    entries, rows and columns, as arrays."""
+    """The entries of a graph's edges in the order of their weights, those of one weight as the
+    graph has them: positions among all entries, rows and columns, as arrays."""
     at: Any
     rows: Any
     columns: Any
@@ -34,8 +34,9 @@ def _ordered(G: SpmatGraph, weight: Any, least_first: bool) -> Ordered:
 
 
 def _spanning(G: SpmatGraph, weight: Any, least_first: bool) -> List[Tuple[int, int, int]]:
-    """Row, column and position of each edge of the forest, in the order in which Kruskal's algorithm takes them. Where an edge stands
-    in that order is its weight here, so that no two weigh the same, and there is one such forest."""
+    """Row, column and position of each edge of the forest, in the order in which Kruskal's
+    algorithm takes them. Where an edge stands in that order is its weight here, so that no two
+    weigh the same, and there is one such forest."""
     edges = _ordered(G, weight, least_first)
     count, many = len(G), len(edges.at)
     ends, order = (edges.rows, edges.columns), numpy.arange(many)
@@ -50,7 +51,8 @@ def _spanning(G: SpmatGraph, weight: Any, least_first: bool) -> List[Tuple[int, 
     return [(i, j, int(edges.at[place])) for place, i, j in taken]
 
 
-def _edges(G: SpmatGraph, weight: Any, least_first: bool, data: bool = True) -> Iterator[Tuple[Any, ...]]:
+def _edges(G: SpmatGraph, weight: Any, least_first: bool,
+           data: bool = True) -> Iterator[Tuple[Any, ...]]:
     nodes, had = G.nodes, G.edge_data
     for i, j, at in _spanning(G, weight, least_first):
         yield (nodes[i], nodes[j], had[at] if had else {}) if data else (nodes[i], nodes[j])
@@ -65,29 +67,34 @@ def _tree(G: SpmatGraph, weight: Any, least_first: bool) -> Any:
 
 
 def _kruskal(arguments: Mapping[str, Any]) -> Optional[str]:
-    return None if arguments['algorithm'] == 'kruskal' else 'other algorithms take other edges of one weight, in another order'
+    return (None if arguments['algorithm'] == 'kruskal'
+            else 'other algorithms take other edges of one weight, in another order')
 
 
 TERMS = Terms(directed=False, multigraph=False, negative=True, unless=_kruskal)
 
 
 @serves(TERMS)
-def minimum_spanning_edges(G: SpmatGraph, algorithm: str = 'kruskal', weight: Any = 'weight', keys: bool = True, data: bool = True,
+def minimum_spanning_edges(G: SpmatGraph, algorithm: str = 'kruskal', weight: Any = 'weight',
+                           keys: bool = True, data: bool = True,
                            ignore_nan: bool = False) -> Iterator[Tuple[Any, ...]]:
     return iter(list(_edges(G, weight, True, data)))
 
 
 @serves(TERMS)
-def maximum_spanning_edges(G: SpmatGraph, algorithm: str = 'kruskal', weight: Any = 'weight', keys: bool = True, data: bool = True,
+def maximum_spanning_edges(G: SpmatGraph, algorithm: str = 'kruskal', weight: Any = 'weight',
+                           keys: bool = True, data: bool = True,
                            ignore_nan: bool = False) -> Iterator[Tuple[Any, ...]]:
     return iter(list(_edges(G, weight, False, data)))
 
 
 @serves(TERMS)
-def minimum_spanning_tree(G: SpmatGraph, weight: Any = 'weight', algorithm: str = 'kruskal', ignore_nan: bool = False) -> Any:
+def minimum_spanning_tree(G: SpmatGraph, weight: Any = 'weight', algorithm: str = 'kruskal',
+                          ignore_nan: bool = False) -> Any:
     return _tree(G, weight, True)
 
 
 @serves(TERMS)
-def maximum_spanning_tree(G: SpmatGraph, weight: Any = 'weight', algorithm: str = 'kruskal', ignore_nan: bool = False) -> Any:
+def maximum_spanning_tree(G: SpmatGraph, weight: Any = 'weight', algorithm: str = 'kruskal',
+                          ignore_nan: bool = False) -> Any:
     return _tree(G, weight, False)

@@ -13,14 +13,16 @@ from . import graph_arrays
 from .graph_arrays import Key, Positions, Values
 from .process_session import session
 
-BOUND = 1 << 61                                    # what a weight times the nodes stays below: networkx' integers don't wrap
+# what a weight times the nodes stays below: networkx' integers don't wrap
+BOUND = 1 << 61
 
 
 class SpmatGraph:
     """A graph that networkx' functions run with spmat.
 
-    Its matrices have a row and a column for each node, in the graph's order. It doesn't change with the
-    graph that it was made of. If it is pickled or copied, it leaves its matrices out, and makes them anew.
+    Its matrices have a row and a column for each node, in the graph's order. It doesn't change with
+    the graph that it was made of. If it is pickled or copied, it leaves its matrices out, and makes
+    them anew.
 
     Parameters
     ----------
@@ -56,7 +58,8 @@ class SpmatGraph:
             return False
 
     def __repr__(self) -> str:
-        return '<SpmatGraph of a %s with %d nodes and %d edges>' % (self.kind.__name__, len(self), self.number_of_edges())
+        return '<SpmatGraph of a %s with %d nodes and %d edges>' % (
+            self.kind.__name__, len(self), self.number_of_edges())
 
     def is_directed(self) -> bool:
         return bool(self._directed)
@@ -103,7 +106,8 @@ class SpmatGraph:
         raise AttributeError('%r object has no attribute %r' % (type(self).__name__, name))
 
     def __getstate__(self) -> Dict[str, Any]:
-        """networkx keeps this object in `G.__networkx_cache__`, and copies and pickles it with G."""
+        """networkx keeps this object in `G.__networkx_cache__`, and copies and pickles it with
+        G."""
         return {**self.__dict__, '_matrices': {}}
 
     # -- attributes
@@ -120,25 +124,29 @@ class SpmatGraph:
             self.graph = dict(graph.graph)
 
     def has_values_of(self, graph: Any, names: List[Any]) -> bool:
-        """Whether the graph that this one was made of has the values of these edge attributes that it had then."""
+        """Whether the graph that this one was made of has the values of these edge attributes that
+        it had then."""
         known = {key: values.read for key, values in self._values.items() if key[0] in names}
         data = graph_arrays.edge_data(graph) if known else []
-        return all(graph_arrays.attribute_values(data, *key[:3]) == read for key, read in known.items())
+        return all(graph_arrays.attribute_values(data, *key[:3]) == read
+                   for key, read in known.items())
 
     def take(self, values: Dict[Key, Values]) -> None:
         """Values of edge attributes that were read already."""
         self._values.update(values)
 
     def values(self, name: Any, default: Any = 1, fold: str = 'min') -> Values:
-        """An edge attribute at each position: of parallel edges the least ('min'), greatest or their sum. NotImplementedError where
-        one is no multiple of a unit (`weight_scaling`), or the length of a path could pass 64 bits."""
+        """An edge attribute at each position: of parallel edges the least ('min'), greatest or
+        their sum. NotImplementedError where one is no multiple of a unit (`weight_scaling`), or the
+        length of a path could pass 64 bits."""
         key = graph_arrays.key_of(name, default, fold if self._multigraph else None)
         if key not in self._values:
             if self.edge_data is None:
                 raise NotImplementedError('the edge attribute %r was not converted' % (name,))
             found = graph_arrays.values(self.edge_data, *key)
             if max(found.most, -found.least) * (len(self) + 1) >= BOUND:
-                raise NotImplementedError('the edge attribute %r: lengths of paths beyond 64 bits' % (name,))
+                raise NotImplementedError('the edge attribute %r: lengths of paths beyond 64 bits' %
+                                          (name,))
             self._values[key] = found
         return self._values[key]
 
@@ -170,7 +178,8 @@ class SpmatGraph:
         made.notes = Notes(directed=self.is_directed())
         return made
 
-    def matrix(self, weight: Optional[Any] = None, default: Any = 1, fold: str = 'min', back: bool = False) -> Matrix:
+    def matrix(self, weight: Optional[Any] = None, default: Any = 1, fold: str = 'min',
+               back: bool = False) -> Matrix:
         """Return the adjacency matrix.
 
         Parameters
@@ -198,7 +207,9 @@ class SpmatGraph:
         if weight is None:
             return self._cache_matrix((None, back), lambda now: self._send_matrix(now, 1, back))
         key = (*graph_arrays.key_of(weight, default, fold if self._multigraph else None), back)
-        return self._cache_matrix(key, lambda now: self._send_matrix(now, self.values(weight, default, fold).many, back))
+        return self._cache_matrix(key,
+                                  lambda now: self._send_matrix(
+                                      now, self.values(weight, default, fold).many, back))
 
     @property
     def A(self) -> Matrix:
@@ -214,27 +225,35 @@ class SpmatGraph:
         """How many edges lead from i to j."""
         if not self.parallel:
             return self.matrix(back=back)
-        return self._cache_matrix(('many', back and self._directed), lambda now: self._send_matrix(now, self.at.counts, back and self._directed))
+        return self._cache_matrix(('many', back and self._directed),
+                                  lambda now: self._send_matrix(
+                                      now, self.at.counts, back and self._directed))
 
     @property
     def both(self) -> Optional[Matrix]:
-        """The transpose for algorithms that take one: the graph itself where it is undirected, and none where it isn't."""
+        """The transpose for algorithms that take one: the graph itself where it is undirected, and
+        none where it isn't."""
         return None if self._directed else self.A
 
     @property
     def simple(self) -> Matrix:
         """Ones without loops."""
-        return self.derive_matrix('simple', lambda: self.A.select('offdiag')) if self.loops else self.A
+        return self.derive_matrix('simple',
+                                  lambda: self.A.select('offdiag')) if self.loops else self.A
 
     @property
     def near(self) -> Matrix:
         """Ones both ways, without loops."""
-        return self.derive_matrix('near', lambda: algorithms.undirected(self.A, self.AT)) if self._directed else self.simple
+        return self.derive_matrix('near',
+                                  lambda: algorithms.undirected(
+                                      self.A, self.AT)) if self._directed else self.simple
 
     @property
     def around(self) -> Matrix:
         """Ones both ways, with loops."""
-        return self.derive_matrix('around', lambda: self.A.ewise_add(self.AT, 'first')) if self._directed else self.A
+        return self.derive_matrix('around',
+                                  lambda: self.A.ewise_add(
+                                      self.AT, 'first')) if self._directed else self.A
 
     def spots(self, nodes: Iterable[Any], value: int = 1) -> Matrix:
         """A column with entries at some nodes."""
@@ -295,4 +314,5 @@ def graph(G: Any) -> SpmatGraph:
     1
     """
     from .convert import convert_from_nx
-    return convert_from_nx(G, preserve_edge_attrs=True, preserve_node_attrs=True, preserve_graph_attrs=True)
+    return convert_from_nx(G, preserve_edge_attrs=True, preserve_node_attrs=True,
+                           preserve_graph_attrs=True)

@@ -1,11 +1,11 @@
-"""Weights that are no whole numbers: in which unit they are, so that spmat computes with whole multiples of it, and results that are
-divided again.
+"""Weights that are no whole numbers: in which unit they are, so that spmat computes with whole
+multiples of it, and results that are divided again.
 
-Weights that are whole multiples of a power of ten, as 0.25 is of 0.01, or of a power of two, are computed with exactly. Lengths of paths
-are then the floats nearest to the true sums, where networkx adds floats one by one. Of paths that are equally long it takes the one that
-networkx takes; where floats that are added one by one differ in the last bit, networkx may take another of them. With the setting `scale`
-all weights are multiplied by it and rounded.
-"""
+Weights that are whole multiples of a power of ten, as 0.25 is of 0.01, or of a power of two, are
+computed with exactly. Lengths of paths are then the floats nearest to the true sums, where networkx
+adds floats one by one. Of paths that are equally long it takes the one that networkx takes; where
+floats that are added one by one differ in the last bit, networkx may take another of them. With the
+setting `scale` all weights are multiplied by it and rounded. """
 from __future__ import annotations
 
 import decimal
@@ -27,8 +27,8 @@ class Whole(NamedTuple):
 
 
 def find_whole_multiples(found: List[Any], name: Any, scale: float) -> Whole:
-    """Weights as whole multiples of a unit; with a scale rounded to them. NotImplementedError where there is no such unit, TypeError
-    for what is no number, ValueError for what isn't finite."""
+    """Weights as whole multiples of a unit; with a scale rounded to them. NotImplementedError where
+    there is no such unit, TypeError for what is no number, ValueError for what isn't finite."""
     several = set(found)
     if scale:
         unit = int(scale) if scale == int(scale) else None
@@ -51,9 +51,12 @@ def find_whole_multiples(found: List[Any], name: Any, scale: float) -> Whole:
 
 
 def _unit(values: Iterable[Any]) -> Optional[int]:
-    """The least power of ten of which all are whole multiples, as they are written, or of two; None where there is none."""
+    """The least power of ten of which all are whole multiples, as they are written, or of two; None
+    where there is none."""
     many = [float(value) for value in values if not hasattr(value, '__index__')]
-    digits = max((-int(decimal.Decimal(repr(value)).normalize().as_tuple().exponent) for value in many), default=0)
+    digits = max(
+        (-int(decimal.Decimal(repr(value)).normalize().as_tuple().exponent) for value in many),
+        default=0)
     if digits <= MOST_DIGITS:
         return int(10 ** max(digits, 0))
     bits = max(value.as_integer_ratio()[1] for value in many)
@@ -64,11 +67,13 @@ def _exact(value: Any, unit: int) -> fractions.Fraction:
     """A weight as it is: as it is written where its unit is decimal."""
     if hasattr(value, '__index__'):
         return fractions.Fraction(int(value))
-    return fractions.Fraction(repr(float(value))) if unit % 5 == 0 else fractions.Fraction(float(value))
+    return (fractions.Fraction(repr(float(value))) if unit % 5 == 0
+            else fractions.Fraction(float(value)))
 
 
 def unscale_length(length: int, unit: Optional[int]) -> Any:
-    """A length, or a sum of lengths, as networkx has it: None of whole weights, 1 of floats that are whole."""
+    """A length, or a sum of lengths, as networkx has it: None of whole weights, 1 of floats that
+    are whole."""
     return length if unit is None else length / unit
 
 
