@@ -74,7 +74,7 @@ def others(s, G, U):
     yield 'a truss that nobody checks', algorithms.k_truss(both_ways(s), 3, check=False)
 
 
-BINARY = ('plus', 'times', 'min', 'max', 'minus', 'first', 'second', 'any', 'pair', 'eq', 'gt', 'absdiff', 'cdiv')
+BINARY = ('plus', 'times', 'min', 'max', 'minus', 'first', 'second', 'any', 'pair', 'eq', 'gt', 'cdiv')
 STEPS = (                                          # of two matrices of one size, and a source of chance
     lambda A, B, chance: A.ewise_add(B, chance.choice(BINARY)), lambda A, B, chance: A.ewise_mult(B, chance.choice(BINARY)),
     lambda A, B, chance: A.mxm(B, 'plus_' + chance.choice(('times', 'pair', 'first', 'plus', 'minus'))),
