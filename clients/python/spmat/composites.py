@@ -138,7 +138,7 @@ class Composites(Signs, metaclass=MatrixType):
         to be associative. It is an int, or where the fold has a unit a float, what it stands for; `raw=True` gives the stored whole
         number. At most 2 jobs and 2 runs (1 and 1 of a row or a column), and one number comes back. Of the aggregators of
         `reduce_rowwise` it takes those that aren't positions; "mean" is a float. A sum or a product beyond 64 bits wraps, without a
-        word; algorithms refuse where theirs could."""
+        word unless there is a unit; a mean doesn't. Algorithms refuse where theirs could."""
         if aggregators.is_aggregator(op):
             return aggregators.aggregate_all(self, str(op), raw)
         rows = self if self.ncols == 1 else self.reduce_rowwise(op)

@@ -36,7 +36,8 @@ class Matrix(Composites):
     `without` say. Operators are Operators, ready names, or functions.
 
     A stored whole number x stands for x / `unit`, 1 unless the matrix was read with `scale=`; results have units. UnitsDiffer where two that
-    differ meet: `rescale` gives one matrix the other's. docs/files.md says more.
+    differ meet: `rescale` gives one matrix the other's. An OverflowWarning tells where results with a unit may pass 64 bits; docs/files.md says
+    more.
 
     Refusals are raised where the method is called: DimensionMismatch (J5, J9), DomainMismatch (J4), OperatorRefused,
     BudgetExceeded, TooLarge (J7, J8), OutOfMemory. Wrong shapes and kinds are found here, before anything is sent."""
@@ -121,7 +122,8 @@ class Matrix(Composites):
             Unary: f(x). Binary, with a number bound: f(x, right) or f(left, x). Index operator: f(x, row, column, right).
         right, left : number, optional
             The number that is bound. `right` of an index operator is 0 unless given. Where this matrix has a unit, `right=0.25` is a
-            number that meets its values, and is stored as they are; for times and division it is a whole factor.
+            number that meets its values, and is stored as they are; for times and division it is a whole factor. A date or a length of
+            time beside values that are times, `unit="s"`.
         mask : Mask, optional
             Where the result may have entries.
         name : str, optional
@@ -134,7 +136,7 @@ class Matrix(Composites):
         Raises
         ------
         ValueError
-            Where the unit can't hold the number, but for <, <=, > and >=.
+            Where the unit can't hold the number, which comparisons need not; where a value with a unit would be beyond 64 bits.
 
         Notes
         -----
@@ -155,8 +157,8 @@ class Matrix(Composites):
         op : Operator, str or callable
             Its name may be a sign: `A.select(">=", 3)` is `A.select("valuege", 3)`.
         thunk : number
-            What the operator gets beside each entry. A value to compare with is a number, also where this matrix has a unit,
-            `A.select(">=", 1.5)`. An operator of your own gets stored whole numbers.
+            What the operator gets beside each entry. A value to compare with is any number, also a fraction beside whole numbers, or
+            infinity, `A.select(">=", 1.5)`; beside times a date or a length of time. An operator of your own gets stored whole numbers.
         mask, name
             As for `apply`.
 
@@ -167,7 +169,7 @@ class Matrix(Composites):
         Raises
         ------
         ValueError
-            Of == and !=, where the unit can't hold the value to compare with. Of "rowle", "rowgt", "colle" and "colgt", which count
+            Of NaN. Of "rowle", "rowgt", "colle" and "colgt", which count
             from 0, where rows or columns have other numbers for names: an Operator, `spmat.indexunary.rowle`, counts all the same.
 
         Notes

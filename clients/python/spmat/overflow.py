@@ -163,7 +163,7 @@ def _sums(names: Sequence[Optional[str]], known: Sequence[Span], operands: Seque
 
 
 def _asked(matrix: Any) -> Span:
-    """The least and the greatest value of a matrix: those that are noted, or 4 jobs and 2 to 4 runs."""
+    """The least and the greatest value of a matrix: those that are noted, or by 4 jobs."""
     span: Span = matrix.kept.get(KEY, ANY)
     if not span.exact:
         stored = units.with_unit(matrix, 1)
@@ -180,7 +180,7 @@ def _asked(matrix: Any) -> Span:
 
 def _total(matrix: Any, span: Span, is_row: bool) -> int:
     """No less than the greatest sum of a row's absolute values, or of a column's: by how many entries it has, and by sums of so few bits that
-    they can't wrap. 6 jobs and 4 runs."""
+    they can't wrap. 7 jobs."""
     key = ROW if is_row else COLUMN
     if key in matrix.kept:
         return int(matrix.kept[key])

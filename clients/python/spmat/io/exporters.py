@@ -86,8 +86,8 @@ class Held(Written):
     @property
     def unit(self) -> Unit:
         """What the stored whole numbers are parts of: x stands for x / unit. It is 100 for what was read with `scale=100`, and 1 unless
-        anything is known. It can be set, `A.unit = 100`, which changes no stored number, so that each stands for another one.
-        ValueError where it is no number above 0."""
+        anything is known. It can be set, `A.unit = 100`, which changes no stored number, so that each stands for another one. Of times
+        it is "s" or the like, which counts as a number of 1. ValueError where it is neither."""
         return self.notes.unit
 
     @unit.setter
@@ -105,10 +105,10 @@ class Held(Written):
 
         Parameters
         ----------
-        unit : number
-            What the new stored whole numbers are parts of, such as 1000.
+        unit : number or str
+            What the new stored whole numbers are parts of, such as 1000; of times "D", "s", "ms", "us" or "ns".
         exact : bool
-            False rounds values that have more digits than the new unit, halves to the even one.
+            False rounds values that have more digits than the new unit, halves to the even one; times are cut down.
 
         Returns
         -------
