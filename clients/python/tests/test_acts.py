@@ -207,8 +207,8 @@ MONTHS = [
 UNITS = [
     ('above a decimal', lambda s: edges(s.from_edgelist(
         [('a', 'b', 1.25), ('b', 'c', 2)], scale=100).select('>', 1.5)), [('b', 'c', 2.0)]),
-    ('above a decimal, without a unit', on(1, lambda A: A.select('>', 1.5)), Says('not 1.5')),
-    ('above nan', on(1, lambda A: A.select('>', math.nan)), Says('missing')),
+    ('above a decimal, without a unit', on(1, lambda A: A.select('>', 1.5)), []),
+    ('above nan', on(1, lambda A: A.select('>', math.nan)), Says('finite')),
     ('plus a decimal', on(9, lambda A: A.apply('plus', right=2.5), 10), [('a', 'b', 11.5)]),
     ('twice', on(9, lambda A: A.apply('times', right=2), 10), [('a', 'b', 18.0)]),
     ('at most a number', on(9.5, lambda A: A.apply('min', right=9), 10), [('a', 'b', 9.0)]),

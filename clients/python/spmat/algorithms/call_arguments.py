@@ -2,6 +2,7 @@
 annotation, so that an error names the argument, what it is and what came."""
 from __future__ import annotations
 
+import datetime
 import inspect
 import numbers
 from typing import Any, Callable, Dict, Mapping, Tuple
@@ -41,6 +42,11 @@ def _is_number(one: Any) -> bool:
     return isinstance(one, numbers.Number) and not isinstance(one, complex)
 
 
+def _is_length(one: Any) -> bool:
+    """Whether it may bound lengths, which are times where the values of edges are."""
+    return _is_number(one) or isinstance(one, (datetime.timedelta, numpy.timedelta64))
+
+
 def _is_finite(one: Any) -> bool:
     return _is_number(one) and abs(one) != float('inf')
 
@@ -57,7 +63,7 @@ KINDS: Dict[str, Tuple[str, Holds]] = {
     'bool': ('True or False', lambda one: isinstance(one, (int, numpy.bool_))),
     'Weights': ('a dict of numbers by vertex', lambda one: isinstance(one, Mapping)),
     'Progress': ('a function of (what, done, of)', callable),
-    'cutoff': ('a number', _is_number)}            # of lengths, which may have a unit
+    'cutoff': ('a number, or a time of a matrix of times', _is_length)}
 
 
 def checks_arguments(function: Callable[..., Any]) -> Check:
