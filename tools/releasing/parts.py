@@ -29,14 +29,16 @@ PARTS = [
 ]
 # Libraries of the toolchain's own, beside core and std: they are no ports, and have no licence file.
 OWN = ('atomic_table', 'libc', 'os')
+# Crates without code, which state laws and examples.
+LAWS = ('session_laws', 'worked_rows')
 # What a library of the toolchain stands on, beside its standard library, and crates.txt doesn't name. The ports jiff_core, jiff_tz and so
 # on are of jiff itself.
 BELOW = {'clap': ['strsim'], 'jiff': ['arrayvec']}
 
 
 def crates() -> List[str]:
-    """The crates of the repository that are in the program: those without tests, in order."""
-    return sorted(name for name in graph() if not name.endswith('_tests') and not name.startswith('test_') and name != 'worked_rows')
+    """The crates of the repository that are in the program: those with code, and without tests, in order."""
+    return sorted(name for name in graph() if not name.endswith('_tests') and not name.startswith('test_') and name not in LAWS)
 
 
 def graph() -> Dict[str, List[str]]:

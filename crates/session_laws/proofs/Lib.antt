@@ -1,0 +1,6 @@
+pub mod Bare
+pub mod OneFault
+pub mod Alike
+pub mod Turns
+pub mod Talks
+pub mod Examples

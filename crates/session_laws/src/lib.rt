@@ -1,0 +1,34 @@
+//! Laws of whole sessions, over the definitions that the session's contract cites.
+//!
+//! Each function does nothing. Its contract states a law, or talks that show that the law isn't empty.
+#![tactic(auto)]
+
+ghost use Rattle.std.specs.Prelude.{[], ◌∷◌, ◌++◌, true, false, Some, codes};
+ghost use Rattle.command_text.specs.Replies.{refusal_text, budget_text, quit_text};
+ghost use Rattle.command_text.specs.declared.refusal.Refusal.TheVariants as no;
+ghost use Rattle.command_text.specs.declared.rules.SessionRule.TheVariants.{MalformedWords};
+ghost use Rattle.session.specs.Talk.{Talk};
+ghost use Rattle.session.specs.declared.end.End.TheVariants.{InputEnd, Quit};
+ghost use Rattle.session_laws.specs.Laws.{SameText, HasNoWant};
+ghost use Rattle.step_purse.specs.declared.dealings.Dealing.TheVariants.{Told};
+ghost use Rattle.step_purse.specs.declared.dealings.Totals.{Totals};
+ghost use Rattle.workspace.specs.State.{empty};
+
+/// The bytes of a session and what the budget replies to it determine its text, its end and its calls of the budget, as long as no
+/// reply tells of want of memory or of a thread. The number of workers has no part in it.
+pub fn same_text()
+    ensures law { SameText }
+{}
+
+/// The law is of talks that there are: this one has no want, whatever the budget's totals are.
+pub fn budget_told()
+    ensures talk { (totals : Totals) → (talk : Talk false (empty 1) (codes "budget\nquit\n") false (Told totals ∷ [])
+        (budget_text totals.left totals.reserved totals.spent ++ quit_text) (Some Quit) (empty 1)) × HasNoWant talk }
+{}
+
+/// The law needs its premise: to one line a session may reply with the rule that it breaks, or that memory is wanting.
+pub fn want_told()
+    ensures rule { (talk : Talk false (empty 1) (codes "op A x 0\n") true [] (refusal_text (no.Session MalformedWords))
+        (Some InputEnd) (empty 1)) × HasNoWant talk }
+    ensures want { Talk false (empty 1) (codes "op A x 0\n") true [] (refusal_text no.Memory) (Some InputEnd) (empty 1) }
+{}
