@@ -22,7 +22,7 @@ if TYPE_CHECKING:
     from .backends.protocol import Budget, JobResult
     from .errors import (BudgetExceeded, BudgetWarning, Busy, Closed, CompileError, DimensionMismatch, DomainMismatch, MaskWarning, NamesDiffer,
                          NoThread, NotMade,
-                         NotSettled, OperatorRefused, OutOfMemory, ProtocolError, ReadError, Refused, ResultLost, SpmatError, TextRefused,
+                         NotSettled, OperatorRefused, OutOfMemory, OverflowWarning, ProtocolError, ReadError, Refused, ResultLost, SpmatError, TextRefused,
                          ThreadUnavailable, TooLarge, UnitsDiffer)
     from .loops import Loop, empty, loop, steady
     from .loops.fixpoint import fixpoint

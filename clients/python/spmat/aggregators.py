@@ -108,7 +108,7 @@ def _means(matrix: Any, axis: int, where: Optional[Mask], name: Optional[str]) -
     stored = units.with_unit(matrix, 1)
     sums, high, counts = (folded(made, 'plus', axis, where) for made in (stored, stored.apply('arsh', right=HALF), stored.apply('one')))
     rows, columns, many = sums.entries(arrays=False)
-    exact = [Fraction(_total(low, up, count), count) for low, up, count in
+    exact = [Fraction(_total(low, up), count) for low, up, count in
              zip(many, high.entries(arrays=False)[2], counts.entries(arrays=False)[2])]
     parts = FINEST
     while parts > 1 and any(abs(mean) * parts > MOST for mean in exact):
@@ -118,9 +118,9 @@ def _means(matrix: Any, axis: int, where: Optional[Mask], name: Optional[str]) -
     return made
 
 
-def _total(low: int, high: int, count: int) -> int:
-    """A sum of so many numbers without a limit: `low` is it in 64 bits, and `high` the sum of the upper halves of these numbers, so that it lies
-    from high * 2^32 on, by less than count * 2^32."""
+def _total(low: int, high: int) -> int:
+    """A sum of fewer than 2^32 numbers without a limit: `low` is it in 64 bits, and `high` the sum of the upper halves of these numbers, so that
+    it lies from high * 2^32 on, by less than their count times 2^32."""
     least = high << HALF
     return least + (low - least) % (1 << 64)
 
@@ -135,7 +135,7 @@ def aggregate_all(matrix: Any, op: str, raw: bool) -> Any:
         stored = units.with_unit(matrix, 1)
         low, high = stored.reduce_scalar('plus'), stored.apply('arsh', right=HALF).reduce_scalar('plus')
         count = matrix.nvals
-        return float(Fraction(_total(low, high, count), count) / (1 if raw else matrix.unit)) if count else None
+        return float(Fraction(_total(low, high), count) / (1 if raw else matrix.unit)) if count else None
     if op == 'peak_to_peak':
         most, least = (matrix.reduce_scalar(end, raw=True) for end in ('max', 'min'))
         return None if most is None or least is None else units.to_decimal(most - least, 1 if raw else matrix.unit)

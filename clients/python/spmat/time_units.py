@@ -62,7 +62,7 @@ def count(value: Any, unit: Union[int, Fraction]) -> Fraction:
         raise TypeError('%r is a time, and the values of this matrix are %s: A.unit = "s" says that its stored numbers are seconds since '
                         '1970-01-01, as unit="s" does where they are read; else write a number' % (
                             value, 'numbers' if unit == 1 else 'parts of 1/%s' % unit))
-    if value != value:                             # NaT of numpy and pandas
+    if str(value) == 'NaT':                        # of numpy and pandas, which is equal to nothing
         raise ValueError('expected a time, not %r' % (value,))
     return _nanoseconds(value) / unit.size
 

@@ -213,7 +213,8 @@ class Dask(Engine):
     def again(self, settings: Settings) -> int:
         try:
             return int(self._client.run_on_scheduler(count_repeated, settings.token))
-        except Exception:  # pylint: disable=broad-exception-caught  # the scheduler doesn't find this package
+        # the scheduler doesn't find this package
+        except Exception:  # pylint: disable=broad-exception-caught
             return 0
 
     def frames(self, delayed: Sequence[Any]) -> Sequence[Any]:

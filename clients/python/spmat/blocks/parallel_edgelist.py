@@ -127,7 +127,8 @@ def read_frame(sessions: 'Inputs', frame: Any, read: Frame, reading: Reading) ->
     parts = sessions.engine.frames(list(frame.to_delayed()))
     made = read_sources(sessions, [read._replace(frame=part) for part in parts], reading)
     if made is None:
-        raise ValueError('some partitions have whole numbers as names, and others have not: convert the columns to one type')
+        raise ValueError('some partitions have whole numbers as names, and others have not: '
+                         'convert the columns to one type')
     return made
 
 
@@ -136,7 +137,8 @@ def read_sources(sessions: 'Inputs', sources: Sequence[Source],
     """The matrix of the edges of all parts; None where a part has to be read line by line, or names
     are of several kinds."""
     if reading.bipartite and not reading.directed:
-        raise ValueError('a bipartite matrix has rows and columns of two kinds, so an edge has no second direction: directed=True')
+        raise ValueError('a bipartite matrix has rows and columns of two kinds, so an edge has no '
+                         'second direction: directed=True')
     labels = [source.label for source in sources]
     places = [parallel_read.place_of(number, len(sources), sessions)
               for number in range(len(sources))]

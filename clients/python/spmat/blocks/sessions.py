@@ -31,8 +31,10 @@ from .worker_store import Settings, agree
 MOST_WAITING = 1024
 # What one session has and blocks don't: why, and what to do instead.
 OF_ONE_SESSION: Dict[str, str] = {
-    'connect': 'the workers of blocks start their own programs: Sessions(Threads(n)) on this machine, Sessions(Dask(client)) on others',
-    'connection': 'each worker has its own connection: budget() tells what all spent, progress= what goes on',
+    'connect': ('the workers of blocks start their own programs: Sessions(Threads(n)) on this '
+                'machine, Sessions(Dask(client)) on others'),
+    'connection': ('each worker has its own connection: budget() tells what all spent, progress= '
+                   'what goes on'),
     'jobs': 'run() tells the jobs, each with its price and steps',
     'runs': 'jobs of blocks run as soon as they are asked for',
 }
@@ -124,7 +126,8 @@ class Sessions(Inputs):
         """Where texts of blocks lie that come from here: in `folder`, or where all sessions are on
         this machine in one that `close` removes; None where the engine keeps them."""
         if self.folder is None and self._spool is None and isinstance(self.engine, Threads):
-            self._spool = tempfile.TemporaryDirectory(prefix='spmat-')  # pylint: disable=consider-using-with
+            # pylint: disable-next=consider-using-with
+            self._spool = tempfile.TemporaryDirectory(prefix='spmat-')
         return self.folder if self._spool is None else self._spool.name
 
     def cut_as(self, cut: Cut) -> 'Sessions':
@@ -270,7 +273,8 @@ class Sessions(Inputs):
             self.ledger.check(price)
         except BudgetExceeded as refused:
             fault = refused.with_advice()
-            fault.block, fault.spent_in_all = '', self.ledger.budget.spent  # type: ignore[attr-defined]
+            fault.block = ''  # type: ignore[attr-defined]
+            fault.spent_in_all = self.ledger.budget.spent  # type: ignore[attr-defined]
             raise fault from None
 
     @property

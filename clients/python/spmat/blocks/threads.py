@@ -84,7 +84,8 @@ class Threads(Engine):
             return
         try:
             future.set_result(maker.run(recipe, args))
-        except BaseException as fault:  # pylint: disable=broad-exception-caught  # whoever asks for the result gets it
+        # whoever asks for the result gets it
+        except BaseException as fault:  # pylint: disable=broad-exception-caught
             future.set_exception(fault)
 
     def store(self, settings: Settings, place: int) -> Store:
