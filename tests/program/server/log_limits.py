@@ -5,9 +5,10 @@ import time
 from typing import Callable, Dict, List
 
 from tests.lib.commands import assembly_command, matrix_command, matrix_text
+from tests.lib.patience import FOR_A_REPLY
 from tests.lib.ports import free_port
 from tests.lib.runs import Wrong, expect
-from tests.program.server.hostile import full_house
+from tests.program.server.hostile import LITTLE_ROOM, full_house
 from tests.program.server.logs import REFUSED, SERVER, START, TIME, Logging, entries_of, port_of, quick_sessions, untold_in, version
 from tests.program.server.server import BUSY, Client, serve_words, until
 from tests.program.server.sessions import PRODUCT, UPLOADED, UPLOADS
@@ -157,26 +158,21 @@ def told_while_it_runs(program: str) -> None:
     rows = 1 << 16
     slow = b'mov64 r0, r1\n' + b'add64 r0, 1\n' * 500 + b'exit\n'
     text = matrix_text(rows, 1, [(row, 1, 1) for row in range(1, rows + 1)])
-    child = subprocess.Popen([program] + serve_words(free_port(), 1 << 40, sessions=2) + ['--log-every', '1'], stdin=subprocess.DEVNULL,
-                             stdout=subprocess.PIPE, stderr=subprocess.PIPE)
-    try:
-        port = port_of(child)
-        with Client(port) as one, Client(port, 4096) as other:
-            for client in (one, other):
-                client.reply(matrix_command('A', text))
-            one.reply(assembly_command('f', slow, 'unary'))
-            for _ in range(60):
-                one.reply(b'apply B f A\n')
-            other.send(b'show A\n' * 8)
-            names = [str(client.socket.getsockname()[1]) for client in (one, other)]
-            one.send(b'run\n')
-            time.sleep(3)
-    finally:
-        child.kill()
-    lines = child.communicate(timeout=60)[1].decode().splitlines()
-    told = [match.groups() for match in map(RUNS.fullmatch, lines) if match]
-    expect('whether a batch is told', True, any(groups[:3] == (names[0], 'running', '60') for groups in told))
-    expect('whether a writer is told', True, any(groups[:2] == (names[1], 'writing') for groups in told))
+    with Logging(program, log_every=1) as server, server.client() as one, server.client(LITTLE_ROOM) as other:
+        def is_told(client: Client, *words: str) -> None:
+            start = (str(client.socket.getsockname()[1]),) + words
+            until('%r is told' % (start,), lambda: any(told and told.groups()[:len(start)] == start
+                                                       for told in map(RUNS.fullmatch, list(server.lines))), 4 * FOR_A_REPLY)
+        for client in (one, other):
+            client.reply(matrix_command('A', text))
+        one.reply(assembly_command('f', slow, 'unary'))
+        for _ in range(60):
+            one.reply(b'apply B f A\n')
+        one.send(b'run\n')
+        is_told(one, 'running', '60')
+        # more than the buffers of a connection take, so that the server waits to write
+        other.send(b'show A\n' * 16)
+        is_told(other, 'writing', '0')
 
 
 LIMIT_CASES: Dict[str, Callable[[str], None]] = {
