@@ -156,7 +156,7 @@ def told_every_second(program: str) -> None:
 def told_while_it_runs(program: str) -> None:
     """A session that runs a long batch is told as running, with its jobs; one whose client takes no reply as writing."""
     rows = 1 << 16
-    slow = b'mov64 r0, r1\n' + b'add64 r0, 1\n' * 500 + b'exit\n'
+    slow = b'mov64 r0, r1\n' + b'add64 r0, 1\n' * 4000 + b'exit\n'
     text = matrix_text(rows, 1, [(row, 1, 1) for row in range(1, rows + 1)])
     with Logging(program, log_every=1) as server, server.client() as one, server.client(LITTLE_ROOM) as other:
         def is_told(client: Client, *words: str) -> None:

@@ -189,9 +189,10 @@ def sixteen_end_at_once(program: str) -> None:
                 raise Wrong('turn %d: %d lines, none for %r' % (turn, len(told), lost))
 
 
-def quick_sessions(port: int, count: int) -> None:
-    """So many sessions one after another, of which each has its reply."""
+def quick_sessions(port: int, count: int, pause: float = 0) -> None:
+    """So many sessions one after another, of which each has its reply, and so many seconds before each."""
     for _ in range(count):
+        time.sleep(pause)
         with Client(port) as client:
             client.expect(b'quit\n', b'ok quit\n')
             expect('the end', b'', client.rest())
@@ -222,14 +223,14 @@ def port_of(child: 'subprocess.Popen[bytes]') -> int:
 
 def nobody_reads_the_log(program: str) -> None:
     """Where nobody takes the lines, each session is served all the same. Those that fit no more are counted: once they are read,
-    lines, dropped ones and those beyond a second's hundred of a kind are two for each session."""
-    sessions = QUEUE + 400
+    lines, dropped ones and those beyond a second's hundred of a kind are two for each session. At 80 a second most have lines."""
+    sessions = QUEUE // 2 + 200
     reads, writes = os.pipe()
     fcntl.fcntl(writes, fcntl.F_SETPIPE_SZ, 4096)
     child = start_with(program, writes, sessions)
     os.close(writes)
     try:
-        quick_sessions(port_of(child), sessions)
+        quick_sessions(port_of(child), sessions, 1 / 80)
         with os.fdopen(reads, 'rb') as log:
             lines = log.read().decode().splitlines()
         expect('status', 0, child.wait(60))
