@@ -103,7 +103,7 @@ class Engine:
         """Why it has ended by itself: `end`, `refused`, `idle`, `processor`, or `engine` for a
         fault."""
         assert self._status is not None
-        if self._status == 1 and '--idle' in self.errors():
+        if self._status == 1 and 'idle' in self.errors():
             return 'idle'
         return BY_STATUS.get(self._status, 'engine')
 
