@@ -27,7 +27,8 @@ budget_replies (Told totals ∷ ds) = ToTotals totals ∷ budget_replies ds
 abbrev pub TellsWant : List ℕ → Type 0
 TellsWant reply =
     (reply ≡ refusal_text no.Memory)
-    ⊎ (((spent : ℕ) × (reply ≡ refusal_text (no.BatchMemory spent))) ⊎ ((spent : ℕ) × (reply ≡ refusal_text (no.BatchThread spent))))
+    ⊎ (((spent : ℕ) × (reply ≡ refusal_text (no.BatchMemory spent)))
+    ⊎ ((spent : ℕ) × (reply ≡ refusal_text (no.BatchThread spent))))
 
 -- no reply of a talk tells of want
 abbrev pub HasNoWant : {cut : Bool} {s t : State} {bytes text : List ℕ} {ended : Bool} {ds : List Dealing} {end : Option End}
@@ -38,9 +39,9 @@ HasNoWant (finish cut s bytes ended w) = Unit {0}
 HasNoWant (stop cut s t bytes ended c e ds reply w turn) = TellsWant reply → ⊥
 HasNoWant (go cut s t u bytes rest ended c ds es reply text end w turn talk) = (TellsWant reply → ⊥) × HasNoWant talk
 
--- Two talks are over the same bytes, from nothing bound or queued, with any numbers of workers. If the budget replies the same to both,
--- and no reply of either tells of want, then they have the same text, the same end and the same calls of the budget, among them those
--- that release what is held at the end.
+-- Two talks are over the same bytes, from nothing bound or queued, with any numbers of workers. If the budget replies the same to
+-- both, and no reply of either tells of want, then they have the same text, the same end and the same calls of the budget, among
+-- them those that release what is held at the end.
 abbrev pub SameText : Type 0
 SameText =
     (m n : ℕ) (bytes : List ℕ) (ended : Bool) (ds es : List Dealing) (text other : List ℕ) (end last : Option End) (s t : State)
