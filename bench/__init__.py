@@ -1,1 +1,2 @@
-"""Measurements of the built program: `bench/run` prints tables, `bench/costs` what sessions cost a server, `bench/measure` figures."""
+"""Measurements of the built program: `bench/run` prints tables, `bench/costs` what sessions cost a
+server, `bench/measure` figures."""

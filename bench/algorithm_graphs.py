@@ -11,7 +11,8 @@ PAIRS = 1000                                       # pairs of vertices of which 
 
 
 class Edges(NamedTuple):
-    """A graph: how many vertices, from and to which edges lead, their weights, and whether they lead one way alone."""
+    """A graph: how many vertices, from and to which edges lead, their weights, and whether they
+    lead one way alone."""
     vertices: int
     i: Any
     j: Any
@@ -20,7 +21,8 @@ class Edges(NamedTuple):
 
 
 class Asked(NamedTuple):
-    """What is asked of a graph: the vertex with the most edges, one that is far from it, some others, and two vertices each of some pairs."""
+    """What is asked of a graph: the vertex with the most edges, one that is far from it, some
+    others, and two vertices each of some pairs."""
     source: int
     target: int
     some: List[int]
@@ -34,7 +36,8 @@ def edges_of(kind: str, scale: int) -> Edges:
     if kind == 'road':
         side = 1 << scale // 2
         n, at = side * side, numpy.arange(side * side).reshape(side, side)
-        i, j = numpy.concatenate([at[:, :-1].ravel(), at[:-1].ravel()]), numpy.concatenate([at[:, 1:].ravel(), at[1:].ravel()])
+        i, j = numpy.concatenate([at[:, :-1].ravel(), at[:-1].ravel()]), numpy.concatenate(
+            [at[:, 1:].ravel(), at[1:].ravel()])
         kept = chance.random(len(i)) > 0.05
         i, j = i[kept], j[kept]
     elif kind == 'kron':
@@ -50,7 +53,8 @@ def edges_of(kind: str, scale: int) -> Edges:
         return Edges(n, key // n, key % n, chance.integers(1, 256, len(key)), True)
     key = numpy.unique(numpy.minimum(i, j) * n + numpy.maximum(i, j))
     i, j, w = key // n, key % n, chance.integers(1, 256, len(key))
-    return Edges(n, numpy.concatenate([i, j]), numpy.concatenate([j, i]), numpy.concatenate([w, w]), False)
+    return Edges(n, numpy.concatenate([i, j]), numpy.concatenate([j, i]), numpy.concatenate([w, w]),
+                 False)
 
 
 def asked_of(edges: Edges) -> Asked:
@@ -58,11 +62,13 @@ def asked_of(edges: Edges) -> Asked:
     chance, out = numpy.random.default_rng(11), numpy.bincount(edges.i, minlength=edges.vertices)
     source, alive = int(numpy.argmax(out)), numpy.flatnonzero(out)
     ranks = numpy.argsort(edges.i, kind='stable')
-    rows, starts = edges.j[ranks], numpy.concatenate((numpy.zeros(1, numpy.int64), numpy.cumsum(out)))
+    rows, starts = edges.j[ranks], numpy.concatenate((numpy.zeros(1, numpy.int64),
+                                                      numpy.cumsum(out)))
     seen, front, target = numpy.zeros(edges.vertices, bool), numpy.array([source]), source
     while len(front):
         seen[front], target = True, int(front[0])
         near = numpy.unique(numpy.concatenate([rows[starts[at]:starts[at + 1]] for at in front]))
         front = near[~seen[near]]
     pairs = chance.choice(alive, (2, PAIRS))
-    return Asked(source, target, alive[::max(1, len(alive) // SOURCES)][:SOURCES].tolist(), pairs[0].tolist(), pairs[1].tolist())
+    return Asked(source, target, alive[::max(1, len(alive) // SOURCES)][:SOURCES].tolist(),
+                 pairs[0].tolist(), pairs[1].tolist())

@@ -1,4 +1,5 @@
-"""What an analyst would take in place of spmat, by the same names of tasks. `found_peers` says which libraries are installed."""
+"""What an analyst would take in place of spmat, by the same names of tasks. `found_peers` says
+which libraries are installed."""
 from __future__ import annotations
 
 import importlib
@@ -8,7 +9,8 @@ from typing import Any, Callable, Dict, List, Tuple, Type
 from algorithm_graphs import Asked, Edges
 
 # By name: the module that has to be installed, and where the peer stands.
-PEERS = {'scipy': ('scipy', 'scipy_peer'), 'igraph': ('igraph', 'igraph_peer'), 'networkx': ('networkx', 'networkx_peer'),
+PEERS = {'scipy': ('scipy', 'scipy_peer'), 'igraph': ('igraph', 'igraph_peer'),
+         'networkx': ('networkx', 'networkx_peer'),
          'graphblas': ('suitesparse_graphblas', 'graphblas_peer')}
 
 

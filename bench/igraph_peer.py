@@ -18,16 +18,20 @@ class Igraph(Peer):
         import igraph
         e = self.edges
         once = numpy.ones(len(e.i), bool) if e.directed else e.i < e.j
-        self.graph = igraph.Graph(n=e.vertices, edges=numpy.stack([e.i[once], e.j[once]], 1), directed=e.directed)
+        self.graph = igraph.Graph(n=e.vertices, edges=numpy.stack([e.i[once], e.j[once]], 1),
+                                  directed=e.directed)
         self.weights = e.w[once].tolist()
 
     def calls(self) -> Dict[str, Callable[[], Any]]:
         graph, e = self.graph, self.edges
         calls = {**self.searches(), **self.ranks(),
-                 'connected_components': lambda: numpy.array(graph.connected_components(mode='weak').membership),
-                 'strongly_connected_components': lambda: numpy.array(graph.connected_components(mode='strong').membership),
+                 'connected_components': lambda: numpy.array(
+                     graph.connected_components(mode='weak').membership),
+                 'strongly_connected_components': lambda: numpy.array(
+                     graph.connected_components(mode='strong').membership),
                  'degrees': lambda: numpy.array(graph.outdegree()),
-                 'modularity': lambda: graph.modularity((numpy.arange(e.vertices) >> 6).tolist(), directed=True)}
+                 'modularity': lambda: graph.modularity((numpy.arange(e.vertices) >> 6).tolist(),
+                                                        directed=True)}
         if e.directed:
             return dict(calls, undirected=self.undirected)
         return {**calls, **self.parts()}
@@ -44,17 +48,25 @@ class Igraph(Peer):
         calls: Dict[str, Callable[[], Any]] = {
             'bfs_levels': lambda: reached(numpy.array(graph.distances(asked.source)[0], float)),
             'bfs_parents': self.parents,
-            'sssp': lambda: reached(numpy.array(graph.distances(asked.source, weights=weights)[0], float)),
+            'sssp': lambda: reached(numpy.array(graph.distances(asked.source, weights=weights)[0],
+                                                float)),
             'k_hop': lambda: sum(graph.neighborhood_size(asked.some, order=HOPS, mode='out')),
             'k_hop of one': lambda: graph.neighborhood_size(asked.source, order=HOPS, mode='out'),
-            'has_path': lambda: bool(numpy.isfinite(graph.distances(asked.source, asked.target)[0][0])),
-            'shortest_path': lambda: len(graph.get_shortest_paths(asked.source, asked.target)[0]) - 1,
-            'shortest_path, weighted': lambda: int(graph.distances(asked.source, asked.target, weights=weights)[0][0]),
-            'k_shortest_paths': lambda: [len(path) for path in graph.get_k_shortest_paths(asked.source, asked.target, PATHS)],
-            'path_lengths': lambda: reached(numpy.array(graph.distances(asked.some, weights=weights), float)),
+            'has_path': lambda: bool(
+                numpy.isfinite(graph.distances(asked.source, asked.target)[0][0])),
+            'shortest_path': lambda: len(graph.get_shortest_paths(asked.source, asked.target)[0])
+            - 1,
+            'shortest_path, weighted': lambda: int(graph.distances(asked.source, asked.target,
+                                                                   weights=weights)[0][0]),
+            'k_shortest_paths': lambda: [len(path)
+                                         for path in graph.get_k_shortest_paths(
+                                             asked.source, asked.target, PATHS)],
+            'path_lengths': lambda: reached(
+                numpy.array(graph.distances(asked.some, weights=weights), float)),
         }
         if self.edges.vertices <= 1 << 13:
-            calls.update({'all_pairs': lambda: reached(numpy.array(graph.distances(weights=weights), float)),
+            calls.update({'all_pairs': lambda: reached(numpy.array(graph.distances(weights=weights),
+                                                                   float)),
                           'eccentricity': lambda: numpy.array(graph.eccentricity(mode='out')),
                           'diameter': graph.diameter, 'distance_counts': self.counts,
                           'betweenness': lambda: numpy.array(graph.betweenness())})
@@ -77,7 +89,8 @@ class Igraph(Peer):
 
         def shares(found: Any) -> Any:
             return numpy.array(found) / numpy.sum(found)
-        return {'pagerank': lambda: numpy.array(graph.pagerank()), 'eigenvector': lambda: shares(graph.eigenvector_centrality()),
+        return {'pagerank': lambda: numpy.array(graph.pagerank()),
+                'eigenvector': lambda: shares(graph.eigenvector_centrality()),
                 'hits': lambda: shares(graph.hub_score())}
 
     def parts(self) -> Dict[str, Callable[[], Any]]:
@@ -90,10 +103,15 @@ class Igraph(Peer):
         def triangles() -> Any:
             out = numpy.array(graph.degree())
             return numpy.rint(clustering() * out * (out - 1) / 2).astype(numpy.int64)
-        return {'bipartite_sides': lambda: numpy.array(graph.is_bipartite(return_types=True)[1], int),
-                'minimum_spanning_forest': lambda: int(sum(weights[edge] for edge in graph.spanning_tree(weights, return_tree=False))),
+        return {'bipartite_sides': lambda: numpy.array(graph.is_bipartite(return_types=True)[1],
+                                                       int),
+                'minimum_spanning_forest': lambda: int(sum(weights[edge]
+                                                           for edge in graph.spanning_tree(
+                                                               weights, return_tree=False))),
                 'core_numbers': lambda: numpy.array(graph.coreness()),
                 'k_core': lambda: int((numpy.array(graph.coreness()) >= CORE).sum()),
-                'label_propagation': lambda: numpy.array(graph.community_label_propagation().membership),
+                'label_propagation': lambda: numpy.array(
+                    graph.community_label_propagation().membership),
                 'louvain': lambda: numpy.array(graph.community_multilevel().membership),
-                'clustering': clustering, 'triangles': triangles, 'triangle_count': lambda: int(triangles().sum() // 3)}
+                'clustering': clustering, 'triangles': triangles,
+                'triangle_count': lambda: int(triangles().sum() // 3)}

@@ -1,15 +1,19 @@
 #!/usr/bin/env python3
-"""networkx.py EDGES [--limit SECONDS] [--seconds SECONDS] [--processors] [--figures FILE] [FUNCTION..]: the clock of networkx' functions with and
-without the backend, of all that are served, or of those that are named.
+"""networkx.py EDGES [--limit SECONDS] [--seconds SECONDS] [--processors] [--figures FILE]
+[FUNCTION..]: the clock of networkx' functions with and without the backend, of all that are served,
+or of those that are named.
 
-A random graph of EDGES edges between EDGES / 10 nodes with skewed degrees, whole weights from 1 to 9; of functions of directed graphs
-the same edges, each one way; of those without cycles from the lower node to the higher. Prints a table in Markdown: networkx, the
-backend with the conversion (first) and for a graph that is on the server (again, no answer kept), igraph from its own graph, where it
-is installed, and how often networkx' time the second is. The least of several calls counts. A call is ended after `--limit` seconds
-(5), and stands as `>5`; after `--seconds` in all (900) what is left isn't timed. Where both ended the answers are compared, and a
-difference is status 1. `--processors` counts what processors spend on client and server together, where the clock of a busy machine
-says nothing (Linux alone). With `--figures` the times are also written into that file's table, in the column of this size; bench/ratios.py
-makes the table of bench/README.md from bench/networkx.txt.
+A random graph of EDGES edges between EDGES / 10 nodes with skewed degrees, whole weights from 1 to
+9; of functions of directed graphs the same edges, each one way; of those without cycles from the
+lower node to the higher. Prints a table in Markdown: networkx, the backend with the conversion
+(first) and for a graph that is on the server (again, no answer kept), igraph from its own graph,
+where it is installed, and how often networkx' time the second is. The least of several calls
+counts. A call is ended after `--limit` seconds (5), and stands as `>5`; after `--seconds` in all
+(900) what is left isn't timed. Where both ended the answers are compared, and a difference is
+status 1. `--processors` counts what processors spend on client and server together, where the clock
+of a busy machine says nothing (Linux alone). With `--figures` the times are also written into that
+file's table, in the column of this size; bench/ratios.py makes the table of bench/README.md from
+bench/networkx.txt.
 """
 import argparse
 import contextlib
@@ -22,7 +26,8 @@ import time
 import warnings
 
 HERE = os.path.dirname(os.path.abspath(__file__))
-sys.path[:] = [place for place in sys.path if os.path.abspath(place or '.') != HERE]     # or this file were networkx
+# or this file were networkx
+sys.path[:] = [place for place in sys.path if os.path.abspath(place or '.') != HERE]
 
 import networkx as nx                               # noqa: E402
 
@@ -31,10 +36,12 @@ try:
 except ImportError:
     igraph = None
 
-TIMED_AGAIN = 0.2                                   # seconds: what is faster is timed several times, and the least counts
+# seconds: what is faster is timed several times, and the least counts
+TIMED_AGAIN = 0.2
 MOST_TIMES = 5
 MISSING = '-'
-MOST_PAIRED = 2000                                  # nodes up to which answers with a number for each pair are asked for
+# nodes up to which answers with a number for each pair are asked for
+MOST_PAIRED = 2000
 HEAD = '| Seconds |'                                # of the table of figures
 
 
@@ -43,7 +50,8 @@ class OutOfTime(Exception):
 
 
 def random_edges(edges, seed=1):
-    """Pairs of nodes, each once, the lower one first, whose ends are drawn as n * u^2, so that degrees are skewed."""
+    """Pairs of nodes, each once, the lower one first, whose ends are drawn as n * u^2, so that
+    degrees are skewed."""
     count, rng, found = max(edges // 10, 10), random.Random(seed), set()
     while len(found) < edges:
         i, j = int(count * rng.random() ** 2), int(count * rng.random() ** 2)
@@ -66,7 +74,8 @@ class Graphs:
         if kind not in self._made and kind == 'joined':
             graph = self.graph('graph')
             most = max(nx.connected_components(graph, backend='networkx'), key=len)
-            self._made[kind] = graph if len(most) == len(graph) else graph.subgraph(sorted(most)).copy()
+            self._made[kind] = (graph if len(most) == len(graph)
+                                else graph.subgraph(sorted(most)).copy())
         if kind not in self._made:
             rng = random.Random(2)
             made = nx.Graph() if kind == 'graph' else nx.DiGraph()
@@ -84,29 +93,40 @@ class Graphs:
             places = {node: at for at, node in enumerate(graph)}
             edges = [(places[u], places[v]) for u, v in graph.edges()]
             self._made['igraph', kind] = igraph.Graph(len(graph), edges, edge_attrs={
-                'weight': [weight for _, _, weight in graph.edges(data='weight')]}, directed=graph.is_directed())
+                'weight': [weight for _, _, weight in graph.edges(data='weight')]},
+                                                      directed=graph.is_directed())
         return self._made['igraph', kind]
 
 
-PAIRED = ('all_pairs_', 'floyd_warshall', 'number_of_walks', 'power', 'transitive_')   # whose answers have a number for each pair
-DIRECTED = set('''attracting_components in_degree_centrality is_arborescence is_branching is_semiconnected
-    is_weakly_connected negative_edge_cycle number_strongly_connected_components number_weakly_connected_components
-    out_degree_centrality overall_reciprocity reciprocity strongly_connected_components transitive_closure
-    weakly_connected_components'''.split())
+# whose answers have a number for each pair
+PAIRED = ('all_pairs_', 'floyd_warshall', 'number_of_walks', 'power', 'transitive_')
+DIRECTED = set('''attracting_components in_degree_centrality is_arborescence is_branching
+    is_semiconnected is_weakly_connected negative_edge_cycle number_strongly_connected_components
+    number_weakly_connected_components out_degree_centrality overall_reciprocity reciprocity
+    strongly_connected_components transitive_closure weakly_connected_components'''.split())
 ACYCLIC = {'dag_longest_path_length', 'transitive_closure_dag', 'transitive_reduction'}
-JOINED = {'average_shortest_path_length', 'center', 'diameter', 'eccentricity', 'periphery', 'radius', 'wiener_index'}
+JOINED = {'average_shortest_path_length', 'center', 'diameter', 'eccentricity', 'periphery',
+          'radius', 'wiener_index'}
 PEERS = {
-    'betweenness_centrality': lambda g, _: g.betweenness(), 'closeness_centrality': lambda g, _: g.closeness(),
-    'clustering': lambda g, _: g.transitivity_local_undirected(mode='zero'), 'average_clustering': lambda g, _:
-    g.transitivity_avglocal_undirected(mode='zero'), 'transitivity': lambda g, _: g.transitivity_undirected(),
-    'connected_components': lambda g, _: g.connected_components().membership, 'core_number': lambda g, _: g.coreness(),
-    'degree_centrality': lambda g, _: g.degree(), 'diameter': lambda g, _: g.diameter(), 'eccentricity': lambda g, _: g.eccentricity(),
+    'betweenness_centrality': lambda g, _: g.betweenness(),
+    'closeness_centrality': lambda g, _: g.closeness(),
+    'clustering': lambda g, _: g.transitivity_local_undirected(mode='zero'),
+    'average_clustering': lambda g, _:
+    g.transitivity_avglocal_undirected(mode='zero'),
+    'transitivity': lambda g, _: g.transitivity_undirected(),
+    'connected_components': lambda g, _: g.connected_components().membership,
+    'core_number': lambda g, _: g.coreness(),
+    'degree_centrality': lambda g, _: g.degree(), 'diameter': lambda g, _: g.diameter(),
+    'eccentricity': lambda g, _: g.eccentricity(),
     'harmonic_centrality': lambda g, _: g.harmonic_centrality(),
     'is_connected': lambda g, _: g.is_connected(), 'is_tree': lambda g, _: g.is_tree(),
-    'minimum_spanning_tree': lambda g, _: g.spanning_tree(weights='weight'), 'pagerank': lambda g, _: g.pagerank(),
-    'radius': lambda g, _: g.radius(), 'average_shortest_path_length': lambda g, _: g.average_path_length(),
+    'minimum_spanning_tree': lambda g, _: g.spanning_tree(weights='weight'),
+    'pagerank': lambda g, _: g.pagerank(),
+    'radius': lambda g, _: g.radius(),
+    'average_shortest_path_length': lambda g, _: g.average_path_length(),
     'single_source_shortest_path_length': lambda g, middle: g.distances(middle)[0],
-    'single_source_dijkstra_path_length': lambda g, middle: g.distances(middle, weights='weight')[0],
+    'single_source_dijkstra_path_length': lambda g, middle: g.distances(middle,
+                                                                        weights='weight')[0],
 }
 
 
@@ -115,11 +135,14 @@ def arguments(name, middle, far, count):
     some = list(range(0, count, 7))
     one, two = {'source': middle}, {'source': middle, 'target': far}
     return {
-        'ancestors': one, 'bellman_ford_path_length': two, 'bfs_layers': {'sources': [middle]}, 'descendants': one,
+        'ancestors': one, 'bellman_ford_path_length': two, 'bfs_layers': {'sources': [middle]},
+        'descendants': one,
         'dijkstra_path_length': two, 'k_core': {'k': 5}, 'k_corona': {'k': 5},
-        'k_crust': {'k': 12}, 'k_shell': {'k': 12}, 'k_truss': {'k': 4}, 'maximal_independent_set': {'seed': 1},
+        'k_crust': {'k': 12}, 'k_shell': {'k': 12}, 'k_truss': {'k': 4},
+        'maximal_independent_set': {'seed': 1},
         'multi_source_dijkstra_path_length': {'sources': some[:9]}, 'node_connected_component':
-        {'n': middle}, 'number_of_walks': {'walk_length': 3}, 'pagerank': {'weight': None}, 'power': {'k': 2},
+        {'n': middle}, 'number_of_walks': {'walk_length': 3}, 'pagerank': {'weight': None},
+        'power': {'k': 2},
         'shortest_path_length': one, 'single_source_bellman_ford_path_length': one,
         'single_source_dijkstra_path_length': one, 'single_source_shortest_path_length': one,
         'single_target_shortest_path_length': {'target': middle},
@@ -127,16 +150,20 @@ def arguments(name, middle, far, count):
 
 
 def functions(graphs):
-    """What is timed: each function that is served, with a kind of graph and arguments; some with directed graphs, too."""
+    """What is timed: each function that is served, with a kind of graph and arguments; some with
+    directed graphs, too."""
     from spmat.networkx.backend_info import SERVED
     middle = max(range(3), key=lambda node: sum(node in pair for pair in graphs.pairs[:1000]))
     found = []
     for name in sorted(SERVED):
-        kind = ('digraph' if name in DIRECTED else 'dag' if name in ACYCLIC else 'joined' if name in JOINED else 'graph')
+        kind = ('digraph' if name in DIRECTED else 'dag' if name in ACYCLIC else 'joined'
+                if name in JOINED else 'graph')
         given = arguments(name, middle, graphs.count - 1, graphs.count)
         found.append((name, kind, given))
-        if name in ('average_clustering', 'pagerank', 'single_source_shortest_path_length', 'single_source_bellman_ford_path_length'):
-            found.append((name, 'digraph', {**given, 'weight': 'weight'} if name == 'pagerank' else given))
+        if name in ('average_clustering', 'pagerank', 'single_source_shortest_path_length',
+                    'single_source_bellman_ford_path_length'):
+            found.append((name, 'digraph', {**given, 'weight': 'weight'} if name == 'pagerank'
+                          else given))
     return found
 
 
@@ -155,14 +182,16 @@ class Clock:
         from spmat.networkx import process_session
         spent = time.process_time()
         for held in list(process_session._open.values()):
-            for place in glob.glob('/proc/%d/task/*/schedstat' % held.connection._channel.process.pid):
+            for place in glob.glob('/proc/%d/task/*/schedstat'
+                                   % held.connection._channel.process.pid):
                 with contextlib.suppress(OSError), open(place) as file:
                     spent += int(file.read().split()[0]) / 1e9
         return spent
 
 
 def seconds(work, limit, before=lambda: None):
-    """The least seconds of some calls, and the answer; nothing where one takes longer than the limit. What is refused is raised."""
+    """The least seconds of some calls, and the answer; nothing where one takes longer than the
+    limit. What is refused is raised."""
     def stop(*_):
         left = limit - (Clock.read() - start)
         if left <= 0:
@@ -192,7 +221,8 @@ def seconds(work, limit, before=lambda: None):
 
 
 def told(took, limit):
-    return '>%g' % limit if took is None else '%.1g' % took if took < 0.001 else '%.2g' % took if took < 9.5 else '%.0f' % took
+    return ('>%g' % limit if took is None else '%.1g' % took if took < 0.001 else '%.2g' % took
+            if took < 9.5 else '%.0f' % took)
 
 
 def plain(answer):
@@ -215,8 +245,10 @@ def equal(name, one, other):
         return list(map(sorted, one)) == list(map(sorted, other))
     one, other = plain(one), plain(other)
     if isinstance(other, dict) and other and isinstance(next(iter(other.values())), float):
-        return one.keys() == other.keys() and all(abs(one[v] - other[v]) <= 1e-9 * max(1, abs(other[v])) for v in other)
-    return one == other or (isinstance(other, float) and abs(one - other) <= 1e-9 * max(1, abs(other)))
+        return (one.keys() == other.keys()
+                and all(abs(one[v] - other[v]) <= 1e-9 * max(1, abs(other[v])) for v in other))
+    return (one == other
+            or (isinstance(other, float) and abs(one - other) <= 1e-9 * max(1, abs(other))))
 
 
 class Table:
@@ -225,12 +257,15 @@ class Table:
     def __init__(self, edges, limit, whole):
         from spmat.networkx.backend import backend
         self.backend, self.limit, self.end = backend, limit, time.perf_counter() + whole
-        self.graphs, self.held, self.wrong, self.edges, self.cells = Graphs(edges), {}, [], edges, {}
+        self.graphs, self.held, self.wrong, self.edges, self.cells = Graphs(
+            edges), {}, [], edges, {}
 
     def on_server(self, kind):
         if kind not in self.held:
-            self.held[kind] = self.backend.convert_from_nx(self.graphs.graph(kind), preserve_edge_attrs=True,
-                                                           preserve_node_attrs=True, preserve_graph_attrs=True)
+            self.held[kind] = self.backend.convert_from_nx(self.graphs.graph(kind),
+                                                           preserve_edge_attrs=True,
+                                                           preserve_node_attrs=True,
+                                                           preserve_graph_attrs=True)
         return self.held[kind]
 
     def conversion(self):
@@ -241,7 +276,8 @@ class Table:
             import itertools
             import numpy
             adjacency = graph._adj
-            took, _ = seconds(lambda: numpy.fromiter(itertools.chain.from_iterable(adjacency.values()), numpy.int64), limit)
+            took, _ = seconds(lambda: numpy.fromiter(
+                itertools.chain.from_iterable(adjacency.values()), numpy.int64), limit)
             print('| numpy: the ends of the edges, by their adjacency | %s |' % told(took, limit))
             took, _ = seconds(lambda: numpy.array(list(graph.edges())), limit)
             print('| numpy: array(list(G.edges())) | %s |' % told(took, limit))
@@ -255,7 +291,8 @@ class Table:
         from spmat.networkx.process_session import session
         for weight in (None, 'weight'):
             took, _ = seconds(lambda: session().from_networkx(graph, weight=weight), limit)
-            print('| Session.from_networkx, weight=%r | %s |' % (weight, told(took, limit)), flush=True)
+            print('| Session.from_networkx, weight=%r | %s |' % (weight, told(took, limit)),
+                  flush=True)
 
     def networkx(self, work):
         """networkx' seconds and answer; MISSING where it wants a newer scipy."""
@@ -270,7 +307,9 @@ class Table:
         held, peer = self.on_server(kind), PEERS.get(name) if igraph else None
         first, _ = seconds(lambda: function(graph, backend='spmat', **kwargs), self.limit)
         warm, _ = seconds(lambda: function(held, **kwargs), self.limit)
-        again, got = (None, None) if warm is None else seconds(lambda: function(held, **kwargs), self.limit, held._answers.clear)
+        again, got = ((None, None) if warm is None
+                      else seconds(lambda: function(held, **kwargs), self.limit,
+                                   held._answers.clear))
         theirs, wanted = self.networkx(lambda: function(graph, backend='networkx', **kwargs))
         if got is not None and wanted is not None and not equal(name, got, wanted):
             self.wrong.append(name)
@@ -280,19 +319,22 @@ class Table:
             other = told(seconds(lambda: peer(made, middle), self.limit)[0], self.limit)
         if theirs == MISSING:
             return [MISSING, told(first, self.limit), told(again, self.limit), other, '']
-        ratio = '' if again is None else '%.2g' % (theirs / again) if theirs else '> %.2g' % (self.limit / again)
+        ratio = ('' if again is None else '%.2g' % (theirs / again) if theirs
+                 else '> %.2g' % (self.limit / again))
         return [told(took, self.limit) for took in (theirs, first, again)] + [other, ratio]
 
     def print(self, names):
         """All rows; `cells` has them by function."""
         if not names:
             self.conversion()
-        print('\n| %d edges: function | networkx | spmat, first call | again | igraph | networkx / again |' % self.edges)
+        print('\n| %d edges: function | networkx | spmat, first call | again | igraph | networkx '
+              '/ again |' % self.edges)
         print('|---|---|---|---|---|---|')
         for name, kind, kwargs in functions(self.graphs):
             if names and name not in names:
                 continue
-            label = '`%s`%s' % (name, ', directed' if kind == 'digraph' and name not in DIRECTED else '')
+            label = '`%s`%s' % (name, ', directed' if kind == 'digraph' and name not in DIRECTED
+                                else '')
             if self.graphs.count > MOST_PAIRED and name.startswith(PAIRED):
                 found = ['an answer for each pair']
             elif time.perf_counter() > self.end:
@@ -309,7 +351,8 @@ class Table:
 
 def public(name):
     """The function that users call."""
-    return next(getattr(place, name) for place in (nx, nx.bipartite, nx.tournament, nx.algorithms.dag) if hasattr(place, name))
+    return next(getattr(place, name) for place in (nx, nx.bipartite, nx.tournament,
+                                                   nx.algorithms.dag) if hasattr(place, name))
 
 
 def put(path, edges, cells):
@@ -320,7 +363,8 @@ def put(path, edges, cells):
     end = next(at for at in range(start, len(lines)) if not lines[at].startswith('|'))
     head = [cell.strip() for cell in lines[start].split('|')[1:-1]]
     column = head.index('{:,} edges'.format(edges))
-    rows = {row[0]: row for row in ([cell.strip() for cell in line.split('|')[1:-1]] for line in lines[start + 2:end])}
+    rows = {row[0]: row for row in ([cell.strip() for cell in line.split('|')[1:-1]]
+                                    for line in lines[start + 2:end])}
     for name, cell in cells.items():
         rows.setdefault(name, [name] + [MISSING] * (len(head) - 1))[column] = cell
     lines[start + 2:end] = ['| %s |' % ' | '.join(rows[name]) for name in sorted(rows)]
@@ -330,7 +374,8 @@ def put(path, edges, cells):
 
 def main():
     warnings.simplefilter('ignore')
-    parser = argparse.ArgumentParser(description=__doc__, formatter_class=argparse.RawDescriptionHelpFormatter)
+    parser = argparse.ArgumentParser(description=__doc__,
+                                     formatter_class=argparse.RawDescriptionHelpFormatter)
     parser.add_argument('edges', type=int)
     parser.add_argument('--limit', type=float, default=5.0)
     parser.add_argument('--seconds', type=float, default=900.0)

@@ -55,7 +55,8 @@ class Networkx(Peer):
             return nx.single_source_shortest_path_length(graph, source, cutoff)
 
         def parents() -> Any:
-            return self.column({asked.source: asked.source, **dict(nx.bfs_predecessors(graph, asked.source))})
+            return self.column({asked.source: asked.source,
+                                **dict(nx.bfs_predecessors(graph, asked.source))})
         return {
             'bfs_levels': lambda: self.column(levels(asked.source)), 'bfs_parents': parents,
             'sssp': lambda: self.column(nx.single_source_dijkstra_path_length(graph, asked.source)),
@@ -63,11 +64,17 @@ class Networkx(Peer):
             'k_hop of one': lambda: len(levels(asked.source, HOPS)),
             'has_path': lambda: nx.has_path(graph, asked.source, asked.target),
             'shortest_path': lambda: len(nx.shortest_path(graph, asked.source, asked.target)) - 1,
-            'shortest_path, weighted': lambda: nx.bidirectional_dijkstra(graph, asked.source, asked.target)[0],
-            'shortest_paths, weighted': lambda: self.column(nx.dijkstra_predecessor_and_distance(graph, asked.source)[1]),
-            'k_shortest_paths': lambda: [len(path) for path in itertools.islice(nx.shortest_simple_paths(graph, asked.source, asked.target), PATHS)],
-            'degrees': lambda: self.column(graph.out_degree() if self.edges.directed else graph.degree()),
-            'pagerank': lambda: self.shares(nx.pagerank(graph, weight=None, tol=1e-7 / len(graph), max_iter=1000)),
+            'shortest_path, weighted': lambda: nx.bidirectional_dijkstra(graph, asked.source,
+                                                                         asked.target)[0],
+            'shortest_paths, weighted': lambda: self.column(
+                nx.dijkstra_predecessor_and_distance(graph, asked.source)[1]),
+            'k_shortest_paths': lambda: [len(path)
+                                         for path in itertools.islice(nx.shortest_simple_paths(
+                                             graph, asked.source, asked.target), PATHS)],
+            'degrees': lambda: self.column(graph.out_degree() if self.edges.directed
+                                           else graph.degree()),
+            'pagerank': lambda: self.shares(nx.pagerank(graph, weight=None, tol=1e-7 / len(graph),
+                                                        max_iter=1000)),
             'katz': lambda: self.shares(nx.katz_centrality(graph, ALPHA, weight=None)),
         }
 
@@ -76,9 +83,11 @@ class Networkx(Peer):
         nx, graph, asked = self.library, self.graph, self.asked
         calls = {
             'connected_components': lambda: self.parts(nx.weakly_connected_components(graph)),
-            'strongly_connected_components': lambda: self.parts(nx.strongly_connected_components(graph)),
+            'strongly_connected_components': lambda: self.parts(
+                nx.strongly_connected_components(graph)),
             'undirected': lambda: 2 * graph.to_undirected().number_of_edges(),
-            'shared_neighbours': lambda: [len(set(graph[a]) & set(graph[b])) for a, b in zip(asked.firsts, asked.seconds)]}
+            'shared_neighbours': lambda: [len(set(graph[a]) & set(graph[b]))
+                                          for a, b in zip(asked.firsts, asked.seconds)]}
         if bool((self.edges.i < self.edges.j).all()):
             calls['topological_levels'] = lambda: self.parts(nx.topological_generations(graph))
         return calls
@@ -97,12 +106,15 @@ class Networkx(Peer):
             'core_numbers': lambda: self.column(nx.core_number(graph)),
             'k_core': lambda: nx.k_core(graph, CORE).number_of_nodes(),
             'k_truss': lambda: nx.k_truss(graph, TRUSS).number_of_edges(),
-            'minimum_spanning_forest': lambda: sum(w for _, _, w in nx.minimum_spanning_tree(graph).edges(data='weight')),
+            'minimum_spanning_forest': lambda: sum(
+                w for _, _, w in nx.minimum_spanning_tree(graph).edges(data='weight')),
             'bipartite_sides': lambda: self.column(nx.bipartite.color(graph)),
             'maximal_independent_set': chosen,
-            'label_propagation': lambda: self.parts(nx.community.label_propagation_communities(graph)),
+            'label_propagation': lambda: self.parts(
+                nx.community.label_propagation_communities(graph)),
             'modularity': lambda: nx.community.modularity(graph, communities(), weight=None),
-            'shared_neighbours': lambda: [len(list(nx.common_neighbors(graph, a, b))) if a != b else graph.degree(a)
+            'shared_neighbours': lambda: [len(list(nx.common_neighbors(graph, a, b))) if a != b
+                                          else graph.degree(a)
                                           for a, b in zip(asked.firsts, asked.seconds)],
             'triangles': lambda: self.column(nx.triangles(graph)),
             'triangle_count': lambda: sum(nx.triangles(graph).values()) // 3,
@@ -113,7 +125,11 @@ class Networkx(Peer):
         """What looks at each pair of vertices."""
         nx, graph = self.library, self.graph
         calls = {'closeness': lambda: self.column(nx.closeness_centrality(graph)),
-                 'betweenness': lambda: self.column(nx.betweenness_centrality(graph, normalized=False)),
-                 'transitive_closure': lambda: sum(len(there) - 1 for _, there in nx.all_pairs_shortest_path_length(graph))}
-        return calls if self.edges.directed else dict(calls, diameter=lambda: nx.diameter(graph),
-                                                      louvain=lambda: self.parts(nx.community.louvain_communities(graph, weight=None, seed=1)))
+                 'betweenness': lambda: self.column(
+                     nx.betweenness_centrality(graph, normalized=False)),
+                 'transitive_closure': lambda: sum(
+                     len(there) - 1 for _, there in nx.all_pairs_shortest_path_length(graph))}
+        return (calls if self.edges.directed else dict(calls, diameter=lambda: nx.diameter(graph),
+                                                       louvain=lambda: self.parts(
+                                                           nx.community.louvain_communities(
+                                                               graph, weight=None, seed=1))))

@@ -1,6 +1,8 @@
-"""The part `served` of bench/run: what `spmat serve` takes beside a bare echo server on the same machine, within one run.
+"""The part `served` of bench/run: what `spmat serve` takes beside a bare echo server on the same
+machine, within one run.
 
-Run as a program this is that echo server: a thread for each connection, which sends back what comes.
+Run as a program this is that echo server: a thread for each connection, which sends back what
+comes.
 """
 import os
 import socketserver
@@ -12,7 +14,8 @@ from typing import Callable, List, Tuple
 from tests.lib.limits import MOST_SESSIONS
 from tests.lib.runs import expect
 from tests.program.server.server import LOOPBACK, Client, Server, free_port, until
-from tests.program.server.sessions import LONG_PRICE, LONG_SECONDS, long_uploads, queue_long_jobs, ran_long_jobs
+from tests.program.server.sessions import (LONG_PRICE, LONG_SECONDS, long_uploads, queue_long_jobs,
+                                           ran_long_jobs)
 
 BUDGET = b'budget\n'
 TIMES = 3
@@ -45,7 +48,8 @@ class Echo:
 
     def __init__(self) -> None:
         self.port = free_port()
-        self.child = subprocess.Popen([sys.executable, os.path.abspath(__file__), str(self.port)], stdout=subprocess.PIPE)
+        self.child = subprocess.Popen([sys.executable, os.path.abspath(__file__), str(self.port)],
+                                      stdout=subprocess.PIPE)
         self.child.stdout.readline()
 
     def __enter__(self) -> 'Echo':
@@ -107,7 +111,8 @@ def kilobytes_of_a_session(server: Server) -> Tuple[float, float]:
     after = server.status('VmRSS'), server.status('VmSize')
     for client in clients:
         client.close()
-    return (after[0] - before[0]) / MOST_SESSIONS / 1024, (after[1] - before[1]) / MOST_SESSIONS / 1024
+    return (after[0] - before[0]) / MOST_SESSIONS / 1024, (after[1]
+                                                           - before[1]) / MOST_SESSIONS / 1024
 
 
 def batches(server: Server) -> Tuple[float, float]:
@@ -130,7 +135,8 @@ def batches(server: Server) -> Tuple[float, float]:
             expect('reply', ran_long_jobs(1), client.replies.reply())
         return time.monotonic() - began
 
-    one_by_one, at_once = (min(run_all(together) for _ in range(TIMES)) for together in (False, True))
+    one_by_one, at_once = (min(run_all(together) for _ in range(TIMES))
+                           for together in (False, True))
     for client in clients:
         client.close()
     return one_by_one, at_once
@@ -138,13 +144,16 @@ def batches(server: Server) -> Tuple[float, float]:
 
 def served(program: str, table: Callable[..., None], row: Callable[..., None]) -> None:
     with Server(program) as server, Echo() as echo:
-        table('Sessions over TCP beside an echo server in Python, on %d processors' % len(os.sched_getaffinity(0)),
-              'what, a second', '`spmat serve`', 'echo', 'times as many')
+        table('Sessions over TCP beside an echo server in Python, on %d processors'
+              % len(os.sched_getaffinity(0)), 'what, a second', '`spmat serve`', 'echo',
+              'times as many')
         for what, measured, answer in [
-                ('round trips of `budget`, 1 connection', lambda of, _: round_trips(of, 1), None),
-                ('round trips of `budget`, 16 connections', lambda of, _: round_trips(of, MOST_SESSIONS), None),
-                ('connections with `quit`', connects, (b'ok quit\n', b'quit\n'))]:
-            ours, theirs = (measured(of, answer and answer[side]) for side, of in enumerate((server.client, echo.client)))
+            ('round trips of `budget`, 1 connection', lambda of, _: round_trips(of, 1), None),
+            ('round trips of `budget`, 16 connections',
+             lambda of, _: round_trips(of, MOST_SESSIONS), None),
+            ('connections with `quit`', connects, (b'ok quit\n', b'quit\n'))]:
+            ours, theirs = (measured(of, answer and answer[side])
+                            for side, of in enumerate((server.client, echo.client)))
             until('rest', lambda: server.threads() == 1)
             row(what, '%.0f' % ours, '%.0f' % theirs, '%.2f' % (ours / theirs))
         resident, space = kilobytes_of_a_session(server)
@@ -153,8 +162,8 @@ def served(program: str, table: Callable[..., None], row: Callable[..., None]) -
         row('resident memory', '%.0f' % resident)
         row('address space', '%.0f' % space)
         one_by_one, at_once = batches(server)
-        table('Batches of %d steps, one in each of %d sessions with 1 worker' % (LONG_PRICE, BATCHES),
-              'one after another, s', 'at once, s', 'times faster')
+        table('Batches of %d steps, one in each of %d sessions with 1 worker'
+              % (LONG_PRICE, BATCHES), 'one after another, s', 'at once, s', 'times faster')
         row('%.2f' % one_by_one, '%.2f' % at_once, '%.2f' % (one_by_one / at_once))
 
 

@@ -1,6 +1,8 @@
-"""A plain server of spmat's protocol, and the protocol's second description: docs/protocol.md and docs/bpf.md as a program.
+"""A plain server of spmat's protocol, and the protocol's second description: docs/protocol.md and
+docs/bpf.md as a program.
 
-It is written to be read, and knows nothing of the product's code. Each module is one page of the two documents:
+It is written to be read, and knows nothing of the product's code. Each module is one page of the
+two documents:
 
     words.py         words of 64 bits, lines of text, refusals
     instructions.py  the opcode tables, assembly's mnemonics, and code in slots (V1 to V6)
@@ -13,6 +15,6 @@ It is written to be read, and knows nothing of the product's code. Each module i
     operations.py    jobs: their results and their steps
     session.py       commands, replies and refusals in their order (S1 to S9, J6)
 
-`python3 reference run --steps N --workers W` serves standard input and output as `spmat run` does. It sets no bound on memory
-and starts no thread, so it never answers `no memory` or `no thread`.
+`python3 reference run --steps N --workers W` serves standard input and output as `spmat run` does.
+It sets no bound on memory and starts no thread, so it never answers `no memory` or `no thread`.
 """

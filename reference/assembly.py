@@ -10,7 +10,8 @@ REGISTERS = {b'r%d' % number: number for number in range(TOP + 1)}
 
 
 def assemble(text: bytes) -> Program:
-    """The program that a text stands for. Refused by the first faulty line, and there by the lowest of A1 to A6."""
+    """The program that a text stands for. Refused by the first faulty line, and there by the lowest
+    of A1 to A6."""
     instructions: List[Instruction] = []
     lines = lines_of(text)
     for number, line in enumerate(lines, 1):
@@ -18,7 +19,8 @@ def assemble(text: bytes) -> Program:
             raise Refusal('A1', number)
         code = COMMENT.split(line)[0].strip(b' \t')
         if code:
-            instructions.append(read_line(code, number, instructions[-1].after if instructions else 0))
+            instructions.append(read_line(code, number, instructions[-1].after if instructions
+                                          else 0))
             if instructions[-1].after > MOST_SLOTS:
                 raise Refusal('A6', number)
     if not instructions:
@@ -55,7 +57,8 @@ def is_register_word(operand: bytes) -> bool:
 
 
 def has_form(spelling: Spelling, operands: List[bytes]) -> bool:
-    """Whether there is an operand for each field, a register where one is wanted, and a number elsewhere."""
+    """Whether there is an operand for each field, a register where one is wanted, and a number
+    elsewhere."""
     return len(operands) == len(spelling.fields) and all(
         is_register_word(operand) if field in ('dst', 'src') else is_value(operand)
         for field, operand in zip(spelling.fields, operands))
@@ -63,7 +66,8 @@ def has_form(spelling: Spelling, operands: List[bytes]) -> bool:
 
 def disassemble(program: Program) -> List[str]:
     """The lines of the canonical text."""
-    return [(each.spelling.mnemonic + ' ' + ', '.join(operand_text(each, field) for field in each.spelling.fields)).rstrip()
+    return [(each.spelling.mnemonic + ' ' + ', '.join(operand_text(each, field)
+                                                      for field in each.spelling.fields)).rstrip()
             for each in program.instructions]
 
 

@@ -1,4 +1,5 @@
-"""The opcode tables, and code in slots of eight bytes (RFC 9669, section 3; docs/bpf.md, "Slots" to "Fields")."""
+"""The opcode tables, and code in slots of eight bytes (RFC 9669, section 3; docs/bpf.md, "Slots" to
+"Fields")."""
 import struct
 from typing import Dict, Iterator, List, NamedTuple, Optional, Tuple
 from .words import Refusal
@@ -9,8 +10,9 @@ NUMBER, PLACE, EITHER = 'number', 'place', 'number or place'
 
 
 class Spelling(NamedTuple):
-    """A line of the tables: how one kind of instruction is written, as assembly text and as code. `fields` are the fields of a slot
-    that it uses, in the order of assembly's operands; each other field has one fixed content."""
+    """A line of the tables: how one kind of instruction is written, as assembly text and as code.
+    `fields` are the fields of a slot that it uses, in the order of assembly's operands; each other
+    field has one fixed content."""
 
     mnemonic: str
     group: str          # arithmetic, jump, load, store, wide or exit
@@ -30,8 +32,10 @@ class Spelling(NamedTuple):
         return 16 if field == 'offset' else 64 if self.group == 'wide' else 32
 
 
-ARITHMETIC = ['add', 'sub', 'mul', 'div', 'or', 'and', 'lsh', 'rsh', 'neg', 'mod', 'xor', 'mov', 'arsh']
-CONDITIONS = {'jeq': 1, 'jgt': 2, 'jge': 3, 'jset': 4, 'jne': 5, 'jsgt': 6, 'jsge': 7, 'jlt': 10, 'jle': 11, 'jslt': 12, 'jsle': 13}
+ARITHMETIC = ['add', 'sub', 'mul', 'div', 'or', 'and', 'lsh', 'rsh', 'neg', 'mod', 'xor', 'mov',
+              'arsh']
+CONDITIONS = {'jeq': 1, 'jgt': 2, 'jge': 3, 'jset': 4, 'jne': 5, 'jsgt': 6, 'jsge': 7, 'jlt': 10,
+              'jle': 11, 'jslt': 12, 'jsle': 13}
 SIZES = {32: 0x00, 16: 0x08, 8: 0x10, 64: 0x18}
 OUTSIDE_PROFILE = {0x85, 0xc3, 0xdb, 0x20, 0x28, 0x30, 0x40, 0x48, 0x50}
 WIDE = 0x18
@@ -45,16 +49,21 @@ def arithmetic() -> Iterator[Spelling]:
             if name == 'neg':
                 yield Spelling('neg%d' % bits, 'arithmetic', name, bits, opcode, ('dst',))
                 continue
-            for action, offset in ((name, 0), ('s' + name, 1)) if name in ('div', 'mod') else ((name, 0),):
-                yield Spelling('%s%d' % (action, bits), 'arithmetic', action, bits, opcode | IMM, ('dst', 'imm'), offset)
-                yield Spelling('%s%d' % (action, bits), 'arithmetic', action, bits, opcode | REGISTER, ('dst', 'src'), offset)
+            for action, offset in ((name, 0),
+                                   ('s' + name, 1)) if name in ('div', 'mod') else ((name, 0),):
+                yield Spelling('%s%d' % (action, bits), 'arithmetic', action, bits, opcode | IMM,
+                               ('dst', 'imm'), offset)
+                yield Spelling('%s%d' % (action, bits), 'arithmetic', action, bits,
+                               opcode | REGISTER, ('dst', 'src'), offset)
         for size in (8, 16, 32):
             if size < bits:
                 action = 'movs%d' % size
-                yield Spelling('%s_%d' % (action, bits), 'arithmetic', action, bits, 0xb0 | REGISTER | group, ('dst', 'src'), size)
+                yield Spelling('%s_%d' % (action, bits), 'arithmetic', action, bits,
+                               0xb0 | REGISTER | group, ('dst', 'src'), size)
     for action, opcode in (('le', 0xd4), ('be', 0xdc), ('swap', 0xd7)):
         for bits in (16, 32, 64):
-            yield Spelling('%s%d' % (action, bits), 'arithmetic', action, bits, opcode, ('dst',), imm=bits)
+            yield Spelling('%s%d' % (action, bits), 'arithmetic', action, bits, opcode, ('dst',),
+                           imm=bits)
 
 
 def jumps() -> Iterator[Spelling]:
@@ -65,15 +74,18 @@ def jumps() -> Iterator[Spelling]:
         for action, code in CONDITIONS.items():
             mnemonic, opcode = '%s%d' % (action, bits), code << 4 | group
             yield Spelling(mnemonic, 'jump', action, bits, opcode | IMM, ('dst', 'imm', 'offset'))
-            yield Spelling(mnemonic, 'jump', action, bits, opcode | REGISTER, ('dst', 'src', 'offset'))
+            yield Spelling(mnemonic, 'jump', action, bits, opcode | REGISTER,
+                           ('dst', 'src', 'offset'))
 
 
 def memory() -> Iterator[Spelling]:
-    """The base of an access stands in the source field of a load, and in the destination field of a store."""
+    """The base of an access stands in the source field of a load, and in the destination field of a
+    store."""
     for bits, size in SIZES.items():
         yield Spelling('ldx%d' % bits, 'load', 'ldx', bits, 0x61 | size, ('dst', 'src', 'offset'))
         if bits < 64:
-            yield Spelling('ldsx%d' % bits, 'load', 'ldsx', bits, 0x81 | size, ('dst', 'src', 'offset'))
+            yield Spelling('ldsx%d' % bits, 'load', 'ldsx', bits, 0x81 | size,
+                           ('dst', 'src', 'offset'))
         yield Spelling('stx%d' % bits, 'store', 'stx', bits, 0x63 | size, ('dst', 'offset', 'src'))
         yield Spelling('st%d' % bits, 'store', 'st', bits, 0x62 | size, ('dst', 'offset', 'imm'))
     yield Spelling('wide', 'wide', 'wide', 64, WIDE, ('dst', 'imm'))
@@ -88,8 +100,9 @@ for _spelling in SPELLINGS:
 
 
 class Instruction(NamedTuple):
-    """An instruction at its slot. `imm` is the whole word of a wide load, read as signed. `reads` are the registers that it reads,
-    each with what it wants there, and `writes` is the register that it writes."""
+    """An instruction at its slot. `imm` is the whole word of a wide load, read as signed. `reads`
+    are the registers that it reads, each with what it wants there, and `writes` is the register
+    that it writes."""
 
     spelling: Spelling
     slot: int
@@ -112,12 +125,15 @@ class Instruction(NamedTuple):
         return self.after + (self.imm if self.spelling.mnemonic == 'ja32' else self.offset)
 
 
-def instruction(spelling: Spelling, slot: int, dst: int = 0, src: int = 0, offset: int = 0, imm: int = 0) -> Instruction:
+def instruction(spelling: Spelling, slot: int, dst: int = 0, src: int = 0, offset: int = 0,
+                imm: int = 0) -> Instruction:
     return Instruction(spelling, slot, dst, src, offset, imm, *reads_and_writes(spelling, dst, src))
 
 
-def reads_and_writes(spelling: Spelling, dst: int, src: int) -> Tuple[Tuple[Tuple[int, str], ...], Optional[int]]:
-    """Which registers are read and written. Places are copied by `mov64`, moved by `add64` of a number, and bases of accesses."""
+def reads_and_writes(spelling: Spelling, dst: int,
+                     src: int) -> Tuple[Tuple[Tuple[int, str], ...], Optional[int]]:
+    """Which registers are read and written. Places are copied by `mov64`, moved by `add64` of a
+    number, and bases of accesses."""
     if spelling.group == 'exit':
         return ((0, NUMBER),), None
     if spelling.group == 'load':
@@ -144,7 +160,8 @@ class Program:
 
 
 def decode(code: bytes) -> Program:
-    """The program that code spells. Refused by V1 to V6: V1 first, then by the first broken slot, and there by the lowest rule."""
+    """The program that code spells. Refused by V1 to V6: V1 first, then by the first broken slot,
+    and there by the lowest rule."""
     slots, rest = divmod(len(code), 8)
     if rest or not 1 <= slots <= MOST_SLOTS:
         raise Refusal('V1', min(slots, MOST_SLOTS))
@@ -161,7 +178,8 @@ def decode_slot(code: bytes, slot: int) -> Instruction:
         raise Refusal('V3', slot)
     if opcode not in BY_OPCODE:
         raise Refusal('V2', slot)
-    if any(fields[register] > TOP for register in ('dst', 'src') if register in BY_OPCODE[opcode][0].fields):
+    if any(fields[register] > TOP for register in ('dst', 'src')
+           if register in BY_OPCODE[opcode][0].fields):
         raise Refusal('V4', slot)
     for spelling in BY_OPCODE[opcode]:
         fixed = {'dst': 0, 'src': 0, 'offset': spelling.offset, 'imm': spelling.imm}

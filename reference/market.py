@@ -1,7 +1,8 @@
 """Matrix text, both ways (docs/protocol.md, "Matrix text")."""
 from typing import Dict, List, Tuple
 from .matrix import Matrix
-from .words import LONGEST_LINE, WORD, Refusal, fits, is_number, is_value, lines_of, signed, words_of
+from .words import (LONGEST_LINE, WORD, Refusal, fits, is_number, is_value, lines_of, signed,
+                    words_of)
 
 BANNER = b'%%MatrixMarket'
 MOST = 16777216
@@ -82,7 +83,9 @@ def read_sizes(reader: Reader, symmetric: bool) -> Tuple[int, int, int]:
 def read_entry(reader: Reader, rows: int, columns: int, pattern: bool) -> Tuple[int, int, int]:
     """A position, from 0, and its word."""
     words = reader.next_words('M9')
-    if len(words) != (2 if pattern else 3) or not all(is_number(word) for word in words[:2]) or not all(map(is_value, words[2:])):
+    if len(words) != (2 if pattern else 3) or not all(is_number(word)
+                                                      for word in words[:2]) or not all(
+                                                          map(is_value, words[2:])):
         raise reader.fault('M5')
     i, j, value = int(words[0]), int(words[1]), 1 if pattern else int(words[2])
     if not (1 <= i <= rows and 1 <= j <= columns):
@@ -94,6 +97,8 @@ def read_entry(reader: Reader, rows: int, columns: int, pattern: bool) -> Tuple[
 
 def write(matrix: Matrix) -> bytes:
     """The canonical text."""
-    lines = ['%%MatrixMarket matrix coordinate integer general', '%d %d %d' % (matrix.rows, matrix.columns, matrix.entries)]
-    lines += ['%d %d %d' % (i + 1, j + 1, signed(word)) for i, row in matrix.cells.items() for j, word in row.items()]
+    lines = ['%%MatrixMarket matrix coordinate integer general',
+             '%d %d %d' % (matrix.rows, matrix.columns, matrix.entries)]
+    lines += ['%d %d %d' % (i + 1, j + 1, signed(word)) for i, row in matrix.cells.items()
+              for j, word in row.items()]
     return ''.join(line + '\n' for line in lines).encode()

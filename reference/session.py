@@ -1,4 +1,5 @@
-"""A session: commands, their replies, and refusals in their order (docs/protocol.md, "Commands", "The budget" and "Refusals")."""
+"""A session: commands, their replies, and refusals in their order (docs/protocol.md, "Commands",
+"The budget" and "Refusals")."""
 import re
 from typing import BinaryIO, Callable, Dict, List, NamedTuple, Optional, Tuple
 from . import assembly, market
@@ -12,10 +13,13 @@ from .words import LONGEST_LINE, WORD, Refusal, fits, is_digits, is_value, words
 
 MOST_JOBS = 64
 MOST_BYTES = {'matrix': 268435456, 'asm': 262144, 'op': 262144}
-WORDS = {'matrix': 3, 'asm': 4, 'op': 4, 'dis': 2, 'types': 2, 'show': 2, 'run': 1, 'budget': 1, 'quit': 1}
-LINES: Dict[str, Callable[[Operator], List[str]]] = {'dis': lambda operator: assembly.disassemble(operator.program),
+WORDS = {'matrix': 3, 'asm': 4, 'op': 4, 'dis': 2, 'types': 2, 'show': 2, 'run': 1, 'budget': 1,
+         'quit': 1}
+LINES: Dict[str, Callable[[Operator], List[str]]] = {'dis': lambda operator: assembly.disassemble(
+    operator.program),
                                                      'types': types_text}
-GOES_ON, ENDED_BY_CLIENT, ENDED_BY_REFUSAL = None, 0, 3        # how a session stands; those that ended have the exit status
+# how a session stands; those that ended have the exit status
+GOES_ON, ENDED_BY_CLIENT, ENDED_BY_REFUSAL = None, 0, 3
 
 
 class Queued(NamedTuple):
@@ -103,7 +107,8 @@ class Session:
             return b'ok show %d\n' % len(text) + text
         operator = bound(self.operators, name)
         lines = LINES[command](operator)
-        return b'ok %s %d\n' % (command.encode(), len(lines)) + ''.join(line + '\n' for line in lines).encode()
+        return b'ok %s %d\n' % (command.encode(),
+                                len(lines)) + ''.join(line + '\n' for line in lines).encode()
 
     def submit(self, words: List[str]) -> bytes:
         """Queues a job and reserves its price."""
@@ -118,9 +123,11 @@ class Session:
         return b'ok queued %d %d\n' % (len(self.queue), price)
 
     def job_of(self, words: List[str]) -> Optional[Job]:
-        """The job that a command asks for: None where no more jobs can wait. Refused by S2, S3, S4 in this order."""
+        """The job that a command asks for: None where no more jobs can wait. Refused by S2, S3, S4
+        in this order."""
         words, mask = without_mask(words)
-        form = next((form for form in FORMS[words[0]] if len(words) == 2 + form.operators + form.matrices + form.has_thunk), None)
+        form = next((form for form in FORMS[words[0]] if len(words) == 2 + form.operators
+                     + form.matrices + form.has_thunk), None)
         if form is None:
             raise Refusal('S2')
         thunk = word_of(words.pop()) if form.has_thunk else 0
@@ -142,13 +149,15 @@ class Session:
             self.matrices[job.out] = matrix
             self.left += price - steps
             spent += steps
-            lines.append('%s %d %d %d %d\n' % (job.out, matrix.rows, matrix.columns, matrix.entries, steps))
+            lines.append('%s %d %d %d %d\n' % (job.out, matrix.rows, matrix.columns, matrix.entries,
+                                               steps))
         self.queue, self.spent = [], self.spent + spent
         return b'ok run %d %d\n' % (len(lines), spent) + ''.join(lines).encode()
 
 
 def read_line(source: BinaryIO) -> Optional[bytes]:
-    """The next line without its end; None at the end of the input. No more is read of a line that is too long."""
+    """The next line without its end; None at the end of the input. No more is read of a line that
+    is too long."""
     line = source.readline(LONGEST_LINE + len(b'\r\n'))
     if not line:
         return None
@@ -161,7 +170,8 @@ def read_line(source: BinaryIO) -> Optional[bytes]:
 
 def read_body(words: List[str], source: BinaryIO) -> bytes:
     """The body of `matrix`, `asm` or `op`. Refused by S2, S7, S5 in this order."""
-    if len(words) != WORDS[words[0]] or not is_digits(words[-1].encode('latin-1')) or int(words[-1]) > WORD:
+    if len(words) != WORDS[words[0]] or not is_digits(words[-1].encode('latin-1')) or int(
+        words[-1]) > WORD:
         raise Fatal('S2')
     length = int(words[-1])
     if length > MOST_BYTES[words[0]]:
@@ -200,8 +210,9 @@ def word_of(word: str) -> int:
 
 
 def without_mask(words: List[str]) -> Tuple[List[str], Optional[str]]:
-    """The words of a job without `mask M`, and M. These two are looked for where there are more words than the longest form has. So
-    one word behind the matrix of `apply` is a THUNK, whatever it is."""
+    """The words of a job without `mask M`, and M. These two are looked for where there are more
+    words than the longest form has. So one word behind the matrix of `apply` is a THUNK, whatever
+    it is."""
     longest = 2 + max(form.operators + form.matrices + form.has_thunk for form in FORMS[words[0]])
     if len(words) <= longest:
         return words, None

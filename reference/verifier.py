@@ -1,7 +1,8 @@
-"""What an operator may be, and what is known before each of its instructions (docs/bpf.md, "What the verifier checks").
+"""What an operator may be, and what is known before each of its instructions (docs/bpf.md, "What
+the verifier checks").
 
-All ways into a slot come from lower slots, since jumps go forward. So one pass in ascending order follows all paths: what is known
-at a slot is what all ways into it have in common.
+All ways into a slot come from lower slots, since jumps go forward. So one pass in ascending order
+follows all paths: what is known at a slot is what all ways into it have in common.
 """
 from typing import Dict, List, NamedTuple, Optional, Tuple, Union
 from .instructions import EITHER, NUMBER, PLACE, TOP, Instruction, Program
@@ -14,14 +15,16 @@ Tag = Union[str, int]       # a place's tag is its distance
 
 
 class Known(NamedTuple):
-    """What is known before an instruction: the tag of each register, and a bit for each byte of the stack that all paths stored."""
+    """What is known before an instruction: the tag of each register, and a bit for each byte of the
+    stack that all paths stored."""
 
     tags: Tuple[Tag, ...]
     stored: int
 
 
 class Operator(NamedTuple):
-    """An operator that was accepted; `known` has what is known at each slot to which a path leads."""
+    """An operator that was accepted; `known` has what is known at each slot to which a path
+    leads."""
 
     kind: str
     program: Program
@@ -38,7 +41,8 @@ def verify(program: Program, kind: str) -> Operator:
         if rule:
             raise Refusal(rule, each.slot)
     numbers = range(1, 1 + OPERANDS[kind])
-    entry = Known(tuple(0 if r == TOP else NUMBER_TAG if r in numbers else UNSET for r in range(TOP + 1)), 0)
+    entry = Known(tuple(0 if r == TOP else NUMBER_TAG if r in numbers else UNSET
+                        for r in range(TOP + 1)), 0)
     known = {0: entry}
     for each in program.instructions:
         if each.slot in known:
@@ -133,7 +137,8 @@ def joined(one: Optional[Known], other: Known) -> Known:
     """What two ways into a slot have in common."""
     if one is None:
         return other
-    tags = [a if a == b else UNSET if UNSET in (a, b) else MIXED for a, b in zip(one.tags, other.tags)]
+    tags = [a if a == b else UNSET if UNSET in (a, b) else MIXED
+            for a, b in zip(one.tags, other.tags)]
     return Known(tuple(tags), one.stored & other.stored)
 
 
@@ -142,6 +147,7 @@ def types_text(operator: Operator) -> List[str]:
     lines = []
     for each in operator.program.instructions:
         known = operator.known.get(each.slot)
-        tags = ['p%d' % tag if isinstance(tag, int) else tag for tag in known.tags] if known else ['-']
+        tags = (['p%d' % tag if isinstance(tag, int) else tag for tag in known.tags] if known
+                else ['-'])
         lines.append(' '.join([str(each.slot)] + tags))
     return lines

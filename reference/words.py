@@ -5,12 +5,13 @@ from typing import List
 WORD = (1 << 64) - 1
 LONGEST_LINE = 1024
 WORDS = re.compile(rb'[^ \t]+')
-DIGITS, NUMBER, VALUE = re.compile(rb'[0-9]+'), re.compile(rb'[+]?[0-9]+'), re.compile(rb'[+-]?[0-9]+')
+DIGITS, NUMBER, VALUE = re.compile(rb'[0-9]+'), re.compile(rb'[+]?[0-9]+'), re.compile(
+    rb'[+-]?[0-9]+')
 
 
 class Refusal(Exception):
-    """A command that is refused, by a rule and the numbers that stand behind it in the reply: a slot, a line, or a price and what
-    is left of the budget."""
+    """A command that is refused, by a rule and the numbers that stand behind it in the reply: a
+    slot, a line, or a price and what is left of the budget."""
 
     def __init__(self, rule: str, *numbers: int) -> None:
         super().__init__(' '.join(['no', rule] + [str(number) for number in numbers]))
@@ -24,7 +25,8 @@ def signed(word: int, bits: int = 64) -> int:
 
 
 def lines_of(text: bytes) -> List[bytes]:
-    """The lines of a text. A line ends at LF, one CR before that LF is dropped, and the last LF may be missing."""
+    """The lines of a text. A line ends at LF, one CR before that LF is dropped, and the last LF may
+    be missing."""
     ended = text.split(b'\n')
     last = ended.pop()
     lines = [line[:-1] if line.endswith(b'\r') else line for line in ended]

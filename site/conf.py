@@ -1,4 +1,5 @@
-"""How Sphinx makes the site from what tools/site lays out: Markdown by MyST, docstrings by numpydoc, in light and dark, with nothing from elsewhere."""
+"""How Sphinx makes the site from what tools/site lays out: Markdown by MyST, docstrings by
+numpydoc, in light and dark, with nothing from elsewhere."""
 import os
 import sys
 
@@ -7,9 +8,11 @@ sys.path[:0] = [os.environ['SPMAT_TOP'], os.path.join(os.environ['SPMAT_TOP'], '
 from tools.siting import docstrings                # noqa: E402 (found by the line above)
 
 project = 'spmat'
-release = version = open(os.path.join(os.environ['SPMAT_TOP'], 'VERSION'), encoding='ascii').read().strip()
+release = version = open(os.path.join(os.environ['SPMAT_TOP'], 'VERSION'),
+                         encoding='ascii').read().strip()
 copyright = 'the authors of spmat, MIT licence'    # pylint: disable=redefined-builtin
-extensions = ['myst_parser', 'sphinx.ext.autodoc', 'sphinx.ext.viewcode', 'numpydoc', 'sphinx_copybutton']
+extensions = ['myst_parser', 'sphinx.ext.autodoc', 'sphinx.ext.viewcode', 'numpydoc',
+              'sphinx_copybutton']
 source_suffix = {'.md': 'markdown', '.rst': 'restructuredtext'}
 exclude_patterns = ['_build', 'extra']
 highlight_language = 'none'
@@ -41,5 +44,6 @@ nitpicky = False
 
 
 def setup(app):
-    """Docstrings are prose with Markdown's backticks and indented code, which becomes what Sphinx reads before numpydoc has its turn."""
+    """Docstrings are prose with Markdown's backticks and indented code, which becomes what Sphinx
+    reads before numpydoc has its turn."""
     app.connect('autodoc-process-docstring', docstrings.process, priority=100)

@@ -1,6 +1,8 @@
-"""The contracts that other crates see: what the clauses of exported functions say, and the views of exported types.
+"""The contracts that other crates see: what the clauses of exported functions say, and the views of
+exported types.
 
-An item is exported where it stands in a module that is public, or where lib.rt names it in a `pub use`.
+An item is exported where it stands in a module that is public, or where lib.rt names it in a `pub
+use`.
 """
 import glob
 import os
@@ -10,7 +12,8 @@ from typing import Iterator, List, NamedTuple, Set
 from paths import CRATES
 
 FUNCTION = re.compile(r'^( *)(pub(?:\([a-z]+\))? )?(?:const )?fn (\w+)', re.M)
-BLOCK = re.compile(r'^(?:(?:pub(?:\(\w+\))? )?trait (\w+)|impl(?:<.*?>)? (?:(\w+)(?:<.*?>)? for )?(\w+))', re.M)
+BLOCK = re.compile(
+    r'^(?:(?:pub(?:\(\w+\))? )?trait (\w+)|impl(?:<.*?>)? (?:(\w+)(?:<.*?>)? for )?(\w+))', re.M)
 ITEM = re.compile(r'^(?:pub(?:\(\w+\))? )?(?:struct|enum|trait) (\w+)', re.M)
 CLAUSE = re.compile(r'\{$|;$|^ *(?:requires|ensures) ', re.M)
 NEXT_CLAUSE = re.compile(r'(?:\s|//.*)*(?:requires|ensures)\b[^{]*')
@@ -28,11 +31,13 @@ def read(path: str) -> str:
 
 
 def crate_names() -> List[str]:
-    return sorted(os.path.basename(os.path.dirname(path)) for path in glob.glob(os.path.join(CRATES, '*', 'src')))
+    return sorted(os.path.basename(os.path.dirname(path))
+                  for path in glob.glob(os.path.join(CRATES, '*', 'src')))
 
 
 class Block(NamedTuple):
-    """An impl block or a trait: where it begins, the trait and the type that it names, each '' where it names none."""
+    """An impl block or a trait: where it begins, the trait and the type that it names, each ''
+    where it names none."""
     start: int
     of_trait: str
     of_type: str
@@ -47,11 +52,14 @@ class Crate:
     def __init__(self, name: str) -> None:
         folder = os.path.join(CRATES, name, 'src')
         self.files = sorted(glob.glob(os.path.join(folder, '**', '*.rt'), recursive=True))
-        root = next(path for path in (os.path.join(folder, 'lib.rt'), os.path.join(folder, 'main.rt')) if os.path.exists(path))
+        root = next(path for path in (os.path.join(folder, 'lib.rt'),
+                                      os.path.join(folder, 'main.rt')) if os.path.exists(path))
         text = read(root)
-        self.open = {root} | {os.path.join(folder, module + '.rt') for module in re.findall(r'^pub mod (\w+);', text, re.M)}
+        self.open = {root} | {os.path.join(folder, module + '.rt')
+                              for module in re.findall(r'^pub mod (\w+);', text, re.M)}
         used = re.findall(r'^pub use [\w:]*?(?:\{([^}]*)\}|(\w+));', text, re.M)
-        self.exported = {item.strip() for listed, one in used for item in (listed or one).split(',')}
+        self.exported = {item.strip() for listed, one in used
+                         for item in (listed or one).split(',')}
         for path in self.open:
             self.exported.update(ITEM.findall(read(path)))
         self.is_program = root.endswith('main.rt')
@@ -62,7 +70,8 @@ class Crate:
         return name in self.exported or name not in self.own
 
     def contracts(self, path: str) -> Iterator[str]:
-        """The signature and clauses of each function of a file that other crates can call, without the clauses' own names."""
+        """The signature and clauses of each function of a file that other crates can call, without
+        the clauses' own names."""
         text = read(path)
         blocks = blocks_of(text)
         for head in FUNCTION.finditer(text):
@@ -72,12 +81,14 @@ class Crate:
             elif block.of_type:
                 seen = head.group(2) == 'pub ' and self.sees(block.of_type)
             else:
-                seen = head.group(2) == 'pub ' and (path in self.open or head.group(3) in self.exported)
+                seen = (head.group(2) == 'pub '
+                        and (path in self.open or head.group(3) in self.exported))
             if seen:
                 yield LABEL.sub(r'\1 ', clauses_of(text[head.start():]))
 
     def views(self, path: str) -> Iterator[str]:
-        """The ghost members and fields of a file's types and traits, but for invariants, that contracts of other crates see."""
+        """The ghost members and fields of a file's types and traits, but for invariants, that
+        contracts of other crates see."""
         text = read(path)
         blocks = blocks_of(text)
         for member in MEMBER.finditer(text):
@@ -94,7 +105,8 @@ class Crate:
         if not self.is_program:
             return self.seen(path)
         text = read(path)
-        return (LABEL.sub(r'\1 ', clauses_of(text[head.start():])) for head in FUNCTION.finditer(text))
+        return (LABEL.sub(r'\1 ', clauses_of(text[head.start():]))
+                for head in FUNCTION.finditer(text))
 
     def seen(self, path: str) -> Iterator[str]:
         yield from self.contracts(path)
@@ -102,7 +114,8 @@ class Crate:
 
 
 def blocks_of(text: str) -> List[Block]:
-    return [Block(found.start(), found.group(1) or found.group(2) or '', found.group(3) or '') for found in BLOCK.finditer(text)]
+    return [Block(found.start(), found.group(1) or found.group(2) or '', found.group(3) or '')
+            for found in BLOCK.finditer(text)]
 
 
 def block_at(blocks: List[Block], at: int) -> Block:

@@ -1,4 +1,5 @@
-"""Debian's packages that the gate wants beside the toolchain and Python, what each is for, and installing those that are missing."""
+"""Debian's packages that the gate wants beside the toolchain and Python, what each is for, and
+installing those that are missing."""
 import os
 import shutil
 import subprocess
@@ -11,7 +12,8 @@ MODULES = ('import sys, importlib.util; sys.exit(importlib.util.find_spec(sys.ar
 
 
 class Package(NamedTuple):
-    """A package, what is left out without it, and how it is seen: a program, or a module of the distribution's Python."""
+    """A package, what is left out without it, and how it is seen: a program, or a module of the
+    distribution's Python."""
     name: str
     of: str
     program: str = ''
@@ -20,7 +22,8 @@ class Package(NamedTuple):
     def is_there(self) -> bool:
         """Whether what it brings is here, from wherever."""
         if self.program:
-            return shutil.which(self.program, path=os.environ.get('PATH', '') + ':/usr/sbin:/sbin') is not None
+            return shutil.which(self.program,
+                                path=os.environ.get('PATH', '') + ':/usr/sbin:/sbin') is not None
         python = DISTRIBUTION if os.path.exists(DISTRIBUTION) else sys.executable
         return subprocess.run([python, '-c', MODULES, self.module], check=False).returncode == 0
 
@@ -70,7 +73,8 @@ def missing() -> List[Package]:
 
 def line(packages: List[Package]) -> str:
     """What installs packages, to type."""
-    return 'apt-get install -y --no-install-recommends ' + ' '.join(package.name for package in packages)
+    return 'apt-get install -y --no-install-recommends ' + ' '.join(package.name
+                                                                    for package in packages)
 
 
 def install() -> None:
@@ -79,11 +83,13 @@ def install() -> None:
     if not wanted:
         return
     if shutil.which('apt-get') is None or os.geteuid() != 0:
-        print('not installed, as this is no root of Debian: ' + line(wanted), file=sys.stderr, flush=True)
+        print('not installed, as this is no root of Debian: ' + line(wanted), file=sys.stderr,
+              flush=True)
         return
     environment = {**os.environ, 'DEBIAN_FRONTEND': 'noninteractive'}
     subprocess.run(['apt-get', 'update'], env=environment, check=False)
     words = line(wanted).split()
     if subprocess.run(words, env=environment, check=False).returncode:
-        for package in wanted:                     # one that can't be had doesn't keep the others out
+        for package in wanted:
+            # one that can't be had doesn't keep the others out
             subprocess.run(words[:4] + [package.name], env=environment, check=False)

@@ -1,5 +1,5 @@
-"""Counts the words and the sentences of pages: headings, tables, blocks of code and pictures are left out, and code between backticks is
-a word."""
+"""Counts the words and the sentences of pages: headings, tables, blocks of code and pictures are
+left out, and code between backticks is a word."""
 import re
 from typing import List, NamedTuple
 
@@ -24,7 +24,8 @@ def paragraphs(text: str) -> List[str]:
     found: List[str] = []
     is_open = False
     for line in text.split('\n'):
-        if not line.strip() or re.match(r'#|\||!\[|    ', line) and not (is_open and line.startswith('    ')):
+        if not line.strip() or re.match(r'#|\||!\[|    ',
+                                        line) and not (is_open and line.startswith('    ')):
             is_open = False
         elif re.match(r'\s*([-*]|\d+\.) ', line) or not is_open:
             found.append(re.sub(r'^\s*([-*]|\d+\.) ', '', line))

@@ -1,8 +1,10 @@
-"""Strangers at a gateway: good clients, who compare each byte with the program's own, and hostile ones; and who kills what.
+"""Strangers at a gateway: good clients, who compare each byte with the program's own, and hostile
+ones; and who kills what.
 
-A good client's session is one of a pool, whose replies by the program itself are known. Whatever is killed, what it has read
-is the beginning of these replies, and perhaps a line `no session ..` behind them. What the ledger has charged lies between the
-steps that the client has read and those plus what may have been run since.
+A good client's session is one of a pool, whose replies by the program itself are known. Whatever is
+killed, what it has read is the beginning of these replies, and perhaps a line `no session ..`
+behind them. What the ledger has charged lies between the steps that the client has read and those
+plus what may have been run since.
 """
 import collections
 import contextlib
@@ -30,9 +32,13 @@ def make_scripts(many, seed, size=30):
         side = draw.randrange(2, size)
         parts = [LINES, OPERATORS, dense(side, 'M')]
         for number in range(draw.randrange(1, 6)):
-            jobs = [draw.choice((b'product X%d plus times M M\n', b'union X%d plus M M\n', b'apply X%d inc M\n',
-                                 b'reduce X%d plus M\n', b'apply X%d inc A\n')) % place for place in range(draw.randrange(1, 5))]
-            parts += [*jobs, b'run\n', draw.choice((b'show X0\n', b'budget\n', b'dis inc\n', b'nonsense\n', b'types plus\n'))]
+            jobs = [draw.choice((b'product X%d plus times M M\n', b'union X%d plus M M\n',
+                                 b'apply X%d inc M\n', b'reduce X%d plus M\n',
+                                 b'apply X%d inc A\n')) % place
+                    for place in range(draw.randrange(1, 5))]
+            parts += [*jobs, b'run\n',
+                      draw.choice((b'show X0\n', b'budget\n', b'dis inc\n', b'nonsense\n',
+                                   b'types plus\n'))]
             if number % 2:
                 parts.append(b'matrix M 9\nnot that\n')
         script = b''.join(parts) + b'quit\n'
@@ -45,7 +51,8 @@ class Report:
 
     def __init__(self):
         self.lock = threading.Lock()
-        self.sessions = []                         # who, the steps that it has read, those that may have been spent, its last line
+        # who, the steps that it has read, those that may have been spent, its last line
+        self.sessions = []
         self.whole = self.cut = self.told = self.refused = self.hostile = self.bytes = 0
         self.faults = []
 
@@ -59,7 +66,8 @@ class Good(threading.Thread):
 
     def __init__(self, gateways, login, scripts, report, stop, seed, authority=''):
         super().__init__(daemon=True)
-        self._gateways, self._login, self._scripts, self._report, self._stop_at = gateways, login, scripts, report, stop
+        self._gateways, self._login, self._scripts, self._report, self._stop_at = (
+            gateways, login, scripts, report, stop)
         self._draw, self._authority = random.Random(seed), authority
 
     def run(self):
@@ -82,7 +90,8 @@ class Good(threading.Thread):
         if not expected.startswith(replies):
             body, _, line = replies[:-1].rpartition(b'\n')
             body = body + b'\n' if body else b''
-            known = line.startswith(b'no session ') or not body and line in (b'no busy', b'no ledger')
+            known = (line.startswith(b'no session ') or not body
+                     and line in (b'no busy', b'no ledger'))
             if not known or not expected.startswith(body):
                 report.fault('other bytes at %s: %r' % (address, replies[-200:]))
                 return
@@ -98,7 +107,8 @@ class Good(threading.Thread):
             report.refused += line in (b'no busy', b'no ledger')
             if replies or line.startswith(b'no session') or not line:
                 client = (self._login.split()[0], address)
-                report.sessions.append((client, read.spent, read.spent if replies == expected else most.spent, line.decode()))
+                report.sessions.append((client, read.spent, read.spent if replies == expected
+                                        else most.spent, line.decode()))
 
 
 class Hostile(threading.Thread):
@@ -108,8 +118,9 @@ class Hostile(threading.Thread):
         super().__init__(daemon=True)
         self._gateways, self._login, self._report, self._stop_at = gateways, login, report, stop
         self._draw, self._authority = random.Random(seed), authority
-        self._kinds = [self.garbage, self.wrong_token, self.silence, self.never_reads, self.reset_amid_a_batch, self.takes_memory,
-                       self.many_connections, self.long_login, self.half_tls, self.drips, self.odd_bodies]
+        self._kinds = [self.garbage, self.wrong_token, self.silence, self.never_reads,
+                       self.reset_amid_a_batch, self.takes_memory, self.many_connections,
+                       self.long_login, self.half_tls, self.drips, self.odd_bodies]
 
     def run(self):
         while not self._stop_at.is_set():
@@ -160,7 +171,8 @@ class Hostile(threading.Thread):
 
     def many_connections(self):
         for _ in range(20):
-            socket.create_connection(('127.0.0.1', self._draw.choice(self._gateways)), timeout=3).close()
+            socket.create_connection(('127.0.0.1', self._draw.choice(self._gateways)),
+                                     timeout=3).close()
 
     def long_login(self):
         with self._open() as client:
@@ -168,7 +180,8 @@ class Hostile(threading.Thread):
             client.rest()
 
     def half_tls(self):
-        with socket.create_connection(('127.0.0.1', self._draw.choice(self._gateways)), timeout=3) as plain:
+        with socket.create_connection(('127.0.0.1', self._draw.choice(self._gateways)),
+                                      timeout=3) as plain:
             plain.sendall(b'\x16\x03\x01\x02\x00' + os.urandom(self._draw.randrange(600)))
             self._stop_at.wait(0.5)
 
@@ -181,13 +194,15 @@ class Hostile(threading.Thread):
 
     def odd_bodies(self):
         with self._open(self._login) as client:
-            client.send(self._draw.choice((b'matrix A 99999999999\n', b'op f unary 8\nffffffff', b'asm f unary 4\nexit\nrun\nshow f\n',
-                                           b'run\n' * 5000, b'apply A B C\n' * 5000)))
+            client.send(self._draw.choice((b'matrix A 99999999999\n', b'op f unary 8\nffffffff',
+                                           b'asm f unary 4\nexit\nrun\nshow f\n', b'run\n' * 5000,
+                                           b'apply A B C\n' * 5000)))
             client.rest()
 
 
 class Killer(threading.Thread):
-    """Kills an engine, a gateway or the database at random moments, and starts again what isn't started by itself."""
+    """Kills an engine, a gateway or the database at random moments, and starts again what isn't
+    started by itself."""
 
     def __init__(self, gateways, postgres, stop, seed, pause):
         super().__init__(daemon=True)
@@ -203,7 +218,8 @@ class Killer(threading.Thread):
             try:
                 if self._kill(kind):
                     self.killed[kind] += 1
-            except Exception as fault:             # pylint: disable=broad-exception-caught  # the test looks at it
+            except Exception as fault:  # pylint: disable=broad-exception-caught
+                # the test looks at it
                 self.faults.append('%s: %r' % (kind, fault))
 
     def _kill(self, kind):
@@ -227,8 +243,8 @@ class Killer(threading.Thread):
 def compare(report, rows):
     """What the ledger has charged, beside what the clients have read; the faults.
 
-    A port may serve a client twice. Of two connections by one port, one that has read nothing may have been cut before it reserved
-    anything, and then the other's session isn't its own.
+    A port may serve a client twice. Of two connections by one port, one that has read nothing may
+    have been cut before it reserved anything, and then the other's session isn't its own.
     """
     found, by_client = list(report.faults), {}
     for row in rows:
@@ -241,11 +257,15 @@ def compare(report, rows):
         if not candidates and read:
             found.append('%s has read %d steps, and is in no ledger' % (client, read))
         elif candidates and not any(is_right(row, read, most, line) for row in candidates):
-            found.append('%s has read %d steps, of %d at most, and %r; the ledger has %r' % (client, read, most, line, candidates))
+            found.append('%s has read %d steps, of %d at most, and %r; the ledger has %r'
+                         % (client, read, most, line, candidates))
     return found
 
 
 def is_right(row, read, most, line):
-    """Whether a session of the ledger is one of which a client has read so much, and this line at its end."""
+    """Whether a session of the ledger is one of which a client has read so much, and this line at
+    its end."""
     told = line.split()[3:]
-    return read <= row['charged'] <= most and (not told or told == [row['basis'], str(row['charged'])] or row['state'] != 'settled')
+    return (read <= row['charged'] <= most
+            and (not told or told == [row['basis'], str(row['charged'])]
+                 or row['state'] != 'settled'))

@@ -1,4 +1,5 @@
-"""What the gateway's tests share: a gateway, a database, certificates, and a client that sees bytes."""
+"""What the gateway's tests share: a gateway, a database, certificates, and a client that sees
+bytes."""
 import contextlib
 import io
 import json
@@ -16,7 +17,8 @@ import unittest
 
 FOLDER = os.path.dirname(os.path.dirname(os.path.abspath(__file__)))
 TOP = os.path.dirname(FOLDER)
-PROGRAM = os.path.abspath(os.environ.get('SPMAT') or os.path.join(TOP, 'crates', 'spmat', 'out', 'spmat'))
+PROGRAM = os.path.abspath(os.environ.get('SPMAT')
+                          or os.path.join(TOP, 'crates', 'spmat', 'out', 'spmat'))
 CERTIFICATE = os.path.join(TOP, 'packaging', 'stunnel', 'certificate')
 PATIENCE = 60.0
 WANTS = (ssl.SSLWantReadError, ssl.SSLWantWriteError, BlockingIOError)
@@ -59,7 +61,8 @@ def until(what, happens, seconds=PATIENCE):
 
 def has_module(name):
     """Whether a module can be imported."""
-    return subprocess.run([sys.executable, '-c', 'import ' + name], stderr=subprocess.DEVNULL, check=False).returncode == 0
+    return subprocess.run([sys.executable, '-c', 'import ' + name], stderr=subprocess.DEVNULL,
+                          check=False).returncode == 0
 
 
 def postgres_programs():
@@ -76,27 +79,30 @@ needs_postgres = unittest.skipUnless(HAS_POSTGRES, 'no PostgreSQL, or no psycopg
 def limits_memory():
     """Whether the program can be given a limit of address space: one with run-time checks can't."""
     words = ['prlimit', '--as=2147483648', PROGRAM, '--version']
-    return subprocess.run(words, stdout=subprocess.DEVNULL, stderr=subprocess.DEVNULL, check=False).returncode == 0
+    return subprocess.run(words, stdout=subprocess.DEVNULL, stderr=subprocess.DEVNULL,
+                          check=False).returncode == 0
 
 
 def engine_command(*before):
     """The default command of engines, with the program that is tested."""
     space = ['--as={memory}'] if limits_memory() else []
-    return [*before, 'setpriv', '--pdeathsig', 'KILL', 'prlimit', *space, '--cpu={processor}:', '--core=0', '--', PROGRAM,
-            'run', '--steps', '{steps}', '--workers', '{workers}', '--idle', '{idle}']
+    return [*before, 'setpriv', '--pdeathsig', 'KILL', 'prlimit', *space, '--cpu={processor}:',
+            '--core=0', '--', PROGRAM, 'run', '--steps', '{steps}', '--workers', '{workers}',
+            '--idle', '{idle}']
 
 
 def dense(size, name='A'):
     """The command that uploads a matrix without a hole: its square takes 4 * size^3 steps or so."""
     rows = ['%d %d 1' % (i, j) for i in range(1, size + 1) for j in range(1, size + 1)]
-    text = '%%%%MatrixMarket matrix coordinate integer general\n%d %d %d\n%s\n' % (size, size, size * size, '\n'.join(rows))
+    text = '%%%%MatrixMarket matrix coordinate integer general\n%d %d %d\n%s\n' % (
+        size, size, size * size, '\n'.join(rows))
     return ('matrix %s %d\n%s' % (name, len(text), text)).encode()
 
 
 def direct(commands, steps=10 ** 12):
     """The replies of the program itself, without a gateway."""
-    return subprocess.run([PROGRAM, 'run', '--steps', str(steps), '--workers', '1'], input=commands, stdout=subprocess.PIPE,
-                          check=False, timeout=600).stdout
+    return subprocess.run([PROGRAM, 'run', '--steps', str(steps), '--workers', '1'], input=commands,
+                          stdout=subprocess.PIPE, check=False, timeout=600).stdout
 
 
 class Certificates:
@@ -107,7 +113,8 @@ class Certificates:
 
     def make(self, name):
         """The certificate with its key, and the certificate alone."""
-        subprocess.run(['sh', CERTIFICATE, name], cwd=self.where, stderr=subprocess.DEVNULL, check=True)
+        subprocess.run(['sh', CERTIFICATE, name], cwd=self.where, stderr=subprocess.DEVNULL,
+                       check=True)
         return tuple(os.path.join(self.where, name + end) for end in ('.pem', '.crt'))
 
 
@@ -160,7 +167,8 @@ class Client:
             pieces.append(piece)
 
     def exchange(self, data, seconds=PATIENCE):
-        """Sends bytes and reads until the end, in one thread: two on one connection of TLS end in a crash."""
+        """Sends bytes and reads until the end, in one thread: two on one connection of TLS end in a
+        crash."""
         self.socket.settimeout(0)
         rest, pieces, end = memoryview(data), [self.buffer], time.monotonic() + seconds
         while time.monotonic() < end:
@@ -199,25 +207,30 @@ class Postgres:
 
     def __init__(self, where, flags=''):
         self.data, self.port = os.path.join(where, 'postgres'), free_port()
-        self._as = ['setpriv', '--reuid=postgres', '--regid=postgres', '--clear-groups'] if os.geteuid() == 0 else []
+        self._as = (['setpriv', '--reuid=postgres', '--regid=postgres', '--clear-groups']
+                    if os.geteuid() == 0 else [])
         os.chmod(where, 0o755)
         os.makedirs(self.data)
         if self._as:
             shutil.chown(self.data, 'postgres', 'postgres')
-        self._run('initdb', '-D', self.data, '-A', 'trust', '-U', 'gateway', '--no-sync', '--locale=C.UTF-8', '-E', 'UTF8')
-        self.flags = '-p %d -c listen_addresses=127.0.0.1 -c unix_socket_directories= %s' % (self.port, flags)
+        self._run('initdb', '-D', self.data, '-A', 'trust', '-U', 'gateway', '--no-sync',
+                  '--locale=C.UTF-8', '-E', 'UTF8')
+        self.flags = '-p %d -c listen_addresses=127.0.0.1 -c unix_socket_directories= %s' % (
+            self.port, flags)
         self.start()
         self.url = 'postgresql://gateway@127.0.0.1:%d/postgres' % self.port
 
     def start(self):
         """Starts it, also after it was killed."""
-        self._run('pg_ctl', '-D', self.data, '-w', '-l', os.path.join(self.data, 'log'), '-o', self.flags, 'start')
+        self._run('pg_ctl', '-D', self.data, '-w', '-l', os.path.join(self.data, 'log'), '-o',
+                  self.flags, 'start')
 
     def kill(self):
         """Kills it at once, with all that it does."""
         with open(os.path.join(self.data, 'postmaster.pid'), encoding='ascii') as file:
             process = int(file.readline())
-        children = subprocess.run(['ps', '-o', 'pid=', '--ppid', str(process)], stdout=subprocess.PIPE, text=True, check=False)
+        children = subprocess.run(['ps', '-o', 'pid=', '--ppid', str(process)],
+                                  stdout=subprocess.PIPE, text=True, check=False)
         for one in [process, *map(int, children.stdout.split())]:
             with contextlib.suppress(ProcessLookupError):
                 os.kill(one, signal.SIGKILL)
@@ -229,8 +242,9 @@ class Postgres:
         self._run('pg_ctl', '-D', self.data, '-m', 'immediate', 'stop', check=False)
 
     def _run(self, name, *words, check=True):
-        subprocess.run([*self._as, os.path.join(postgres_programs(), name), *words], stdout=subprocess.DEVNULL,
-                       stderr=subprocess.DEVNULL, check=check, cwd='/', timeout=120)
+        subprocess.run([*self._as, os.path.join(postgres_programs(), name), *words],
+                       stdout=subprocess.DEVNULL, stderr=subprocess.DEVNULL, check=check, cwd='/',
+                       timeout=120)
 
 
 def toml(value):
@@ -241,13 +255,15 @@ def toml(value):
 
 
 class Gateway:
-    """A gateway's process, by default without TLS, on SQLite. Keys of its file are words, as `gateway_seats=3`."""
+    """A gateway's process, by default without TLS, on SQLite. Keys of its file are words, as
+    `gateway_seats=3`."""
 
     def __init__(self, where, name='gate', command=None, **keys):
         self.where, self.name, self.port, self.page = where, name, free_port(), free_port()
         self.state = os.path.join(where, name)
         self.admin, self.file, self.log = (self.state + end for end in ('.sock', '.toml', '.log'))
-        self.tables = {'gateway': {'name': name, 'state': self.state, 'listen': '127.0.0.1:%d' % self.port, 'admin': self.admin,
+        self.tables = {'gateway': {'name': name, 'state': self.state,
+                                   'listen': '127.0.0.1:%d' % self.port, 'admin': self.admin,
                                    'page': '127.0.0.1:%d' % self.page},
                        'engine': {'command': command or engine_command()}, 'tls': {}, 'limits': {}}
         self.set(**keys)
@@ -260,7 +276,9 @@ class Gateway:
             self.tables[table][name.replace('_', '-')] = value
         with open(self.file, 'w', encoding='utf-8') as file:
             for table, values in self.tables.items():
-                file.write('[%s]\n%s' % (table, ''.join('%s = %s\n' % (key, toml(value)) for key, value in values.items())))
+                file.write('[%s]\n%s' % (table,
+                                         ''.join('%s = %s\n' % (key, toml(value))
+                                                 for key, value in values.items())))
 
     def __enter__(self):
         self.start()
@@ -273,8 +291,9 @@ class Gateway:
         """Starts it, and waits until it serves."""
         environment = dict(os.environ, PYTHONPATH=FOLDER)
         with open(self.log, 'ab') as log:
-            self.process = subprocess.Popen([sys.executable, '-m', 'spmat_gateway', 'serve', '--config', self.file],
-                                            stdout=log, stderr=log, env=environment)
+            self.process = subprocess.Popen([sys.executable, '-m', 'spmat_gateway', 'serve',
+                                             '--config', self.file], stdout=log, stderr=log,
+                                            env=environment)
         if ready:
             until('the gateway is ready: ' + self.said(), self.is_ready)
 

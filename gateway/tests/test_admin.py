@@ -1,4 +1,5 @@
-"""What operators ask: the socket file, metrics, health, and that pages of others command nothing."""
+"""What operators ask: the socket file, metrics, health, and that pages of others command
+nothing."""
 import http.client
 import os
 import re
@@ -29,27 +30,37 @@ class Socket(WithGateway):
     def test_the_command(self):
         environment = dict(os.environ, PYTHONPATH=FOLDER)
         words = [sys.executable, '-m', 'spmat_gateway', '--admin', self.gateway.admin]
-        ran = subprocess.run([*words, 'users'], env=environment, stdout=subprocess.PIPE, text=True, check=True)
+        ran = subprocess.run([*words, 'users'], env=environment, stdout=subprocess.PIPE, text=True,
+                             check=True)
         self.assertRegex(ran.stdout, r'^name +group .*\nanna ')
-        ran = subprocess.run([*words, 'quota', 'nobody'], env=environment, stderr=subprocess.PIPE, text=True, check=False)
-        self.assertEqual((ran.returncode, ran.stderr), (1, 'spmat-gateway: there is no account nobody\n'))
+        ran = subprocess.run([*words, 'quota', 'nobody'], env=environment, stderr=subprocess.PIPE,
+                             text=True, check=False)
+        self.assertEqual((ran.returncode, ran.stderr),
+                         (1, 'spmat-gateway: there is no account nobody\n'))
 
     def test_tables(self):
         with self.gateway.client(self.anna) as client:
             client.ask('budget')
-            self.assertRegex(self.gateway.command('sessions'), r'(?s)id .*\n[0-9a-f]{12}  anna  127.0.0.1:\d+ .*1 T')
+            self.assertRegex(self.gateway.command('sessions'),
+                             r'(?s)id .*\n[0-9a-f]{12}  anna  127.0.0.1:\d+ .*1 T')
             self.assertEqual(self.gateway.table('status')['sessions'], 1)
         self.last()
-        self.assertRegex(self.gateway.command('ledger', 'anna'), r'[0-9a-f]{12} +anna +\d{4}-.*settled +end +exact')
-        self.assertRegex(self.gateway.command('quota', 'anna', '--memory', '1e9'), r'memory +1,000,000,000\n')
-        self.assertRegex(self.gateway.command('quota', 'anna', '--memory', 'default'), r'memory +2,147,483,648\n')
+        self.assertRegex(self.gateway.command('ledger', 'anna'),
+                         r'[0-9a-f]{12} +anna +\d{4}-.*settled +end +exact')
+        self.assertRegex(self.gateway.command('quota', 'anna', '--memory', '1e9'),
+                         r'memory +1,000,000,000\n')
+        self.assertRegex(self.gateway.command('quota', 'anna', '--memory', 'default'),
+                         r'memory +2,147,483,648\n')
         self.assertIn('steps-in-all     no limit', self.gateway.command('quota', 'anna'))
 
     def test_words_that_are_refused(self):
-        for words, said in ((('quota', 'anna', '--workers', '65'), 'workers is 1 to 64'), (('users', 'add', 'Anna'), 'a name is'),
-                            (('users', 'add'), 'wants a name'), (('users', 'add', 'x', '--group', '@none'), 'there is no group'),
+        for words, said in ((('quota', 'anna', '--workers', '65'), 'workers is 1 to 64'),
+                            (('users', 'add', 'Anna'), 'a name is'),
+                            (('users', 'add'), 'wants a name'),
+                            (('users', 'add', 'x', '--group', '@none'), 'there is no group'),
                             (('users', 'add', 'x', '--certificate', '/no/file'), 'No such file'),
-                            (('users', 'join', 'nobody', '--group', '@none'), 'no group'), (('end', ''), 'no session')):
+                            (('users', 'join', 'nobody', '--group', '@none'), 'no group'),
+                            (('end', ''), 'no session')):
             with self.subTest(words=words):
                 self.assertIn(said, self.gateway.command(*words, status=1))
         with self.assertRaises(cli.Failed):
@@ -57,10 +68,14 @@ class Socket(WithGateway):
 
     def test_nobody_commands_by_a_browser_from_elsewhere(self):
         kind = {'Content-Type': 'application/json'}
-        for headers in ({'Host': 'evil.example'}, {'Host': 'localhost:1', 'Origin': 'http://evil.example'}, {'Origin': 'null'}):
+        for headers in ({'Host': 'evil.example'},
+                        {'Host': 'localhost:1', 'Origin': 'http://evil.example'},
+                        {'Origin': 'null'}):
             with self.subTest(headers=headers):
                 self.assertEqual(self.post('/api/drain', {**kind, **headers}), 403)
-        self.assertEqual(self.post('/api/reload', {**kind, 'Host': 'localhost:9', 'Origin': 'http://localhost:9'}), 200)
+        self.assertEqual(self.post('/api/reload',
+                                   {**kind, 'Host': 'localhost:9', 'Origin': 'http://localhost:9'}),
+                         200)
         self.assertFalse(self.gateway.table('status')['draining'])
 
     def test_a_socket_file_that_a_killed_gateway_has_left(self):
@@ -90,10 +105,12 @@ class Port(WithGateway):
         self.assertEqual(values['spmat_gateway_sessions_ended_total{cause="end"}'], 1)
         self.assertEqual(values['spmat_gateway_refusals_total{reply="login"}'], 1)
         self.assertEqual(values['spmat_gateway_bytes_total{direction="in"}'], len(FIRST_SESSION))
-        self.assertEqual((values['spmat_gateway_sessions_running'], values['spmat_gateway_ledger_up'], values['spmat_gateway_seats']),
+        self.assertEqual((values['spmat_gateway_sessions_running'],
+                          values['spmat_gateway_ledger_up'], values['spmat_gateway_seats']),
                          (0, 1, 64))
         for line in text.splitlines():             # each line is a comment, or a sample
-            self.assertRegex(line, r'^(# (HELP|TYPE) spmat_gateway_\w+ .*|spmat_gateway_\w+(\{\w+="[^"]*"\})? \S+)$')
+            self.assertRegex(line, r'^(# (HELP|TYPE) spmat_gateway_\w+ '
+                             r'.*|spmat_gateway_\w+(\{\w+="[^"]*"\})? \S+)$')
 
     def test_health(self):
         self.assertEqual(self.gateway.get('/healthz'), (200, 'ok\n'))

@@ -24,17 +24,23 @@ class Python(unittest.TestCase):
                 gateway.add('anna', '--certificate', certificate)
                 tls = __import__('ssl').create_default_context(cafile=authority)
                 tls.load_cert_chain(anna)
-                for address, words in (('spmat://boris@' + url, {'token': token, 'ca': authority}), ('spmat://' + url, {'tls': tls})):
+                for address, words in (('spmat://boris@' + url, {'token': token, 'ca': authority}),
+                                       ('spmat://' + url, {'tls': tls})):
                     with spmat.Session.connect(address, **words) as s:
-                        self.assertEqual(s.from_triples([(0, 0, 41)], 1, 1).apply(lambda x: x + 1).to_list(), [42])
+                        self.assertEqual(s.from_triples([(0, 0, 41)], 1,
+                                                        1).apply(lambda x: x + 1).to_list(), [42])
                 with self.assertRaisesRegex(spmat.errors.Refused, 'another token is right'):
                     spmat.Session.connect('spmat://boris@' + url, token='wrong', ca=authority)
-                ran = subprocess.run([sys.executable, '-m', 'spmat', 'triangle-count', os.path.join(TOP, 'docs', 'karate.mtx'), '--connect',
-                                      'spmat://boris@' + url, '--cacert', authority], stdout=subprocess.PIPE, text=True, check=True,
+                ran = subprocess.run([sys.executable, '-m', 'spmat', 'triangle-count',
+                                      os.path.join(TOP, 'docs', 'karate.mtx'), '--connect',
+                                      'spmat://boris@' + url, '--cacert', authority],
+                                     stdout=subprocess.PIPE, text=True, check=True,
                                      env=dict(os.environ, SPMAT_TOKEN=token, PYTHONPATH=CLIENT))
                 self.assertEqual(ran.stdout, '45\n')
-                self.assertEqual(sorted((row['account'], row['jobs'] > 0, row['basis']) for row in gateway.sessions()),
-                                 [('anna', True, 'exact'), ('boris', True, 'exact'), ('boris', True, 'exact')])
+                self.assertEqual(sorted((row['account'], row['jobs'] > 0, row['basis'])
+                                        for row in gateway.sessions()),
+                                 [('anna', True, 'exact'), ('boris', True, 'exact'),
+                                  ('boris', True, 'exact')])
 
 
 if __name__ == '__main__':

@@ -41,7 +41,8 @@ class Files(unittest.TestCase):
 
     def test_faults(self):
         for text, words in FAULTS:
-            with self.subTest(text=text), self.assertRaisesRegex(ConfigError, 'gate.toml: .*' + words):
+            with self.subTest(text=text), \
+                    self.assertRaisesRegex(ConfigError, 'gate.toml: .*' + words):
                 self.read(text)
         with self.assertRaisesRegex(ConfigError, '/no/file: No such file'):
             config.read('/no/file')
@@ -52,11 +53,14 @@ class Files(unittest.TestCase):
         self.assertEqual(found.ledger, '/var/lib/spmat-gateway/ledger.db')
 
     def test_values(self):
-        found = self.read('[limits]\nsteps-a-day = 1e12\nmemory = 1_000_000_000\n[tls]\ncertificate = "a.pem"\n'
-                          '[gateway]\nlisten = "[::]:7173"\nledger = "postgresql://x/y"\n[engine]\ncommand = ["ssh", "{user}"]\n')
+        found = self.read(
+            '[limits]\nsteps-a-day = 1e12\nmemory = 1_000_000_000\n[tls]\ncertificate = "a.pem"\n'
+            '[gateway]\nlisten = "[::]:7173"\nledger = "postgresql://x/y"\n[engine]\ncommand = '
+            '["ssh", "{user}"]\n')
         self.assertEqual((found.limits.steps_a_day, found.limits.memory), (10 ** 12, 10 ** 9))
         self.assertEqual(config.parse_address('listen', found.gateway.listen), ('::', 7173))
-        self.assertEqual((found.ledger, found.engine.command), ('postgresql://x/y', ('ssh', '{user}')))
+        self.assertEqual((found.ledger, found.engine.command),
+                         ('postgresql://x/y', ('ssh', '{user}')))
         self.assertEqual(config.needs_restart(config.Config(), found), ('listen', 'ledger'))
 
 
@@ -74,8 +78,9 @@ class Logins(unittest.TestCase):
 
     def test_lines(self):
         self.assertEqual(users.parse_login(b'login anna t0ken\r'), users.Login('anna', 't0ken'))
-        for line in (b'', b'login', b'login anna', b'login anna a b', b'LOGIN anna a', b'login @lab a', b'login -x a', b'login a/b a',
-                     b'login \xff a', b'login ' + b'a' * 33 + b' a'):
+        for line in (b'', b'login', b'login anna', b'login anna a b', b'LOGIN anna a',
+                     b'login @lab a', b'login -x a', b'login a/b a', b'login \xff a',
+                     b'login ' + b'a' * 33 + b' a'):
             self.assertIsNone(users.parse_login(line), line)
 
 

@@ -1,6 +1,8 @@
-"""Sessions on other machines, by engines that exist: ssh, Slurm, podman; and gateways behind a balancer. `tests/gateway --all` tries them.
+"""Sessions on other machines, by engines that exist: ssh, Slurm, podman; and gateways behind a
+balancer. `tests/gateway --all` tries them.
 
-Each test starts what it needs by itself, as root: hosts in network namespaces, munge and a controller with two nodes, HAProxy.
+Each test starts what it needs by itself, as root: hosts in network namespaces, munge and a
+controller with two nodes, HAProxy.
 """
 import contextlib
 import os
@@ -11,7 +13,8 @@ import subprocess
 import time
 import unittest
 
-from .support import FIRST_SESSION, LINES, PROGRAM, Certificates, Client, Gateway, Postgres, direct, folder, free_port, until
+from .support import (FIRST_SESSION, LINES, PROGRAM, Certificates, Client, Gateway, Postgres,
+                      direct, folder, free_port, until)
 
 ASKED = bool(os.environ.get('SPMAT_GATEWAY_ALL'))
 PATH = os.pathsep.join([os.environ.get('PATH', ''), '/usr/sbin', '/sbin'])
@@ -21,14 +24,15 @@ SESSION = ' '.join([PROGRAM, 'run --steps {steps} --workers {workers} --idle {id
 def needs(*names):
     """Skips what wants root and programs."""
     missing = [name for name in names if shutil.which(name, path=PATH) is None]
-    why = 'by hand: --all' if not ASKED else 'wants root' if os.geteuid() else 'no ' + ', no '.join(missing)
+    why = ('by hand: --all' if not ASKED else 'wants root' if os.geteuid()
+           else 'no ' + ', no '.join(missing))
     return unittest.skipIf(not ASKED or bool(os.geteuid()) or bool(missing), why)
 
 
 def run(*words, check=True):
     """Runs a command of this machine; what it prints."""
-    return subprocess.run(words, env=dict(os.environ, PATH=PATH), stdout=subprocess.PIPE, stderr=subprocess.STDOUT, text=True,
-                          check=check, timeout=120).stdout
+    return subprocess.run(words, env=dict(os.environ, PATH=PATH), stdout=subprocess.PIPE,
+                          stderr=subprocess.STDOUT, text=True, check=check, timeout=120).stdout
 
 
 class Started(unittest.TestCase):
@@ -36,8 +40,9 @@ class Started(unittest.TestCase):
 
     def start(self, *words, **settings):
         """Starts a program that stays."""
-        process = subprocess.Popen(words, env=dict(os.environ, PATH=PATH, **settings), stdout=subprocess.DEVNULL,
-                                   stderr=subprocess.DEVNULL, start_new_session=True)
+        process = subprocess.Popen(words, env=dict(os.environ, PATH=PATH, **settings),
+                                   stdout=subprocess.DEVNULL, stderr=subprocess.DEVNULL,
+                                   start_new_session=True)
         self.addCleanup(self.kill, process)
         return process
 
@@ -56,7 +61,8 @@ class Started(unittest.TestCase):
 
     def check(self, gateway, charged):
         """The ledger, once all is settled: what each account is charged."""
-        until('all is settled', lambda: all(row['state'] == 'settled' for row in gateway.sessions()))
+        until('all is settled',
+              lambda: all(row['state'] == 'settled' for row in gateway.sessions()))
         self.assertEqual({user['name']: user['spent'] for user in gateway.table('users')}, charged)
         self.assertIn('all sums', gateway.command('ledger', '--check'))
 
@@ -76,7 +82,8 @@ class Hosts(Started):
         run('ip', 'link', 'set', far, 'netns', name)
         run('ip', 'addr', 'add', '10.77.%d.1/24' % number, 'dev', near)
         run('ip', 'link', 'set', near, 'up')
-        for words in (('addr', 'add', '10.77.%d.2/24' % number, 'dev', far), ('link', 'set', far, 'up'), ('link', 'set', 'lo', 'up')):
+        for words in (('addr', 'add', '10.77.%d.2/24' % number, 'dev', far),
+                      ('link', 'set', far, 'up'), ('link', 'set', 'lo', 'up')):
             run('ip', '-n', name, *words)
         return name, near, '10.77.%d.2' % number
 
@@ -90,18 +97,23 @@ class Hosts(Started):
             name, near, address = self.network(number)
             settings = os.path.join(where, 'sshd%d' % number)
             with open(settings, 'w', encoding='ascii') as file:
-                file.write('HostKey %s.host\nPidFile none\nUsePAM no\nPermitRootLogin prohibit-password\nStrictModes no\n'
+                file.write('HostKey %s.host\nPidFile none\nUsePAM no\nPermitRootLogin '
+                           'prohibit-password\nStrictModes no\n'
                            'AuthorizedKeysFile %s.pub\nListenAddress %s\n' % (key, key, address))
-            process = self.start('ip', 'netns', 'exec', name, shutil.which('sshd', path=PATH), '-D', '-e', '-f', settings)
-            lines.append('Host host%d\nHostName %s\nUser root\nIdentityFile %s\nStrictHostKeyChecking no\nUserKnownHostsFile /dev/null\n'
-                         'LogLevel ERROR\nBatchMode yes\nServerAliveInterval 1\nServerAliveCountMax 2\nConnectTimeout 5\n'
-                         % (number, address, key))
+            process = self.start('ip', 'netns', 'exec', name, shutil.which('sshd', path=PATH), '-D',
+                                 '-e', '-f', settings)
+            lines.append(
+                'Host host%d\nHostName %s\nUser root\nIdentityFile %s\nStrictHostKeyChecking '
+                'no\nUserKnownHostsFile /dev/null\n'
+                'LogLevel ERROR\nBatchMode yes\nServerAliveInterval 1\nServerAliveCountMax '
+                '2\nConnectTimeout 5\n' % (number, address, key))
             found['host%d' % number] = (process, near, name)
         with open(key + '.config', 'w', encoding='ascii') as file:
             file.write('\n'.join(lines))
         for number in (1, 2):
-            until('sshd answers', lambda number=number: run('ssh', '-F', key + '.config', 'host%d' % number, 'echo', 'yes',
-                                                            check=False).strip() == 'yes')
+            until('sshd answers',
+                  lambda number=number: run('ssh', '-F', key + '.config', 'host%d' % number, 'echo',
+                                            'yes', check=False).strip() == 'yes')
         return key + '.config', found
 
     def test_a_host_that_dies(self):
@@ -117,7 +129,8 @@ class Hosts(Started):
                 for client in (lost, staying):
                     self.spend(client)
                 _, near, name = hosts['host1']
-                run('ip', 'link', 'set', near, 'down')       # nothing is told any more, as by a machine without power
+                # nothing is told any more, as by a machine without power
+                run('ip', 'link', 'set', near, 'down')
                 began = time.monotonic()
                 self.assertEqual(lost.rest(), b'no session engine known 3\n')
                 self.assertLess(time.monotonic() - began, 15)
@@ -147,16 +160,21 @@ class Slurm(Started):
         os.makedirs(munge)
         for owned in (secret, munge):
             shutil.chown(owned, 'munge', 'munge')
-        self.start('setpriv', '--reuid=munge', '--regid=munge', '--clear-groups', 'munged', '-F', '--key-file=' + secret, '--socket=%s/s' % munge,
-                   '--pid-file=%s/pid' % munge, '--log-file=%s/log' % munge, '--seed-file=%s/seed' % munge)
-        nodes = ''.join('NodeName=n%d NodeHostname=%s NodeAddr=127.0.0.1 Port=%d CPUs=4 RealMemory=900\n' % (number, host, ports[number])
-                        for number in (1, 2))
+        self.start('setpriv', '--reuid=munge', '--regid=munge', '--clear-groups', 'munged', '-F',
+                   '--key-file=' + secret, '--socket=%s/s' % munge, '--pid-file=%s/pid' % munge,
+                   '--log-file=%s/log' % munge, '--seed-file=%s/seed' % munge)
+        nodes = ''.join(
+            'NodeName=n%d NodeHostname=%s NodeAddr=127.0.0.1 Port=%d CPUs=4 RealMemory=900\n'
+            % (number, host, ports[number]) for number in (1, 2))
         with open(path, 'w', encoding='ascii') as file:
-            file.write('ClusterName=try\nSlurmctldHost=%s(127.0.0.1)\nSlurmctldPort=%d\nSlurmUser=root\nSlurmdUser=root\nAuthType=auth/munge\n'
-                       'AuthInfo=socket=%s/s\nStateSaveLocation=%s/state\nSlurmdSpoolDir=%s/%%n\nSlurmctldPidFile=%s/ctld.pid\n'
-                       'SlurmdPidFile=%s/%%n.pid\nProctrackType=proctrack/linuxproc\nTaskPlugin=task/none\nSelectType=select/cons_tres\n'
-                       'ReturnToService=2\nSlurmdTimeout=10\nMpiDefault=none\nKillWait=2\n%sPartitionName=p Nodes=n1,n2 Default=YES\n'
-                       % (host, ports[0], munge, where, where, where, where, nodes))
+            file.write(
+                'ClusterName=try\nSlurmctldHost=%s(127.0.0.1)\nSlurmctldPort=%d\nSlurmUser=root\n'
+                'SlurmdUser=root\nAuthType=auth/munge\nAuthInfo=socket=%s/s\n'
+                'StateSaveLocation=%s/state\nSlurmdSpoolDir=%s/%%n\nSlurmctldPidFile=%s/ctld.pid\n'
+                'SlurmdPidFile=%s/%%n.pid\nProctrackType=proctrack/linuxproc\n'
+                'TaskPlugin=task/none\nSelectType=select/cons_tres\nReturnToService=2\n'
+                'SlurmdTimeout=10\nMpiDefault=none\nKillWait=2\n%sPartitionName=p Nodes=n1,n2 '
+                'Default=YES\n' % (host, ports[0], munge, where, where, where, where, nodes))
         os.makedirs(os.path.join(where, 'state'))
         until('munge answers', lambda: os.path.exists(munge + '/s'))
         self.start('slurmctld', '-D', SLURM_CONF=path)
@@ -166,15 +184,17 @@ class Slurm(Started):
             found[node] = self.start('slurmd', '-D', '-N', node, SLURM_CONF=path)
         os.environ['SLURM_CONF'] = path
         self.addCleanup(os.environ.pop, 'SLURM_CONF', None)
-        until('both nodes are idle', lambda: run('sinfo', '-h', '-N', '-o', '%t', check=False).split() == ['idle', 'idle'])
+        until('both nodes are idle', lambda: run('sinfo', '-h', '-N', '-o', '%t',
+                                                 check=False).split() == ['idle', 'idle'])
         return path, found
 
     def test_two_nodes_and_one_that_dies(self):
         with folder() as where:
             path, nodes = self.cluster(where)
-            command = ['srun', '--quiet', '--ntasks=1', '--cpus-per-task={workers}', '--mem=100', '--job-name=spmat-{session}', '--nodelist={user}',
-                       *SESSION.split()]
-            with Gateway(where, command=command, engine_stop=['scancel', '--quiet', '--name=spmat-{session}'],
+            command = ['srun', '--quiet', '--ntasks=1', '--cpus-per-task={workers}', '--mem=100',
+                       '--job-name=spmat-{session}', '--nodelist={user}', *SESSION.split()]
+            with Gateway(where, command=command,
+                         engine_stop=['scancel', '--quiet', '--name=spmat-{session}'],
                          engine_environment={'SLURM_CONF': path}) as gateway:
                 logins = [gateway.add(node) for node in nodes]
                 for login in logins:
@@ -184,7 +204,8 @@ class Slurm(Started):
                 lost, staying = (gateway.client(login) for login in logins)
                 for client in (lost, staying):
                     self.spend(client)
-                self.assertEqual(sorted(run('squeue', '-h', '-t', 'R', '-o', '%N').split()), ['n1', 'n2'])
+                self.assertEqual(sorted(run('squeue', '-h', '-t', 'R', '-o', '%N').split()),
+                                 ['n1', 'n2'])
                 for process in self.of_node(where, 'n1', nodes['n1']):
                     with contextlib.suppress(ProcessLookupError):
                         os.kill(process, signal.SIGKILL)
@@ -192,7 +213,8 @@ class Slurm(Started):
                 self.assertEqual(staying.ask('budget').split()[-1], '3')
                 gateway.command('end', gateway.table('sessions')[0]['id'])
                 self.assertEqual(staying.rest(), b'no session ended known 3\n')
-                until('no job is left', lambda: not run('squeue', '-h', '-o', '%N', '-w', 'n2').split())
+                until('no job is left', lambda: not run('squeue', '-h', '-o', '%N', '-w',
+                                                        'n2').split())
                 self.check(gateway, {'n1': 6, 'n2': 6})
 
     @staticmethod
@@ -200,7 +222,8 @@ class Slurm(Started):
         """The node's slurmd, what it has started for steps, and their children."""
         lines = [line.split(None, 2) for line in run('ps', '-eo', 'pid=,ppid=,args=').splitlines()]
         found = {process.pid} | {int(pid) for pid, _, words in lines if 'slurmstepd' in words
-                                 and os.path.exists('/proc/%s/environ' % pid) and Slurm.belongs(where, node, pid)}
+                                 and os.path.exists('/proc/%s/environ' % pid)
+                                 and Slurm.belongs(where, node, pid)}
         while True:
             more = {int(pid) for pid, parent, _ in lines if int(parent) in found} - found
             if not more:
@@ -211,7 +234,8 @@ class Slurm(Started):
     def belongs(where, node, pid):
         """Whether a step's process writes into a node's folder."""
         try:
-            return any('%s/%s/' % (where, node) in os.readlink(entry.path) for entry in os.scandir('/proc/%s/fd' % pid))
+            return any('%s/%s/' % (where, node) in os.readlink(entry.path)
+                       for entry in os.scandir('/proc/%s/fd' % pid))
         except OSError:
             return False
 
@@ -225,7 +249,8 @@ class Balanced(Started):
             pem, authority = Certificates(where).make('localhost')
             postgres = Postgres(where)
             self.addCleanup(postgres.stop)
-            keys = {'gateway_ledger': postgres.url, 'gateway_lease_seconds': 3, 'tls_certificate': pem, 'limits_sessions': 100}
+            keys = {'gateway_ledger': postgres.url, 'gateway_lease_seconds': 3,
+                    'tls_certificate': pem, 'limits_sessions': 100}
             with Gateway(where, 'one', **keys) as one, Gateway(where, 'two', **keys) as two:
                 port = self.balance(where, one, two)
                 anna = one.add('anna')
@@ -239,9 +264,12 @@ class Balanced(Started):
                 ended = [client.rest() == b'' for client in clients if not self.goes_on(client)]
                 self.assertEqual(len(ended), counts[0])
                 until('the balancer knows', lambda: self.serves(port, anna, authority))
-                until('the other has settled them', lambda: [row['state'] for row in two.sessions()].count('presumed') == counts[0])
+                until('the other has settled them',
+                      lambda: [row['state'] for row in two.sessions()].count('presumed')
+                      == counts[0])
                 self.assertIn('all sums', two.command('ledger', '--check'))
-                one.start()                        # its journal is right to the step, and the other's presumption was, too
+                # its journal is right to the step, and the other's presumption was, too
+                one.start()
                 for client in clients:
                     client.close()
                 self.check(two, {'anna': 18})
@@ -267,10 +295,13 @@ class Balanced(Started):
         """Starts HAProxy as docs/service.md has it; its port."""
         port, path = free_port(), os.path.join(where, 'haproxy.cfg')
         with open(path, 'w', encoding='ascii') as file:
-            file.write('defaults\n  mode tcp\nlisten spmat\n  bind 127.0.0.1:%d\n  timeout connect 5s\n  timeout client 1d\n  timeout server 1d\n'
-                       '  option httpchk GET /readyz\n  default-server check inter 1s fall 2\n' % port)
+            file.write('defaults\n  mode tcp\nlisten spmat\n  bind 127.0.0.1:%d\n  timeout connect '
+                       '5s\n  timeout client 1d\n  timeout server 1d\n'
+                       '  option httpchk GET /readyz\n  default-server check inter 1s fall 2\n'
+                       % port)
             for gateway in gateways:
-                file.write('  server %s 127.0.0.1:%d port %d\n' % (gateway.name, gateway.port, gateway.page))
+                file.write('  server %s 127.0.0.1:%d port %d\n'
+                           % (gateway.name, gateway.port, gateway.page))
         self.start('haproxy', '-db', '-f', path)
         until('it listens', lambda: self.listens(port))
         return port

@@ -1,4 +1,5 @@
-"""Nothing is lost and nothing charged twice where an engine, a gateway or the database is killed at any moment."""
+"""Nothing is lost and nothing charged twice where an engine, a gateway or the database is killed at
+any moment."""
 import os
 import threading
 import unittest
@@ -12,9 +13,12 @@ SEED = int(os.environ.get('SPMAT_KILL_SEED', '1'))
 
 class Kills(unittest.TestCase):
     def attack(self, gateways, postgres=None):
-        report, stop, scripts = strangers.Report(), threading.Event(), strangers.make_scripts(12, SEED, 14)
-        ports, logins = [gateway.port for gateway in gateways], [gateways[0].add('user%d' % number) for number in range(5)]
-        threads = [strangers.Good(ports, login, scripts, report, stop, SEED + number) for number, login in enumerate(logins)]
+        report, stop, scripts = strangers.Report(), threading.Event(), strangers.make_scripts(
+            12, SEED, 14)
+        ports, logins = [gateway.port for gateway in gateways], [gateways[0].add('user%d' % number)
+                                                                 for number in range(5)]
+        threads = [strangers.Good(ports, login, scripts, report, stop, SEED + number)
+                   for number, login in enumerate(logins)]
         killer = strangers.Killer(gateways, postgres, stop, SEED, 1.0)
         for thread in [*threads, killer]:
             thread.start()
@@ -34,14 +38,16 @@ class Kills(unittest.TestCase):
         for name, steps in spent.items():
             self.assertEqual(steps, sum(row['charged'] for row in rows if row['account'] == name))
         self.assertGreater(report.whole, 5)
-        print('kills: %d sessions in the ledger, %d read whole, %d cut, %d told, %d turned away, %s, %d steps'
-              % (len(rows), report.whole, report.cut, report.told, report.refused, killer.killed, sum(spent.values())))
+        print('kills: %d sessions in the ledger, %d read whole, %d cut, %d told, %d turned away, '
+              '%s, %d steps' % (len(rows), report.whole, report.cut, report.told, report.refused,
+                                killer.killed, sum(spent.values())))
 
     def settled(self, gateway):
         until('all is settled', lambda: all(row['state'] != 'open' for row in gateway.sessions()))
 
     def test_sqlite(self):
-        with folder() as where, Gateway(where, limits_session_steps=strangers.STEPS, limits_sessions=50) as gateway:
+        with folder() as where, Gateway(where, limits_session_steps=strangers.STEPS,
+                                        limits_sessions=50) as gateway:
             self.attack([gateway])
 
     @needs_postgres
@@ -50,7 +56,8 @@ class Kills(unittest.TestCase):
         with folder() as where:
             postgres = Postgres(where)
             try:
-                keys = {'limits_session_steps': strangers.STEPS, 'limits_sessions': 50, 'gateway_ledger': postgres.url,
+                keys = {'limits_session_steps': strangers.STEPS, 'limits_sessions': 50,
+                        'gateway_ledger': postgres.url,
                         'gateway_lease_seconds': 20}
                 with Gateway(where, 'one', **keys) as one, Gateway(where, 'two', **keys) as two:
                     self.attack([one, two], postgres)

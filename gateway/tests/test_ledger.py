@@ -1,4 +1,5 @@
-"""The ledger on both databases: reservations, settlements, quotas; each call bears being repeated."""
+"""The ledger on both databases: reservations, settlements, quotas; each call bears being
+repeated."""
 import random
 import threading
 import time
@@ -57,7 +58,9 @@ class OnSqlite(unittest.TestCase):
         self.ledger.accounts.add('anna')
         self.assertEqual(self.ledger.reserve('a' * 32, 'anna', DEFAULTS).steps, 100)
         self.assertEqual(self.sums('anna'), (0, 100, 1))
-        self.assertEqual(self.ledger.settle('a' * 32, Outcome(30, 'exact', 'end', jobs=(Job('B', 4, 30),))), 30)
+        self.assertEqual(self.ledger.settle('a' * 32,
+                                            Outcome(30, 'exact', 'end', jobs=(Job('B', 4, 30),))),
+                         30)
         self.assertEqual(self.sums('anna'), (30, 0, 0))
         self.assertEqual(self.ledger.jobs('a' * 32), [(0, 'B', 4, 30)])
 
@@ -88,7 +91,8 @@ class OnSqlite(unittest.TestCase):
         accounts.set_quotas('anna', {'steps_in_all': 150, 'workers': 8, 'memory': 1 << 30})
         accounts.set_quotas('@lab', {'steps_a_day': 220, 'workers': 2})
         first = self.ledger.reserve('a' * 32, 'anna', DEFAULTS)
-        self.assertEqual((first.steps, first.bounds['workers'], first.bounds['memory']), (100, 2, 1 << 30))
+        self.assertEqual((first.steps, first.bounds['workers'], first.bounds['memory']),
+                         (100, 2, 1 << 30))
         self.assertEqual(self.ledger.reserve('b' * 32, 'anna', DEFAULTS).steps, 50)
         with self.assertRaises(NoQuota) as none:
             self.ledger.reserve('c' * 32, 'anna', DEFAULTS)
@@ -139,8 +143,8 @@ class OnSqlite(unittest.TestCase):
         accounts.add('boris', fingerprint='f' * 64)
         self.assertEqual(accounts.find(Login('anna', token)).name, 'anna')
         self.assertEqual(accounts.find(Login(fingerprint='f' * 64)).name, 'boris')
-        for login in (Login('anna', token + 'x'), Login('anna', ''), Login('boris', ''), Login('nobody', token), Login(),
-                      Login(fingerprint='e' * 64)):
+        for login in (Login('anna', token + 'x'), Login('anna', ''), Login('boris', ''),
+                      Login('nobody', token), Login(), Login(fingerprint='e' * 64)):
             self.assertIsNone(accounts.find(login), login)
         with self.assertRaises(Unknown):
             accounts.add('carla', fingerprint='f' * 64)
@@ -148,10 +152,14 @@ class OnSqlite(unittest.TestCase):
     def test_words_that_are_refused(self):
         accounts = self.ledger.accounts
         accounts.add('anna')
-        for call in (lambda: accounts.add('anna'), lambda: accounts.add('-anna'), lambda: accounts.add('Anna'), lambda: accounts.add(''),
-                     lambda: accounts.add('a' * 33), lambda: accounts.add('b', '@none'), lambda: accounts.add('@g', '@g'),
-                     lambda: accounts.renew('nobody'), lambda: accounts.enable('nobody', True), lambda: accounts.refill('anna', 5, None),
-                     lambda: accounts.set_quotas('nobody', {'seconds': 5}), lambda: accounts.join('anna', 'anna')):
+        for call in (lambda: accounts.add('anna'), lambda: accounts.add('-anna'),
+                     lambda: accounts.add('Anna'), lambda: accounts.add(''),
+                     lambda: accounts.add('a' * 33), lambda: accounts.add('b', '@none'),
+                     lambda: accounts.add('@g', '@g'), lambda: accounts.renew('nobody'),
+                     lambda: accounts.enable('nobody', True),
+                     lambda: accounts.refill('anna', 5, None),
+                     lambda: accounts.set_quotas('nobody', {'seconds': 5}),
+                     lambda: accounts.join('anna', 'anna')):
             with self.assertRaises(Unknown):
                 call()
         for number in (-1, 0, 65):
@@ -171,14 +179,17 @@ class OnSqlite(unittest.TestCase):
         self.assertEqual(other.settle_lost(0.2), 1)
         self.assertEqual(self.sums('anna'), (40, 0, 0))
         row = self.ledger.report()[0]
-        self.assertEqual((row['state'], row['cause'], row['charged']), ('presumed', 'gateway-lost', 40))
-        self.assertIsNone(other.settle('a' * 32, Outcome(90, 'known', 'gateway-lost'), presume=True))
+        self.assertEqual((row['state'], row['cause'], row['charged']),
+                         ('presumed', 'gateway-lost', 40))
+        self.assertIsNone(other.settle('a' * 32, Outcome(90, 'known', 'gateway-lost'),
+                                       presume=True))
         self.assertEqual(self.ledger.settle('a' * 32, Outcome(55, 'exact', 'end')), 55)
         self.assertEqual(self.sums('anna'), (55, 0, 0))
         self.assertIsNone(self.ledger.settle('a' * 32, Outcome(70, 'exact', 'end')))
 
     def test_many_at_once(self):
-        """Eight threads with a connection each reserve and settle by chance; the model beside says what is charged."""
+        """Eight threads with a connection each reserve and settle by chance; the model beside says
+        what is charged."""
         self.ledger.accounts.add('@lab')
         for name in ('anna', 'boris'):
             self.ledger.accounts.add(name, '@lab')

@@ -1,4 +1,5 @@
-"""The page in a headless browser: in both colours and on a phone's width, with nothing from elsewhere."""
+"""The page in a headless browser: in both colours and on a phone's width, with nothing from
+elsewhere."""
 import os
 import shutil
 import socket
@@ -10,7 +11,8 @@ from .support import OPERATORS, dense, has_module, until
 from .test_sessions import WithGateway
 
 WIDTHS = {'desk': (1200, 1000), 'phone': (390, 844)}
-SHOWN = os.environ.get('SPMAT_PICTURES', '')       # a folder for pictures that somebody wants to look at
+# a folder for pictures that somebody wants to look at
+SHOWN = os.environ.get('SPMAT_PICTURES', '')
 HAS_BROWSER = all(map(shutil.which, ('chromium', 'chromedriver'))) and has_module('selenium')
 
 
@@ -50,14 +52,17 @@ class Page(WithGateway):
         super().setUpClass()
         from selenium import webdriver
         options = webdriver.ChromeOptions()
-        for word in ('--headless=new', '--no-sandbox', '--disable-dev-shm-usage', '--disable-gpu', '--hide-scrollbars'):
+        for word in ('--headless=new', '--no-sandbox', '--disable-dev-shm-usage', '--disable-gpu',
+                     '--hide-scrollbars'):
             options.add_argument(word)
         options.set_capability('goog:loggingPrefs', {'browser': 'ALL', 'performance': 'ALL'})
-        service = __import__('selenium.webdriver.chrome.service', fromlist=['Service']).Service(shutil.which('chromedriver'))
+        service = __import__('selenium.webdriver.chrome.service',
+                             fromlist=['Service']).Service(shutil.which('chromedriver'))
         cls.browser = webdriver.Chrome(service=service, options=options)
         gateway = cls.gateway
         gateway.command('users', 'add', '@lab')
-        gateway.command('quota', '@lab', '--steps-a-day', '2e9', '--sessions', '10', '--session-steps', '3e8')
+        gateway.command('quota', '@lab', '--steps-a-day', '2e9', '--sessions', '10',
+                        '--session-steps', '3e8')
         gateway.command('quota', 'anna', '--steps-in-all', '4e6', '--session-steps', '1e6')
         cls.boris = gateway.add('boris', '--group', '@lab')
         gateway.command('users', 'add', 'carla')
@@ -80,8 +85,11 @@ class Page(WithGateway):
 
     def open(self, width, colours, port=None):
         self.browser.execute_cdp_cmd('Emulation.setDeviceMetricsOverride', {
-            'width': WIDTHS[width][0], 'height': WIDTHS[width][1], 'deviceScaleFactor': 1, 'mobile': False})
-        self.browser.execute_cdp_cmd('Emulation.setEmulatedMedia', {'features': [{'name': 'prefers-color-scheme', 'value': colours}]})
+            'width': WIDTHS[width][0], 'height': WIDTHS[width][1], 'deviceScaleFactor': 1,
+            'mobile': False})
+        self.browser.execute_cdp_cmd('Emulation.setEmulatedMedia',
+                                     {'features': [{'name': 'prefers-color-scheme',
+                                                    'value': colours}]})
         self.browser.get('http://localhost:%d/' % (port or self.gateway.page))
 
     def ask(self, script):
@@ -90,15 +98,18 @@ class Page(WithGateway):
     def test_what_it_shows(self):
         self.open('desk', 'light')
         text = self.ask('document.body.innerText')
-        for words in ('ready', '3 of 64', 'anna', 'boris', '@lab', 'disabled', 'no login', 'Steps a minute'):
+        for words in ('ready', '3 of 64', 'anna', 'boris', '@lab', 'disabled', 'no login',
+                      'Steps a minute'):
             self.assertIn(words, text)
         steps = sum(row['spent'] for row in self.gateway.table('sessions'))
         self.assertGreater(steps, 9000)
         rows = self.ask('document.querySelectorAll("svg rect").length')
         self.assertEqual(rows, 60)
-        heights = self.ask('[...document.querySelectorAll("svg rect")].map(bar => bar.getBoundingClientRect().height)')
+        heights = self.ask('[...document.querySelectorAll("svg rect")].map(bar => '
+                           'bar.getBoundingClientRect().height)')
         self.assertGreater(max(heights), 20)
-        titles = self.ask('[...document.querySelectorAll("svg rect title")].map(title => title.textContent)')
+        titles = self.ask(
+            '[...document.querySelectorAll("svg rect title")].map(title => title.textContent)')
         self.assertEqual(sum(int(title.split()[1].replace(',', '')) for title in titles), steps)
 
     def test_both_colours_on_both_widths(self):
@@ -107,21 +118,27 @@ class Page(WithGateway):
             for width in WIDTHS:
                 with self.subTest(colours=colours, width=width):
                     self.open(width, colours)
-                    self.assertLessEqual(self.ask('document.documentElement.scrollWidth'), WIDTHS[width][0])
+                    self.assertLessEqual(self.ask('document.documentElement.scrollWidth'),
+                                         WIDTHS[width][0])
                     grounds[colours] = self.ask('getComputedStyle(document.body).backgroundColor')
                     self.assertGreater(self._contrast(), 4.5)
                     if SHOWN:
-                        self.browser.save_screenshot(os.path.join(SHOWN, 'page-%s-%s.png' % (width, colours)))
+                        self.browser.save_screenshot(os.path.join(SHOWN,
+                                                                  'page-%s-%s.png'
+                                                                  % (width, colours)))
         self.assertEqual(len(set(grounds.values())), 2)
 
     def _contrast(self):
         """The least contrast of a text with the ground, as WCAG defines it."""
-        pairs = self.ask('[...document.querySelectorAll("h1, h2, td, th, .soft, .warn, .good, .card")].map(one => '
-                         '[getComputedStyle(one).color, getComputedStyle(one.closest(".card") || document.body).backgroundColor])')
+        pairs = self.ask('[...document.querySelectorAll("h1, h2, td, th, .soft, .warn, .good, '
+                         '.card")].map(one => [getComputedStyle(one).color, '
+                         'getComputedStyle(one.closest(".card") || '
+                         'document.body).backgroundColor])')
 
         def light(colour):
             parts = [int(part) / 255 for part in colour[colour.index('(') + 1:-1].split(',')[:3]]
-            linear = [part / 12.92 if part <= 0.03928 else ((part + 0.055) / 1.055) ** 2.4 for part in parts]
+            linear = [part / 12.92 if part <= 0.03928 else ((part + 0.055) / 1.055) ** 2.4
+                      for part in parts]
             return 0.2126 * linear[0] + 0.7152 * linear[1] + 0.0722 * linear[2]
         found = []
         for pair in pairs:
@@ -135,12 +152,15 @@ class Page(WithGateway):
         self.browser.get_log('performance')
         self.open('desk', 'light')
         time.sleep(0.5)
-        self.assertEqual([entry for entry in self.browser.get_log('browser') if entry['level'] == 'SEVERE'], [])
-        asked = [entry['message'] for entry in self.browser.get_log('performance') if 'Network.requestWillBeSent"' in entry['message']]
+        self.assertEqual([entry for entry in self.browser.get_log('browser')
+                          if entry['level'] == 'SEVERE'], [])
+        asked = [entry['message'] for entry in self.browser.get_log('performance')
+                 if 'Network.requestWillBeSent"' in entry['message']]
         self.assertTrue(asked)
         for message in asked:
             url = message.split('"url":"')[1].split('"')[0]
-            self.assertTrue(url.startswith(('http://localhost:%d/' % self.gateway.page, 'data:')), url)
+            self.assertTrue(url.startswith(('http://localhost:%d/' % self.gateway.page, 'data:')),
+                            url)
 
     def test_a_session_is_ended_on_the_socket_alone(self):
         self.open('desk', 'light')
@@ -153,7 +173,8 @@ class Page(WithGateway):
             self.assertEqual(self.ask('document.querySelectorAll("button").length'), 4)
             self.ask('document.querySelector("tr:last-child button").click()')
             self.assertEqual(client.rest(), b'no session ended known 0\n')
-        until('the page is there again', lambda: self.ask('document.querySelectorAll("button").length') == 3)
+        until('the page is there again',
+              lambda: self.ask('document.querySelectorAll("button").length') == 3)
 
 
 if __name__ == '__main__':

@@ -1,4 +1,5 @@
-"""The counter of replies: what it says of a session is what the session says of itself, however its bytes are cut."""
+"""The counter of replies: what it says of a session is what the session says of itself, however its
+bytes are cut."""
 import random
 import unittest
 
@@ -8,7 +9,8 @@ from .support import FIRST_SESSION, LINES, OPERATORS, dense, direct
 
 MANY = LINES + OPERATORS + dense(8) + b''.join((
     b'apply B inc A\napply C inc A\nrun\n', b'show B\ndis inc\ntypes inc\nno such\nbudget\n',
-    b'product D plus times A A\nshow A\nrun\nrun\n', b'apply E inc D\nshow D\ndis plus\nrun\nbudget\nquit\n'))
+    b'product D plus times A A\nshow A\nrun\nrun\n',
+    b'apply E inc D\nshow D\ndis plus\nrun\nbudget\nquit\n'))
 
 
 def count(pieces, most_jobs=100):
@@ -22,8 +24,11 @@ class Counting(unittest.TestCase):
     def test_what_a_session_says_of_itself(self):
         replies = direct(MANY)
         counter = count([replies])
-        left, reserved, spent = map(int, [line for line in replies.split(b'\n') if line.startswith(b'ok budget')][-1].split()[2:])
-        self.assertEqual((counter.spent, counter.runs, counter.job_count, counter.queued), (spent, 4, 4, reserved))
+        left, reserved, spent = map(int,
+                                    [line for line in replies.split(b'\n')
+                                     if line.startswith(b'ok budget')][-1].split()[2:])
+        self.assertEqual((counter.spent, counter.runs, counter.job_count, counter.queued),
+                         (spent, 4, 4, reserved))
         self.assertEqual(left, 10 ** 12 - spent)
         self.assertEqual([job.name for job in counter.jobs], ['B', 'C', 'D', 'E'])
         self.assertEqual(sum(job.steps for job in counter.jobs), spent)
@@ -36,8 +41,10 @@ class Counting(unittest.TestCase):
         draw = random.Random(1)
         for _ in range(300):
             cuts = sorted(draw.randrange(len(replies)) for _ in range(draw.choice((1, 3, 40, 400))))
-            counter = count([replies[start:end] for start, end in zip([0, *cuts], [*cuts, len(replies)])])
-            self.assertEqual((counter.spent, counter.jobs, counter.queued), (whole.spent, whole.jobs, whole.queued))
+            counter = count([replies[start:end]
+                             for start, end in zip([0, *cuts], [*cuts, len(replies)])])
+            self.assertEqual((counter.spent, counter.jobs, counter.queued),
+                             (whole.spent, whole.jobs, whole.queued))
         self.assertEqual(count([bytes([byte]) for byte in replies]).spent, whole.spent)
 
     def test_a_boundary_is_where_a_line_would_be_read_as_a_reply(self):
@@ -47,24 +54,29 @@ class Counting(unittest.TestCase):
             counter.feed(memoryview(bytes([byte])))
             if counter.at_a_boundary:
                 bounds.add(at + 1)
-        ends = [replies.index(end) + len(end) for end in (b'ok matrix 1 1 1\n', b'ok op 3 3\n', b'ok queued 1 3\n', b'B 1 1 1 3\n',
-                                                         b'1 1 42\n', b'ok quit\n')]
+        ends = [replies.index(end) + len(end) for end in (b'ok matrix 1 1 1\n', b'ok op 3 3\n',
+                                                          b'ok queued 1 3\n', b'B 1 1 1 3\n',
+                                                          b'1 1 42\n', b'ok quit\n')]
         self.assertEqual(bounds, set(ends))
 
     def test_text_that_looks_like_replies(self):
-        counter = count([b'ok show 14\nok run 1 1000\n' + b'ok dis 2\nok run 1 9\nok run 1 9\nok run 0 5\n'])
+        counter = count([b'ok show 14\nok run 1 1000\n'
+                         + b'ok dis 2\nok run 1 9\nok run 1 9\nok run 0 5\n'])
         self.assertEqual((counter.spent, counter.runs), (5, 1))
 
     def test_a_refused_run_counts(self):
-        counter = count([b'ok queued 1 50\nno memory 7\nno memory\nok queued 1 20\nno thread 3\nno S8 100 4\n'])
-        self.assertEqual((counter.spent, counter.runs, counter.queued, counter.refusals), (10, 2, 0, 4))
+        counter = count(
+            [b'ok queued 1 50\nno memory 7\nno memory\nok queued 1 20\nno thread 3\nno S8 100 4\n'])
+        self.assertEqual((counter.spent, counter.runs, counter.queued, counter.refusals),
+                         (10, 2, 0, 4))
 
     def test_only_so_many_jobs_are_listed(self):
         counter = count([b'ok run 3 6\nA 1 1 1 1\nB 1 1 1 2\nC 1 1 1 3\n'], most_jobs=2)
         self.assertEqual((len(counter.jobs), counter.job_count, counter.spent), (2, 3, 6))
 
     def test_another_program(self):
-        for text in (b'Welcome to HOST\n', b'ok run x y\n', b'ok queued\n', b'a' * 70_000, b'\n', b'ok run 1 %d\n' % (1 << 63)):
+        for text in (b'Welcome to HOST\n', b'ok run x y\n', b'ok queued\n', b'a' * 70_000, b'\n',
+                     b'ok run 1 %d\n' % (1 << 63)):
             with self.assertRaises(NotAReply, msg=text[:40]):
                 count([text])
 

@@ -1,4 +1,5 @@
-"""Sessions by a gateway, on the real program: the bytes are those of a session without one, and each end is told."""
+"""Sessions by a gateway, on the real program: the bytes are those of a session without one, and
+each end is told."""
 import os
 import socket
 import struct
@@ -6,8 +7,8 @@ import threading
 import time
 import unittest
 
-from .support import (FIRST_SESSION, LINES, OPERATORS, PATIENCE, Certificates, Client, Gateway, dense, direct, engine_command, folder,
-                      limits_memory, until)
+from .support import (FIRST_SESSION, LINES, OPERATORS, PATIENCE, Certificates, Client, Gateway,
+                      dense, direct, engine_command, folder, limits_memory, until)
 
 BUSY = OPERATORS + dense(250) + b'product B plus times A A\n' * 60
 """Sixty products of some ninety million steps each, to be run: they take seconds at the least."""
@@ -43,7 +44,8 @@ class WithGateway(unittest.TestCase):
 
     def last(self, account='anna'):
         """The last session of an account, once it is settled."""
-        until('the session is settled', lambda: self.gateway.sessions(account)[0]['state'] == 'settled')
+        until('the session is settled', lambda: self.gateway.sessions(account)[0]['state']
+              == 'settled')
         return self.gateway.sessions(account)[0]
 
 
@@ -55,7 +57,8 @@ class Bytes(WithGateway):
             client.send(FIRST_SESSION)
             self.assertEqual(client.rest(), direct(FIRST_SESSION))
         row = self.last()
-        self.assertEqual((row['spent'], row['charged'], row['basis'], row['cause'], row['jobs'], row['bytes_in']),
+        self.assertEqual((row['spent'], row['charged'], row['basis'], row['cause'], row['jobs'],
+                          row['bytes_in']),
                          (3, 3, 'exact', 'end', 1, len(FIRST_SESSION)))
         jobs = self.gateway.table('ledger', '--session', row['id'])['jobs']
         self.assertEqual(jobs, [[0, 'B', 1, 3]])
@@ -90,7 +93,8 @@ class Bytes(WithGateway):
             self.assertEqual(client.rest(), direct(commands))
 
     def test_a_refusal_that_ends_a_session(self):
-        for commands in (b'matrix A 99999999999999\nquit\n', LINES + b'matrix A 50\nab', b'a' * 3000 + b'\nbudget\n'):
+        for commands in (b'matrix A 99999999999999\nquit\n', LINES + b'matrix A 50\nab',
+                         b'a' * 3000 + b'\nbudget\n'):
             with self.gateway.client(self.anna) as client:
                 client.send(commands)
                 client.socket.shutdown(socket.SHUT_WR)
@@ -119,9 +123,11 @@ class Who(WithGateway):
         boris = self.gateway.add('boris')
         group = self.gateway.add('@all')
         self.assertEqual(group.strip(), '@all')
-        for login in ('login anna wrong\n', 'login boris %s\n' % token, 'login nobody %s\n' % token, 'login anna\n', 'budget\n', '\n',
-                      'login anna %s more\n' % token, 'LOGIN anna %s\n' % token, 'login @all %s\n' % token, 'login anna%s\n' % token,
-                      'login ' + 'a' * 5000 + '\n', '\xff\xfe\n', "login anna' %s\n" % token):
+        for login in ('login anna wrong\n', 'login boris %s\n' % token, 'login nobody %s\n' % token,
+                      'login anna\n', 'budget\n', '\n', 'login anna %s more\n' % token,
+                      'LOGIN anna %s\n' % token, 'login @all %s\n' % token,
+                      'login anna%s\n' % token, 'login ' + 'a' * 5000 + '\n', '\xff\xfe\n',
+                      "login anna' %s\n" % token):
             with self.subTest(login=login[:40]):
                 self.assertEqual(self.refused(login.encode('latin-1')), b'no login\n')
         with self.gateway.client(boris) as client:
@@ -134,7 +140,8 @@ class Who(WithGateway):
         client = self.gateway.client(new)
         self.assertTrue(client.ask('budget').startswith('ok budget '))
         self.gateway.command('users', 'disable', 'carla')
-        self.assertIn(client.rest(), (b'no session disabled known 0\n', b'no session disabled exact 0\n'))
+        self.assertIn(client.rest(),
+                      (b'no session disabled known 0\n', b'no session disabled exact 0\n'))
         self.assertEqual(self.refused(('login %s\n' % new).encode()), b'no login\n')
         self.gateway.command('users', 'enable', 'carla')
         with self.gateway.client(new) as again:
@@ -176,7 +183,8 @@ class Who(WithGateway):
         for name in os.listdir(self.gateway.state):
             with open(os.path.join(self.gateway.state, name), 'rb') as file:
                 found += file.read()
-            self.assertEqual(os.stat(os.path.join(self.gateway.state, name)).st_mode & 0o077, 0, name)
+            self.assertEqual(os.stat(os.path.join(self.gateway.state, name)).st_mode & 0o077, 0,
+                             name)
         self.assertNotIn(token, found)
         self.assertNotIn(token.decode(), self.gateway.said())
 
@@ -208,7 +216,8 @@ class Secrets(unittest.TestCase):
                 client.send(FIRST_SESSION)
                 self.assertEqual(client.rest(), expected)
         self.assertEqual([row['account'] for row in gateway.sessions()], ['anna', 'carla'])
-        with gateway.client('', authority=authority, pem=boris) as client:     # is trusted, and no user
+        with gateway.client('', authority=authority, pem=boris) as client:
+            # is trusted, and no user
             self.assertEqual(client.rest(), b'no login\n')
         with self.assertRaises(OSError):
             with gateway.client('', authority=authority, pem=other) as client:
@@ -259,7 +268,8 @@ class Limits(WithGateway):
 
     def test_a_group_shares_its_quota(self):
         self.gateway.command('users', 'add', '@lab')
-        self.gateway.command('quota', '@lab', '--steps-in-all', '10', '--sessions', '2', '--workers', '3')
+        self.gateway.command('quota', '@lab', '--steps-in-all', '10', '--sessions', '2',
+                             '--workers', '3')
         erik, fay = (self.gateway.add(name, '--group', '@lab') for name in ('erik', 'fay'))
         self.gateway.command('quota', 'erik', '--session-steps', '6')
         with self.gateway.client(erik) as one, self.gateway.client(fay) as other:
@@ -267,8 +277,10 @@ class Limits(WithGateway):
             self.assertEqual(other.ask('budget'), 'ok budget 4 0 0')
             with self.gateway.client(fay) as third:
                 self.assertEqual(third.rest(), b'no busy\n')
-        until('both are settled', lambda: all(row['state'] == 'settled' for row in self.gateway.sessions('@lab')))
-        self.assertEqual(self.gateway.command('ledger', '--check').strip(), 'all sums are those of the sessions')
+        until('both are settled',
+              lambda: all(row['state'] == 'settled' for row in self.gateway.sessions('@lab')))
+        self.assertEqual(self.gateway.command('ledger', '--check').strip(),
+                         'all sums are those of the sessions')
 
     def test_seats_of_a_user(self):
         with self.gateway.client(self.anna) as client:
@@ -284,7 +296,9 @@ class Limits(WithGateway):
         self.gateway.command('quota', 'gus', '--seconds', '2')
         with self.gateway.client(gus) as client:
             client.send(LINES + b'apply B inc A\nrun\n')
-            self.assertEqual(client.rest(), direct(LINES + b'apply B inc A\nrun\n') + b'no session seconds known 3\n')
+            self.assertEqual(client.rest(),
+                             direct(LINES + b'apply B inc A\nrun\n')
+                             + b'no session seconds known 3\n')
         self.assertEqual((self.last('gus')['charged'], self.last('gus')['basis']), (3, 'known'))
 
     def test_silence(self):
@@ -305,7 +319,9 @@ class Limits(WithGateway):
     def test_memory(self):
         jo = self.gateway.add('jo')
         self.gateway.command('quota', 'jo', '--memory', str(1 << 28))
-        empty = b'matrix A %d\n%s' % (66, b'%%MatrixMarket matrix coordinate integer general\n16777216 1 0\n'.ljust(66, b'\n'))
+        empty = b'matrix A %d\n%s' % (
+            66, b'%%MatrixMarket matrix coordinate integer general\n16777216 1 0\n'.ljust(
+                66, b'\n'))
         with self.gateway.client(jo) as client:
             client.send(empty + empty.replace(b'matrix A', b'matrix B', 1) + b'quit\n')
             self.assertIn(b'no memory\n', client.rest())
@@ -314,7 +330,9 @@ class Limits(WithGateway):
         kim = self.gateway.add('kim')
         with self.gateway.client(kim) as client:
             client.send(BUSY + b'run\n')
-            until('the batch is there', lambda: any(row['user'] == 'kim' and row['queued'] for row in self.gateway.table('sessions')))
+            until('the batch is there',
+                  lambda: any(row['user'] == 'kim' and row['queued']
+                              for row in self.gateway.table('sessions')))
             row = [row for row in self.gateway.table('sessions') if row['user'] == 'kim'][0]
             self.gateway.command('end', row['id'][:8])
             self.assertTrue(client.rest().endswith(b'no session ended known 0\n'))
@@ -324,7 +342,8 @@ class Limits(WithGateway):
     def test_a_reset_amid_a_batch(self):
         client = self.gateway.client(self.anna)
         client.send(BUSY + b'run\n')
-        until('the batch is there', lambda: any(row['queued'] for row in self.gateway.table('sessions')))
+        until('the batch is there',
+              lambda: any(row['queued'] for row in self.gateway.table('sessions')))
         process = self.gateway.table('sessions')[0]['process']
         client.socket.setsockopt(socket.SOL_SOCKET, socket.SO_LINGER, struct.pack('ii', 1, 0))
         client.close()
@@ -342,7 +361,8 @@ class Engines(unittest.TestCase):
                 client.send(b'budget\n')
                 replies = client.rest()
             until('it is settled', lambda: gateway.sessions()[0]['state'] == 'settled')
-            self.assertEqual(gateway.command('ledger', '--check').strip(), 'all sums are those of the sessions')
+            self.assertEqual(gateway.command('ledger', '--check').strip(),
+                             'all sums are those of the sessions')
             return replies, gateway.sessions()[0], gateway.said()
 
     def test_no_such_program(self):
@@ -352,7 +372,8 @@ class Engines(unittest.TestCase):
 
     def test_a_program_that_fails(self):
         replies, row, said = self.ended(['sh', '-c', 'echo no such host >&2; exit 255'])
-        self.assertEqual((replies, row['cause'], row['charged']), (b'no session engine known 0\n', 'engine', 0))
+        self.assertEqual((replies, row['cause'], row['charged']),
+                         (b'no session engine known 0\n', 'engine', 0))
         self.assertIn('no such host', said)
 
     def test_another_program(self):
@@ -408,8 +429,10 @@ class Ends(unittest.TestCase):
             until('the engine has ended', lambda: not is_running(process), 5)
             gateway.start()
             row = gateway.sessions()[0]
-            self.assertEqual((row['state'], row['charged'], row['basis'], row['cause']), ('settled', 3, 'known', 'gateway-killed'))
-            self.assertEqual(gateway.command('ledger', '--check').strip(), 'all sums are those of the sessions')
+            self.assertEqual((row['state'], row['charged'], row['basis'], row['cause']),
+                             ('settled', 3, 'known', 'gateway-killed'))
+            self.assertEqual(gateway.command('ledger', '--check').strip(),
+                             'all sums are those of the sessions')
 
     def test_reload(self):
         with folder() as where, Gateway(where) as gateway:
@@ -421,7 +444,8 @@ class Ends(unittest.TestCase):
                 with gateway.client(anna) as other:
                     self.assertEqual(other.ask('budget'), 'ok budget 77 0 0')
                 gateway.set(limits_session_steps='many')
-                self.assertIn('[limits] session-steps is a whole number', gateway.command('reload', status=1))
+                self.assertIn('[limits] session-steps is a whole number',
+                              gateway.command('reload', status=1))
                 with gateway.client(anna) as other:
                     self.assertEqual(other.ask('budget'), 'ok budget 77 0 0')
                 self.assertEqual(client.ask('budget'), 'ok budget 1000000000000 0 0')

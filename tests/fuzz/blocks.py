@@ -1,11 +1,14 @@
 #!/usr/bin/env python3
 """tests/fuzz/blocks.py SECONDS [--seed N] [--dask] [--kills] [--weather slow|budget|memory]
 
-Compares blocks with one session on random graphs for SECONDS seconds: every public method of Session and Matrix and every algorithm, by the
-calls of clients/python/tests/alike.py, in 1, 2, 3 and 7 blocks, over threads, or with --dask over three workers of Dask. --kills kills a
-program, or with Dask a worker or its program, at a random moment of each algorithm. --weather also makes a program slow (it stands still most of
-the time), ends the budget during the work, or gives programs little memory; a call may then be refused for that. The last line has kinds, counts
-and differences; the status is 1 if there are any differences. The same seed gives the same graphs. It needs SPMAT, or `spmat` on the PATH."""
+Compares blocks with one session on random graphs for SECONDS seconds: every public method of
+Session and Matrix and every algorithm, by the calls of clients/python/tests/alike.py, in 1, 2, 3
+and 7 blocks, over threads, or with --dask over three workers of Dask. --kills kills a program, or
+with Dask a worker or its program, at a random moment of each algorithm. --weather also makes a
+program slow (it stands still most of the time), ends the budget during the work, or gives programs
+little memory; a call may then be refused for that. The last line has kinds, counts and differences;
+the status is 1 if there are any differences. The same seed gives the same graphs. It needs SPMAT,
+or `spmat` on the PATH."""
 import argparse
 import collections
 import contextlib
@@ -18,9 +21,11 @@ import tempfile
 import threading
 import time
 
-sys.path[0] = os.path.dirname(os.path.dirname(os.path.dirname(os.path.realpath(__file__))))     # modules are named from the top
+# modules are named from the top
+sys.path[0] = os.path.dirname(os.path.dirname(os.path.dirname(os.path.realpath(__file__))))
 
-from tests.lib.paths import CLIENT, CLIENT_TESTS  # noqa: E402  # pylint: disable=wrong-import-position
+# pylint: disable-next=wrong-import-position
+from tests.lib.paths import CLIENT, CLIENT_TESTS  # noqa: E402
 from tools import numpy_python  # noqa: E402  # pylint: disable=wrong-import-position
 
 numpy_python.use()
@@ -42,7 +47,8 @@ def program_of(settings):
     return None if store is None else store.session.connection.process
 
 
-WORDS = {'slow': (), 'budget': ('BudgetExceeded',), 'memory': ('OutOfMemory', 'BlockFailed')}     # what weather may have said of a call
+# what weather may have said of a call
+WORDS = {'slow': (), 'budget': ('BudgetExceeded',), 'memory': ('OutOfMemory', 'BlockFailed')}
 
 
 def stutter(processes, end):
@@ -59,15 +65,19 @@ class Comparison:
     """Counts what was compared, and what differed."""
 
     def __init__(self, one, many, options, end):
-        self.one, self.many, self.kills, self.weather, self.end = one, many, options.kills, options.weather, end
-        self.counts, self.differ, self.killed, self.longest = collections.Counter(), collections.Counter(), 0, 0.0
+        self.one, self.many, self.kills, self.weather, self.end = (one, many, options.kills,
+                                                                   options.weather, end)
+        self.counts, self.differ, self.killed, self.longest = (collections.Counter(),
+                                                               collections.Counter(), 0, 0.0)
 
     def look(self, kind, about, want, call, words):
         """One call in blocks."""
         begun = time.monotonic()
         got = alike.outcome(call)
         self.longest = max(self.longest, time.monotonic() - begun)
-        if self.weather and isinstance(got, tuple) and got[:1] == ('refused',) and got[1] in WORDS[self.weather]:
+        if self.weather and isinstance(got,
+                                       tuple) and got[:1] == (
+                                           'refused',) and got[1] in WORDS[self.weather]:
             kind = 'refused'
         self.counts[kind] += 1
         if got != want and kind != 'refused':
@@ -77,7 +87,8 @@ class Comparison:
     def round(self, seed):
         """All calls on the graphs of a seed."""
         chance = random.Random(seed)
-        for kind, graph in alike.graphs_of(random.Random(seed), chance.choice((3, 9, 20, 60))).items():
+        for kind, graph in alike.graphs_of(random.Random(seed),
+                                           chance.choice((3, 9, 20, 60))).items():
             words, session = chance.choice(list(self.many.items()))
             one = alike.Made(self.one, graph, random.Random(seed))
             try:
@@ -88,9 +99,11 @@ class Comparison:
                 self.counts['not loaded'] += 1
                 continue
             for name, calls in () if self.kills else alike.METHODS.items():
-                mask = alike.MASKS[chance.choice(list(alike.MASKS)) if name in alike.MASKED else 'none']
+                mask = alike.MASKS[chance.choice(list(alike.MASKS)) if name in alike.MASKED
+                                   else 'none']
                 for number, call in enumerate(calls):
-                    self.look('method', (seed, kind, name, number), alike.outcome(lambda: call(one, mask(one.K))),
+                    self.look('method', (seed, kind, name, number),
+                              alike.outcome(lambda: call(one, mask(one.K))),
                               lambda: call(made, mask(made.K)), words)
             for name, calls in alike.ALGORITHMS.items():
                 for number, call in enumerate(calls):
@@ -98,7 +111,8 @@ class Comparison:
                         return
                     want = alike.outcome(lambda: call(one.G))
                     with self.killing(chance, session):
-                        self.look('algorithm', (seed, kind, name, number), want, lambda: call(made.G), words)
+                        self.look('algorithm', (seed, kind, name, number), want,
+                                  lambda: call(made.G), words)
 
     @contextlib.contextmanager
     def killing(self, chance, session):
@@ -114,7 +128,8 @@ class Comparison:
 
     @staticmethod
     def replace_lost(engine):
-        """Has the cluster begin other workers for those that their nannies lost, as Dask does under load."""
+        """Has the cluster begin other workers for those that their nannies lost, as Dask does under
+        load."""
         if isinstance(engine, blocks.Threads):
             return
         cluster, client = engine._client.cluster, engine._client
@@ -132,7 +147,9 @@ class Comparison:
         """The programs of the first of the blocks that are compared."""
         session = next(iter(self.many.values()))
         if isinstance(session.engine, blocks.Threads):
-            return [store.session.connection.process for (token, _), store in list(session.engine._stores.items()) if token == session.settings.token]
+            return [store.session.connection.process
+                    for (token, _), store in list(session.engine._stores.items())
+                    if token == session.settings.token]
         found = session.engine._client.run(program_of, session.settings, on_error='ignore')
         return [process for process in found.values() if isinstance(process, int)]
 
@@ -140,10 +157,14 @@ class Comparison:
         """Kills a program, or a worker of Dask."""
         engine = session.engine
         if isinstance(engine, blocks.Threads):
-            processes = [store.session.connection.process for store in list(engine._stores.values())]
+            processes = [store.session.connection.process
+                         for store in list(engine._stores.values())]
         else:
             function, args = chance.choice(((os.getpid, ()), (program_of, (session.settings,))))
-            processes = [process for process in engine._client.run(function, *args, on_error='ignore').values() if isinstance(process, int)]
+            processes = [process
+                         for process in engine._client.run(function, *args,
+                                                           on_error='ignore').values()
+                         if isinstance(process, int)]
             engine._client.wait_for_workers(1, timeout=60)
         with contextlib.suppress(ProcessLookupError):
             if processes:
@@ -155,25 +176,34 @@ def settings(weather, chance):
     """What sessions are opened with."""
     if weather == 'budget':
         return {'steps': chance.choice((30_000, 90_000))}
-    return {'program': ['sh', '-c', 'ulimit -v 7000; exec "$0" "$@"', spmat._client.server_program.program_words(None)[0]]} if weather == 'memory' else {}
+    return ({'program': ['sh', '-c', 'ulimit -v 7000; exec "$0" "$@"',
+                         spmat._client.server_program.program_words(None)[0]]}
+            if weather == 'memory' else {})
 
 
 def sessions(stack, options):
     """Blocks to compare with, by what they are."""
     more = settings(options.weather, random.Random(options.seed))
     if not options.dask:
-        return {'%d sessions, %s blocks' % (count, several or count): stack.enter_context(blocks.Sessions(count, blocks=several, **more))
+        return {'%d sessions, %s blocks' % (count,
+                                            several
+                                            or count): stack.enter_context(
+                                                blocks.Sessions(count, blocks=several, **more))
                 for count, several in ((1, None), (2, None), (3, None), (2, 7))}
     from distributed import Client, LocalCluster
     folder = stack.enter_context(tempfile.TemporaryDirectory())
-    cluster = stack.enter_context(LocalCluster(n_workers=WORKERS, threads_per_worker=1, dashboard_address=None, local_directory=folder,
+    cluster = stack.enter_context(LocalCluster(n_workers=WORKERS, threads_per_worker=1,
+                                               dashboard_address=None, local_directory=folder,
                                                silence_logs=logging.CRITICAL))
     client = stack.enter_context(Client(cluster))
-    return {'Dask, %d blocks' % count: stack.enter_context(blocks.Sessions(blocks.Dask(client), blocks=count, **more)) for count in (2, 3, 7)}
+    return {'Dask, %d blocks'
+            % count: stack.enter_context(blocks.Sessions(blocks.Dask(client), blocks=count, **more))
+            for count in (2, 3, 7)}
 
 
 def main():
-    parser = argparse.ArgumentParser(description=__doc__, formatter_class=argparse.RawDescriptionHelpFormatter)
+    parser = argparse.ArgumentParser(description=__doc__,
+                                     formatter_class=argparse.RawDescriptionHelpFormatter)
     parser.add_argument('seconds', type=float)
     parser.add_argument('--seed', type=int, default=1)
     parser.add_argument('--dask', action='store_true')
@@ -182,15 +212,19 @@ def main():
     options = parser.parse_args()
     with contextlib.ExitStack() as stack:
         one, many = stack.enter_context(spmat.Session()), sessions(stack, options)
-        seed, comparison = options.seed, Comparison(one, many, options, time.monotonic() + options.seconds)
+        seed, comparison = options.seed, Comparison(one, many, options,
+                                                    time.monotonic() + options.seconds)
         if options.weather == 'slow':
-            threading.Thread(target=stutter, args=(comparison.programs, lambda: comparison.end), daemon=True).start()
+            threading.Thread(target=stutter, args=(comparison.programs, lambda: comparison.end),
+                             daemon=True).start()
         while time.monotonic() < comparison.end:
             comparison.round(seed)
             seed += 1
-        print('blocks: seeds %d to %d, compared %s, killed %d, made again %d, longest %.1f s, differences %d' % (
-            options.seed, seed - 1, dict(comparison.counts), comparison.killed,
-            sum(session.again for session in comparison.many.values()), comparison.longest, sum(comparison.differ.values())), flush=True)
+        print('blocks: seeds %d to %d, compared %s, killed %d, made again %d, longest %.1f s, '
+              'differences %d' % (
+                  options.seed, seed - 1, dict(comparison.counts), comparison.killed,
+                  sum(session.again for session in comparison.many.values()), comparison.longest,
+                  sum(comparison.differ.values())), flush=True)
         sys.stdout.flush()
         os._exit(1 if comparison.differ else 0)
 

@@ -15,7 +15,8 @@ Positions = Dict[Tuple[int, int], int]
 
 
 class Written(NamedTuple):
-    """A matrix before it is written: sizes, its entries from 1, and the words of line 1 behind `coordinate`."""
+    """A matrix before it is written: sizes, its entries from 1, and the words of line 1 behind
+    `coordinate`."""
 
     rows: int
     columns: int
@@ -34,15 +35,16 @@ def value(rng: random.Random) -> int:
 
 
 def index(rng: random.Random, size: int) -> int:
-    """An index from 1. Some come often, so that the entries of two large matrices have positions in common."""
+    """An index from 1. Some come often, so that the entries of two large matrices have positions in
+    common."""
     if size > 9 and rng.random() < 0.6:
         return min(size, rng.choice([1, 2, 3, 64, 65, 256, 257, size]))
     return rng.randrange(size) + 1
 
 
 def random_matrix(rng: random.Random, rows: int, columns: int) -> Written:
-    """A matrix of these sizes with some entries; here and there with all that it can have, or with all of them in one row, in one
-    column or on the diagonal."""
+    """A matrix of these sizes with some entries; here and there with all that it can have, or with
+    all of them in one row, in one column or on the diagonal."""
     pattern, symmetric = rng.random() < 0.1, rows == columns and rng.random() < 0.2
     way = rng.random()
     positions: Positions = {}
@@ -60,7 +62,8 @@ def random_matrix(rng: random.Random, rows: int, columns: int) -> Written:
         positions[i, j] = value(rng)
     if symmetric:
         positions = {(max(at), min(at)): positions[at] for at in positions}
-    return Written(rows, columns, [(*at, positions[at]) for at in sorted(positions)], pattern, symmetric)
+    return Written(rows, columns, [(*at, positions[at]) for at in sorted(positions)], pattern,
+                   symmetric)
 
 
 def matrix_text(rng: random.Random, matrix: Written) -> bytes:
@@ -69,14 +72,16 @@ def matrix_text(rng: random.Random, matrix: Written) -> bytes:
     entries = list(matrix.entries)
     if not plain:
         rng.shuffle(entries)
-    lines = [banner(rng, matrix, plain), joined(rng, [matrix.rows, matrix.columns, len(entries)], plain)]
+    lines = [banner(rng, matrix, plain), joined(rng, [matrix.rows, matrix.columns, len(entries)],
+                                                plain)]
     for i, j, word in entries:
         if matrix.symmetric and rng.random() < 0.3:
             i, j = j, i
         lines.append(joined(rng, [i, j] if matrix.pattern else [i, j, word], plain))
     if not plain:
         for _ in range(rng.choice([0, 0, 1, 3])):
-            lines.insert(rng.randrange(1, len(lines) + 1), rng.choice(['', ' ', '%', '% 1 1 1', '\t%%x', '%\xff\0']))
+            lines.insert(rng.randrange(1, len(lines) + 1),
+                         rng.choice(['', ' ', '%', '% 1 1 1', '\t%%x', '%\xff\0']))
     if rng.random() < 0.14:
         lines = spoilt(rng, lines, matrix)
     text = ended(rng, [line.encode('latin-1') for line in lines], plain)
@@ -84,7 +89,8 @@ def matrix_text(rng: random.Random, matrix: Written) -> bytes:
 
 
 def banner(rng: random.Random, matrix: Written, plain: bool) -> str:
-    words = ['matrix', 'coordinate', 'pattern' if matrix.pattern else 'integer', 'symmetric' if matrix.symmetric else 'general']
+    words = ['matrix', 'coordinate', 'pattern' if matrix.pattern else 'integer',
+             'symmetric' if matrix.symmetric else 'general']
     if not plain:
         words = [rng.choice([word, word.upper(), word.title()]) for word in words]
     words.insert(0, '%%MatrixMarket')
@@ -105,28 +111,31 @@ def spoilt(rng: random.Random, lines: List[str], matrix: Written) -> List[str]:
 
 def spoil_line_1(rng: random.Random, lines: List[str], matrix: Written) -> List[str]:
     words = lines[0].split()
-    lines[0] = rng.choice(['', '%', ' '.join(words[:-1]), ' '.join(words + ['x']), lines[0].replace('%%Matrix', '%%matrix'),
-                           lines[0][1:]])
+    lines[0] = rng.choice(['', '%', ' '.join(words[:-1]), ' '.join(words + ['x']),
+                           lines[0].replace('%%Matrix', '%%matrix'), lines[0][1:]])
     return lines if rng.random() < 0.8 else []
 
 
 def spoil_word_of_line_1(rng: random.Random, lines: List[str], matrix: Written) -> List[str]:
     words = lines[0].split()
-    others = ['real', 'array', 'complex', 'hermitian', 'skew-symmetric', 'vector', 'integer', 'general', 'symmetrical']
+    others = ['real', 'array', 'complex', 'hermitian', 'skew-symmetric', 'vector', 'integer',
+              'general', 'symmetrical']
     words[rng.randrange(1, 5)] = rng.choice(others)
     lines[0] = ' '.join(words)
     return lines
 
 
 def spoil_sizes(rng: random.Random, lines: List[str], matrix: Written) -> List[str]:
-    wrong = ['2 -2 0', '2 2', '2 2 0 0', 'x 2 0', '2 2 1.0', '+ 2 0', '-1 1 1', '2,2 0 0', '99999999999999999999 -1 0']
+    wrong = ['2 -2 0', '2 2', '2 2 0 0', 'x 2 0', '2 2 1.0', '+ 2 0', '-1 1 1', '2,2 0 0',
+             '99999999999999999999 -1 0']
     lines[1] = rng.choice(wrong)
     return lines if rng.random() < 0.8 else lines[:1] + rng.choice([[], [''], ['%', '']])
 
 
 def spoil_limits(rng: random.Random, lines: List[str], matrix: Written) -> List[str]:
     sizes = [str(matrix.rows), str(matrix.columns), str(len(matrix.entries))]
-    limits = [MOST_SIDE + 1, MOST_SIDE + 1, MOST_SIDE // 2, MOST_SIDE // 2 + 1, 1 << 32, 1 << 64, (1 << 64) + 1, 10 ** 40]
+    limits = [MOST_SIDE + 1, MOST_SIDE + 1, MOST_SIDE // 2, MOST_SIDE // 2 + 1, 1 << 32, 1 << 64,
+              (1 << 64) + 1, 10 ** 40]
     sizes[rng.randrange(3)] = str(rng.choice(limits))
     lines[1] = ' '.join(sizes)
     if rng.random() < 0.5:
@@ -142,11 +151,13 @@ def spoil_shape(rng: random.Random, lines: List[str], matrix: Written) -> List[s
 
 
 def spoil_entry(rng: random.Random, lines: List[str], matrix: Written) -> List[str]:
-    """An entry with a word that isn't right, in its form or in its size, or with a wrong number of words."""
+    """An entry with a word that isn't right, in its form or in its size, or with a wrong number of
+    words."""
     at = rng.randrange(2, len(lines)) if len(lines) > 2 else 1
     words = lines[at].split() or ['1']
-    wrong = ['x', '-', '+', '-1', '0', '1.0', '1e3', '', '7 7', str(matrix.rows + 1), str(matrix.columns + 1), '0' * 40 + '1',
-             '9223372036854775807', '9223372036854775808', '-9223372036854775808', '-9223372036854775809', '1' * 80]
+    wrong = ['x', '-', '+', '-1', '0', '1.0', '1e3', '', '7 7', str(matrix.rows + 1),
+             str(matrix.columns + 1), '0' * 40 + '1', '9223372036854775807', '9223372036854775808',
+             '-9223372036854775808', '-9223372036854775809', '1' * 80]
     words[rng.randrange(len(words))] = rng.choice(wrong)
     lines[at] = ' '.join(words)
     return lines
@@ -177,5 +188,6 @@ def spoil_length(rng: random.Random, lines: List[str], matrix: Written) -> List[
     return lines
 
 
-SPOILERS = {'M1': spoil_line_1, 'M2': spoil_word_of_line_1, 'M3': spoil_sizes, 'M4': spoil_limits, 'M5 M6 M7': spoil_entry,
+SPOILERS = {'M1': spoil_line_1, 'M2': spoil_word_of_line_1, 'M3': spoil_sizes, 'M4': spoil_limits,
+            'M5 M6 M7': spoil_entry,
             'M8 M9 M10': spoil_count, 'M11': spoil_length, 'M12': spoil_shape}

@@ -1,25 +1,33 @@
-"""Random operators: programs whose registers, places and stored bytes are followed while they are written, so that most are
-accepted."""
+"""Random operators: programs whose registers, places and stored bytes are followed while they are
+written, so that most are accepted."""
 import random
 import struct
 from typing import Dict, List, NamedTuple, Set
 from reference.instructions import BY_MNEMONIC, SPELLINGS, TOP, Spelling
 from reference.machine import OPERANDS
 
-CORNERS = [0, 1, -1, 2, -2, 3, 7, -8, 15, 16, 31, 32, 33, 63, 64, 65, 127, 128, -128, 255, 256, 32767, -32768, 65535, 65536,
-           (1 << 31) - 1, -(1 << 31)]
-WIDE_CORNERS = CORNERS + [1 << 31, (1 << 32) - 1, 1 << 32, -(1 << 32), (1 << 63) - 1, -(1 << 63), -(1 << 63) + 1]
+CORNERS = [0, 1, -1, 2, -2, 3, 7, -8, 15, 16, 31, 32, 33, 63, 64, 65, 127, 128, -128, 255, 256,
+           32767, -32768, 65535, 65536, (1 << 31) - 1, -(1 << 31)]
+WIDE_CORNERS = CORNERS + [1 << 31, (1 << 32) - 1, 1 << 32, -(1 << 32), (1 << 63) - 1, -(1 << 63),
+                          -(1 << 63) + 1]
 COMMON = {
     'unary': ['mov64 r0, r1\nadd64 r0, 1\nexit\n', 'mov64 r0, r1\nexit\n', 'mov64 r0, 1\nexit\n',
-              'mov64 r0, 7\njsgt64 r1, 7, 1\nexit\nmov64 r0, r1\nexit\n', 'mov64 r0, r1\nneg64 r0\nexit\n'],
-    'binary': ['mov64 r0, r1\nadd64 r0, r2\nexit\n', 'mov64 r0, r1\nsub64 r0, r2\nexit\n', 'mov64 r0, r1\nmul64 r0, r2\nexit\n',
-               'mov64 r0, r1\njsle64 r1, r2, 1\nmov64 r0, r2\nexit\n', 'mov64 r0, r2\njgt64 r2, r1, 1\nmov64 r0, r1\nexit\n',
-               'mov64 r0, r1\nexit\n', 'mov64 r0, r2\nexit\n', 'mov64 r0, 1\nexit\n', 'mov64 r0, r1\nor64 r0, r2\nexit\n',
-               'mov64 r0, r1\nand64 r0, r2\nexit\n', 'mov64 r0, r1\nsdiv64 r0, r2\nexit\n', 'mov64 r0, r1\nmod32 r0, r2\nexit\n'],
-    'index': ['mov64 r0, 0\njle64 r2, r3, 1\nmov64 r0, 1\nexit\n', 'mov64 r0, r4\nexit\n', 'mov64 r0, r1\nsub64 r0, r4\nexit\n',
-              'mov64 r0, 1\njeq64 r2, r3, 1\nmov64 r0, 0\nexit\n', 'mov64 r0, r1\nexit\n', 'mov64 r0, r2\nadd64 r0, r3\nexit\n'],
+              'mov64 r0, 7\njsgt64 r1, 7, 1\nexit\nmov64 r0, r1\nexit\n',
+              'mov64 r0, r1\nneg64 r0\nexit\n'],
+    'binary': ['mov64 r0, r1\nadd64 r0, r2\nexit\n', 'mov64 r0, r1\nsub64 r0, r2\nexit\n',
+               'mov64 r0, r1\nmul64 r0, r2\nexit\n',
+               'mov64 r0, r1\njsle64 r1, r2, 1\nmov64 r0, r2\nexit\n',
+               'mov64 r0, r2\njgt64 r2, r1, 1\nmov64 r0, r1\nexit\n', 'mov64 r0, r1\nexit\n',
+               'mov64 r0, r2\nexit\n', 'mov64 r0, 1\nexit\n', 'mov64 r0, r1\nor64 r0, r2\nexit\n',
+               'mov64 r0, r1\nand64 r0, r2\nexit\n', 'mov64 r0, r1\nsdiv64 r0, r2\nexit\n',
+               'mov64 r0, r1\nmod32 r0, r2\nexit\n'],
+    'index': ['mov64 r0, 0\njle64 r2, r3, 1\nmov64 r0, 1\nexit\n', 'mov64 r0, r4\nexit\n',
+              'mov64 r0, r1\nsub64 r0, r4\nexit\n',
+              'mov64 r0, 1\njeq64 r2, r3, 1\nmov64 r0, 0\nexit\n', 'mov64 r0, r1\nexit\n',
+              'mov64 r0, r2\nadd64 r0, r3\nexit\n'],
 }
-UNSET, NUMBER, MIXED = 'unset', 'number', 'mixed'       # else a register holds a place, by its distance
+# else a register holds a place, by its distance
+UNSET, NUMBER, MIXED = 'unset', 'number', 'mixed'
 WORKING = [each for each in SPELLINGS if each.group == 'arithmetic']
 CONDITIONS = [each for each in SPELLINGS if each.group == 'jump' and each.action != 'ja']
 LOADS = [each for each in SPELLINGS if each.group == 'load']
@@ -62,14 +70,16 @@ def immediate(rng: random.Random, bits: int = 32) -> int:
 
 
 class Writer:
-    """Writes lines, and knows what each register holds behind them and which bytes of the stack are stored. A careless one takes a
-    register here and there that holds something else, or nothing, and loads from anywhere."""
+    """Writes lines, and knows what each register holds behind them and which bytes of the stack are
+    stored. A careless one takes a register here and there that holds something else, or nothing,
+    and loads from anywhere."""
 
     def __init__(self, rng: random.Random, kind: str, careless: bool = False) -> None:
         self.rng = rng
         self.careless = careless
         numbers = range(1, 1 + OPERANDS[kind])
-        self.holds: List[object] = [0 if r == TOP else NUMBER if r in numbers else UNSET for r in range(TOP + 1)]
+        self.holds: List[object] = [0 if r == TOP else NUMBER if r in numbers else UNSET
+                                    for r in range(TOP + 1)]
         self.stored: Set[int] = set()
         self.ever_stored: Set[int] = set()
 
@@ -77,7 +87,8 @@ class Writer:
         return self.careless and self.rng.random() < 0.07
 
     def registers(self) -> List[int]:
-        """Those that hold a number; or what a careless writer takes for them, most of all those that paths set differently."""
+        """Those that hold a number; or what a careless writer takes for them, most of all those
+        that paths set differently."""
         if self.slips():
             return [r for r, held in enumerate(self.holds) if held == MIXED] or list(range(TOP + 1))
         return [r for r, held in enumerate(self.holds) if held == NUMBER]
@@ -99,7 +110,8 @@ class Writer:
         lines = self.block(length, 3)
         numbers = self.registers()
         if self.holds[0] != NUMBER:
-            lines.append(line(MOVE, dst=0, src=self.rng.choice(numbers)) if numbers else line(SET, dst=0, imm=immediate(self.rng)))
+            lines.append(line(MOVE, dst=0, src=self.rng.choice(numbers)) if numbers
+                         else line(SET, dst=0, imm=immediate(self.rng)))
         if numbers and self.rng.random() < 0.6:
             mixed = self.rng.sample(numbers, min(len(numbers), self.rng.choice([1, 2, 4])))
             lines += [line(self.rng.choice([PLUS, XOR]), dst=0, src=register) for register in mixed]
@@ -159,13 +171,15 @@ class Writer:
         base, numbers = self.rng.choice(self.places()), self.registers()
         if 'src' in spelling.fields and not numbers:
             return []
-        at = self.rng.choice([-size, -8, -16, -size - self.rng.randrange(24), -512, -size - self.rng.randrange(513 - size)])
+        at = self.rng.choice([-size, -8, -16, -size - self.rng.randrange(24), -512,
+                              -size - self.rng.randrange(513 - size)])
         if self.slips():
             at = self.rng.choice([-513, -512, 1 - size, -1, 0])
         self.stored.update(range(at, at + size))
         self.ever_stored.update(range(at, at + size))
         fields = {'dst': base, 'offset': at - self.distance(base)}
-        fields.update({'src': self.rng.choice(numbers)} if 'src' in spelling.fields else {'imm': immediate(self.rng)})
+        fields.update({'src': self.rng.choice(numbers)} if 'src' in spelling.fields
+                      else {'imm': immediate(self.rng)})
         return [Line(spelling, fields)]
 
     def load(self) -> List[Line]:
@@ -183,12 +197,14 @@ class Writer:
         return [loaded]
 
     def branch(self, length: int, depth: int) -> List[Line]:
-        """A condition over some lines; with what is done otherwise behind them, or an end of the program in them, or neither."""
+        """A condition over some lines; with what is done otherwise behind them, or an end of the
+        program in them, or neither."""
         spelling, numbers = self.rng.choice(CONDITIONS), self.registers()
         if not numbers:
             return []
         fields = {'dst': self.rng.choice(numbers)}
-        fields.update({'src': self.rng.choice(numbers)} if 'src' in spelling.fields else {'imm': immediate(self.rng)})
+        fields.update({'src': self.rng.choice(numbers)} if 'src' in spelling.fields
+                      else {'imm': immediate(self.rng)})
         before = list(self.holds), set(self.stored)
         inner = self.block(self.rng.randrange(1 + min(length, 5)), depth)
         way = self.rng.random()
@@ -202,7 +218,8 @@ class Writer:
             other = self.block(self.rng.randrange(4), depth)
             self.meet(*one)
             skipped = sum(each.slots for each in other)
-            inner.append(line(SKIP, offset=skipped) if self.rng.random() < 0.7 else line(SKIP_FAR, imm=skipped))
+            inner.append(line(SKIP, offset=skipped) if self.rng.random() < 0.7
+                         else line(SKIP_FAR, imm=skipped))
         else:
             other = []
             self.meet(*before)
@@ -211,12 +228,14 @@ class Writer:
 
     def meet(self, holds: List[object], stored: Set[int]) -> None:
         """What is known where another way comes in."""
-        self.holds = [a if a == b else UNSET if UNSET in (a, b) else MIXED for a, b in zip(self.holds, holds)]
+        self.holds = [a if a == b else UNSET if UNSET in (a, b) else MIXED
+                      for a, b in zip(self.holds, holds)]
         self.stored &= stored
 
 
 def random_lines(rng: random.Random, kind: str) -> List[Line]:
-    length = rng.choice([0, 1, 2, 3, 4, 5, 6, 8, 10, 14, 20, 30]) if rng.random() < 0.985 else rng.choice([100, 400])
+    length = (rng.choice([0, 1, 2, 3, 4, 5, 6, 8, 10, 14, 20, 30]) if rng.random() < 0.985
+              else rng.choice([100, 400]))
     return Writer(rng, kind, rng.random() < 0.12).program(length)
 
 
@@ -238,7 +257,8 @@ def spoil(rng: random.Random, lines: List[Line]) -> List[Line]:
             lines[at], lines[other] = lines[other], lines[at]
         elif spelling.fields:
             field = rng.choice(spelling.fields)
-            lines[at] = Line(spelling, {**fields, field: spoilt_field(rng, spelling, field, fields[field])})
+            lines[at] = Line(spelling,
+                             {**fields, field: spoilt_field(rng, spelling, field, fields[field])})
         if not lines:
             lines.append(line(EXIT))
     return lines
@@ -258,7 +278,8 @@ def random_line(rng: random.Random) -> Line:
     fields = {}
     for field in spelling.fields:
         small = rng.choice([-512, -16, -8, -4, -1, 0, 1, 2, 3])
-        fields[field] = rng.randrange(TOP + 1) if field in ('dst', 'src') else small if field == 'offset' else immediate(rng)
+        fields[field] = (rng.randrange(TOP + 1) if field in ('dst', 'src') else small
+                         if field == 'offset' else immediate(rng))
     return Line(spelling, fields)
 
 
@@ -268,7 +289,8 @@ def code_of(lines: List[Line]) -> bytes:
     for spelling, given in lines:
         fields = {'dst': 0, 'src': 0, 'offset': spelling.offset, 'imm': spelling.imm, **given}
         imm = fields['imm'] & 0xffffffff
-        code += struct.pack('<BBhI', spelling.opcode, fields['src'] << 4 | fields['dst'], fields['offset'], imm)
+        code += struct.pack('<BBhI', spelling.opcode, fields['src'] << 4 | fields['dst'],
+                            fields['offset'], imm)
         if spelling.slots == 2:
             code += struct.pack('<II', 0, fields['imm'] >> 32 & 0xffffffff)
     return code

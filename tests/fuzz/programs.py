@@ -10,7 +10,8 @@ from tests.lib.patience import FOR_A_FUZZED_SESSION
 
 
 class Session(NamedTuple):
-    """The input in pieces, the numbers of the command line, and how many bytes are handed over at once (0: all)."""
+    """The input in pieces, the numbers of the command line, and how many bytes are handed over at
+    once (0: all)."""
 
     pieces: List[bytes]
     steps: int
@@ -55,14 +56,15 @@ class Program:
 
 
 class Running:
-    """A program that runs. Output goes to files in memory, and so does input that isn't handed over in pieces, so that nothing else
-    has to run beside it."""
+    """A program that runs. Output goes to files in memory, and so does input that isn't handed over
+    in pieces, so that nothing else has to run beside it."""
 
     def __init__(self, path: str, session: Session) -> None:
         self.session = session
         self.sink, self.told = in_memory(b''), in_memory(b'')
         source = subprocess.PIPE if session.at_once else in_memory(session.data)
-        self.child = subprocess.Popen([path] + session.words, stdin=source, stdout=self.sink, stderr=self.told, bufsize=0)
+        self.child = subprocess.Popen([path] + session.words, stdin=source, stdout=self.sink,
+                                      stderr=self.told, bufsize=0)
         if not session.at_once:
             source.close()
 

@@ -22,10 +22,12 @@ def number(rng: random.Random, value: int) -> str:
 
 
 def ended(rng: random.Random, lines: List[bytes], plain: bool) -> bytes:
-    """The lines as one text: by LF, by CR and LF, or by both, and with an end behind the last line or none."""
+    """The lines as one text: by LF, by CR and LF, or by both, and with an end behind the last line
+    or none."""
     if plain:
         return b''.join(line + b'\n' for line in lines)
-    ends = rng.choice([[b'\n'], [b'\r\n'], [b'\n', b'\r\n'], [b'\n', b'\n', b'\n', b'\r\n', b'\r\r\n']])
+    ends = rng.choice([[b'\n'], [b'\r\n'], [b'\n', b'\r\n'],
+                       [b'\n', b'\n', b'\n', b'\r\n', b'\r\r\n']])
     text = b''.join(line + rng.choice(ends) for line in lines)
     cut = rng.random()
     return text.rstrip(b'\n') if cut < 0.1 else text.rstrip(b'\r\n') if cut < 0.3 else text

@@ -1,7 +1,8 @@
-"""The program as `rt try` compiles it: with run-time checks (bounds, sums that wrap, bad accesses), and with no proof.
+"""The program as `rt try` compiles it: with run-time checks (bounds, sums that wrap, bad accesses),
+and with no proof.
 
-`rt try` runs what it compiled and keeps none of it. So it is asked to run a server for one session; the file that runs is copied, and the
-session is had.
+`rt try` runs what it compiled and keeps none of it. So it is asked to run a server for one session;
+the file that runs is copied, and the session is had.
 """
 import os
 import shlex
@@ -22,12 +23,14 @@ SECONDS_TO_LISTEN = 30
 
 
 def checked_program(folder: str) -> str:
-    """Compiles the program, and answers the path in `folder` by which it is run. Says by `Wrong` what stands in the way."""
+    """Compiles the program, and answers the path in `folder` by which it is run. Says by `Wrong`
+    what stands in the way."""
     port = free_port()
     serve = ['serve', '--port', str(port), '--steps', '0', '--workers', '1', '--sessions', '1']
     with tempfile.TemporaryFile('w+', errors='replace') as told:
-        with subprocess.Popen(['rt', 'try', '--'] + serve, cwd=os.path.join(TOP, 'crates', 'spmat'), stdin=subprocess.DEVNULL,
-                              stdout=told, stderr=subprocess.STDOUT) as compiler:
+        with subprocess.Popen(['rt', 'try', '--'] + serve, cwd=os.path.join(TOP, 'crates', 'spmat'),
+                              stdin=subprocess.DEVNULL, stdout=told,
+                              stderr=subprocess.STDOUT) as compiler:
             words = _running(compiler, serve)
             path = None if words is None else _copy(words, folder)
             if path:
@@ -40,13 +43,15 @@ def checked_program(folder: str) -> str:
 
 
 def _running(compiler: 'subprocess.Popen[bytes]', serve: List[str]) -> Optional[List[str]]:
-    """The words, up to the path of the program, by which the server was started; None where `rt try` ended without it."""
+    """The words, up to the path of the program, by which the server was started; None where `rt
+    try` ended without it."""
     end = time.monotonic() + SECONDS_TO_COMPILE
     while compiler.poll() is None:
         for pid in _below(compiler.pid):
             words = _words_of(pid)
             started, rest = words[:-len(serve)], words[-len(serve):]
-            if rest == serve and started and os.path.isfile(started[-1]) and os.access(started[-1], os.X_OK):
+            if rest == serve and started and os.path.isfile(started[-1]) and os.access(
+                started[-1], os.X_OK):
                 return started
         if time.monotonic() > end:
             compiler.kill()

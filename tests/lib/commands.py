@@ -17,8 +17,10 @@ def run_words(steps=MOST_STEPS, workers=1):
 
 @functools.lru_cache(maxsize=None)
 def case_folders() -> Dict[str, str]:
-    """The folder of each case of tests/cases/, by its name; they stand by subject, and no two have one name."""
-    folders = sorted(os.path.dirname(path) for path in glob.glob(os.path.join(CASES, '**', 'in'), recursive=True))
+    """The folder of each case of tests/cases/, by its name; they stand by subject, and no two have
+    one name."""
+    folders = sorted(os.path.dirname(path)
+                     for path in glob.glob(os.path.join(CASES, '**', 'in'), recursive=True))
     found = {os.path.basename(folder): folder for folder in folders}
     if len(found) < len(folders):
         raise ValueError('two cases have one name: %s' % (set(folders) - set(found.values())))
@@ -55,7 +57,9 @@ def add(number):
 
 def wide_load(register, word):
     """The two slots that load a word of 64 bits."""
-    return instruction(0x18, register, immediate=signed(word, 32)) + instruction(0, immediate=signed(word >> 32, 32))
+    return instruction(0x18, register,
+                       immediate=signed(word,
+                                        32)) + instruction(0, immediate=signed(word >> 32, 32))
 
 
 def signed(word, bits):
@@ -68,13 +72,15 @@ INCREMENT = RESULT_IS_OPERAND + add(1) + EXIT
 
 
 def matrix_text(rows, columns, entries):
-    """The canonical text of a matrix; entries are (row, column, value) from 1, by ascending row and column."""
+    """The canonical text of a matrix; entries are (row, column, value) from 1, by ascending row and
+    column."""
     size = '%d %d %d\n' % (rows, columns, len(entries))
     return BANNER + (size + ''.join('%d %d %d\n' % entry for entry in entries)).encode()
 
 
 def skewed_entries(scale, edges, seed):
-    """Entries of a graph by a power law (R-MAT with .57 .19 .19 .05), in order. They are the same each time."""
+    """Entries of a graph by a power law (R-MAT with .57 .19 .19 .05), in order. They are the same
+    each time."""
     chance = random.Random(seed)
     places = set()
     for _ in range(edges):

@@ -1,4 +1,5 @@
-"""What a session costs a server: processor seconds and peak memory, beside the bytes that it sends."""
+"""What a session costs a server: processor seconds and peak memory, beside the bytes that it
+sends."""
 import os
 import re
 import subprocess
@@ -15,14 +16,16 @@ LAST = b'ok budget '
 
 
 class Cost(NamedTuple):
-    """Seconds of the processor, bytes that were resident at most, and the refusals in the replies."""
+    """Seconds of the processor, bytes that were resident at most, and the refusals in the
+    replies."""
     seconds: float
     peak: int
     refusals: List[bytes]
 
 
 def replies_until_last(child: subprocess.Popen) -> List[bytes]:
-    """Reads replies up to the one to `budget`, which no other reply of these sessions holds, and answers the refusals."""
+    """Reads replies up to the one to `budget`, which no other reply of these sessions holds, and
+    answers the refusals."""
     def more() -> bytes:
         piece = child.stdout.read1(PIECE)
         if not piece:
@@ -40,8 +43,8 @@ def replies_until_last(child: subprocess.Popen) -> List[bytes]:
 
 def cost_of(program: str, session: bytes, workers: int = 1) -> Cost:
     """Runs a session, and answers what it took."""
-    child = subprocess.Popen([program] + run_words(workers=workers), stdin=subprocess.PIPE, stdout=subprocess.PIPE,
-                             preexec_fn=bounded)
+    child = subprocess.Popen([program] + run_words(workers=workers), stdin=subprocess.PIPE,
+                             stdout=subprocess.PIPE, preexec_fn=bounded)
     try:
         feeder = threading.Thread(target=give, args=(child, session), daemon=True)
         feeder.start()

@@ -1,8 +1,10 @@
-"""The limits of the protocol and of the machine, each once. docs/protocol.md and docs/bpf.md state them; the plain server has its own."""
+"""The limits of the protocol and of the machine, each once. docs/protocol.md and docs/bpf.md state
+them; the plain server has its own."""
 
 MEGABYTE = 1 << 20
 
-MOST_SIDE = 1 << 24                     # rows, columns and entries of a matrix, and multiplications of a product
+# rows, columns and entries of a matrix, and multiplications of a product
+MOST_SIDE = 1 << 24
 MOST_MATRIX_BYTES = 1 << 28             # of the text of a matrix
 MOST_OPERATOR_BYTES = 1 << 18           # of the text or the digits of an operator
 MOST_SLOTS = 4096                       # of an operator's code

@@ -7,8 +7,8 @@ LINES_FOLLOW = [[b'ok', word.encode()] for word in WITH_LINES]
 
 
 class Replies:
-    """What a server wrote, taken in by pieces of any size. `more` answers the next piece, which isn't empty, or says by an
-    exception that there is none."""
+    """What a server wrote, taken in by pieces of any size. `more` answers the next piece, which
+    isn't empty, or says by an exception that there is none."""
 
     def __init__(self, more: Callable[[], bytes]) -> None:
         self.more = more

@@ -34,16 +34,19 @@ def expect(what, want, got):
 
 
 def bounded() -> None:
-    """Sets the limit on address space, in the program before it begins. One with run-time checks reserves far more addresses than it
-    uses, so none is set where the variable CHECKED says that the program is such a one."""
+    """Sets the limit on address space, in the program before it begins. One with run-time checks
+    reserves far more addresses than it uses, so none is set where the variable CHECKED says that
+    the program is such a one."""
     if os.environ.get(CHECKED):
         return
     resource.setrlimit(resource.RLIMIT_AS, (MOST_ADDRESS_SPACE, MOST_ADDRESS_SPACE))
 
 
 @contextlib.contextmanager
-def started(words: List[str], seconds: float = FOR_A_SESSION, **settings: Any) -> 'Iterator[subprocess.Popen[bytes]]':
-    """A program that is killed where it takes so long, or what looks at it fails. So nobody reads from it or waits for it without an end."""
+def started(words: List[str], seconds: float = FOR_A_SESSION,
+            **settings: Any) -> 'Iterator[subprocess.Popen[bytes]]':
+    """A program that is killed where it takes so long, or what looks at it fails. So nobody reads
+    from it or waits for it without an end."""
     child = subprocess.Popen(words, **settings)
     timer = threading.Timer(seconds, child.kill)
     timer.daemon = True
@@ -61,8 +64,8 @@ def started(words: List[str], seconds: float = FOR_A_SESSION, **settings: Any) -
 
 def run_session(program, words, data, want, status=0):
     """One session, from its input to its output and exit status."""
-    done = subprocess.run([program] + words, input=data, stdout=subprocess.PIPE, stderr=subprocess.PIPE, timeout=FOR_A_SESSION,
-                          preexec_fn=bounded)
+    done = subprocess.run([program] + words, input=data, stdout=subprocess.PIPE,
+                          stderr=subprocess.PIPE, timeout=FOR_A_SESSION, preexec_fn=bounded)
     if done.stdout != want:
         raise Wrong(difference(want, done.stdout))
     expect('status', status, done.returncode)
@@ -80,10 +83,12 @@ def feed(child: subprocess.Popen, given: Iterable[bytes]) -> None:
         pass
 
 
-def run_streamed(program: str, words: List[str], given: Iterable[bytes], wanted: Iterable[bytes], status: int = 0) -> None:
-    """One session whose input and output are too large to be held whole: both are made piece by piece while it runs."""
-    with started([program] + words, LONGEST, stdin=subprocess.PIPE, stdout=subprocess.PIPE, stderr=subprocess.PIPE,
-                 preexec_fn=bounded) as child:
+def run_streamed(program: str, words: List[str], given: Iterable[bytes], wanted: Iterable[bytes],
+                 status: int = 0) -> None:
+    """One session whose input and output are too large to be held whole: both are made piece by
+    piece while it runs."""
+    with started([program] + words, LONGEST, stdin=subprocess.PIPE, stdout=subprocess.PIPE,
+                 stderr=subprocess.PIPE, preexec_fn=bounded) as child:
         feeder = threading.Thread(target=feed, args=(child, given), daemon=True)
         feeder.start()
         at = 0

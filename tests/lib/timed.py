@@ -1,4 +1,5 @@
-"""A session of the built program whose batches are timed, from `run` to its answer; bench/run uses it."""
+"""A session of the built program whose batches are timed, from `run` to its answer; bench/run uses
+it."""
 import subprocess
 import time
 
@@ -12,7 +13,8 @@ class TimedSession:
     """`spmat run` with so many workers, which is sent a setup and then jobs, one a batch."""
 
     def __init__(self, program: str, workers: int, setup: bytes) -> None:
-        self.child = subprocess.Popen([program] + run_words(workers=workers), stdin=subprocess.PIPE, stdout=subprocess.PIPE)
+        self.child = subprocess.Popen([program] + run_words(workers=workers), stdin=subprocess.PIPE,
+                                      stdout=subprocess.PIPE)
         self.replies = Replies(self._more)
         self.child.stdin.write(setup)
 
@@ -31,7 +33,8 @@ class TimedSession:
         return piece
 
     def reply(self, start: bytes) -> bytes:
-        """The next reply that starts so. Those before it are replies to the setup, of which none may be a refusal."""
+        """The next reply that starts so. Those before it are replies to the setup, of which none
+        may be a refusal."""
         self.child.stdin.flush()
         while True:
             got = self.replies.reply()

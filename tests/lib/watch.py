@@ -7,8 +7,8 @@ LONGEST = 600                                      # seconds of a test, on a bus
 
 
 def watch_tests() -> None:
-    """From now on each test has so long, and so has what sets up a class. One that takes longer ends the process, which tells by names and
-    lines where each thread stands."""
+    """From now on each test has so long, and so has what sets up a class. One that takes longer
+    ends the process, which tells by names and lines where each thread stands."""
     run: Any = unittest.TestCase.run
 
     def watched(test: unittest.TestCase, result: Any = None) -> Any:

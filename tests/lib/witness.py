@@ -1,4 +1,5 @@
-"""Runs a program with memory_witness.c between it and the C library. It makes allocations fail and counts blocks."""
+"""Runs a program with memory_witness.c between it and the C library. It makes allocations fail and
+counts blocks."""
 import os
 import shutil
 import struct
@@ -10,7 +11,8 @@ from tests.lib.patience import FOR_A_SESSION
 
 SOURCE = os.path.join(os.path.dirname(os.path.abspath(__file__)), 'memory_witness.c')
 
-# requests made, requests refused, blocks and bytes that the program held at its end, and the most bytes that it held
+# requests made, requests refused, blocks and bytes that the program held at its end, and the most
+# bytes that it held
 Counts = namedtuple('Counts', 'requests refused blocks bytes most_bytes')
 
 
@@ -22,9 +24,12 @@ class Witness:
         self.library = os.path.join(self.folder.name, 'memory_witness.so')
         self.page = os.path.join(self.folder.name, 'counts')
         made = os.path.join(self.folder.name, 'memory_witness.o')
-        toolchain = os.path.join(os.path.dirname(os.path.realpath(shutil.which('rt') or '')), '..', 'toolchain', 'bin')
-        subprocess.run([os.path.join(toolchain, 'clang'), '-O1', '-fPIC', '-fno-builtin', '-c', SOURCE, '-o', made], check=True)
-        subprocess.run([os.path.join(toolchain, 'ld.lld'), '-shared', made, '-o', self.library], check=True)
+        toolchain = os.path.join(os.path.dirname(os.path.realpath(shutil.which('rt') or '')), '..',
+                                 'toolchain', 'bin')
+        subprocess.run([os.path.join(toolchain, 'clang'), '-O1', '-fPIC', '-fno-builtin', '-c',
+                        SOURCE, '-o', made], check=True)
+        subprocess.run([os.path.join(toolchain, 'ld.lld'), '-shared', made, '-o', self.library],
+                       check=True)
 
     def __enter__(self):
         return self
@@ -33,8 +38,9 @@ class Witness:
         self.folder.cleanup()
 
     def run(self, words, data, refused=(0, 0)):
-        """Runs a program on an input while the requests of a range are refused, and answers what it did and its counts. The input
-        is a file, which is read in pieces of the same sizes each time, so that the counts are the same too."""
+        """Runs a program on an input while the requests of a range are refused, and answers what it
+        did and its counts. The input is a file, which is read in pieces of the same sizes each
+        time, so that the counts are the same too."""
         with open(self.page, 'wb') as page:
             page.truncate(4096)
         environment = {'LD_PRELOAD': self.library, 'MEMORY_WITNESS': self.page,
@@ -42,7 +48,8 @@ class Witness:
         with tempfile.TemporaryFile() as given:
             given.write(data)
             given.seek(0)
-            done = subprocess.run(words, stdin=given, stdout=subprocess.PIPE, stderr=subprocess.PIPE, env=environment, timeout=FOR_A_SESSION)
+            done = subprocess.run(words, stdin=given, stdout=subprocess.PIPE,
+                                  stderr=subprocess.PIPE, env=environment, timeout=FOR_A_SESSION)
         with open(self.page, 'rb') as page:
             counts = Counts(*struct.unpack('<5Q', page.read(40)))
         if counts.requests == 0:

@@ -1,5 +1,6 @@
-"""A pytest plugin for networkx' own tests (`-p record`). It writes what the backend served in each test, as lines of JSON, to the file that
-RECORD names. It also marks the tests of EXPECTED as expected failures, with their reasons."""
+"""A pytest plugin for networkx' own tests (`-p record`). It writes what the backend served in each
+test, as lines of JSON, to the file that RECORD names. It also marks the tests of EXPECTED as
+expected failures, with their reasons."""
 import collections
 import functools
 import json
@@ -22,7 +23,8 @@ def expected():
 
 
 def pytest_configure(config):
-    """Counts the backend's answers. networkx' tests ask for scipy.sparse.sparray, which scipy has from 1.11 on."""
+    """Counts the backend's answers. networkx' tests ask for scipy.sparse.sparray, which scipy has
+    from 1.11 on."""
     import scipy.sparse
     if not hasattr(scipy.sparse, 'sparray'):
         scipy.sparse.sparray = scipy.sparse._arrays._sparray
@@ -80,10 +82,13 @@ def pytest_runtest_setup(item):
 def pytest_runtest_logreport(report):
     row = _rows.setdefault(report.nodeid, {'test': test_name(report.nodeid), 'began': time.time()})
     if report.when == 'call' or report.outcome != 'passed':
-        row['outcome'] = 'xfailed' if hasattr(report, 'wasxfail') and report.skipped else report.outcome
-        row['why'] = str(getattr(report, 'wasxfail', ''))[:200] or (str(report.longrepr)[-3000:] if report.failed else '')
+        row['outcome'] = ('xfailed' if hasattr(report, 'wasxfail') and report.skipped
+                          else report.outcome)
+        row['why'] = (str(getattr(report, 'wasxfail', ''))[:200]
+                      or (str(report.longrepr)[-3000:] if report.failed else ''))
     if report.when == 'teardown':
-        row.update(served=dict(_served), left=dict(_left), seconds=round(time.time() - row.pop('began'), 4))
+        row.update(served=dict(_served), left=dict(_left),
+                   seconds=round(time.time() - row.pop('began'), 4))
         if _out:
             _out.write(json.dumps(row) + '\n')
             _out.flush()

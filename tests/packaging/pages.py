@@ -1,6 +1,7 @@
 """The files of packaging/ that the documents print word for word.
 
-A line that ends in a link to the file and a colon, `[packaging/NAME](../packaging/NAME):`, stands before a block that is the file.
+A line that ends in a link to the file and a colon, `[packaging/NAME](../packaging/NAME):`, stands
+before a block that is the file.
 """
 import os
 import re
@@ -28,7 +29,8 @@ def text_of(path: str) -> str:
 
 
 def snippet(path: str, changes: Dict[str, str]) -> str:
-    """A file of packaging/ with words changed, so that it can be tried here. KeyError where it doesn't have one of them."""
+    """A file of packaging/ with words changed, so that it can be tried here. KeyError where it
+    doesn't have one of them."""
     text = text_of(os.path.join('packaging', path))
     for old, new in changes.items():
         if old not in text:
@@ -49,8 +51,10 @@ def blocks(page: str) -> Iterator[Block]:
         found = INTRODUCED.search(line)
         if found:
             first = end = number + 2
-            while end < len(lines) and (lines[end].startswith(INDENT) or (not lines[end] and lines[end + 1:end + 2] != ['']
-                                                                         and ''.join(lines[end + 1:end + 2]).startswith(INDENT))):
+            while end < len(lines) and (lines[end].startswith(INDENT)
+                                        or (not lines[end] and lines[end + 1:end + 2] != ['']
+                                            and ''.join(lines[end + 1:end + 2]).startswith(
+                                                INDENT))):
                 end += 1
             yield Block(page, found.group(1), first, end)
 

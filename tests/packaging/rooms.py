@@ -1,4 +1,5 @@
-"""What the tests of packaging/ share: folders, ports, processes that listen, and sessions over what stands in front of them."""
+"""What the tests of packaging/ share: folders, ports, processes that listen, and sessions over what
+stands in front of them."""
 import contextlib
 import os
 import shutil
@@ -18,7 +19,8 @@ sys.path.insert(0, CLIENT)
 
 PATH = os.pathsep.join([os.environ.get('PATH', ''), '/usr/sbin', '/sbin'])
 FIRST_SESSION = (b'matrix A 62\n%%MatrixMarket matrix coordinate integer general\n1 1 1\n1 1 41\n'
-                 b'asm inc unary 30\nmov64 r0, r1\nadd64 r0, 1\nexit\napply B inc A\nrun\nshow B\nquit\n')
+                 b'asm inc unary 30\nmov64 r0, r1\nadd64 r0, 1\nexit\napply B inc A\nrun\nshow '
+                 b'B\nquit\n')
 LAST_REPLIES = b'1 1 42\nok quit\n'
 
 
@@ -28,7 +30,8 @@ def program() -> str:
 
 
 def is_checked() -> bool:
-    """Whether the program has run-time checks, which want all addresses and calls of their own (the variable SPMAT_CHECKED)."""
+    """Whether the program has run-time checks, which want all addresses and calls of their own (the
+    variable SPMAT_CHECKED)."""
     return bool(os.environ.get(CHECKED))
 
 
@@ -91,15 +94,19 @@ class Room(unittest.TestCase):
         with open(self.file(name + '.log'), encoding='utf-8', errors='replace') as file:
             return file.read()
 
-    def start(self, name: str, words: Sequence[str], ready: Callable[[], bool], **settings: Any) -> 'subprocess.Popen[bytes]':
-        """Starts a process that runs until the test ends, and waits until it is ready. What it says goes to `name`.log."""
+    def start(self, name: str, words: Sequence[str], ready: Callable[[], bool],
+              **settings: Any) -> 'subprocess.Popen[bytes]':
+        """Starts a process that runs until the test ends, and waits until it is ready. What it says
+        goes to `name`.log."""
         log = self.stack.enter_context(open(self.file(name + '.log'), 'wb'))
-        child = subprocess.Popen(list(words), stdin=subprocess.DEVNULL, stdout=log, stderr=log, cwd=self.folder, **settings)
+        child = subprocess.Popen(list(words), stdin=subprocess.DEVNULL, stdout=log, stderr=log,
+                                 cwd=self.folder, **settings)
         self.stack.callback(ended, child)
 
         def is_ready() -> bool:
             if child.poll() is not None:
-                raise AssertionError('%s ended with status %d: %s' % (name, child.returncode, self.log(name)))
+                raise AssertionError('%s ended with status %d: %s'
+                                     % (name, child.returncode, self.log(name)))
             return ready()
         until(name + ' is ready', is_ready)
         return child
@@ -107,7 +114,8 @@ class Room(unittest.TestCase):
     def serve(self, *words: str) -> int:
         """Starts `spmat serve` with these words behind the port, which is answered."""
         port = free_port()
-        self.start('serve', [program(), 'serve', '--port', str(port), '--steps', '1000000', '--workers', '1'] + list(words),
+        self.start('serve', [program(), 'serve', '--port', str(port), '--steps', '1000000',
+                             '--workers', '1'] + list(words),
                    lambda: 'listening %d\n' % port in self.log('serve'))
         return port
 

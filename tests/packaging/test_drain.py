@@ -1,4 +1,5 @@
-"""The end of a server: spmat-drain lets sessions end by themselves, and a server that ignores SIGHUP goes on."""
+"""The end of a server: spmat-drain lets sessions end by themselves, and a server that ignores
+SIGHUP goes on."""
 import os
 import re
 import signal
@@ -21,11 +22,13 @@ class Drain(Room):
     def server(self, before: List[str], *words: str) -> 'subprocess.Popen[bytes]':
         """A server on a port of its own, `self.port`."""
         self.port = free_port()
-        return self.start('serve', before + [program(), 'serve', '--port', str(self.port), '--steps', '1000000', '--workers', '1'] + list(words),
+        return self.start('serve', before + [program(), 'serve', '--port', str(self.port),
+                                             '--steps', '1000000', '--workers', '1'] + list(words),
                           lambda: 'listening %d\n' % self.port in self.log('serve'))
 
     def drain(self, child: 'subprocess.Popen[bytes]', seconds: int) -> 'subprocess.Popen[bytes]':
-        drain = subprocess.Popen([DRAIN, str(child.pid), str(seconds)], stdin=subprocess.DEVNULL, stdout=subprocess.PIPE, stderr=subprocess.STDOUT)
+        drain = subprocess.Popen([DRAIN, str(child.pid), str(seconds)], stdin=subprocess.DEVNULL,
+                                 stdout=subprocess.PIPE, stderr=subprocess.STDOUT)
         self.addCleanup(drain.stdout.close)
         self.addCleanup(drain.wait)
         self.addCleanup(drain.kill)
@@ -34,8 +37,10 @@ class Drain(Room):
     def expect_account(self, drain: 'subprocess.Popen[bytes]', cut_off: int, steps: int) -> None:
         """The line that it prints has the budget as it was at the end."""
         said = drain.stdout.read().decode()
-        told = re.fullmatch(r'spmat: time=\d{4}-\d\d-\d\dT\d\d:\d\d:\d\d\.\d{3}Z server-end address=127\.0\.0\.1:%d end=drain '
-                            r'cut_off=(\d+) steps=(\d+) reserved=0 left=(\d+)\n' % self.port, said)
+        told = re.fullmatch(r'spmat: time=\d{4}-\d\d-\d\dT\d\d:\d\d:\d\d\.\d{3}Z server-end '
+                            r'address=127\.0\.0\.1:%d end=drain cut_off=(\d+) steps=(\d+) '
+                            r'reserved=0 '
+                            r'left=(\d+)\n' % self.port, said)
         if told is None:
             self.fail('it says %r' % said)
         self.assertEqual(tuple(map(int, told.groups())), (cut_off, steps, 1000000 - steps))
@@ -75,12 +80,15 @@ class Drain(Room):
                 s.budget()
 
     def test_what_is_no_server(self) -> None:
-        for words, said in ((['0'], 'no process 0'), ([str(os.getpid())], "%d isn't spmat serve --port P" % os.getpid())):
-            told = subprocess.run([DRAIN] + words, stdout=subprocess.PIPE, stderr=subprocess.STDOUT, text=True, timeout=FOR_A_REPLY, check=False)
+        for words, said in ((['0'], 'no process 0'),
+                            ([str(os.getpid())], "%d isn't spmat serve --port P" % os.getpid())):
+            told = subprocess.run([DRAIN] + words, stdout=subprocess.PIPE, stderr=subprocess.STDOUT,
+                                  text=True, timeout=FOR_A_REPLY, check=False)
             self.assertEqual((told.returncode, told.stdout), (2, 'spmat-drain: %s\n' % said))
 
     def test_the_unit_ignores_sighup_and_drains(self) -> None:
-        """By the words of the unit: a SIGHUP changes nothing, and what ends the server is what the unit names."""
+        """By the words of the unit: a SIGHUP changes nothing, and what ends the server is what the
+        unit names."""
         settings = settings_of(text_of('packaging/systemd/spmat.service'))
         before = settings['ExecStart'][0].split('/usr/bin/spmat serve')[0].split()
         self.assertEqual(before, ['/usr/bin/env', '--ignore-signal=HUP'])

@@ -18,8 +18,9 @@ SEATS = 16
 
 def health(*words: object) -> Tuple[int, str]:
     """The status of the check, and its line."""
-    said = subprocess.run([HEALTH] + [str(word) for word in words], stdin=subprocess.DEVNULL, stdout=subprocess.PIPE,
-                          stderr=subprocess.PIPE, text=True, timeout=FOR_A_REPLY, check=False)
+    said = subprocess.run([HEALTH] + [str(word) for word in words], stdin=subprocess.DEVNULL,
+                          stdout=subprocess.PIPE, stderr=subprocess.PIPE, text=True,
+                          timeout=FOR_A_REPLY, check=False)
     assert said.stderr == '', said.stderr
     return said.returncode, said.stdout
 
@@ -27,7 +28,8 @@ def health(*words: object) -> Tuple[int, str]:
 @needs('bash', 'timeout')
 class Health(Room):
     def tells(self, wanted: Tuple[int, str], *words: object) -> None:
-        """The check tells this. On a machine with much else to do five seconds may be short, so it has three tries."""
+        """The check tells this. On a machine with much else to do five seconds may be short, so it
+        has three tries."""
         told = health(*words)
         for _ in range(2):
             if told != wanted:
@@ -42,8 +44,11 @@ class Health(Room):
         port = self.serve()
         seats: List[spmat.Session] = [spmat.Session.connect(port=port) for _ in range(SEATS)]
         for _ in range(20):
-            for words in ((port,), (port, 1), (port, 2000000)):     # steps that weren't looked at are no success
-                self.tells((2, '%d: it takes no session: all seats are taken, or there is no memory or thread\n' % port), *words)
+            for words in ((port,), (port, 1), (port, 2000000)):
+                # steps that weren't looked at are no success
+                self.tells(
+                    (2, '%d: it takes no session: all seats are taken, or there is no memory or '
+                     'thread\n' % port), *words)
         for session in seats:
             session.close()
         self.tells((0, '%d: 1000000 steps left\n' % port), port)
@@ -57,8 +62,8 @@ class Health(Room):
 
     def test_a_server_that_hangs(self) -> None:
         port = free_port()
-        child = self.start('serve', [program(), 'serve', '--port', str(port), '--steps', '5', '--workers', '1'],
-                           lambda: 'listening' in self.log('serve'))
+        child = self.start('serve', [program(), 'serve', '--port', str(port), '--steps', '5',
+                                     '--workers', '1'], lambda: 'listening' in self.log('serve'))
         os.kill(child.pid, signal.SIGSTOP)
         began = time.monotonic()
         self.assertEqual(health(port), (1, '%d: no answer\n' % port))
@@ -73,7 +78,8 @@ class Health(Room):
         """A server that says this, whatever it is asked, is told so."""
         with socket.create_server(('127.0.0.1', 0)) as other:
             port = other.getsockname()[1]
-            with subprocess.Popen([HEALTH, str(port), *words], stdout=subprocess.PIPE, text=True) as child:
+            with subprocess.Popen([HEALTH, str(port), *words], stdout=subprocess.PIPE,
+                                  text=True) as child:
                 other.settimeout(FOR_A_REPLY)
                 with other.accept()[0] as connection:
                     connection.sendall(replies)
@@ -81,7 +87,8 @@ class Health(Room):
                     connection.settimeout(FOR_A_REPLY)
                     while connection.recv(4096):
                         pass
-                self.assertEqual(child.communicate(timeout=FOR_A_REPLY), ('%d: %s\n' % (port, wanted[1]), None))
+                self.assertEqual(child.communicate(timeout=FOR_A_REPLY),
+                                 ('%d: %s\n' % (port, wanted[1]), None))
                 self.assertEqual(child.returncode, wanted[0])
 
     def test_something_else(self) -> None:
@@ -100,6 +107,7 @@ class Health(Room):
     def test_a_socket_file(self) -> None:
         path = self.file('spmat.sock')
         self.assertEqual(health(path), (1, '%s: no answer\n' % path))
-        self.start('socket', [str(found('systemd-socket-activate')), '--accept', '--inetd', '-l', path, program(), 'run', '--steps', '7',
-                              '--workers', '1'], lambda: 'Listening on' in self.log('socket'))
+        self.start('socket', [str(found('systemd-socket-activate')), '--accept', '--inetd', '-l',
+                              path, program(), 'run', '--steps', '7', '--workers', '1'],
+                   lambda: 'Listening on' in self.log('socket'))
         self.tells((0, '%s: 7 steps left\n' % path), path)

@@ -16,8 +16,8 @@ OPTION = r'--[a-z-]+'
 
 def helped(*words: str) -> Set[str]:
     """The options that `--help` tells of."""
-    said = subprocess.run([program()] + list(words) + ['--help'], stdout=subprocess.PIPE, stderr=subprocess.STDOUT, text=True,
-                          timeout=FOR_A_REPLY, check=False)
+    said = subprocess.run([program()] + list(words) + ['--help'], stdout=subprocess.PIPE,
+                          stderr=subprocess.STDOUT, text=True, timeout=FOR_A_REPLY, check=False)
     return set(re.findall(OPTION, said.stdout))
 
 
@@ -43,7 +43,8 @@ class Manual(Room):
         """Those of docs/protocol.md."""
         section = plain('spmat.1').split('.SH EXIT STATUS')[1].split('.SH')[0]
         table = text_of('docs/protocol.md').split('| Status | When |')[1].split('\n\n')[0]
-        self.assertEqual(re.findall(r'^\.B (\d+)$', section, re.M), re.findall(r'^\| (\d+) \|', table, re.M))
+        self.assertEqual(re.findall(r'^\.B (\d+)$', section, re.M),
+                         re.findall(r'^\| (\d+) \|', table, re.M))
 
 
 class Completion(Room):
@@ -51,17 +52,23 @@ class Completion(Room):
 
     def completed(self, *words: str) -> Set[str]:
         """What bash offers for the last word."""
-        script = 'source "$0"; spmat() { "$PROGRAM" "$@"; }; COMP_WORDS=("$@"); COMP_CWORD=$(($# - 1)); _spmat spmat; printf "%s\\n" "${COMPREPLY[@]}"'
-        said = subprocess.run(['bash', '-c', script, os.path.join(TOP, 'packaging/completion/spmat.bash'), *words], stdout=subprocess.PIPE,
-                              env=dict(os.environ, PROGRAM=program()), text=True, timeout=FOR_A_REPLY, check=True)
+        script = (
+            'source "$0"; spmat() { "$PROGRAM" "$@"; }; COMP_WORDS=("$@"); COMP_CWORD=$(($# - '
+            '1)); _spmat spmat; printf "%s\\n" "${COMPREPLY[@]}"')
+        said = subprocess.run(['bash', '-c', script,
+                               os.path.join(TOP, 'packaging/completion/spmat.bash'), *words],
+                              stdout=subprocess.PIPE, env=dict(os.environ, PROGRAM=program()),
+                              text=True, timeout=FOR_A_REPLY, check=True)
         return set(said.stdout.split())
 
     def test_bash(self) -> None:
-        self.assertEqual(self.completed('spmat', ''), {'run', 'serve', 'help', '--help', '--version'})
+        self.assertEqual(self.completed('spmat', ''),
+                         {'run', 'serve', 'help', '--help', '--version'})
         for command in ('run', 'serve'):
             self.assertEqual(self.completed('spmat', command, '--'), helped(command))
         self.assertEqual(self.completed('spmat', 'serve', '--por'), {'--port'})
 
     @unittest.skipIf(shutil.which('zsh') is None, 'no zsh')
     def test_zsh(self) -> None:
-        subprocess.run(['zsh', '-n', os.path.join(TOP, 'packaging/completion/spmat.zsh')], timeout=FOR_A_REPLY, check=True)
+        subprocess.run(['zsh', '-n', os.path.join(TOP, 'packaging/completion/spmat.zsh')],
+                       timeout=FOR_A_REPLY, check=True)

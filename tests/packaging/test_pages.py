@@ -1,4 +1,5 @@
-"""The documents lead to each file of packaging/ that users take: they print the short ones word for word, and link to the others."""
+"""The documents lead to each file of packaging/ that users take: they print the short ones word for
+word, and link to the others."""
 import glob
 import os
 import re
@@ -9,7 +10,8 @@ from tests.lib.paths import TOP
 from tests.packaging.pages import PAGES, blocks, is_file, text_of
 
 PRINTED = ('gateway/spmat-gateway.toml', 'ssh/*', 'stunnel/session.py')
-LINKED = ('ssh/*', 'stunnel/*', 'systemd/*.service', 'systemd/*.socket', 'spmat-health', 'gateway/*.toml', 'gateway/*.yml', 'Containerfile', 'compose.yaml')
+LINKED = ('ssh/*', 'stunnel/*', 'systemd/*.service', 'systemd/*.socket', 'spmat-health',
+          'gateway/*.toml', 'gateway/*.yml', 'Containerfile', 'compose.yaml')
 UNITS = ('systemd/*.service', 'systemd/*.socket')
 # What the page calls by a name of this kind, and isn't a setting: variables of /etc/default/spmat.
 OTHER_SETTINGS = {'SERVE', 'SESSION'}
@@ -17,7 +19,8 @@ OTHER_SETTINGS = {'SERVE', 'SESSION'}
 
 def files_of(forms: 'tuple[str, ...]') -> List[str]:
     """The files of packaging/ that have one of these names, from the top of the repository."""
-    return sorted(os.path.relpath(path, TOP) for form in forms for path in glob.glob(os.path.join(TOP, 'packaging', form)))
+    return sorted(os.path.relpath(path, TOP) for form in forms
+                  for path in glob.glob(os.path.join(TOP, 'packaging', form)))
 
 
 def settings(text: str) -> Set[str]:
@@ -30,10 +33,12 @@ class Pages(unittest.TestCase):
         for page in PAGES:
             for block in blocks(page):
                 with self.subTest(page=page, file=block.file):
-                    self.assertTrue(is_file(block), 'tests/snippets --write puts the file into the page')
+                    self.assertTrue(is_file(block),
+                                    'tests/snippets --write puts the file into the page')
 
     def test_short_files_are_printed_once(self) -> None:
-        self.assertEqual(files_of(PRINTED), sorted(block.file for page in PAGES for block in blocks(page)))
+        self.assertEqual(files_of(PRINTED),
+                         sorted(block.file for page in PAGES for block in blocks(page)))
 
     def test_each_file_is_linked(self) -> None:
         page = text_of('docs/server.md') + text_of('docs/service.md')
@@ -45,7 +50,8 @@ class Pages(unittest.TestCase):
         """What users are told of a setting, they find in a unit."""
         named = set(re.findall(r'`([A-Z][A-Za-z]+)=[^`]*`', text_of('docs/server.md')))
         self.assertGreater(len(named), 9)
-        self.assertEqual(named - set().union(*(settings(text_of(file)) for file in files_of(UNITS))) - OTHER_SETTINGS, set())
+        self.assertEqual(named - set().union(*(settings(text_of(file)) for file in files_of(UNITS)))
+                         - OTHER_SETTINGS, set())
 
 
 if __name__ == '__main__':

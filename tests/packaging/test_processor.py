@@ -1,17 +1,20 @@
-"""What the program says on a processor that is too old for it, by QEMU (Debian's qemu-user, if it is there)."""
+"""What the program says on a processor that is too old for it, by QEMU (Debian's qemu-user, if it
+is there)."""
 import subprocess
 import unittest
 
 from tests.lib.patience import FOR_A_REPLY
 from tests.packaging.rooms import needs, program
 
-TOO_OLD, OLD_ENOUGH = ('core2duo', 'kvm64'), 'Nehalem'       # without SSE4.2 and POPCNT, and the first of Intel's that has both
+# without SSE4.2 and POPCNT, and the first of Intel's that has both
+TOO_OLD, OLD_ENOUGH = ('core2duo', 'kvm64'), 'Nehalem'
 
 
 @needs('qemu-x86_64')
 class Processor(unittest.TestCase):
     def on(self, processor: str) -> 'subprocess.CompletedProcess[str]':
-        return subprocess.run(['qemu-x86_64', '-cpu', processor, program(), '--version'], stdout=subprocess.PIPE, stderr=subprocess.PIPE, text=True,
+        return subprocess.run(['qemu-x86_64', '-cpu', processor, program(), '--version'],
+                              stdout=subprocess.PIPE, stderr=subprocess.PIPE, text=True,
                               timeout=FOR_A_REPLY, check=False)
 
     def test_too_old(self) -> None:

@@ -1,4 +1,5 @@
-"""The units for systemd: what systemd says of them, their words, their list of calls, and a process for each client."""
+"""The units for systemd: what systemd says of them, their words, their list of calls, and a process
+for each client."""
 import os
 import re
 import shlex
@@ -11,8 +12,8 @@ from typing import Dict, List, Set, Tuple
 from tests.lib.patience import FOR_A_REPLY
 from tests.lib.ports import free_port
 from tests.packaging.pages import snippet, text_of
-from tests.packaging.rooms import (FIRST_SESSION, LAST_REPLIES, Room, converse, found, is_checked, lines_of, needs, program,
-                                   settings_of, until)
+from tests.packaging.rooms import (FIRST_SESSION, LAST_REPLIES, Room, converse, found, is_checked,
+                                   lines_of, needs, program, settings_of, until)
 import spmat
 
 SERVICES = ('spmat.service', 'spmat@.service')
@@ -25,14 +26,17 @@ BEFORE = {'execve'}
 
 def words_of(service: str, name: str) -> List[str]:
     """The words behind the program that a unit gives by itself, in its variable of this name."""
-    (words,) = (value.strip('"').partition('=')[2] for value in settings_of(text_of('packaging/systemd/' + service))['Environment']
+    (words,) = (value.strip('"').partition('=')[2]
+                for value in settings_of(text_of('packaging/systemd/' + service))['Environment']
                 if value.startswith('"%s=' % name))
     return shlex.split(words)
 
 
 def allocator_of(service: str) -> Dict[str, str]:
     """The variables by which a unit has the C library give memory back."""
-    (line,) = (value for value in settings_of(text_of('packaging/systemd/' + service))['Environment'] if value.startswith('MALLOC_'))
+    (line,) = (value
+               for value in settings_of(text_of('packaging/systemd/' + service))['Environment']
+               if value.startswith('MALLOC_'))
     return dict(pair.split('=') for pair in line.split())
 
 
@@ -40,20 +44,25 @@ class Units(Room):
     def setUp(self) -> None:
         super().setUp()
         for name in UNITS:
-            changes = {'/usr/bin/spmat': program()} if name in SERVICES else {'/usr/bin/spmat-gateway': program()} if name == GATEWAY else {}
+            changes = ({'/usr/bin/spmat': program()} if name in SERVICES
+                       else {'/usr/bin/spmat-gateway': program()} if name == GATEWAY else {})
             self.write(name, snippet('systemd/' + name, changes), 0o644)
 
     @needs('systemd-analyze')
     def test_systemd_takes_them(self) -> None:
-        said = subprocess.run(['systemd-analyze', 'verify', '--man=no'] + [self.file(name) for name in UNITS],
-                              stdout=subprocess.PIPE, stderr=subprocess.STDOUT, text=True, timeout=FOR_A_REPLY, check=False)
+        said = subprocess.run(['systemd-analyze', 'verify', '--man=no']
+                              + [self.file(name) for name in UNITS], stdout=subprocess.PIPE,
+                              stderr=subprocess.STDOUT, text=True, timeout=FOR_A_REPLY, check=False)
         self.assertEqual((said.returncode, said.stdout), (0, ''))
 
     @needs('systemd-analyze')
     def test_systemd_sees_that_the_program_is_missing(self) -> None:
         for name in SERVICES:
-            path = self.write('missing-' + name, snippet('systemd/' + name, {'/usr/bin/spmat': '/nowhere/spmat'}), 0o644)
-            said = subprocess.run(['systemd-analyze', 'verify', '--man=no', path], stdout=subprocess.PIPE, stderr=subprocess.STDOUT, text=True,
+            path = self.write('missing-' + name,
+                              snippet('systemd/' + name, {'/usr/bin/spmat': '/nowhere/spmat'}),
+                              0o644)
+            said = subprocess.run(['systemd-analyze', 'verify', '--man=no', path],
+                                  stdout=subprocess.PIPE, stderr=subprocess.STDOUT, text=True,
                                   timeout=FOR_A_REPLY, check=False)
             self.assertNotEqual(said.returncode, 0)
             self.assertIn('/nowhere/spmat is not executable', said.stdout)
@@ -61,22 +70,30 @@ class Units(Room):
     @needs('systemd-analyze')
     def test_exposure(self) -> None:
         for name in (*SERVICES, GATEWAY):
-            said = subprocess.run(['systemd-analyze', 'security', '--offline=yes', '--no-pager', '--threshold=%d' % MOST_EXPOSED,
-                                   self.file(name)], stdout=subprocess.PIPE, text=True, timeout=FOR_A_REPLY, check=False)
+            said = subprocess.run(['systemd-analyze', 'security', '--offline=yes', '--no-pager',
+                                   '--threshold=%d' % MOST_EXPOSED, self.file(name)],
+                                  stdout=subprocess.PIPE, text=True, timeout=FOR_A_REPLY,
+                                  check=False)
             self.assertEqual(said.returncode, 0, said.stdout[-300:])
             self.assertRegex(said.stdout, r'Overall exposure level for \S+: [01]\.\d')
 
     def test_words(self) -> None:
-        """/etc/default/spmat has the words that the units have without it, and the program takes them."""
-        default = dict(line.split('=', 1) for line in lines_of(text_of('packaging/systemd/spmat.default')))
-        self.assertEqual(shlex.split(default['SERVE'].strip('"')), words_of('spmat.service', 'SERVE'))
-        self.assertEqual(shlex.split(default['SESSION'].strip('"')), words_of('spmat@.service', 'SESSION'))
-        said = subprocess.run([program(), 'run'] + words_of('spmat@.service', 'SESSION'), input=b'budget\n', stdout=subprocess.PIPE,
-                              timeout=FOR_A_REPLY, check=False)
+        """/etc/default/spmat has the words that the units have without it, and the program takes
+        them."""
+        default = dict(line.split('=', 1)
+                       for line in lines_of(text_of('packaging/systemd/spmat.default')))
+        self.assertEqual(shlex.split(default['SERVE'].strip('"')),
+                         words_of('spmat.service', 'SERVE'))
+        self.assertEqual(shlex.split(default['SESSION'].strip('"')),
+                         words_of('spmat@.service', 'SESSION'))
+        said = subprocess.run([program(), 'run'] + words_of('spmat@.service', 'SESSION'),
+                              input=b'budget\n', stdout=subprocess.PIPE, timeout=FOR_A_REPLY,
+                              check=False)
         self.assertEqual(said.stdout, b'ok budget 1000000000000 0 0\n')
         port, words = free_port(), words_of('spmat.service', 'SERVE')
         words[words.index('--port') + 1] = str(port)
-        self.start('serve', [program(), 'serve'] + words, lambda: 'listening %d\n' % port in self.log('serve'))
+        self.start('serve', [program(), 'serve'] + words,
+                   lambda: 'listening %d\n' % port in self.log('serve'))
 
     def test_limits(self) -> None:
         """What is refused comes before what ends the process, and threads have room."""
@@ -91,8 +108,8 @@ class Units(Room):
 
 
 class Memory(Room):
-    """What sessions that ended had allocated has gone back, under the units' variables: a mixed load leaves little, and what fits into a
-    fresh server fits again."""
+    """What sessions that ended had allocated has gone back, under the units' variables: a mixed
+    load leaves little, and what fits into a fresh server fits again."""
 
     LIMIT = 3_000_000                              # of address space, in KB
     EMPTY = b'%%MatrixMarket matrix coordinate integer general\n16777216 1 0\n'
@@ -106,8 +123,8 @@ class Memory(Room):
         for service in SERVICES:
             self.assertEqual(allocator_of(service), allocator_of(SERVICES[0]))
         words = ['env'] + ['%s=%s' % pair for pair in allocator_of(SERVICES[0]).items()]
-        words += ['prlimit', '--as=%d' % (1024 * self.LIMIT), program(), 'serve', '--port', str(self.port), '--steps', '1000000000000',
-                  '--workers', '1']
+        words += ['prlimit', '--as=%d' % (1024 * self.LIMIT), program(), 'serve', '--port',
+                  str(self.port), '--steps', '1000000000000', '--workers', '1']
         self.server = self.start('memory', words, lambda: 'listening' in self.log('memory')).pid
 
     def resident(self) -> int:
@@ -117,7 +134,8 @@ class Memory(Room):
 
     def fitting(self) -> int:
         """How many large matrices one session can hold."""
-        commands = b''.join(b'matrix Z%d %d\n%s' % (number, len(self.EMPTY), self.EMPTY) for number in range(40)) + b'quit\n'
+        commands = b''.join(b'matrix Z%d %d\n%s' % (number, len(self.EMPTY), self.EMPTY)
+                            for number in range(40)) + b'quit\n'
         with socket.create_connection(('127.0.0.1', self.port)) as client:
             client.sendall(commands)
             with client.makefile('rb') as replies:
@@ -127,12 +145,15 @@ class Memory(Room):
         """A session as users have them: texts, products, results, some of them large."""
         size = 20_000 + 5_000 * (seed % 5)
         rows = b''.join(b'%d %d %d\n' % (row + 1, row * 7 % size + 1, row) for row in range(size))
-        text = b'%%%%MatrixMarket matrix coordinate integer general\n%d %d %d\n%s' % (size, size, size, rows)
+        text = b'%%%%MatrixMarket matrix coordinate integer general\n%d %d %d\n%s' % (
+            size, size, size, rows)
         plus = b'asm plus binary 32\nmov64 r0, r1\nadd64 r0, r2\nexit\n\n'
-        jobs = b''.join(b'union B%d plus A A\nproduct C%d plus plus A A\nrun\nshow B%d\n' % (number, number, number)
-                        for number in range(4))
+        jobs = b''.join(b'union B%d plus A A\nproduct C%d plus plus A A\nrun\nshow B%d\n'
+                        % (number, number, number) for number in range(4))
         with socket.create_connection(('127.0.0.1', self.port)) as client:
-            sender = threading.Thread(target=client.sendall, args=(plus + b'matrix A %d\n%s' % (len(text), text) + jobs + b'quit\n',))
+            sender = threading.Thread(target=client.sendall,
+                                      args=(plus + b'matrix A %d\n%s' % (len(text), text) + jobs
+                                            + b'quit\n',))
             sender.start()
             with client.makefile('rb') as replies:
                 self.assertTrue(replies.read().endswith(b'ok quit\n'))
@@ -160,7 +181,8 @@ class Calls(Room):
         super().setUp()
         if is_checked():
             self.skipTest('a program with run-time checks has calls of its own')
-        if subprocess.run([str(found('strace')), '-qq', '-o', '/dev/null', 'true'], stderr=subprocess.DEVNULL, check=False).returncode:
+        if subprocess.run([str(found('strace')), '-qq', '-o', '/dev/null', 'true'],
+                          stderr=subprocess.DEVNULL, check=False).returncode:
             self.skipTest('nothing can be traced here')
 
     def calls(self, service: str) -> Set[str]:
@@ -168,7 +190,8 @@ class Calls(Room):
         with open(self.file('trace'), encoding='utf-8') as file:
             called = set(re.findall(r'^\d+ +(?:<\.\.\. )?([a-z]\w*)[( ]', file.read(), re.M))
         self.assertIn('write', called)
-        listed = ' '.join(settings_of(text_of('packaging/systemd/' + service))['SystemCallFilter']).split()
+        listed = ' '.join(
+            settings_of(text_of('packaging/systemd/' + service))['SystemCallFilter']).split()
         return called - set(listed) - BEFORE
 
     def traced(self, words: List[str]) -> List[str]:
@@ -176,17 +199,20 @@ class Calls(Room):
 
     def test_session(self) -> None:
         words = ['run'] + words_of('spmat@.service', 'SESSION')
-        said = subprocess.run(self.traced(words), input=FIRST_SESSION, stdout=subprocess.PIPE, timeout=FOR_A_REPLY, check=False)
+        said = subprocess.run(self.traced(words), input=FIRST_SESSION, stdout=subprocess.PIPE,
+                              timeout=FOR_A_REPLY, check=False)
         self.assertTrue(said.stdout.endswith(LAST_REPLIES))
         self.assertEqual(self.calls('spmat@.service'), set())
 
     def test_server(self) -> None:
-        port, words = free_port(), ['serve'] + words_of('spmat.service', 'SERVE') + ['--sessions', '4']
+        port, words = free_port(), ['serve'] + words_of('spmat.service',
+                                                        'SERVE') + ['--sessions', '4']
         for option, value in (('--port', str(port)), ('--idle', '5')):
             words[words.index(option) + 1] = value
         child = self.start('serve', self.traced(words), lambda: 'listening' in self.log('serve'))
         for _ in range(2):
-            self.assertTrue(converse(socket.create_connection(('127.0.0.1', port), FOR_A_REPLY), FIRST_SESSION).endswith(LAST_REPLIES))
+            self.assertTrue(converse(socket.create_connection(('127.0.0.1', port), FOR_A_REPLY),
+                                     FIRST_SESSION).endswith(LAST_REPLIES))
         with spmat.Session.connect(port=port, timeout=FOR_A_REPLY) as s:
             A = s.full(2000, 2)
             self.assertEqual(A.apply('ainv').reduce_scalar(), -4000)
@@ -203,11 +229,14 @@ class Sockets(Room):
     def setUp(self) -> None:
         super().setUp()
         self.path = self.file('spmat.sock')
-        self.server = self.start('socket', [str(found('systemd-socket-activate')), '--accept', '--inetd', '-l', self.path, program(), 'run']
-                   + words_of('spmat@.service', 'SESSION'), lambda: 'Listening on' in self.log('socket'))
+        self.server = self.start('socket', [str(found('systemd-socket-activate')), '--accept',
+                                            '--inetd', '-l', self.path, program(), 'run']
+                                 + words_of('spmat@.service', 'SESSION'),
+                                 lambda: 'Listening on' in self.log('socket'))
 
     def test_sessions_have_budgets_of_their_own(self) -> None:
-        with spmat.Session.connect(self.path, timeout=FOR_A_REPLY) as s, spmat.Session.connect(self.path, timeout=FOR_A_REPLY) as t:
+        with spmat.Session.connect(self.path, timeout=FOR_A_REPLY) as s, \
+                spmat.Session.connect(self.path, timeout=FOR_A_REPLY) as t:
             self.assertEqual(s.from_triples([(0, 0, 41)]).apply('plus', right=1).to_list(), [42])
             self.assertEqual((s.budget().spent, t.budget().spent), (4, 0))
 
@@ -246,4 +275,5 @@ class Package(Room):
     def test_the_group_of_the_socket_is_made(self) -> None:
         group = settings_of(text_of('packaging/systemd/spmat.socket'))['SocketGroup'][0]
         self.assertIn('g %s -' % group, list(lines_of(text_of('packaging/systemd/spmat.sysusers'))))
-        self.assertNotIn(group, [name.partition('.')[0].rstrip('@') for name in UNITS], 'DynamicUser= makes a group of the unit\'s name')
+        self.assertNotIn(group, [name.partition('.')[0].rstrip('@') for name in UNITS],
+                         'DynamicUser= makes a group of the unit\'s name')

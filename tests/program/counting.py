@@ -20,8 +20,8 @@ def instructions_of(program: str, session: bytes, refusals: List[bytes]) -> int:
     with tempfile.TemporaryFile() as given:
         given.write(session + QUIT)
         given.seek(0)
-        done = subprocess.run(CALLGRIND + [program] + run_words(), stdin=given, stdout=subprocess.PIPE, stderr=subprocess.PIPE,
-                              timeout=FOR_A_COMMAND)
+        done = subprocess.run(CALLGRIND + [program] + run_words(), stdin=given,
+                              stdout=subprocess.PIPE, stderr=subprocess.PIPE, timeout=FOR_A_COMMAND)
     expect('status', 0, done.returncode)
     expect('refusals', refusals, re.findall(rb'^no (\S+)', done.stdout, re.M))
     return int(re.search(rb'Collected : (\d+)', done.stderr).group(1))
@@ -31,7 +31,10 @@ def all_instructions(program: str) -> List[Tuple[str, float]]:
     """The instructions of each session, by its name and size."""
     if shutil.which('valgrind') is None:
         raise Wrong('there is no valgrind, which counts the instructions')
-    runs = [(name, size * times, make) for name, (make, size) in SESSIONS.items() for times in (1, 2)]
+    runs = [(name, size * times, make) for name, (make, size) in SESSIONS.items()
+            for times in (1, 2)]
     with ThreadPoolExecutor(os.cpu_count()) as at_once:
-        counts = at_once.map(lambda run: instructions_of(program, run[2](run[1]), REFUSED.get(run[0], [])), runs)
-        return [('%s, %d' % (name, size), float(count)) for (name, size, _), count in zip(runs, counts)]
+        counts = at_once.map(lambda run: instructions_of(program, run[2](run[1]),
+                                                         REFUSED.get(run[0], [])), runs)
+        return [('%s, %d' % (name, size), float(count))
+                for (name, size, _), count in zip(runs, counts)]

@@ -2,8 +2,8 @@
 import random
 from typing import Callable, Dict, List, Tuple
 
-from tests.lib.commands import (EXIT, INCREMENT, RESULT_IS_OPERAND, add, assembly_command, matrix_command, matrix_text,
-                                operator_command)
+from tests.lib.commands import (EXIT, INCREMENT, RESULT_IS_OPERAND, add, assembly_command,
+                                matrix_command, matrix_text, operator_command)
 
 Entry = Tuple[int, int, int]
 
@@ -20,7 +20,8 @@ def entries(count: int, of_row: int = 8) -> List[Entry]:
     side = count // of_row
     chance = random.Random(count)
     places = sorted(chance.sample(range(side * side), count))
-    return [(place // side + 1, place % side + 1, chance.randint(-1000000, 1000000)) for place in places]
+    return [(place // side + 1, place % side + 1, chance.randint(-1000000, 1000000))
+            for place in places]
 
 
 def matrix(name: str, of: List[Entry], rows: int, columns: int) -> bytes:
@@ -32,7 +33,8 @@ def square(name: str, count: int) -> bytes:
 
 
 def turned(name: str, count: int) -> bytes:
-    return matrix(name, sorted((column, row, value) for row, column, value in entries(count)), count // 8, count // 8)
+    return matrix(name, sorted((column, row, value) for row, column, value in entries(count)),
+                  count // 8, count // 8)
 
 
 def line(name: str, count: int) -> bytes:
@@ -41,7 +43,8 @@ def line(name: str, count: int) -> bytes:
 
 
 def two_lines(name: str, count: int) -> bytes:
-    return matrix(name, [(row, column, row) for row in (1, 2) for column in range(1, count + 1)], 2, count)
+    return matrix(name, [(row, column, row) for row in (1, 2) for column in range(1, count + 1)], 2,
+                  count)
 
 
 def shuffled(count: int) -> bytes:
@@ -52,17 +55,21 @@ def shuffled(count: int) -> bytes:
 
 
 def twice(count: int) -> bytes:
-    """All positions in random order, and then all of them again: the fault is found once half of the lines were read again."""
+    """All positions in random order, and then all of them again: the fault is found once half of
+    the lines were read again."""
     text = matrix_text(count // 8, count // 8, entries(count // 2)).split(b'\n')
     chance, body = random.Random(count), text[2:-1]
     size = b'%d %d %d' % (count // 8, count // 8, 2 * len(body))
-    return matrix_command('A', b'\n'.join([text[0], size] + chance.sample(body, len(body)) + chance.sample(body, len(body))) + b'\n')
+    return matrix_command('A',
+                          b'\n'.join([text[0], size] + chance.sample(body, len(body))
+                                     + chance.sample(body, len(body))) + b'\n')
 
 
 def unusual(count: int) -> bytes:
     """Lines of two blanks among the usual ones, comments, and CR LF."""
     text = matrix_text(count // 8, count // 8, entries(count)).split(b'\n')
-    body = [entry if number % 3 else entry.replace(b' ', b'  ', 1) + b'\r\n% more' for number, entry in enumerate(text[2:-1])]
+    body = [entry if number % 3 else entry.replace(b' ', b'  ', 1) + b'\r\n% more'
+            for number, entry in enumerate(text[2:-1])]
     return matrix_command('A', b'\n'.join(text[:2] + body) + b'\n')
 
 
@@ -91,18 +98,22 @@ def scattered(rows: int, columns: int, of_row: int) -> List[Entry]:
 
 def crowded_product(rows: int) -> bytes:
     """A product whose rows have entries in most of their columns, which come in no order."""
-    a, b = matrix('A', scattered(rows, 256, 16), rows, 256), matrix('B', scattered(256, 1024, 64), 256, 1024)
+    a, b = matrix('A', scattered(rows, 256, 16), rows,
+                  256), matrix('B', scattered(256, 1024, 64), 256, 1024)
     return SUM + a + b + b'product C plus plus A B\nrun\n'
 
 
 def flat_product(rows: int) -> bytes:
-    """A product of so many rows with nothing but the last, whose price is that of all its chunks."""
-    return SUM + matrix('A', [(rows, 1, 1)], rows, 1) + matrix('B', [(1, 1, 1)], 1, 1) + b'product C plus plus A B\nrun\n'
+    """A product of so many rows with nothing but the last, whose price is that of all its
+    chunks."""
+    return (SUM + matrix('A', [(rows, 1, 1)], rows, 1) + matrix('B', [(1, 1, 1)], 1, 1)
+            + b'product C plus plus A B\nrun\n')
 
 
 def names(count: int) -> bytes:
     numbers = range(count)
-    return b''.join(matrix('n%d' % number, [], 1, 1) for number in numbers) + b''.join(b'show n%d\n' % number for number in numbers)
+    return b''.join(matrix('n%d' % number, [], 1, 1)
+                    for number in numbers) + b''.join(b'show n%d\n' % number for number in numbers)
 
 
 def many_jobs(count: int) -> bytes:
@@ -119,18 +130,27 @@ SESSIONS: Dict[str, Tuple[Callable[[int], bytes], int]] = {
     'read and show': (lambda n: square('A', n) + b'show A\n', 10000),
     'apply, long operator': (lambda n: LONG + square('A', n) + b'apply B long A\nrun\n', 20000),
     'apply by place': (lambda n: PLACE + square('A', n) + b'apply B place A 9\nrun\n', 20000),
-    'apply under a mask, one row': (lambda n: SHORT + line('A', n) + line('M', n) + b'apply B inc A mask M\nrun\n', 10000),
+    'apply under a mask, one row': (lambda n: SHORT + line('A', n) + line('M', n)
+                                    + b'apply B inc A mask M\nrun\n', 10000),
     'select': (lambda n: LOW + square('A', n) + b'select B low A 0\nrun\n', 20000),
-    'union': (lambda n: SUM + square('A', n) + turned('T', n) + b'union B plus A T\nunion C plus A A\nrun\n', 10000),
+    'union': (lambda n: SUM + square('A', n) + turned('T',
+                                                      n)
+              + b'union B plus A T\nunion C plus A A\nrun\n', 10000),
     'both under a mask': (lambda n: SUM + square('A', n) + turned('T', n)
                           + b'both B plus A A mask T\nboth C plus A A mask A\nrun\n', 10000),
-    'reduce': (lambda n: SUM + square('A', n) + line('L', n) + b'reduce B plus A\nreduce C plus L\nrun\n', 10000),
+    'reduce': (lambda n: SUM + square('A', n) + line('L',
+                                                     n)
+               + b'reduce B plus A\nreduce C plus L\nrun\n', 10000),
     'product': (lambda n: SUM + square('A', n) + b'product B plus plus A A\nrun\n', 5000),
-    'product, long rows': (lambda n: SUM + matrix('I', [(1, 1, 1), (1, 2, 1)], 1, 2) + two_lines('W', n)
+    'product, long rows': (lambda n: SUM + matrix('I', [(1, 1, 1), (1, 2, 1)], 1,
+                                                  2) + two_lines('W', n)
                            + b'product B plus plus I W\nrun\n', 10000),
     'product, crowded rows': (crowded_product, 64),
-    'product under a mask': (lambda n: SUM + square('A', n) + b'product B plus plus A A mask A\nrun\n', 5000),
-    'rows with nothing': (lambda n: SHORT + matrix('A', [(n, 1, 1)], n, 1) + b'apply B inc A\nrun\nshow B\n', 200000),
+    'product under a mask': (lambda n: SUM + square('A',
+                                                    n) + b'product B plus plus A A mask A\nrun\n',
+                             5000),
+    'rows with nothing': (lambda n: SHORT + matrix('A', [(n, 1, 1)], n,
+                                                   1) + b'apply B inc A\nrun\nshow B\n', 200000),
     'an operator of branches': (branches, 2048),
     'a straight operator': (straight, 2048),
     'few calls of a long operator': (few_calls, 2048),

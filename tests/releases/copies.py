@@ -14,7 +14,8 @@ from tests.lib.patience import FOR_A_COMMAND
 
 PROGRAM = os.path.relpath(paths.PROGRAM, TOP)
 WHO = {'GIT_%s_%s' % (role, what): value for role in ('AUTHOR', 'COMMITTER')
-       for what, value in (('NAME', 'nobody'), ('EMAIL', 'nobody@localhost'), ('DATE', '2026-01-02T03:04:05Z'))}
+       for what, value in (('NAME', 'nobody'), ('EMAIL', 'nobody@localhost'),
+                           ('DATE', '2026-01-02T03:04:05Z'))}
 # A program that says its version, where the built one isn't wanted.
 TELLS = '#!/bin/sh\necho "spmat %s"\n'
 # What a release doesn't look at, and what it does look at in there.
@@ -24,7 +25,8 @@ RT = '#!/bin/sh\necho "%s"\n'
 
 
 def copied(name: str) -> bool:
-    return (name in LOOKED_AT or not name.startswith(LEFT_OUT)) and os.path.lexists(os.path.join(TOP, name))
+    return ((name in LOOKED_AT or not name.startswith(LEFT_OUT))
+            and os.path.lexists(os.path.join(TOP, name)))
 
 
 class Copy:
@@ -36,8 +38,9 @@ class Copy:
         if of is not None:
             shutil.copytree(of.top, folder, symlinks=True)
             return
-        names = subprocess.run(['git', 'ls-files', '-z', '--cached', '--others', '--exclude-standard'], cwd=TOP, stdout=subprocess.PIPE,
-                               check=True, text=True).stdout.strip('\0').split('\0')
+        names = subprocess.run(['git', 'ls-files', '-z', '--cached', '--others',
+                                '--exclude-standard'], cwd=TOP, stdout=subprocess.PIPE, check=True,
+                               text=True).stdout.strip('\0').split('\0')
         for name in filter(copied, names):
             os.makedirs(os.path.dirname(self.path(name)), exist_ok=True)
             shutil.copy2(os.path.join(TOP, name), self.path(name), follow_symlinks=False)
@@ -48,8 +51,8 @@ class Copy:
         return os.path.join(self.top, name)
 
     def git(self, *words: str) -> str:
-        return subprocess.run(('git',) + words, cwd=self.top, env=self.environment, stdout=subprocess.PIPE, check=True,
-                              text=True).stdout.strip()
+        return subprocess.run(('git',) + words, cwd=self.top, env=self.environment,
+                              stdout=subprocess.PIPE, check=True, text=True).stdout.strip()
 
     def commit(self) -> None:
         self.git('add', '-A')
@@ -79,19 +82,27 @@ class Copy:
         self.write(name, text.replace(old, new), stat.S_IMODE(os.stat(self.path(name)).st_mode))
 
     def release(self, *words: str) -> 'subprocess.CompletedProcess[str]':
-        return subprocess.run([self.path('tools/release')] + list(words), cwd=self.top, env=self.environment, stdout=subprocess.PIPE,
-                              stderr=subprocess.STDOUT, text=True, check=False, timeout=FOR_A_COMMAND)
+        return subprocess.run([self.path('tools/release')] + list(words), cwd=self.top,
+                              env=self.environment, stdout=subprocess.PIPE,
+                              stderr=subprocess.STDOUT, text=True, check=False,
+                              timeout=FOR_A_COMMAND)
 
     def pass_gate(self, amid: str = '', steps: str = 'gate.STEPS') -> None:
-        """A run of the gate in which each step does nothing; `amid` is a command of the shell that runs before the note."""
-        text = ('from tools.releasing import gate\nrun = gate.Run()\nfor name in %s: run.step(name, ["true"])\n'
-                'import subprocess\nsubprocess.run(%r, shell=True, check=True)\nrun.note()' % (steps, amid or 'true'))
-        subprocess.run([sys.executable, '-c', text], cwd=self.top, env=self.environment, stdout=subprocess.DEVNULL, check=True, timeout=FOR_A_COMMAND)
+        """A run of the gate in which each step does nothing; `amid` is a command of the shell that
+        runs before the note."""
+        text = (
+            'from tools.releasing import gate\nrun = gate.Run()\nfor name in %s: run.step(name, '
+            '["true"])\n'
+            'import subprocess\nsubprocess.run(%r, shell=True, check=True)\nrun.note()'
+            % (steps, amid or 'true'))
+        subprocess.run([sys.executable, '-c', text], cwd=self.top, env=self.environment,
+                       stdout=subprocess.DEVNULL, check=True, timeout=FOR_A_COMMAND)
 
 
 def needs_git(of: Any) -> Any:
     """Skips what wants git, and a tree that git knows."""
-    return unittest.skipUnless(shutil.which('git') and os.path.exists(os.path.join(TOP, '.git')), 'no git here')(of)
+    return unittest.skipUnless(shutil.which('git') and os.path.exists(os.path.join(TOP, '.git')),
+                               'no git here')(of)
 
 
 class InCopy(unittest.TestCase):

@@ -15,7 +15,8 @@ from tools.releasing import gate
 
 def gate_program() -> Any:
     """The module of tools/test."""
-    loader = importlib.machinery.SourceFileLoader('gate_program', os.path.join(TOP, 'tools', 'test'))
+    loader = importlib.machinery.SourceFileLoader('gate_program',
+                                                  os.path.join(TOP, 'tools', 'test'))
     spec = importlib.util.spec_from_loader('gate_program', loader)
     assert spec is not None
     made = importlib.util.module_from_spec(spec)
@@ -24,15 +25,18 @@ def gate_program() -> Any:
 
 
 class Gate(unittest.TestCase):
-    def ended(self, ci: str, fault: str = '', without: Tuple[packages.Package, ...] = ()) -> Tuple[int, str]:
+    def ended(self, ci: str, fault: str = '',
+              without: Tuple[packages.Package, ...] = ()) -> Tuple[int, str]:
         """The status of a gate and its last line, where each step but `fault` passes."""
         program, noted = gate_program(), []
 
         def whole(run: gate.Run) -> None:
             run.step('one', ['true'])
             run.step('two', ['false' if fault else 'true'])
-        with mock.patch.object(program, 'whole', whole), mock.patch.object(packages, 'missing', lambda: list(without)), \
-                mock.patch.object(gate.Run, 'note', lambda run: noted.append(run) or {}), mock.patch.dict(os.environ, CI=ci), \
+        with mock.patch.object(program, 'whole', whole), \
+                mock.patch.object(packages, 'missing', lambda: list(without)), \
+                mock.patch.object(gate.Run, 'note', lambda run: noted.append(run) or {}), \
+                mock.patch.dict(os.environ, CI=ci), \
                 mock.patch('sys.argv', ['test']), contextlib.redirect_stdout(io.StringIO()) as told:
             status = program.main()
         self.assertEqual(len(noted), 1 if status == 0 else 0)
@@ -45,35 +49,45 @@ class Gate(unittest.TestCase):
         self.assertEqual(self.ended('true'), (0, 'test: 2 passed, 0 failed, 0 skipped'))
         self.assertEqual(self.ended('', 'two'), (1, 'test: 1 passed, 1 failed, 0 skipped'))
         self.assertIn('test: two: status 1 after 0 s', self.told)
-        self.assertEqual(self.ended('', without=without), (0, 'test: 2 passed, 0 failed, 2 skipped'))
+        self.assertEqual(self.ended('', without=without),
+                         (0, 'test: 2 passed, 0 failed, 2 skipped'))
         self.assertIn('apt-get install -y --no-install-recommends mypy pylint', self.told)
-        self.assertEqual(self.ended('true', without=without), (1, 'test: 2 passed, 1 failed, 2 skipped'))
+        self.assertEqual(self.ended('true', without=without),
+                         (1, 'test: 2 passed, 1 failed, 2 skipped'))
         self.assertIn('with CI set nothing may be left out', self.told)
 
     def test_a_step_that_hangs(self) -> None:
         run = gate.Run()
-        with contextlib.redirect_stdout(io.StringIO()), self.assertRaisesRegex(gate.Failed, 'slow: it hung'):
+        with contextlib.redirect_stdout(io.StringIO()), \
+                self.assertRaisesRegex(gate.Failed, 'slow: it hung'):
             run.step('slow', ['sleep', '60'], most=1)
         self.assertEqual(run.steps, [])
 
     def test_steps_side_by_side(self) -> None:
         """What each says stands together, and after a fault nothing begins."""
         run = gate.Run()
-        slow, quick = gate.Command('slow', ['sh', '-c', 'echo a; sleep 1; echo b']), gate.Command('quick', ['echo', 'c'])
+        slow, quick = gate.Command('slow',
+                                   ['sh', '-c', 'echo a; sleep 1; echo b']), gate.Command(
+                                       'quick', ['echo', 'c'])
         with contextlib.redirect_stdout(io.StringIO()) as told:
             run.side_by_side([slow, quick])
-        self.assertEqual(told.getvalue().splitlines(), ['== quick: echo c', 'c', '-- quick: 0 s', '== slow: ' + ' '.join(slow.words), 'a', 'b',
-                                                        '-- slow: 1 s'])
+        self.assertEqual(told.getvalue().splitlines(),
+                         ['== quick: echo c', 'c', '-- quick: 0 s',
+                          '== slow: ' + ' '.join(slow.words), 'a', 'b', '-- slow: 1 s'])
         self.assertEqual([step.name for step in run.steps], ['quick', 'slow'])
-        with contextlib.redirect_stdout(io.StringIO()) as told, self.assertRaisesRegex(gate.Failed, 'bad: status 3'):
-            run.side_by_side([gate.Command('bad', ['sh', '-c', 'echo why >&2; exit 3']), slow, quick, quick])
+        with contextlib.redirect_stdout(io.StringIO()) as told, \
+                self.assertRaisesRegex(gate.Failed, 'bad: status 3'):
+            run.side_by_side([gate.Command('bad', ['sh', '-c', 'echo why >&2; exit 3']), slow,
+                              quick, quick])
         self.assertEqual([step.name for step in run.steps], ['quick', 'slow', 'slow'])
         self.assertIn('== bad: sh -c echo why >&2; exit 3\nwhy\n', told.getvalue())
 
     def test_packages(self) -> None:
         """One that is here is seen, and one that isn't, by program or by module."""
-        for package, there in ((packages.Package('x', 'y', program='sh'), True), (packages.Package('x', 'y', program='no-such-program'), False),
-                               (packages.Package('x', 'y', module='json'), True), (packages.Package('x', 'y', module='no_such_module'), False)):
+        for package, there in ((packages.Package('x', 'y', program='sh'), True),
+                               (packages.Package('x', 'y', program='no-such-program'), False),
+                               (packages.Package('x', 'y', module='json'), True),
+                               (packages.Package('x', 'y', module='no_such_module'), False)):
             self.assertEqual(package.is_there(), there)
 
     def test_every_step_is_known(self) -> None:
@@ -81,6 +95,7 @@ class Gate(unittest.TestCase):
         with open(os.path.join(TOP, 'tools', 'test'), encoding='utf-8') as file:
             text = file.read()
         program = gate_program()
-        made = {command.name for command in [*program.program_commands(), *program.other_commands()]}
+        made = {command.name for command in [*program.program_commands(),
+                                             *program.other_commands()]}
         for name in gate.STEPS:
             self.assertTrue(name in made or "run.step('%s'" % name in text, name)

@@ -62,12 +62,14 @@ class Refusals(InCopy):
         self.assertEqual(self.copy.release('--check').returncode, 0)
 
     def test_untested(self) -> None:
-        """Without a gate, of changed files, the version tells so; what stands against every release stands against this."""
+        """Without a gate, of changed files, the version tells so; what stands against every release
+        stands against this."""
         os.remove(self.copy.path('crates/spmat/out/passed.json'))   # as if no gate had passed
         self.copy.write('README.md', self.copy.text('README.md') + '\nmore\n')
         mark = self.version + '+untested.g%s' % self.copy.git('rev-parse', '--short=7', 'HEAD')
         for end in ('.changed', ''):
-            made = self.copy.release('--untested', '--only', 'wheels', '--to', self.copy.path('out/made' + end))
+            made = self.copy.release('--untested', '--only', 'wheels', '--to',
+                                     self.copy.path('out/made' + end))
             self.copy.git('checkout', '-q', 'README.md')
             if 'no Python here' in made.stdout:
                 continue
@@ -76,7 +78,8 @@ class Refusals(InCopy):
             self.assertIn(name, made.stdout)
             with zipfile.ZipFile(self.copy.path('out/made%s/%s' % (end, name))) as wheel:
                 self.assertEqual(wheel.read('spmat/VERSION').decode(), mark + end + '\n')
-                self.assertIn('\nVersion: %s\n' % (mark + end), wheel.read('spmat-%s.dist-info/METADATA' % (mark + end)).decode())
+                self.assertIn('\nVersion: %s\n' % (mark + end),
+                              wheel.read('spmat-%s.dist-info/METADATA' % (mark + end)).decode())
         self.copy.replace('CHANGELOG.md', '## ' + self.version, '## 0.9.7')
         made = self.copy.release('--untested', '--to', self.copy.path('out/other'))
         self.assertEqual(made.returncode, 1, made.stdout)
@@ -107,7 +110,8 @@ class Refusals(InCopy):
         self.checked('version.rt says 0.9.7')
 
     def test_documents_that_name_another_version(self) -> None:
-        self.copy.replace('docs/server.md', 'spmat_%s_amd64.deb' % self.version, 'spmat_0.9.7_amd64.deb')
+        self.copy.replace('docs/server.md', 'spmat_%s_amd64.deb' % self.version,
+                          'spmat_0.9.7_amd64.deb')
         self.checked('docs/server.md (0.9.7) says 0.9.7')
 
     def test_a_client_with_a_version_of_its_own(self) -> None:
@@ -129,7 +133,8 @@ class Refusals(InCopy):
         self.refused('no gate has passed here')
 
     def test_a_gate_amid_which_something_changed(self) -> None:
-        for change in ('echo more > docs/more.md', 'git add -A; git commit -q --allow-empty -m "another"'):
+        for change in ('echo more > docs/more.md',
+                       'git add -A; git commit -q --allow-empty -m "another"'):
             self.copy.pass_gate(change)
             with open(self.copy.path('crates/spmat/out/passed.json'), encoding='utf-8') as file:
                 self.assertEqual(json.load(file)['commit'], 'none')
@@ -165,7 +170,8 @@ class Refusals(InCopy):
         self.checked('regex')
 
     def test_homepages_that_differ(self) -> None:
-        self.copy.replace('clients/python/pyproject.toml', 'Homepage = "https://', 'Homepage = "https://another.')
+        self.copy.replace('clients/python/pyproject.toml', 'Homepage = "https://',
+                          'Homepage = "https://another.')
         self.checked('clients/python/pyproject.toml names the homepage https://another.')
         self.copy.replace('packaging/debian/control', 'Homepage: ', 'Vcs-Git: ')
         self.checked('README.md names the homepage')

@@ -1,19 +1,24 @@
-"""A docstring and a signature, cut into the sections of the reference: what it does, arguments, returns, cost, elsewhere, raises.
+"""A docstring and a signature, cut into the sections of the reference: what it does, arguments,
+returns, cost, elsewhere, raises.
 
-The client's docstrings are prose, or have numpydoc's sections. A sentence of prose belongs to a section by how it begins: "Runs:" and "Steps:" to the cost, "networkx:" to the
-names elsewhere, "Raises .." or the name of an exception to what is raised. Blocks that are indented stay code.
+The client's docstrings are prose, or have numpydoc's sections. A sentence of prose belongs to a
+section by how it begins: "Runs:" and "Steps:" to the cost, "networkx:" to the names elsewhere,
+"Raises .." or the name of an exception to what is raised. Blocks that are indented stay code.
 """
 import inspect
 import re
 from typing import Any, Callable, Dict, List, NamedTuple, Optional, Tuple
 
-COST = re.compile(r'(Runs|Steps|Costs|Rounds|Limits):|(No|\d+) (runs?|jobs?|steps?)\b|(It|They) (costs?|takes?) |Costs? (are|as) |'
-                  r'.*\bso are (the )?costs\b')
+COST = re.compile(r'(Runs|Steps|Costs|Rounds|Limits):|(No|\d+) (runs?|jobs?|steps?)\b|(It|They) '
+                  r'(costs?|takes?) |Costs? (are|as) |.*\bso are (the )?costs\b')
 MORE_COST = re.compile(r'\b(runs?|steps?|jobs?|round trips?|batch(es)?)\b')
-ELSEWHERE = re.compile(r'(GraphBLAS|LAGraph|networkx|igraph):|In (the )?(GraphBLAS|LAGraph|networkx|python-graphblas|pandas|igraph)\b')
-RAISES = re.compile(r'Raises |[A-Z]\w*(Error|Mismatch|Refused|Large)\b|NoPath\b|BlockFailed\b|NotSettled\b')
+ELSEWHERE = re.compile(r'(GraphBLAS|LAGraph|networkx|igraph):|In (the '
+                       r')?(GraphBLAS|LAGraph|networkx|python-graphblas|pandas|igraph)\b')
+RAISES = re.compile(
+    r'Raises |[A-Z]\w*(Error|Mismatch|Refused|Large)\b|NoPath\b|BlockFailed\b|NotSettled\b')
 SENTENCE = re.compile(r'(?<=[.)])\s+(?=[A-Z`({~\d]|networkx:|igraph:)')
-VARIABLES = re.compile(r'\b(M|Made)\b')           # what the client's types call "a matrix of the kind that was handed in"
+# what the client's types call "a matrix of the kind that was handed in"
+VARIABLES = re.compile(r'\b(M|Made)\b')
 SECTIONS = ('text', 'cost', 'elsewhere', 'raises')
 
 
@@ -34,14 +39,15 @@ def sections_of(thing: Any) -> Dict[str, str]:
         for name, sentences in by_section(' '.join(paragraph.split())).items():
             if sentences:
                 found[name].append(' '.join(sentences))
-    joined = {name: ('\n\n' if name == 'text' else ' ').join(parts) for name, parts in found.items()}
+    joined = {name: ('\n\n' if name == 'text' else ' ').join(parts)
+              for name, parts in found.items()}
     joined['raises'] = re.sub(r'(^|(?<=\. ))Raises ', '', joined['raises'])
     return joined
 
 
 def without_heads(text: str) -> str:
-    """A docstring with numpydoc's sections as prose: arguments as a list, what is returned and raised as sentences, examples as
-    code."""
+    """A docstring with numpydoc's sections as prose: arguments as a list, what is returned and
+    raised as sentences, examples as code."""
     parts = re.split(r'^(\w+)\n-{3,}\n', text, flags=re.M)
     out = [parts[0]]
     for head, body in zip(parts[1::2], parts[2::2]):
@@ -56,9 +62,11 @@ def entries_of(body: str) -> List[Tuple[str, str]]:
 
 
 BODIES: Dict[str, Callable[[str], str]] = {
-    'Parameters': lambda body: '\n'.join('- `%s`: %s' % (name.split(' : ')[0], said) for name, said in entries_of(body)),
+    'Parameters': lambda body: '\n'.join('- `%s`: %s' % (name.split(' : ')[0], said)
+                                         for name, said in entries_of(body)),
     'Returns': lambda body: '\n\n'.join('Returns: %s' % said for _, said in entries_of(body)),
-    'Raises': lambda body: '\n\n'.join('Raises %s %s' % (name, said[:1].lower() + said[1:]) for name, said in entries_of(body)),
+    'Raises': lambda body: '\n\n'.join('Raises %s %s' % (name, said[:1].lower() + said[1:])
+                                       for name, said in entries_of(body)),
     'Examples': lambda body: re.sub(r'^(?=.)', '    ', body, flags=re.M)}
 
 
@@ -86,18 +94,22 @@ def section_of(sentence: str, last: str) -> str:
 def arguments_of(function: Callable[..., Any]) -> List[Argument]:
     """What a function or a class is called with."""
     marks = {inspect.Parameter.VAR_POSITIONAL: '*', inspect.Parameter.VAR_KEYWORD: '**'}
-    return [Argument(marks.get(parameter.kind, '') + parameter.name, written(parameter.annotation), default_of(parameter))
-            for parameter in inspect.signature(function).parameters.values() if parameter.name not in ('self', 'cls')]
+    return [Argument(marks.get(parameter.kind, '') + parameter.name, written(parameter.annotation),
+                     default_of(parameter))
+            for parameter in inspect.signature(function).parameters.values()
+            if parameter.name not in ('self', 'cls')]
 
 
 def default_of(parameter: inspect.Parameter) -> Optional[str]:
-    """A parameter's default as one writes it: powers of two and large numbers by their powers, nothing of addresses."""
+    """A parameter's default as one writes it: powers of two and large numbers by their powers,
+    nothing of addresses."""
     value = parameter.default
     if value is parameter.empty:
         return None
     if isinstance(value, int) and not isinstance(value, bool) and value > 4096:
         power = value.bit_length() - 1
-        return '2**%d' % power if value == 1 << power else '10**%d' % (len(str(value)) - 1) if re.fullmatch('10*', str(value)) else str(value)
+        return ('2**%d' % power if value == 1 << power else '10**%d' % (len(str(value)) - 1)
+                if re.fullmatch('10*', str(value)) else str(value))
     return re.sub(r'<(\w+)[^>]*>', r'\1', repr(value))
 
 
@@ -105,8 +117,10 @@ def written(annotation: Any) -> str:
     """A type as one writes it, without the names of modules; '' where there is none."""
     if annotation is inspect.Signature.empty:
         return ''
-    told = annotation if isinstance(annotation, str) else getattr(annotation, '__name__', '') if inspect.isclass(annotation) else repr(annotation)
-    bare = re.sub(r"\b[a-z_]+(?:\.[a-z_]+)*\.(?=[A-Za-z])", '', told).replace("'", '').replace('NoneType', 'None')
+    told = (annotation if isinstance(annotation, str) else getattr(annotation, '__name__', '')
+            if inspect.isclass(annotation) else repr(annotation))
+    bare = re.sub(r"\b[a-z_]+(?:\.[a-z_]+)*\.(?=[A-Za-z])", '',
+                  told).replace("'", '').replace('NoneType', 'None')
     return VARIABLES.sub('Matrix', bare)
 
 
@@ -119,8 +133,10 @@ def called(name: str, arguments: List[Argument], function: Callable[..., Any]) -
     """How it is called, without types."""
     parts: List[str] = []
     starred = False
-    for argument, parameter in zip(arguments, [parameter for parameter in inspect.signature(function).parameters.values()
-                                               if parameter.name not in ('self', 'cls')]):
+    for argument, parameter in zip(arguments,
+                                   [parameter
+                                    for parameter in inspect.signature(function).parameters.values()
+                                    if parameter.name not in ('self', 'cls')]):
         if parameter.kind is parameter.KEYWORD_ONLY and not starred:
             parts.append('*')
             starred = True
@@ -133,7 +149,9 @@ def table(arguments: List[Argument]) -> Tuple[str, ...]:
     """The rows of a table of arguments."""
     if not arguments:
         return ()
-    rows = ['| `%s` | %s | %s |' % (argument.name, '`%s`' % argument.kind.replace('|', '\\|') if argument.kind else '',
-                                    'required' if argument.default is None and not argument.name.startswith('*') else
-                                    '`%s`' % argument.default if argument.default is not None else '') for argument in arguments]
+    rows = ['| `%s` | %s | %s |' % (argument.name, '`%s`' % argument.kind.replace('|', '\\|')
+                                    if argument.kind else '', 'required' if argument.default is None
+                                    and not argument.name.startswith('*')
+                                    else '`%s`' % argument.default if argument.default is not None
+                                    else '') for argument in arguments]
     return ('| Argument | Type | Default |', '|---|---|---|', *rows)

@@ -14,17 +14,20 @@ from spmat import algorithms, blocks, draw, errors  # noqa: E402
 
 HEAD = """# Reference of the Python client, spmat %s
 
-Every public name by subject, made from the docstrings; `help(spmat.Session)` and its kin print the same. [examples.md](examples.md) shows
-the client at work, and [operators.md](operators.md) describes operators. In the headings `s` is a session and `A` a matrix.
+Every public name by subject, made from the docstrings; `help(spmat.Session)` and its kin print the
+same. [examples.md](examples.md) shows the client at work, and [operators.md](operators.md)
+describes operators. In the headings `s` is a session and `A` a matrix.
 
-Each entry says what it does, then its arguments, what it returns, its cost (runs are round trips that compute; steps are what the budget
-pays), the name elsewhere, and what it raises. A section is left out where there is nothing to say.
-"""
-READY = ('Ready operators are `spmat.unary`, `spmat.binary` and `spmat.indexunary`; `spmat.semiring.min_plus` joins any two binary names. '
+Each entry says what it does, then its arguments, what it returns, its cost (runs are round trips
+that compute; steps are what the budget pays), the name elsewhere, and what it raises. A section is
+left out where there is nothing to say. """
+READY = ('Ready operators are `spmat.unary`, `spmat.binary` and `spmat.indexunary`; '
+         '`spmat.semiring.min_plus` joins any two binary names. '
          '[operators.md](operators.md#ready-operators) lists them.')
 
 
-def entry(heading: str, thing: Any, function: Callable[..., Any] = lambda: None, *, is_called: bool = True) -> str:
+def entry(heading: str, thing: Any, function: Callable[..., Any] = lambda: None, *,
+          is_called: bool = True) -> str:
     """What the page says of one name: its heading, and the fixed sections."""
     sections = docstrings.sections_of(thing)
     arguments = docstrings.arguments_of(function) if is_called else []
@@ -33,8 +36,9 @@ def entry(heading: str, thing: Any, function: Callable[..., Any] = lambda: None,
     answer = '' if inspect.isclass(thing) else docstrings.returned(function)
     if answer:
         parts.append('**Returns** `%s`' % answer)
-    parts += ['**%s.** %s' % (title, sections[name]) for title, name in (('Cost', 'cost'), ('Elsewhere', 'elsewhere'), ('Raises', 'raises'))
-              if sections[name]]
+    parts += ['**%s.** %s' % (title, sections[name])
+              for title, name in (('Cost', 'cost'), ('Elsewhere', 'elsewhere'),
+                                  ('Raises', 'raises')) if sections[name]]
     return '\n\n'.join(part for part in parts if part)
 
 
@@ -50,16 +54,20 @@ def member(kind: Any, name: str, of: str) -> str:
 
 def public(kind: Any) -> List[str]:
     """The members of a class that users call, each by its first name."""
-    names = [name for name in sorted(dir(kind)) if (name == '__getitem__' or not name.startswith('_'))
+    names = [name for name in sorted(dir(kind))
+             if (name == '__getitem__' or not name.startswith('_'))
              and getattr(getattr(kind, name), '__name__', name) == name]
-    return [name for name in names
-            if inspect.getdoc(getattr(kind, name)) and (callable(getattr(kind, name)) or isinstance(inspect.getattr_static(kind, name), property))]
+    return [name for name in names if inspect.getdoc(getattr(kind, name))
+            and (callable(getattr(kind, name)) or isinstance(inspect.getattr_static(kind, name),
+                                                             property))]
 
 
 def function(module: Any, name: str, of: str) -> str:
-    """The entry of a function of a module, or of a class that it brings: what users raise, catch or take fields from isn't called."""
+    """The entry of a function of a module, or of a class that it brings: what users raise, catch or
+    take fields from isn't called."""
     found = getattr(module, name)
-    return entry(of + name, found, found, is_called=not inspect.isclass(found) or name in subjects.BLOCKS)
+    return entry(of + name, found, found, is_called=not inspect.isclass(found)
+                 or name in subjects.BLOCKS)
 
 
 def chapter(title: str, text: str, parts: Iterator[str]) -> str:
@@ -78,7 +86,8 @@ def algorithm_modules() -> Dict[str, str]:
     """In which module each algorithm is."""
     found = {name: getattr(algorithms, name) for name in algorithms.__all__}
     return {name: thing.__module__.rpartition('.')[2] for name, thing in found.items()
-            if callable(thing) and inspect.getdoc(thing) and str(thing.__module__).startswith('spmat')}
+            if callable(thing) and inspect.getdoc(thing)
+            and str(thing.__module__).startswith('spmat')}
 
 
 def operators() -> List[str]:
@@ -92,18 +101,23 @@ def page() -> str:
     """The whole page."""
     session, matrix = public(spmat.Session), public(spmat.Matrix)
     parts = [
-        HEAD % spmat.__version__,
-        chapter('Sessions', inspect.getdoc(spmat.Session) or '',
-                below(subjects.with_others(subjects.SESSION, session), lambda name: member(spmat.Session, name, 's'))),
+        HEAD % spmat.__version__, chapter('Sessions', inspect.getdoc(spmat.Session) or '',
+                                          below(subjects.with_others(subjects.SESSION, session),
+                                                lambda name: member(spmat.Session, name, 's'))),
         chapter('Matrices', inspect.getdoc(spmat.Matrix) or '',
-                below(subjects.with_others(subjects.MATRIX, matrix), lambda name: member(spmat.Matrix, name, 'A'))),
+                below(subjects.with_others(subjects.MATRIX, matrix),
+                      lambda name: member(spmat.Matrix, name, 'A'))),
         chapter('Masks', inspect.getdoc(spmat.Mask) or '', iter(())),
         chapter('Operators and loops', READY,
-                below(subjects.with_others(subjects.OPERATORS, operators()), lambda name: function(spmat, name, 'spmat.'))),
-        chapter('A loop', inspect.getdoc(spmat.Loop) or '', map(lambda name: member(spmat.Loop, name, 'loop'), public(spmat.Loop))),
+                below(subjects.with_others(subjects.OPERATORS, operators()),
+                      lambda name: function(spmat, name, 'spmat.'))),
+        chapter('A loop', inspect.getdoc(spmat.Loop) or '',
+                map(lambda name: member(spmat.Loop, name, 'loop'), public(spmat.Loop))),
         chapter('Algorithms', inspect.getdoc(algorithms) or '',
-                below(subjects.algorithms_by_subject(algorithm_modules()), lambda name: function(algorithms, name, 'algorithms.'))),
-        chapter('Pictures', inspect.getdoc(draw) or '', map(lambda name: function(draw, name, 'draw.'), subjects.PICTURES)),
+                below(subjects.algorithms_by_subject(algorithm_modules()),
+                      lambda name: function(algorithms, name, 'algorithms.'))),
+        chapter('Pictures', inspect.getdoc(draw) or '',
+                map(lambda name: function(draw, name, 'draw.'), subjects.PICTURES)),
         chapter('Row blocks over several sessions', inspect.getdoc(blocks) or '',
                 map(lambda name: function(blocks, name, 'blocks.'), subjects.BLOCKS)),
         chapter('Exceptions', inspect.getdoc(errors) or '', iter(()))]
@@ -123,4 +137,5 @@ def contents(text: str) -> str:
 def faults() -> List[str]:
     """Algorithms whose docstring says no cost."""
     names = [name for name in algorithm_modules() if inspect.isfunction(getattr(algorithms, name))]
-    return ['algorithms.%s says no cost' % name for name in names if not docstrings.sections_of(getattr(algorithms, name))['cost']]
+    return ['algorithms.%s says no cost' % name for name in names
+            if not docstrings.sections_of(getattr(algorithms, name))['cost']]

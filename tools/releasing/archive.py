@@ -1,4 +1,5 @@
-"""The program with its manual, units and documents, as a tar.xz for machines whose packages are others than Debian's."""
+"""The program with its manual, units and documents, as a tar.xz for machines whose packages are
+others than Debian's."""
 import glob
 import io
 import lzma
@@ -9,15 +10,20 @@ from typing import Dict
 from tools.releasing import tree
 
 # Where the files of packaging/ go, below the prefix.
-PLACES = {'packaging/systemd/*.service': 'lib/systemd/system/', 'packaging/systemd/*.socket': 'lib/systemd/system/',
-          'packaging/systemd/*.sysusers': 'lib/sysusers.d/', 'packaging/ssh/*': 'share/doc/spmat/ssh/',
-          'packaging/stunnel/*': 'share/doc/spmat/stunnel/', 'docs/*.md': 'share/doc/spmat/docs/', 'docs/*.mtx': 'share/doc/spmat/docs/',
-          'packaging/systemd/*.default': 'share/doc/spmat/', '*.md': 'share/doc/spmat/', 'LICENSE': 'share/doc/spmat/',
+PLACES = {'packaging/systemd/*.service': 'lib/systemd/system/',
+          'packaging/systemd/*.socket': 'lib/systemd/system/',
+          'packaging/systemd/*.sysusers': 'lib/sysusers.d/',
+          'packaging/ssh/*': 'share/doc/spmat/ssh/',
+          'packaging/stunnel/*': 'share/doc/spmat/stunnel/', 'docs/*.md': 'share/doc/spmat/docs/',
+          'docs/*.mtx': 'share/doc/spmat/docs/',
+          'packaging/systemd/*.default': 'share/doc/spmat/', '*.md': 'share/doc/spmat/',
+          'LICENSE': 'share/doc/spmat/',
           'packaging/spmat-health': 'bin/', 'packaging/spmat-drain': 'bin/'}
 # Files that shells look for by the program's name.
 COMPLETION = {'packaging/completion/spmat.bash': 'share/bash-completion/completions/spmat',
               'packaging/completion/spmat.zsh': 'share/zsh/site-functions/_spmat'}
-CLIENT = 'spmat-graph.'                            # a page of the Python client, which isn't in the archive
+# a page of the Python client, which isn't in the archive
+CLIENT = 'spmat-graph.'
 
 
 def files(program: str, pages: Dict[str, str]) -> Dict[str, bytes]:
@@ -42,7 +48,8 @@ def packed(top: str, held: Dict[str, bytes], time: int) -> bytes:
         for name, data in sorted(held.items()):
             about = tarfile.TarInfo('%s/%s' % (top, name))
             about.size, about.mtime = len(data), time
-            about.mode = 0o755 if name.startswith('bin/') or name.endswith('/certificate') else 0o644
+            about.mode = (0o755 if name.startswith('bin/') or name.endswith('/certificate')
+                          else 0o644)
             tar.addfile(about, io.BytesIO(data))
     return lzma.compress(told.getvalue(), preset=9)
 

@@ -1,5 +1,5 @@
-"""The list of what is in the program, in the form of CycloneDX 1.5: crates, libraries of others, the toolchain, and how they stand on one
-another."""
+"""The list of what is in the program, in the form of CycloneDX 1.5: crates, libraries of others,
+the toolchain, and how they stand on one another."""
 import datetime
 import json
 import os
@@ -10,7 +10,8 @@ from typing import Any, Dict, List
 
 from tools.releasing import look, parts, tree
 
-SPACE = uuid.UUID('6ba7b811-9dad-11d1-80b4-00c04fd430c8')           # that of names which are addresses (RFC 9562)
+# that of names which are addresses (RFC 9562)
+SPACE = uuid.UUID('6ba7b811-9dad-11d1-80b4-00c04fd430c8')
 C_LIBRARIES = ('c/libos_c.a', 'c/liblibc_c.a')
 
 
@@ -30,19 +31,22 @@ def tools() -> List[Dict[str, Any]]:
     if toolchain is None or kit is None:
         return []
     clang = os.path.join(kit, 'toolchain', 'bin', 'clang')
-    version = subprocess.run([clang, '--version'], stdout=subprocess.PIPE, text=True, check=True).stdout.split()[2]
+    version = subprocess.run([clang, '--version'], stdout=subprocess.PIPE, text=True,
+                             check=True).stdout.split()[2]
     return [{'type': 'application', 'name': 'rattle', 'version': '%s logic %s' % toolchain,
              'hashes': hashes(os.path.join(kit, 'bin', 'rattle'))},
             {'type': 'application', 'name': 'clang', 'version': version, 'hashes': hashes(clang)}]
 
 
 def of_crate(name: str) -> Dict[str, Any]:
-    return {'type': 'library', 'bom-ref': name, 'name': name, 'version': tree.version(), 'licenses': [{'expression': 'MIT'}]}
+    return {'type': 'library', 'bom-ref': name, 'name': name, 'version': tree.version(),
+            'licenses': [{'expression': 'MIT'}]}
 
 
 def of_part(part: parts.Part) -> Dict[str, Any]:
     """A library that the toolchain has as a port."""
-    return {'type': 'library', 'bom-ref': part.name, 'name': part.name, 'licenses': [{'expression': part.licence}],
+    return {'type': 'library', 'bom-ref': part.name, 'name': part.name,
+            'licenses': [{'expression': part.licence}],
             'description': 'a port of ' + part.original}
 
 
@@ -53,32 +57,45 @@ def of_own() -> List[Dict[str, Any]]:
 
 
 def of_c() -> List[Dict[str, Any]]:
-    """What is C: the toolchain's few functions, and the library that is linked when the program starts."""
+    """What is C: the toolchain's few functions, and the library that is linked when the program
+    starts."""
     kit = tree.kit_folder()
-    own = [{'type': 'library', 'bom-ref': os.path.basename(path), 'name': os.path.basename(path), 'hashes': hashes(os.path.join(kit, path))}
-           for path in C_LIBRARIES if kit]
-    return own + [{'type': 'library', 'bom-ref': 'glibc', 'name': 'glibc', 'version': '2.34', 'scope': 'required',
-                   'licenses': [{'expression': 'LGPL-2.1-or-later'}], 'description': 'linked when the program starts; 2.34 or newer'}]
+    own = [{'type': 'library', 'bom-ref': os.path.basename(path), 'name': os.path.basename(path),
+            'hashes': hashes(os.path.join(kit, path))} for path in C_LIBRARIES if kit]
+    return own + [{'type': 'library', 'bom-ref': 'glibc', 'name': 'glibc', 'version': '2.34',
+                   'scope': 'required',
+                   'licenses': [{'expression': 'LGPL-2.1-or-later'}],
+                   'description': 'linked when the program starts; 2.34 or newer'}]
 
 
 def dependencies(components: List[Dict[str, Any]]) -> List[Dict[str, Any]]:
     """What each component stands on."""
     graph = parts.graph()
-    below = {name: sorted(graph.get(name, []) + parts.BELOW.get(name, [])) for name in (part['bom-ref'] for part in components)}
+    below = {name: sorted(graph.get(name, []) + parts.BELOW.get(name, []))
+             for name in (part['bom-ref'] for part in components)}
     links = [{'ref': name, 'dependsOn': names} for name, names in sorted(below.items())]
-    whole = ['spmat', 'glibc'] + [part['bom-ref'] for part in components if part['bom-ref'].endswith('.a')]
+    whole = ['spmat', 'glibc'] + [part['bom-ref'] for part in components
+                                  if part['bom-ref'].endswith('.a')]
     return [{'ref': 'release', 'dependsOn': sorted(whole)}] + links
 
 
 def bill(program: str) -> str:
     """The list, as JSON."""
-    components = ([of_crate(name) for name in parts.crates()] + [of_part(part) for part in parts.PARTS] + of_own() + of_c())
-    of = {'type': 'application', 'bom-ref': 'release', 'name': 'spmat', 'version': tree.version(), 'hashes': hashes(program),
-          'licenses': [{'expression': 'MIT'}], 'externalReferences': [{'type': 'website', 'url': look.homepage()}],
-          'properties': [{'name': 'spmat:commit', 'value': tree.commit()}, {'name': 'spmat:logic', 'value': logic_of(program)}]}
-    time = datetime.datetime.fromtimestamp(tree.commit_time(), datetime.timezone.utc).strftime('%Y-%m-%dT%H:%M:%SZ')
+    components = ([of_crate(name) for name in parts.crates()]
+                  + [of_part(part) for part in parts.PARTS] + of_own() + of_c())
+    of = {'type': 'application', 'bom-ref': 'release', 'name': 'spmat', 'version': tree.version(),
+          'hashes': hashes(program),
+          'licenses': [{'expression': 'MIT'}],
+          'externalReferences': [{'type': 'website', 'url': look.homepage()}],
+          'properties': [{'name': 'spmat:commit', 'value': tree.commit()},
+                         {'name': 'spmat:logic', 'value': logic_of(program)}]}
+    time = datetime.datetime.fromtimestamp(tree.commit_time(),
+                                           datetime.timezone.utc).strftime('%Y-%m-%dT%H:%M:%SZ')
     told = {'bomFormat': 'CycloneDX', 'specVersion': '1.5',
-            'serialNumber': 'urn:uuid:%s' % uuid.uuid5(SPACE, '%s %s' % (tree.commit(), tree.sum_of(program))), 'version': 1,
+            'serialNumber': 'urn:uuid:%s' % uuid.uuid5(SPACE,
+                                                       '%s %s'
+                                                       % (tree.commit(), tree.sum_of(program))),
+            'version': 1,
             'metadata': {'timestamp': time, 'tools': {'components': tools()}, 'component': of},
             'components': components, 'dependencies': dependencies(components)}
     return json.dumps(told, indent=1) + '\n'

@@ -1,7 +1,8 @@
-"""The gate's run, and what it notes at its end of the program that passed it: the commit, the toolchain, the program's SHA-256, and the steps.
+"""The gate's run, and what it notes at its end of the program that passed it: the commit, the
+toolchain, the program's SHA-256, and the steps.
 
-Only a run writes the note, of the steps that it ran itself: there is no command that does. (Whoever owns a machine can write any file on it.
-What this keeps out is a release that nobody tried.)
+Only a run writes the note, of the steps that it ran itself: there is no command that does. (Whoever
+owns a machine can write any file on it. What this keeps out is a release that nobody tried.)
 """
 import datetime
 import json
@@ -19,8 +20,9 @@ from tools.releasing import tree
 NOTE = os.path.join('crates', 'spmat', 'out', 'passed.json')
 UNKNOWN = 'none'
 # A run that lacks one of these is none of the gate.
-STEPS = ('documents', 'definitions', 'release --check', 'a fresh clone', 'rt ci', 'refused memory', 'little memory', 'cases', 'served',
-         'instructions', 'odd texts', 'altered code', 'opcodes', 'fuzzer', 'client', 'networkx', 'snippets', 'release')
+STEPS = ('documents', 'definitions', 'release --check', 'a fresh clone', 'rt ci', 'refused memory',
+         'little memory', 'cases', 'served', 'instructions', 'odd texts', 'altered code', 'opcodes',
+         'fuzzer', 'client', 'networkx', 'snippets', 'release')
 MOST_SECONDS = 20 * 60                             # of a step that has no other limit
 
 
@@ -29,8 +31,8 @@ class Failed(Exception):
 
 
 class Command(NamedTuple):
-    """What is to be run as a step: its name, its words, its variables beside those that there are, the most seconds that it may take, and its
-    folder."""
+    """What is to be run as a step: its name, its words, its variables beside those that there are,
+    the most seconds that it may take, and its folder."""
     name: str
     words: Sequence[str]
     environment: Mapping[str, str] = {}
@@ -52,15 +54,17 @@ class Run:
         self.steps: List[Step] = []
         self._printing = threading.Lock()
 
-    def step(self, name: str, words: Sequence[str], environment: Optional[Mapping[str, str]] = None, most: Optional[int] = MOST_SECONDS,
-             folder: str = tree.TOP) -> None:
-        """Runs a command. Failed where it fails, or takes more seconds than it may: a gate without an end tells nothing."""
+    def step(self, name: str, words: Sequence[str], environment: Optional[Mapping[str, str]] = None,
+             most: Optional[int] = MOST_SECONDS, folder: str = tree.TOP) -> None:
+        """Runs a command. Failed where it fails, or takes more seconds than it may: a gate without
+        an end tells nothing."""
         command = Command(name, words, environment or {}, most, folder)
         print(heading(command), flush=True)
         self._record(command, run_timed(command))
 
     def side_by_side(self, commands: Sequence[Command], at_once: int = 2) -> None:
-        """Runs commands, some at once, and prints what each said when it ends. Failed where one fails: what hasn't begun by then doesn't."""
+        """Runs commands, some at once, and prints what each said when it ends. Failed where one
+        fails: what hasn't begun by then doesn't."""
         faults: List[Failed] = []
         with ThreadPoolExecutor(at_once) as pool:
             list(pool.map(lambda command: faults or self._run_captured(command, faults), commands))
@@ -86,12 +90,14 @@ class Run:
         self.steps.append(Step(command.name, seconds))
 
     def note(self) -> Dict[str, Any]:
-        """Writes the note. Where the state is another one than at the beginning, it names no commit."""
+        """Writes the note. Where the state is another one than at the beginning, it names no
+        commit."""
         toolchain = tree.toolchain()
         note = {'commit': self.began if self.began == state() else UNKNOWN,
                 'toolchain': ' logic '.join(toolchain) if toolchain else UNKNOWN,
                 'program': tree.sum_of(tree.path_of(tree.PROGRAM)),
-                'ended': datetime.datetime.now(datetime.timezone.utc).strftime('%Y-%m-%dT%H:%M:%SZ'),
+                'ended': datetime.datetime.now(datetime.timezone.utc).strftime(
+                    '%Y-%m-%dT%H:%M:%SZ'),
                 'steps': {step.name: step.seconds for step in self.steps}}
         with open(tree.path_of(NOTE), 'w', encoding='utf-8') as file:
             json.dump(note, file, indent=1)
@@ -105,19 +111,26 @@ def heading(command: Command) -> str:
 
 
 def run_timed(command: Command, said: Optional[IO[str]] = None) -> int:
-    """Runs a command, which says what it says to a file or on the screen. The seconds that it took. (At SIGABRT Python tells where it stood.)"""
+    """Runs a command, which says what it says to a file or on the screen. The seconds that it took.
+    (At SIGABRT Python tells where it stood.)"""
     begun = time.monotonic()
-    limited = [] if command.most is None else ['timeout', '--signal=ABRT', '--kill-after=30', str(command.most)]
-    status = subprocess.run([*limited, *command.words], cwd=command.folder, env={**os.environ, 'PYTHONFAULTHANDLER': '1', **command.environment},
-                            stdout=said, stderr=subprocess.STDOUT if said else None, check=False).returncode
+    limited = ([] if command.most is None else ['timeout', '--signal=ABRT', '--kill-after=30',
+                                                str(command.most)])
+    status = subprocess.run([*limited, *command.words], cwd=command.folder,
+                            env={**os.environ, 'PYTHONFAULTHANDLER': '1', **command.environment},
+                            stdout=said, stderr=subprocess.STDOUT if said else None,
+                            check=False).returncode
     seconds = round(time.monotonic() - begun)
     if status:
-        raise Failed('%s: %s after %d s' % (command.name, 'it hung' if status == 124 else 'status %d' % status, seconds))
+        raise Failed('%s: %s after %d s' % (command.name,
+                                            'it hung' if status == 124 else 'status %d' % status,
+                                            seconds))
     return seconds
 
 
 def state() -> str:
-    """What is about to be tried: the commit, or `none` where files differ from it, as then no commit says what was tried."""
+    """What is about to be tried: the commit, or `none` where files differ from it, as then no
+    commit says what was tried."""
     if shutil.which('git') is None or not os.path.exists(tree.path_of('.git')) or tree.changed():
         return UNKNOWN
     return tree.commit()
@@ -133,21 +146,25 @@ def read() -> Dict[str, Any]:
 
 
 def faults() -> List[str]:
-    """Why the program that lies here isn't the one that passed the gate at this commit, by this toolchain."""
+    """Why the program that lies here isn't the one that passed the gate at this commit, by this
+    toolchain."""
     if not os.path.exists(tree.path_of(tree.PROGRAM)):
-        return ['there is no program %s: tools/build makes it, and tools/test passes it' % tree.PROGRAM]
+        return ['there is no program %s: tools/build makes it, and tools/test passes it'
+                % tree.PROGRAM]
     note = read()
     if not note:
         return ['no gate has passed here: tools/test writes %s at its end' % NOTE]
     out = []
     if note.get('commit') != tree.commit():
-        out.append('the gate passed commit %s, and this is %s' % (note.get('commit'), tree.commit()))
+        out.append('the gate passed commit %s, and this is %s'
+                   % (note.get('commit'), tree.commit()))
     if note.get('program') != tree.sum_of(tree.path_of(tree.PROGRAM)):
         out.append('%s is not the program that passed the gate' % tree.PROGRAM)
     toolchain = tree.toolchain()
     here = ' logic '.join(toolchain) if toolchain else UNKNOWN
     if note.get('toolchain') != here:
-        out.append('the gate passed by %s, and the toolchain here is %s' % (note.get('toolchain'), here))
+        out.append('the gate passed by %s, and the toolchain here is %s'
+                   % (note.get('toolchain'), here))
     missing = [name for name in STEPS if name not in note.get('steps', {})]
     if missing:
         out.append('the gate that is noted didn\'t run %s' % ', '.join(missing))

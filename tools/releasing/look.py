@@ -1,4 +1,5 @@
-"""What stands against a release: `faults` of a tree that is being worked on, and what beside that has to hold for a release."""
+"""What stands against a release: `faults` of a tree that is being worked on, and what beside that
+has to hold for a release."""
 import os
 import re
 import subprocess
@@ -8,14 +9,17 @@ from tools.releasing import gate, parts, tree
 
 # Where the version stands beside VERSION, as nothing reads it there: each with a form for it.
 PROGRAMS = 'crates/command_line/src/version.rt'
-CLIENT = 'clients/python/spmat/VERSION'             # a copy: the gate's prover refuses a tree with links
+# a copy: the gate's prover refuses a tree with links
+CLIENT = 'clients/python/spmat/VERSION'
 GATEWAY = 'gateway/spmat_gateway/VERSION'
-PLACES = {'CHANGELOG.md': r'^## (\d[^ \n]*)', PROGRAMS: r'^pub const VERSION: &str = "(.+)";$', CLIENT: r'^(.+)$', GATEWAY: r'^(.+)$'}
+PLACES = {'CHANGELOG.md': r'^## (\d[^ \n]*)', PROGRAMS: r'^pub const VERSION: &str = "(.+)";$',
+          CLIENT: r'^(.+)$', GATEWAY: r'^(.+)$'}
 # Names of files of a release, in the documents.
 RELEASED = r'\bspmat[_-](\d+(?:\.\d+)+)[_-]'
 DOCUMENTS = ('README.md', 'docs/server.md', 'clients/python/README.md')
 # Where the homepage stands: whoever publishes puts theirs into each.
-HOMEPAGES = {'packaging/debian/control': r'^Homepage: (\S+)$', 'clients/python/pyproject.toml': r'^Homepage = "(\S+)"$',
+HOMEPAGES = {'packaging/debian/control': r'^Homepage: (\S+)$',
+             'clients/python/pyproject.toml': r'^Homepage = "(\S+)"$',
              'gateway/pyproject.toml': r'^Homepage = "(\S+)"$',
              'README.md': r'<(https://\S+)>'}
 # Where the toolchain that proves is named.
@@ -26,18 +30,21 @@ def places() -> Dict[str, str]:
     """The version that each place tells which doesn't read VERSION."""
     found = {}
     for path, form in PLACES.items():
-        match = re.search(form, tree.text_of(path), re.M) if os.path.exists(tree.path_of(path)) else None
+        match = (re.search(form, tree.text_of(path), re.M) if os.path.exists(tree.path_of(path))
+                 else None)
         if match:
             found[path] = match.group(1)
     for path in DOCUMENTS:
-        found.update(('%s (%s)' % (path, told), told) for told in re.findall(RELEASED, tree.text_of(path)))
+        found.update(('%s (%s)' % (path, told), told)
+                     for told in re.findall(RELEASED, tree.text_of(path)))
     return found
 
 
 def version_faults() -> List[str]:
     """Places that tell another version than VERSION does."""
     version = tree.plain_version()
-    out = ['VERSION is %s, and %s says %s' % (version, path, other) for path, other in sorted(places().items()) if other != version]
+    out = ['VERSION is %s, and %s says %s' % (version, path, other)
+           for path, other in sorted(places().items()) if other != version]
     if not re.fullmatch(r'\d+\.\d+\.\d+', version):
         out.append('VERSION is three numbers with points between them, not %r' % version)
     if 'CHANGELOG.md' not in places():
@@ -61,17 +68,20 @@ def toolchain_faults() -> List[str]:
     told = toolchains()
     if len(told) == 2 and all(any(path in where for where in told.values()) for path in PROVED):
         return []
-    return ['the documents don\'t name one toolchain and its logic each: ' + '; '.join('%s in %s' % pair for pair in told.items())]
+    return ['the documents don\'t name one toolchain and its logic each: '
+            + '; '.join('%s in %s' % pair for pair in told.items())]
 
 
 def other_toolchain() -> Optional[str]:
-    """How the toolchain of this machine differs from the one that the documents name, None where it doesn't."""
+    """How the toolchain of this machine differs from the one that the documents name, None where it
+    doesn't."""
     here = tree.toolchain()
     if here is None:
         return 'there is no toolchain here (rt)'
     if set(toolchains()) == {here.kit, 'logic ' + here.logic}:
         return None
-    return 'the toolchain here is %s, logic %s, and the documents name %s' % (here.kit, here.logic, ', '.join(toolchains()))
+    return 'the toolchain here is %s, logic %s, and the documents name %s' % (
+        here.kit, here.logic, ', '.join(toolchains()))
 
 
 def homepage() -> str:
@@ -84,18 +94,22 @@ def homepage() -> str:
 def homepage_faults() -> List[str]:
     """Places that name another homepage than the packages do, or none."""
     told = {path: re.findall(form, tree.text_of(path), re.M) for path, form in HOMEPAGES.items()}
-    return ['%s names the homepage %s, and packaging/debian/control %s' % (path, found[0] if found else 'nowhere', homepage() or 'none')
+    return ['%s names the homepage %s, and packaging/debian/control %s'
+            % (path, found[0] if found else 'nowhere', homepage() or 'none')
             for path, found in told.items() if not homepage() or found[:1] != [homepage()]]
 
 
 def source_faults() -> List[str]:
     """Data of others that doesn't say where it comes from."""
-    return [] if 'Zachary' in tree.text_of('docs/karate.mtx') else ['docs/karate.mtx doesn\'t name its source']
+    return ([] if 'Zachary' in tree.text_of('docs/karate.mtx')
+            else ['docs/karate.mtx doesn\'t name its source'])
 
 
 def faults() -> List[str]:
-    """What stands against a release of this tree, whatever was changed in it since its last commit, and before any gate has passed."""
-    return version_faults() + toolchain_faults() + homepage_faults() + parts.faults() + source_faults()
+    """What stands against a release of this tree, whatever was changed in it since its last commit,
+    and before any gate has passed."""
+    return (version_faults() + toolchain_faults() + homepage_faults() + parts.faults()
+            + source_faults())
 
 
 def program_faults() -> List[str]:
@@ -103,8 +117,10 @@ def program_faults() -> List[str]:
     path = tree.path_of(tree.PROGRAM)
     if not os.path.exists(path) or PROGRAMS not in places():
         return []
-    told = subprocess.run([path, '--version'], stdout=subprocess.PIPE, stderr=subprocess.DEVNULL, check=False).stdout
-    return [] if told == b'spmat %s\n' % tree.plain_version().encode() else ['the program says of its version: %r' % told]
+    told = subprocess.run([path, '--version'], stdout=subprocess.PIPE, stderr=subprocess.DEVNULL,
+                          check=False).stdout
+    return ([] if told == b'spmat %s\n' % tree.plain_version().encode()
+            else ['the program says of its version: %r' % told])
 
 
 def release_faults() -> List[str]:
@@ -115,6 +131,8 @@ def release_faults() -> List[str]:
 
 
 def untested_faults() -> List[str]:
-    """What stands against packages of a tree that no gate has passed: as `faults`, and that there is no program."""
+    """What stands against packages of a tree that no gate has passed: as `faults`, and that there
+    is no program."""
     here = os.path.exists(tree.path_of(tree.PROGRAM))
-    return faults() + ([] if here else ['there is no program %s: `rt run` in crates/spmat makes it' % tree.PROGRAM]) + program_faults()
+    return faults() + ([] if here else ['there is no program %s: `rt run` in crates/spmat makes it'
+                                        % tree.PROGRAM]) + program_faults()

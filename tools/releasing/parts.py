@@ -1,4 +1,5 @@
-"""The libraries of others that are compiled into the program, with their licences. THIRD-PARTY.md has the notices."""
+"""The libraries of others that are compiled into the program, with their licences. THIRD-PARTY.md
+has the notices."""
 import os
 import re
 from typing import Dict, List, NamedTuple
@@ -9,7 +10,8 @@ NOTICES = 'THIRD-PARTY.md'
 
 
 class Part(NamedTuple):
-    """A library that the toolchain has as a port: its name there, the original and its version, its licence, and the notice's file."""
+    """A library that the toolchain has as a port: its name there, the original and its version, its
+    licence, and the notice's file."""
     name: str
     original: str
     licence: str
@@ -27,23 +29,27 @@ PARTS = [
     Part('strsim', 'strsim 0.11.1', 'MIT', 'LICENSE'),
     Part('thiserror', 'thiserror 2.0.21', EITHER, 'LICENSE'),
 ]
-# Libraries of the toolchain's own, beside core and std: they are no ports, and have no licence file.
+# Libraries of the toolchain's own, beside core and std: they are no ports, and have no licence
+# file.
 OWN = ('atomic_table', 'libc', 'os')
 # Crates without code, which state laws and examples.
 LAWS = ('session_laws', 'worked_rows')
-# What a library of the toolchain stands on, beside its standard library, and crates.txt doesn't name. The ports jiff_core, jiff_tz and so
-# on are of jiff itself.
+# What a library of the toolchain stands on, beside its standard library, and crates.txt doesn't
+# name. The ports jiff_core, jiff_tz and so on are of jiff itself.
 BELOW = {'clap': ['strsim'], 'jiff': ['arrayvec']}
 
 
 def crates() -> List[str]:
-    """The crates of the repository that are in the program: those with code, and without tests, in order."""
-    return sorted(name for name in graph() if not name.endswith('_tests') and not name.startswith('test_') and name not in LAWS)
+    """The crates of the repository that are in the program: those with code, and without tests, in
+    order."""
+    return sorted(name for name in graph() if not name.endswith('_tests')
+                  and not name.startswith('test_') and name not in LAWS)
 
 
 def graph() -> Dict[str, List[str]]:
     """What each crate of crates.txt names."""
-    lines = [line.split(':') for line in tree.text_of('crates.txt').splitlines() if ':' in line and not line.startswith('#')]
+    lines = [line.split(':') for line in tree.text_of('crates.txt').splitlines() if ':' in line
+             and not line.startswith('#')]
     return {head.split()[0]: names.split() for head, names in lines}
 
 
@@ -59,14 +65,16 @@ def faults() -> List[str]:
     out = []
     listed, found = [part.name for part in PARTS], [name for name in named() if name not in OWN]
     if found != listed:
-        out.append('the program has the libraries %s, and tools/releasing/parts.py lists %s' % (', '.join(found), ', '.join(listed)))
+        out.append('the program has the libraries %s, and tools/releasing/parts.py lists %s'
+                   % (', '.join(found), ', '.join(listed)))
     notices, kit = tree.text_of(NOTICES), tree.kit_folder()
     for part in PARTS:
         if not re.search(r'^#+ .*\b%s\b' % part.name, notices, re.M):
             out.append('%s has no heading for %s' % (NOTICES, part.name))
         path = os.path.join(kit, 'rattle', part.name, part.notice) if kit else None
         if path and os.path.exists(path) and quoted(path) not in notices:
-            out.append('%s doesn\'t have the notice of %s as the toolchain has it' % (NOTICES, part.name))
+            out.append('%s doesn\'t have the notice of %s as the toolchain has it'
+                       % (NOTICES, part.name))
     return out
 
 

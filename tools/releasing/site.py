@@ -10,10 +10,13 @@ from tools.releasing import archive, tree
 
 
 def build(folder: str) -> None:
-    """Builds the site into a folder, by the Python that has Sphinx. RuntimeError says why it can't be built."""
-    told = subprocess.run([packages.DISTRIBUTION, tree.path_of('tools/site'), folder], stdout=subprocess.PIPE, stderr=subprocess.STDOUT,
-                          text=True, errors='replace', check=False,
-                          env=dict(os.environ, SOURCE_DATE_EPOCH=str(tree.commit_time()), PYTHONHASHSEED='0'))
+    """Builds the site into a folder, by the Python that has Sphinx. RuntimeError says why it can't
+    be built."""
+    told = subprocess.run([packages.DISTRIBUTION, tree.path_of('tools/site'), folder],
+                          stdout=subprocess.PIPE, stderr=subprocess.STDOUT, text=True,
+                          errors='replace', check=False,
+                          env=dict(os.environ, SOURCE_DATE_EPOCH=str(tree.commit_time()),
+                                   PYTHONHASHSEED='0'))
     if told.returncode:
         raise RuntimeError('the site could not be built:\n' + told.stdout[-4000:])
 

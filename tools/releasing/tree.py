@@ -1,4 +1,5 @@
-"""The repository as a release sees it: its version, its commit, its files, and the toolchain of this machine."""
+"""The repository as a release sees it: its version, its commit, its files, and the toolchain of
+this machine."""
 import hashlib
 import os
 import re
@@ -13,7 +14,8 @@ CLIENT = 'clients/python/'
 GATEWAY = 'gateway/'
 # What of it isn't installed: tests, and what makes a checkout look installed.
 LEFT_OUT = tuple(CLIENT + folder for folder in ('tests/', 'benchmarks/', 'spmat.dist-info/'))
-REFERENCE = 'docs/api.md'                          # made for releases and packages; the repository has none
+# made for releases and packages; the repository has none
+REFERENCE = 'docs/api.md'
 PROGRAM = os.path.join('crates', 'spmat', 'out', 'spmat')
 # The files that carry the version into what is made.
 VERSIONS = ('VERSION', CLIENT + 'spmat/VERSION', GATEWAY + 'spmat_gateway/VERSION')
@@ -22,7 +24,8 @@ MARKS: List[str] = []
 
 
 class Toolchain(NamedTuple):
-    """The name of a toolchain, and that of its logic, as `rt version` and the documents tell them."""
+    """The name of a toolchain, and that of its logic, as `rt version` and the documents tell
+    them."""
     kit: str
     logic: str
 
@@ -50,7 +53,8 @@ def sum_of(path: str) -> str:
 
 def told(*words: str) -> str:
     """What a command prints, run at the top."""
-    return subprocess.run(words, cwd=TOP, stdout=subprocess.PIPE, check=True, text=True).stdout.strip()
+    return subprocess.run(words, cwd=TOP, stdout=subprocess.PIPE, check=True,
+                          text=True).stdout.strip()
 
 
 def plain_version() -> str:
@@ -59,13 +63,15 @@ def plain_version() -> str:
 
 
 def version() -> str:
-    """The version of what is made: that of the file VERSION, with a mark where no gate has passed."""
+    """The version of what is made: that of the file VERSION, with a mark where no gate has
+    passed."""
     return plain_version() + ''.join(MARKS)
 
 
 def mark_untested() -> None:
-    """Has the version tell that no gate has passed, of which commit it is, and whether files differ from it. So marked it is a version
-    for pip and for dpkg, later than the plain one and earlier than the next."""
+    """Has the version tell that no gate has passed, of which commit it is, and whether files differ
+    from it. So marked it is a version for pip and for dpkg, later than the plain one and earlier
+    than the next."""
     MARKS[:] = ['+untested.g' + commit()[:7] + ('.changed' if changed() else '')]
 
 
@@ -83,12 +89,14 @@ def commit() -> str:
 
 
 def commit_time() -> int:
-    """When the commit was made, in seconds since 1970: the time that everything in a release bears."""
+    """When the commit was made, in seconds since 1970: the time that everything in a release
+    bears."""
     return int(told('git', 'log', '-1', '--format=%ct'))
 
 
 def changed() -> List[str]:
-    """What differs from the commit: a line each for files that were changed, and for files that git doesn't know."""
+    """What differs from the commit: a line each for files that were changed, and for files that git
+    doesn't know."""
     return told('git', 'status', '--porcelain').splitlines()
 
 
@@ -124,5 +132,5 @@ def kit_folder() -> Optional[str]:
 def reference() -> str:
     """The reference of the Python client, as tools/api_page makes it from the docstrings."""
     environment = dict(os.environ, PYTHONDONTWRITEBYTECODE='1')
-    return subprocess.run([sys.executable, path_of('tools/api_page')], cwd=TOP, env=environment, stdout=subprocess.PIPE, check=True,
-                          text=True, encoding='utf-8').stdout
+    return subprocess.run([sys.executable, path_of('tools/api_page')], cwd=TOP, env=environment,
+                          stdout=subprocess.PIPE, check=True, text=True, encoding='utf-8').stdout

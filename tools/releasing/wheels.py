@@ -1,7 +1,9 @@
-"""The wheels of the Python client, one for every machine, and one for Linux on x86_64 that carries the program; and that of the gateway.
+"""The wheels of the Python client, one for every machine, and one for Linux on x86_64 that carries
+the program; and that of the gateway.
 
-setuptools makes the first; the second is the same with the program and the command `spmat` added. Both are packed here, so that their
-bytes depend on their files alone, and not on the folder, the time or the user.
+setuptools makes the first; the second is the same with the program and the command `spmat` added.
+Both are packed here, so that their bytes depend on their files alone, and not on the folder, the
+time or the user.
 """
 import base64
 import hashlib
@@ -18,7 +20,8 @@ from tools.releasing import tree
 
 # The C library of 2.34 is the oldest that has what the program calls.
 PLATFORM = 'manylinux_2_34_x86_64'
-SECTION = b'[console_scripts]\n'                       # of entry_points.txt, as setuptools writes it
+# of entry_points.txt, as setuptools writes it
+SECTION = b'[console_scripts]\n'
 COMMAND = b'spmat = spmat._client.server_program:main\n'
 ANY = 'py3-none-any'
 GATEWAY = 'spmat_gateway'
@@ -38,24 +41,29 @@ class NoSetuptools(Exception):
 def builder() -> str:
     """A Python that can make wheels without the network."""
     for python in (sys.executable, '/usr/bin/python3'):
-        if shutil.which(python) and subprocess.run([python, '-c', 'import setuptools, wheel, pip'], stderr=subprocess.DEVNULL,
+        if shutil.which(python) and subprocess.run([python, '-c', 'import setuptools, wheel, pip'],
+                                                   stderr=subprocess.DEVNULL,
                                                    check=False).returncode == 0:
             return python
-    raise NoSetuptools('no Python here has pip, setuptools and wheel (Debian: python3-pip, python3-setuptools, python3-wheel)')
+    raise NoSetuptools(
+        'no Python here has pip, setuptools and wheel (Debian: python3-pip, python3-setuptools, '
+        'python3-wheel)')
 
 
 def made_by_setuptools(folder: str, belongs: Callable[[str], bool]) -> Dict[str, Entry]:
-    """The files of a folder's wheel for every machine, as setuptools makes it of the commit's files, but for its list of them."""
+    """The files of a folder's wheel for every machine, as setuptools makes it of the commit's
+    files, but for its list of them."""
     with tempfile.TemporaryDirectory(prefix='spmat-wheel-') as room:
         stage = os.path.join(room, 'source')
         for name in tree.files():
             if belongs(name):
                 tree.copy(name, os.path.join(stage, name[len(folder):]))
-        subprocess.run([builder(), '-m', 'pip', 'wheel', '--quiet', '--no-index', '--no-deps', '--no-build-isolation', '--no-cache-dir',
-                        '-w', room, stage], check=True)
+        subprocess.run([builder(), '-m', 'pip', 'wheel', '--quiet', '--no-index', '--no-deps',
+                        '--no-build-isolation', '--no-cache-dir', '-w', room, stage], check=True)
         (path,) = (os.path.join(room, name) for name in os.listdir(room) if name.endswith('.whl'))
         with zipfile.ZipFile(path) as held:
-            return {name: Entry(held.read(name)) for name in held.namelist() if not name.endswith('/RECORD')}
+            return {name: Entry(held.read(name)) for name in held.namelist()
+                    if not name.endswith('/RECORD')}
 
 
 def information(name: str, package: str = 'spmat') -> str:
@@ -72,11 +80,14 @@ def with_program(files: Dict[str, Entry], program: str) -> Dict[str, Entry]:
     """The same wheel, with the program and its command, for one kind of machine."""
     kind = files[information('WHEEL')].data.decode()
     assert 'Tag: %s\n' % ANY in kind and 'Root-Is-Purelib: true\n' in kind, kind
-    kind = kind.replace('Tag: %s\n' % ANY, 'Tag: py3-none-%s\n' % PLATFORM).replace('Root-Is-Purelib: true', 'Root-Is-Purelib: false')
+    kind = kind.replace('Tag: %s\n' % ANY,
+                        'Tag: py3-none-%s\n' % PLATFORM).replace('Root-Is-Purelib: true',
+                                                                 'Root-Is-Purelib: false')
     points = files[information('entry_points.txt')].data
     assert points.count(SECTION) == 1, points
     points = points.replace(SECTION, SECTION + COMMAND)
-    return {**files, information('WHEEL'): Entry(kind.encode()), information('entry_points.txt'): Entry(points),
+    return {**files, information('WHEEL'): Entry(kind.encode()),
+            information('entry_points.txt'): Entry(points),
             information('THIRD-PARTY.md'): Entry(tree.bytes_of(tree.path_of('THIRD-PARTY.md'))),
             'spmat/carried/spmat': Entry(tree.bytes_of(program), is_program=True)}
 
@@ -84,7 +95,8 @@ def with_program(files: Dict[str, Entry], program: str) -> Dict[str, Entry]:
 def record(files: Dict[str, Entry], package: str) -> bytes:
     """The list of a wheel's files, with their SHA-256 and lengths."""
     def line(name: str) -> str:
-        code = base64.urlsafe_b64encode(hashlib.sha256(files[name].data).digest()).rstrip(b'=').decode()
+        code = base64.urlsafe_b64encode(hashlib.sha256(files[name].data).digest()).rstrip(
+            b'=').decode()
         return '%s,sha256=%s,%d\n' % (name, code, len(files[name].data))
     return (''.join(map(line, sorted(files))) + information('RECORD', package) + ',,\n').encode()
 
@@ -93,7 +105,9 @@ def packed(files: Dict[str, Entry], package: str = 'spmat') -> bytes:
     """A wheel's bytes, which depend on its files alone."""
     told = io.BytesIO()
     with zipfile.ZipFile(told, 'w', zipfile.ZIP_DEFLATED, compresslevel=9) as wheel:
-        for name, entry in sorted({**files, information('RECORD', package): Entry(record(files, package))}.items(),
+        for name, entry in sorted({**files,
+                                   information('RECORD',
+                                               package): Entry(record(files, package))}.items(),
                                   key=lambda pair: ('.dist-info/' in pair[0], pair[0])):
             about = zipfile.ZipInfo(name, TIME)
             about.compress_type = zipfile.ZIP_DEFLATED
@@ -107,7 +121,8 @@ def make(to: str, program: str) -> None:
     """Writes the wheels into a folder. NoSetuptools where no Python here can."""
     pure = with_notices(made_by_setuptools(tree.CLIENT, tree.is_client))
     gateway = with_notices(made_by_setuptools(tree.GATEWAY, tree.is_gateway), GATEWAY)
-    for package, kind, files in (('spmat', ANY, pure), ('spmat', 'py3-none-' + PLATFORM, with_program(pure, program)),
+    for package, kind, files in (('spmat', ANY, pure),
+                                 ('spmat', 'py3-none-' + PLATFORM, with_program(pure, program)),
                                  (GATEWAY, ANY, gateway)):
         with open(os.path.join(to, '%s-%s-%s.whl' % (package, tree.version(), kind)), 'wb') as file:
             file.write(packed(files, package))

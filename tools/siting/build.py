@@ -10,18 +10,22 @@ from typing import List
 from tools.paths import TOP
 from tools.siting import gallery, pages, reference
 
-# Debian's furo has its style import a sheet of a web server, and its script a module, which no browser reads from a file. Its compiler of styles
-# also dropped the rule that a reader who prefers dark gets it unasked.
+# Debian's furo has its style import a sheet of a web server, and its script a module, which no
+# browser reads from a file. Its compiler of styles also dropped the rule that a reader who prefers
+# dark gets it unasked.
 DARK = re.compile(r'body\[data-theme="dark"\] (\{[^}]*\})')
 NORMALIZE = '/usr/share/nodejs/normalize.css/normalize.css'
 IMPORTED_STYLE = '@import url(/javascript/normalize.css/normalize.css);'
 IMPORTED_SCRIPT = 'import Gumshoe from "./gumshoe-patched.js";'
-PROGRAMS = (os.path.join(TOP, 'crates', 'spmat', 'out', 'spmat'), os.path.join(TOP, 'reference', '__main__.py'))
-SECTIONS = (('To use spmat', ('docs/examples', 'clients/python/README', 'docs/files', 'docs/operators', 'docs/networkx', 'docs/loops',
-                              'docs/scaling', 'docs/performance', 'gallery', 'reference/index')),
+PROGRAMS = (os.path.join(TOP, 'crates', 'spmat', 'out', 'spmat'),
+            os.path.join(TOP, 'reference', '__main__.py'))
+SECTIONS = (('To use spmat', ('docs/examples', 'clients/python/README', 'docs/files',
+                              'docs/operators', 'docs/networkx', 'docs/loops', 'docs/scaling',
+                              'docs/performance', 'gallery', 'reference/index')),
             ('To run a server', ('docs/server', 'docs/limits', 'docs/log', 'SECURITY')),
             ('To write a client', ('docs/protocol', 'docs/bpf')),
-            ('To doubt it, or to change it', ('docs/theorem', 'docs/proved', 'docs/architecture', 'CONTRIBUTING', 'docs/DECISIONS', 'CHANGELOG',
+            ('To doubt it, or to change it', ('docs/theorem', 'docs/proved', 'docs/architecture',
+                                              'CONTRIBUTING', 'docs/DECISIONS', 'CHANGELOG',
                                               'docs/README', 'THIRD-PARTY')))
 
 
@@ -51,11 +55,13 @@ def contents(names: List[str]) -> str:
 
 def build(folder: str) -> None:
     """Builds the site into a folder."""
-    program = next(path for path in (os.environ.get('SPMAT', ''), *PROGRAMS) if path and os.path.exists(path))
+    program = next(path for path in (os.environ.get('SPMAT', ''), *PROGRAMS) if path
+                   and os.path.exists(path))
     os.environ.update(SPMAT=program, SPMAT_TOP=TOP)
     with tempfile.TemporaryDirectory(prefix='spmat-site-') as room:
         lay_out(room)
-        words = [sys.executable, '-m', 'sphinx', '-q', '-W', '--keep-going', '-b', 'html', '-d', os.path.join(room, '_build'), room, folder]
+        words = [sys.executable, '-m', 'sphinx', '-q', '-W', '--keep-going', '-b', 'html', '-d',
+                 os.path.join(room, '_build'), room, folder]
         if subprocess.run(words, check=False).returncode:
             raise RuntimeError('Sphinx has warnings: see above')
     mend_theme(folder)
@@ -82,7 +88,10 @@ def mend_theme(folder: str) -> None:
     dark = DARK.search(read(style))
     if dark and 'prefers-color-scheme' not in read(style):
         with open(style, 'a', encoding='utf-8') as file:
-            file.write('\n@media (prefers-color-scheme: dark) { body:not([data-theme="light"]) %s }\n' % dark.group(1))
-    inline(os.path.join(static, 'scripts', 'furo.js'), IMPORTED_SCRIPT, os.path.join(static, 'scripts', 'gumshoe-patched.js'))
+            file.write(
+                '\n@media (prefers-color-scheme: dark) { body:not([data-theme="light"]) %s }\n'
+                % dark.group(1))
+    inline(os.path.join(static, 'scripts', 'furo.js'), IMPORTED_SCRIPT,
+           os.path.join(static, 'scripts', 'gumshoe-patched.js'))
 
 

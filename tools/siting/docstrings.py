@@ -1,4 +1,5 @@
-"""The client's docstrings as reStructuredText: backticks mark code, and what is indented behind an empty line is code."""
+"""The client's docstrings as reStructuredText: backticks mark code, and what is indented behind an
+empty line is code."""
 import itertools
 import re
 from typing import Any, List
@@ -17,14 +18,18 @@ def process(_app: Any, what: str, name: str, thing: Any, options: Any, lines: Li
 
 
 def converted(lines: List[str]) -> List[str]:
-    """The lines with literals, code blocks and tables as reStructuredText has them. Sections of numpydoc stay as they are."""
+    """The lines with literals, code blocks and tables as reStructuredText has them. Sections of
+    numpydoc stay as they are."""
     out: List[str] = []
     in_code = in_sections = False
     for at, line in enumerate(lines):
-        in_sections = in_sections or (at + 1 < len(lines) and bool(UNDERLINE.match(lines[at + 1])) and bool(line.strip()))
+        in_sections = (in_sections or (at + 1 < len(lines) and bool(UNDERLINE.match(lines[at + 1]))
+                                       and bool(line.strip())))
         is_indented = line.startswith('    ') and bool(line.strip())
         if is_indented and not in_code and not in_sections and (not out or not out[-1].strip()):
-            out += ['.. code-block:: ' + language(list(itertools.takewhile(str.strip, map(str.strip, lines[at:])))), '']
+            out += ['.. code-block:: '
+                    + language(list(itertools.takewhile(str.strip, map(str.strip, lines[at:])))),
+                    '']
             in_code = True
         elif line.strip() and not line.startswith('    '):
             in_code = False

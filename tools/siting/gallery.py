@@ -16,12 +16,13 @@ MOST_SECONDS = 120
 def blocks(text: str) -> List[str]:
     """The blocks of the page, each with the lines that draw."""
     found = re.findall(r'(?:^    .*\n|^\n(?=    ))+', text, re.M)
-    return [re.sub(r'^    ', '', block, flags=re.M).strip('\n') + '\n' for block in found if 'import spmat' in block]
+    return [re.sub(r'^    ', '', block, flags=re.M).strip('\n') + '\n' for block in found
+            if 'import spmat' in block]
 
 
 def draw(folder: str) -> Dict[str, str]:
-    """Runs each block of the page, and leaves its pictures in a folder; the paths by the names of the pictures. RuntimeError where a block
-    fails, or draws none of the pictures that it names."""
+    """Runs each block of the page, and leaves its pictures in a folder; the paths by the names of
+    the pictures. RuntimeError where a block fails, or draws none of the pictures that it names."""
     with open(os.path.join(TOP, PAGE), encoding='utf-8') as file:
         found = blocks(file.read())
     drawn = {}
@@ -30,11 +31,13 @@ def draw(folder: str) -> Dict[str, str]:
         environment = dict(os.environ, PYTHONPATH=CLIENT, MPLBACKEND='Agg')
         with tempfile.TemporaryDirectory() as room:
             os.symlink(os.path.join(TOP, 'docs'), os.path.join(room, 'docs'))
-            done = subprocess.run([sys.executable, '-c', block], cwd=room, env=environment, stderr=subprocess.PIPE, timeout=MOST_SECONDS,
-                                  check=False, text=True)
+            done = subprocess.run([sys.executable, '-c', block], cwd=room, env=environment,
+                                  stderr=subprocess.PIPE, timeout=MOST_SECONDS, check=False,
+                                  text=True)
             missing = [name for name in names if not os.path.exists(os.path.join(room, name))]
             if done.returncode or missing or not names:
-                raise RuntimeError('a block of %s draws no picture %s:\n%s%s' % (PAGE, ' '.join(missing), block, done.stderr))
+                raise RuntimeError('a block of %s draws no picture %s:\n%s%s'
+                                   % (PAGE, ' '.join(missing), block, done.stderr))
             for name in names:
                 drawn[name] = os.path.join(folder, name)
                 os.makedirs(folder, exist_ok=True)
@@ -49,5 +52,6 @@ def page() -> str:
 
     def shown(found: 're.Match[str]') -> str:
         names = PICTURE.findall(found.group(0))
-        return found.group(0) + ''.join('\n![%s](gallery/%s)\n' % (name[:-4].replace('_', ' '), name) for name in names)
+        return found.group(0) + ''.join('\n![%s](gallery/%s)\n'
+                                        % (name[:-4].replace('_', ' '), name) for name in names)
     return re.sub(r'(?:^    .*\n|^\n(?=    ))+', shown, text, flags=re.M)

@@ -1,4 +1,5 @@
-"""The repository's pages as the site has them: links to files that aren't pages lead to copies, and blocks have a language."""
+"""The repository's pages as the site has them: links to files that aren't pages lead to copies, and
+blocks have a language."""
 import os
 import re
 import shutil
@@ -11,14 +12,18 @@ PATTERNS = ('*.md', 'docs/*.md', 'clients/python/README.md', 'crates/*/README.md
 LINK = re.compile(r'(!?)\[((?:[^\]\[]|\[[^\]]*\])*)\]\(([^)\s]+)\)')
 BLOCK = re.compile(r'(?:^|(?<=\n\n))((?:    [^\n]*\n|\n(?=    ))+)')
 FENCED = re.compile(r'^(```|~~~).*?^\1', re.M | re.S)
-PYTHON = re.compile(r'(import |from \w+ import|with |def |@|for |print\(|[A-Za-z_, ]+ = .*[(.]|spmat\.|nx\.|s\.|G\.|A\.)')
-SHELL = re.compile(r'(\$ |[A-Z_]+=\S+ |export |tools/|tests/|bench/|spmat |spmat-|python3? |pip |apt|sudo |ssh |exec |cd |rt |printf|socat|systemctl|'
-                   r'openssl|curl|cat |for \w+ in|clang|git |mkdir|chmod|useradd|cp |rm )')
+PYTHON = re.compile(r'(import |from \w+ import|with |def |@|for |print\(|[A-Za-z_, ]+ = '
+                    r'.*[(.]|spmat\.|nx\.|s\.|G\.|A\.)')
+SHELL = re.compile(
+    r'(\$ |[A-Z_]+=\S+ |export |tools/|tests/|bench/|spmat |spmat-|python3? |pip |apt|sudo |ssh '
+    r'|exec |cd |rt |printf|socat|systemctl|openssl|curl|cat |for \w+ in|clang|git '
+    r'|mkdir|chmod|useradd|cp |rm )')
 
 
 def tracked(pattern: str) -> List[str]:
     """The files of the repository that match a pattern."""
-    said = subprocess.run(['git', 'ls-files', '--', ':(glob)' + pattern], cwd=TOP, stdout=subprocess.PIPE, check=True, text=True).stdout
+    said = subprocess.run(['git', 'ls-files', '--', ':(glob)' + pattern], cwd=TOP,
+                          stdout=subprocess.PIPE, check=True, text=True).stdout
     return [name for name in said.splitlines() if os.path.exists(os.path.join(TOP, name))]
 
 
@@ -32,7 +37,8 @@ def staged_name(page: str) -> str:
 
 
 class Site:
-    """The folder that Sphinx reads. `copied` are the repository's files that pages link to, by their names."""
+    """The folder that Sphinx reads. `copied` are the repository's files that pages link to, by
+    their names."""
 
     def __init__(self, folder: str) -> None:
         self.folder = folder
@@ -61,12 +67,14 @@ class Site:
                 return words
             if '/source/' in where:
                 # by a bare address MyST would look for a page
-                return '<a href="%s">%s</a>' % (where, re.sub('`([^`]+)`', r'<code>\1</code>', words))
+                return '<a href="%s">%s</a>' % (where,
+                                                re.sub('`([^`]+)`', r'<code>\1</code>', words))
             return '%s[%s](%s)' % (mark, words, where)
         return outside_code(text, lambda part: LINK.sub(link, part))
 
     def target(self, page: str, target: str, is_picture: bool) -> str:
-        """Where a link of a page leads in the site; nowhere in a tree that lacks the file, as a release's may."""
+        """Where a link of a page leads in the site; nowhere in a tree that lacks the file, as a
+        release's may."""
         if re.match(r'[a-z]+:|#', target):
             return target
         path, _, anchor = target.partition('#')
@@ -75,7 +83,8 @@ class Site:
         if os.path.isdir(os.path.join(TOP, name)) and name + '/README.md' in self.pages:
             name += '/README.md'
         if name in self.pages:
-            return os.path.relpath(staged_name(name), here or '.') + ('#' + anchor if anchor else '')
+            return os.path.relpath(staged_name(name),
+                                   here or '.') + ('#' + anchor if anchor else '')
         if not os.path.exists(os.path.join(TOP, name)):
             return ''
         if is_picture:
@@ -100,12 +109,15 @@ class Site:
 
 def outside_code(text: str, change: Callable[[str], str]) -> str:
     """A page in which everything but code is changed."""
-    parts = re.split(r'(^(?:```|~~~)[\s\S]*?^(?:```|~~~)$|(?:^    [^\n]*\n)+|`[^`\n]+`(?!\]))', text, flags=re.M)
-    return ''.join(part if at % 2 and not part.startswith('[') else change(part) for at, part in enumerate(parts))
+    parts = re.split(r'(^(?:```|~~~)[\s\S]*?^(?:```|~~~)$|(?:^    [^\n]*\n)+|`[^`\n]+`(?!\]))',
+                     text, flags=re.M)
+    return ''.join(part if at % 2 and not part.startswith('[') else change(part)
+                   for at, part in enumerate(parts))
 
 
 def in_languages(text: str) -> str:
-    """A page whose indented blocks are fenced, with the language that they are in; within lists they stay."""
+    """A page whose indented blocks are fenced, with the language that they are in; within lists
+    they stay."""
     lines, out, at = text.split('\n'), [], 0  # type: List[str], List[str], int
     in_list = False
     while at < len(lines):

@@ -1,11 +1,13 @@
-"""A client of spmat, the job server for sparse matrices of 64-bit integers whose operators are verified programs.
+"""A client of spmat, the job server for sparse matrices of 64-bit integers whose operators are
+verified programs.
 
     with spmat.Session() as s:
         A = s.from_triples([(0, 1, 5), (1, 2, 7)], 3, 3)
         print(A.mxm(A).to_triples())
 
-See `Session` and `Matrix`; `unary`, `binary` and `indexunary` make operators of functions and hold the ready ones, as `semiring`
-does; `asm`, `code` and `c` make operators of assembly text, code and C; `algorithms` has those of LAGraph, `draw` pictures; `errors` says what is raised.
+See `Session` and `Matrix`; `unary`, `binary` and `indexunary` make operators of functions and hold
+the ready ones, as `semiring` does; `asm`, `code` and `c` make operators of assembly text, code and
+C; `algorithms` has those of LAGraph, `draw` pictures; `errors` says what is raised.
 """
 from __future__ import annotations
 
@@ -20,15 +22,17 @@ if TYPE_CHECKING:
     from .algorithms.temporal_paths import events
     from .alignment import align
     from .backends.protocol import Budget, JobResult
-    from .errors import (BudgetExceeded, BudgetWarning, Busy, Closed, CompileError, DimensionMismatch, DomainMismatch, MaskWarning, NamesDiffer,
-                         NoThread, NotMade,
-                         NotSettled, OperatorRefused, OutOfMemory, OverflowWarning, ProtocolError, ReadError, Refused, ResultLost, SpmatError, TextRefused,
+    from .errors import (BudgetExceeded, BudgetWarning, Busy, Closed, CompileError,
+                         DimensionMismatch, DomainMismatch, MaskWarning, NamesDiffer, NoThread,
+                         NotMade, NotSettled, OperatorRefused, OutOfMemory, OverflowWarning,
+                         ProtocolError, ReadError, Refused, ResultLost, SpmatError, TextRefused,
                          ThreadUnavailable, TooLarge, UnitsDiffer)
     from .loops import Loop, empty, loop, steady
     from .loops.fixpoint import fixpoint
     from .mask import Mask
     from .matrix import Matrix, bipartite
-    from .operators import Operator, Semiring, asm, binary, code, indexunary, select, semiring, unary
+    from .operators import (Operator, Semiring, asm, binary, code, indexunary, select, semiring,
+                            unary)
     from .operators.c import c
     from .operators.compiler.operands import cdiv, cmod, rsh, udiv, ult, umod, where
     from .operators.diagnostics import code_of, explain
@@ -39,34 +43,39 @@ if TYPE_CHECKING:
 
 
 if importlib.util.find_spec('numpy') is None:
-    raise ImportError('spmat needs numpy (1.22 or newer), and %s has none. To have it: pip install numpy; or on Debian '
-                      'apt install python3-numpy, which is for /usr/bin/python3' % sys.executable)
+    raise ImportError(
+        'spmat needs numpy (1.22 or newer), and %s has none. To have it: pip install numpy; or '
+        'on Debian apt install python3-numpy, which is for /usr/bin/python3' % sys.executable)
 
 
 def _version() -> str:
-    """The version, which stands in the file VERSION: at the top of the repository, and in what is installed beside this module."""
-    with open(os.path.join(os.path.dirname(os.path.abspath(__file__)), 'VERSION'), encoding='ascii') as file:
+    """The version, which stands in the file VERSION: at the top of the repository, and in what is
+    installed beside this module."""
+    with open(os.path.join(os.path.dirname(os.path.abspath(__file__)), 'VERSION'),
+              encoding='ascii') as file:
         return file.read().strip()
 
 
 __version__ = _version()
-__all__ = ['Budget', 'BudgetExceeded', 'BudgetWarning', 'Busy', 'Closed', 'CompileError', 'DimensionMismatch', 'DomainMismatch', 'JobResult', 'Loop',
-           'Mask', 'MaskWarning', 'Matrix', 'NamesDiffer', 'NoThread', 'NotMade', 'NotSettled', 'Operator', 'OperatorRefused', 'OutOfMemory',
-           'OverflowWarning',
-           'ProtocolError', 'ReadError', 'Refused', 'ResultLost', 'Semiring', 'Session', 'SpmatError', 'TextRefused', 'ThreadUnavailable', 'TooLarge',
-           'UnitsDiffer', 'Vector', 'algorithms',
-           'align', 'asm', 'binary', 'bipartite', 'c', 'cdiv', 'cmod', 'code', 'code_of', 'concat', 'draw', 'empty', 'events', 'explain', 'fixpoint',
-           'indexunary',
-           'loop', 'price', 'rsh', 'select', 'semiring', 'steady', 'udiv', 'ult', 'umod', 'unary', 'where']
+__all__ = ['Budget', 'BudgetExceeded', 'BudgetWarning', 'Busy', 'Closed', 'CompileError',
+           'DimensionMismatch', 'DomainMismatch', 'JobResult', 'Loop', 'Mask', 'MaskWarning',
+           'Matrix', 'NamesDiffer', 'NoThread', 'NotMade', 'NotSettled', 'Operator',
+           'OperatorRefused', 'OutOfMemory', 'OverflowWarning', 'ProtocolError', 'ReadError',
+           'Refused', 'ResultLost', 'Semiring', 'Session', 'SpmatError', 'TextRefused',
+           'ThreadUnavailable', 'TooLarge', 'UnitsDiffer', 'Vector', 'algorithms', 'align', 'asm',
+           'binary', 'bipartite', 'c', 'cdiv', 'cmod', 'code', 'code_of', 'concat', 'draw', 'empty',
+           'events', 'explain', 'fixpoint', 'indexunary', 'loop', 'price', 'rsh', 'select',
+           'semiring', 'steady', 'udiv', 'ult', 'umod', 'unary', 'where']
 
-# Each name is imported when it is first asked for: networkx imports this package to ask for its backend's names, and a program
-# that makes a session doesn't wait for pictures.
+# Each name is imported when it is first asked for: networkx imports this package to ask for its
+# backend's names, and a program that makes a session doesn't wait for pictures.
 _PLACES: Dict[str, str] = {name: module for module, names in {
     'alignment': 'align',
     'operators.c': 'c',
-    'errors': 'BudgetExceeded BudgetWarning Busy Closed CompileError DimensionMismatch DomainMismatch MaskWarning NamesDiffer NoThread NotMade '
-              'NotSettled OperatorRefused '
-              'OutOfMemory OverflowWarning ProtocolError ReadError Refused ResultLost SpmatError TextRefused ThreadUnavailable TooLarge UnitsDiffer',
+    'errors': 'BudgetExceeded BudgetWarning Busy Closed CompileError DimensionMismatch '
+    'DomainMismatch MaskWarning NamesDiffer NoThread NotMade NotSettled '
+    'OperatorRefused OutOfMemory OverflowWarning ProtocolError ReadError Refused '
+    'ResultLost SpmatError TextRefused ThreadUnavailable TooLarge UnitsDiffer',
     'backends.protocol': 'Budget JobResult',
     'loops': 'Loop empty loop steady',
     'mask': 'Mask',
@@ -82,9 +91,13 @@ _PLACES: Dict[str, str] = {name: module for module, names in {
     'tiles': 'concat'}.items() for name in names.split()}
 
 # What python-graphblas has at its top, and what it is here.
-_ELSEWHERE = {'agg': 'aggregators are names, as in A.reduce_rowwise("count")', 'monoid': 'folds take binary operators, as in A.reduce_rowwise("plus")',
-              'op': 'operators are names, as in A.ewise_add(B, "plus")', 'Scalar': 'scalars are numbers of Python', 'replace': 'write C.update(B, mask=M.S, replace=True)',
-              'dtypes': 'all values are whole numbers of 64 bits', 'ss': 'write spmat.concat(tiles), A.split(sizes) and A.reshape(nrows, ncols)'}
+_ELSEWHERE = {'agg': 'aggregators are names, as in A.reduce_rowwise("count")',
+              'monoid': 'folds take binary operators, as in A.reduce_rowwise("plus")',
+              'op': 'operators are names, as in A.ewise_add(B, "plus")',
+              'Scalar': 'scalars are numbers of Python',
+              'replace': 'write C.update(B, mask=M.S, replace=True)',
+              'dtypes': 'all values are whole numbers of 64 bits',
+              'ss': 'write spmat.concat(tiles), A.split(sizes) and A.reshape(nrows, ncols)'}
 
 
 def __getattr__(name: str) -> Any:
@@ -93,7 +106,9 @@ def __getattr__(name: str) -> Any:
     else:
         found = None if name.startswith('_') else _module(name)
     if found is None:
-        raise AttributeError('module %r has no attribute %r%s' % (__name__, name, ': ' + _ELSEWHERE[name] if name in _ELSEWHERE else ''))
+        raise AttributeError('module %r has no attribute %r%s'
+                             % (__name__, name, ': ' + _ELSEWHERE[name] if name in _ELSEWHERE
+                                else ''))
     globals()[name] = found
     return found
 

@@ -1,7 +1,7 @@
 """Several matrices of the same entries, each with names and a unit of its own.
 
-What is kept and handed out again, such as a transpose, is handed out as another matrix each time: who gives its vertices names gives
-them to this one alone.
+What is kept and handed out again, such as a transpose, is handed out as another matrix each time:
+who gives its vertices names gives them to this one alone.
 """
 from __future__ import annotations
 
@@ -15,7 +15,8 @@ H = TypeVar('H', bound='Held')
 
 
 def alias(matrix: H, notes: 'Notes') -> H:
-    """Another matrix of the same entries, of which `notes` are known beside. No job, and nothing is sent."""
+    """Another matrix of the same entries, of which `notes` are known beside. No job, and nothing is
+    sent."""
     made: Any = object.__new__(type(matrix))
     made.__dict__.update(matrix.__dict__)
     made.notes = notes
@@ -25,5 +26,6 @@ def alias(matrix: H, notes: 'Notes') -> H:
 
 
 def is_same(first: Any, second: Any) -> bool:
-    """Whether two matrices are known to have the same entries, as one is, or both are made from, the other."""
+    """Whether two matrices are known to have the same entries, as one is, or both are made from,
+    the other."""
     return first.kept is second.kept

@@ -2,7 +2,7 @@
 from __future__ import annotations
 
 import itertools
-from typing import Any, Dict, List, NamedTuple, Optional, Sequence, Tuple, TypeVar
+from typing import Any, Dict, List, NamedTuple, Optional, Sequence, Tuple, TypeVar, cast
 
 from .aliases import alias
 from .errors import NamesDiffer, refusal
@@ -36,45 +36,49 @@ def align(*matrices: M, how: str = 'outer') -> Tuple[M, ...]:
     Parameters
     ----------
     *matrices
-        Matrices of one session, or of several, in one place or in blocks. Graphs, which have one list of names for rows and
-        columns, get one list; matrices of two kinds of vertices get one for rows and one for columns. Columns and rows get the
-        vertices of the graphs that they stand beside.
+        Matrices of one session, or of several, in one place or in blocks. Graphs, which have one
+        list of names for rows and columns, get one list; matrices of two kinds of vertices get one
+        for rows and one for columns. Columns and rows get the vertices of the graphs that they
+        stand beside.
     how : {'outer', 'inner'}
-        The vertices that any of them has, or those that all have, with the entries between these. Whole numbers come in ascending
-        order, other names as they first stand.
+        The vertices that any of them has, or those that all have, with the entries between these.
+        Whole numbers come in ascending order, other names as they first stand.
 
     Returns
     -------
     tuple
-        As many matrices, in this order. One that has these vertices already is returned as it is. They share one list of names,
-        so no job compares it again.
+        As many matrices, in this order. One that has these vertices already is returned as it is.
+        They share one list of names, so no job compares it again.
 
     Raises
     ------
     NamesDiffer
         Where one was made by positions, or is a constant, and others have names.
     ValueError
-        For another `how`, for a name that stands twice, and for graphs beside matrices of two kinds of vertices.
+        For another `how`, for a name that stands twice, and for graphs beside matrices of two kinds
+        of vertices.
     TooLarge
         For more than 16,777,216 vertices.
 
     Notes
     -----
-    No job, run or step: the entries of each matrix that changes come to the client and go back, as for `Matrix.T`. In pandas
-    `DataFrame.align`.
+    No job, run or step: the entries of each matrix that changes come to the client and go back, as
+    for `Matrix.T`. In pandas `DataFrame.align`.
     """
     if how not in WAYS:
         raise ValueError('how= is %s, not %r' % (' or '.join(map(repr, WAYS)), how))
     for matrix in matrices:
         if not isinstance(matrix, Held):
-            raise TypeError('align takes matrices, each by itself, as in align(A, B), and not %r' % (matrix,))
+            raise TypeError('align takes matrices, each by itself, as in align(A, B), and not %r'
+                            % (matrix,))
     targets: Dict[_Side, _Target] = {}
     for sides in _groups(matrices):
         target = _common([_target_of(matrices[side.matrix], side.axis) for side in sides], how)
         targets.update((side, target) for side in sides)
     made: List[M] = []
     for number, matrix in enumerate(matrices):
-        rows, columns = (targets.get(_Side(number, axis)) or _target_of(matrix, axis) for axis in (ROWS, COLUMNS))
+        rows, columns = (targets.get(_Side(number, axis)) or _target_of(matrix, axis)
+                         for axis in (ROWS, COLUMNS))
         made.append(_moved(matrix, rows, columns, made))
     return tuple(made)
 
@@ -85,23 +89,30 @@ def _target_of(matrix: Held, axis: int) -> _Target:
 
 
 def _groups(matrices: Sequence[Held]) -> List[List[_Side]]:
-    """Which rows and columns are to be called the same. ValueError for graphs beside matrices of two kinds of vertices."""
+    """Which rows and columns are to be called the same. ValueError for graphs beside matrices of
+    two kinds of vertices."""
     vectors = [1 in matrix.shape and matrix.shape != (1, 1) for matrix in matrices]
     tables = [not vector and not _is_square(matrix) for matrix, vector in zip(matrices, vectors)]
-    all_sides = [[_Side(number, axis) for number in range(len(matrices))] for axis in (ROWS, COLUMNS)]
+    all_sides = [[_Side(number, axis) for number in range(len(matrices))]
+                 for axis in (ROWS, COLUMNS)]
     if not any(tables):
-        long = [side for sides in all_sides for side in sides if not vectors[side.matrix] or matrices[side.matrix].shape[side.axis] != 1]
-        return [long] if not all(vectors) else [[side for side in long if side.axis == axis] for axis in (ROWS, COLUMNS)]
+        long = [side for sides in all_sides for side in sides if not vectors[side.matrix]
+                or matrices[side.matrix].shape[side.axis] != 1]
+        return ([long] if not all(vectors) else [[side for side in long if side.axis == axis]
+                                                 for axis in (ROWS, COLUMNS)])
     for matrix, vector in zip(matrices, vectors):
         if not vector and _is_square(matrix) and matrix.notes.rows is not None:
-            raise ValueError('a graph of %d vertices has one list of names for rows and columns, and others here have one for each: align '
-                             'graphs with graphs, and matrices of two kinds of vertices with their like' % matrix.nrows)
-    return [[side for side in sides if matrices[side.matrix].shape[side.axis] != 1 or matrices[side.matrix].notes.names(side.axis) is not None]
-            for sides in all_sides]
+            raise ValueError(
+                'a graph of %d vertices has one list of names for rows and columns, and others '
+                'here have one for each: align graphs with graphs, and matrices of two kinds of '
+                'vertices with their like' % matrix.nrows)
+    return [[side for side in sides if matrices[side.matrix].shape[side.axis] != 1
+             or matrices[side.matrix].notes.names(side.axis) is not None] for sides in all_sides]
 
 
 def _is_square(matrix: Held) -> bool:
-    """Whether a matrix is that of a graph, or may be one, whose rows and columns are the same vertices."""
+    """Whether a matrix is that of a graph, or may be one, whose rows and columns are the same
+    vertices."""
     return matrix.nrows == matrix.ncols and vertices_of(matrix.notes) is not None
 
 
@@ -113,20 +124,25 @@ def _common(sides: Sequence[_Target], how: str) -> _Target:
             check_names(axis.names)
         elif not axis.has_names and not all(names.are_counted for names in lists):
             names = next(names for names in lists if not names.are_counted)
-            raise NamesDiffer('a matrix of %d rows or columns without names can not be aligned with one that has some: %s; %s' % (
-                count, ', '.join(map(repr, names[:3])), POSITIONS))
+            raise NamesDiffer(
+                'a matrix of %d rows or columns without names can not be aligned with one that '
+                'has some: %s; %s' % (
+                    count, ', '.join(map(repr, names[:3])), POSITIONS))
     if not lists:
         count = (max if how == 'outer' else min)((count for _, count in sides), default=0)
-        return _Target(Axis(None, max((axis.unnamed for axis, _ in sides), default=Axis().unnamed)), count)
+        return _Target(Axis(None, max((axis.unnamed for axis, _ in sides), default=Axis().unnamed)),
+                       count)
     found = _joined([axis.listed(count) for axis, count in sides], how)
     if len(found) > MOST_SIDE:
         raise refusal('M4', detail='%d vertices' % len(found))
-    same = next((names for names in lists if len(names) == len(found) and list.__eq__(names, found) is True), None)
+    same = next((names for names in lists if len(names) == len(found) and list.__eq__(names, found)
+                 is True), None)
     return _Target(Axis(Nodes(found) if same is None else same), len(found))
 
 
 def _joined(lists: Sequence[Sequence[Any]], how: str) -> List[Any]:
-    """The names that any list has, or that all have: whole numbers ascending, others as they first stand."""
+    """The names that any list has, or that all have: whole numbers ascending, others as they first
+    stand."""
     found = dict.fromkeys(itertools.chain.from_iterable(lists) if how == 'outer' else lists[0])
     if how == 'inner':
         for names in lists[1:]:
@@ -136,15 +152,19 @@ def _joined(lists: Sequence[Sequence[Any]], how: str) -> List[Any]:
 
 
 def _moved(matrix: M, rows: _Target, columns: _Target, before: Sequence[M]) -> M:
-    """A matrix with other vertices: its entries between those that it still has. In blocks it is cut as those before."""
+    """A matrix with other vertices: its entries between those that it still has. In blocks it is
+    cut as those before."""
     notes = matrix.notes.with_axes(rows.axis, columns.axis)
-    tables = [_table(_target_of(matrix, axis), target) for axis, target in ((ROWS, rows), (COLUMNS, columns))]
+    tables = [_table(_target_of(matrix, axis), target)
+              for axis, target in ((ROWS, rows), (COLUMNS, columns))]
     if tables == [None, None]:
-        is_same = notes.rows is matrix.notes.rows and notes.columns is matrix.notes.columns and notes == matrix.notes
+        is_same = (notes.rows is matrix.notes.rows and notes.columns is matrix.notes.columns
+                   and notes == matrix.notes)
         return matrix if is_same else alias(matrix, notes)
     i, j, values = _kept(*matrix.entries(), *tables)
-    like = next((one for one in before if one.nrows == rows.size and one.session == matrix.session), matrix)
-    made: M = like.session.from_coo(i, j, values, rows.size, columns.size)  # type: ignore[assignment]
+    like = next((one for one in before if one.nrows == rows.size and one.session == matrix.session),
+                matrix)
+    made = cast(M, like.session.from_coo(i, j, values, rows.size, columns.size))
     made.notes = notes._replace(source='')
     return made
 
@@ -161,13 +181,16 @@ def _table(old: _Target, new: _Target) -> Optional[List[int]]:
     return None if old.size == new.size and found == list(range(old.size)) else found
 
 
-def _kept(i: Any, j: Any, values: Any, rows: Optional[List[int]], columns: Optional[List[int]]) -> Tuple[Any, Any, Any]:
+def _kept(i: Any, j: Any, values: Any, rows: Optional[List[int]],
+          columns: Optional[List[int]]) -> Tuple[Any, Any, Any]:
     """Entries at their new places, without those that have none."""
     if is_array(i):
         import numpy
-        i, j = (at if table is None else numpy.array(table, numpy.int64)[at] for at, table in ((i, rows), (j, columns)))
+        i, j = (at if table is None else numpy.array(table, numpy.int64)[at]
+                for at, table in ((i, rows), (j, columns)))
         keep = (i >= 0) & (j >= 0)
         return i[keep], j[keep], values[keep]
-    i, j = (at if table is None else [table[k] for k in at] for at, table in ((i, rows), (j, columns)))
+    i, j = (at if table is None else [table[k] for k in at]
+            for at, table in ((i, rows), (j, columns)))
     kept = [entry for entry in zip(i, j, values) if entry[0] >= 0 and entry[1] >= 0]
     return tuple(map(list, zip(*kept))) if kept else ([], [], [])  # type: ignore[return-value]

@@ -29,5 +29,6 @@ def common_session(first: 'Session', second: 'Session') -> 'Session':
         return first
     if second.backend.takes_others:                # a step of a loop asks
         return second
-    raise ValueError('a matrix of another session: the two are in two sessions, and a job takes matrices of one; '
-                     'B = A.session.adopt(B) copies B into the session of A')
+    raise ValueError(
+        'a matrix of another session: the two are in two sessions, and a job takes matrices of '
+        'one; B = A.session.adopt(B) copies B into the session of A')

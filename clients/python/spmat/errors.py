@@ -3,9 +3,12 @@
     SpmatError
         Closed               the session has ended; open another one
         ReadError            a file, or a line of it, isn't what was to be read; a ValueError
-        UnitsDiffer          values of two units meet: `A.rescale(unit)` gives one matrix the other's; a ValueError
-        NamesDiffer          two matrices have different names for their vertices: `align(A, B)` gives both the same; a ValueError
-        NotMade              this matrix was the result of a run that was refused; its cause says why. Also called ResultLost
+        UnitsDiffer          values of two units meet: `A.rescale(unit)` gives one matrix the
+                             other's; a ValueError
+        NamesDiffer          two matrices have different names for their vertices: `align(A, B)`
+                             gives both the same; a ValueError
+        NotMade              this matrix was the result of a run that was refused; its cause says
+                             why. Also called ResultLost
         Refused              the server answered `no ..`, or would have
             OperatorRefused      mend the operator (rules A1 to A6, V1 to V16, S9)
             TextRefused          mend the matrix text (M1 to M12)
@@ -14,11 +17,12 @@
             DomainMismatch       the operator is of another kind than expected (J4)
             BudgetExceeded       the job needs more steps than are left (S8)
             OutOfMemory          the server has too little memory
-            NoThread             the server could start too few threads; fewer workers may do. Also called ThreadUnavailable
+            NoThread             the server could start too few threads; fewer workers may do. Also
+                                 called ThreadUnavailable
             Busy                 the server has as many sessions as it serves; try later
 
-Each refusal has its rule, the place (a line or a slot), the line that stands there, and the rule's sentence. The sentences stand
-here once, in the words of docs/protocol.md and docs/bpf.md.
+Each refusal has its rule, the place (a line or a slot), the line that stands there, and the rule's
+sentence. The sentences stand here once, in the words of docs/protocol.md and docs/bpf.md.
 """
 from __future__ import annotations
 
@@ -30,7 +34,8 @@ from ._client.protocol import COMMANDS
 
 SENTENCES: Dict[str, str] = {
     'S1': "unknown command: the first word is no command's, whatever follows it",
-    'S2': 'a wrong number of words, a malformed or out-of-range KIND, LEN or THUNK, or another word where mask was expected',
+    'S2': 'a wrong number of words, a malformed or out-of-range KIND, LEN or THUNK, or another '
+    'word where mask was expected',
     'S3': 'a name that is not 1 to 32 letters, digits or underscores',
     'S4': 'the name of an operand, an operator or the mask is not bound',
     'S5': 'the input ends within a body',
@@ -40,13 +45,16 @@ SENTENCES: Dict[str, str] = {
     'S9': 'a body of op that is not an even number of hexadecimal digits',
     'A1': 'a line of over 1,024 bytes, comment included, LF and CR not counted',
     'A2': 'unknown mnemonic',
-    'A3': 'too few or too many operands, or one of the wrong form: expected a register, or a number',
+    'A3': 'too few or too many operands, or one of the wrong form: expected a register, or a '
+    'number',
     'A4': 'r with digits that is none of r0 to r10',
     'A5': 'a number out of range for its field',
-    'A6': 'more than 4,096 slots, at the line that passes them; no instruction at all, at the number of lines plus 1',
+    'A6': 'more than 4,096 slots, at the line that passes them; no instruction at all, at the '
+    'number of lines plus 1',
     'V1': 'the length is 0, no multiple of 8, or over 4,096 slots (looked at first)',
     'V2': 'unknown opcode',
-    'V3': 'outside the profile: opcodes 85, c3, db, 20, 28, 30, 40, 48, 50, and 18 with a source field other than 0',
+    'V3': 'outside the profile: opcodes 85, c3, db, 20, 28, 30, 40, 48, 50, and 18 with a '
+    'source field other than 0',
     'V4': 'a register field that is used is above 10',
     'V5': "a field that is not used isn't 0, or a reserved value of offset or imm",
     'V6': "a wide load in the last slot, or whose second slot's first 32 bits aren't 0",
@@ -55,20 +63,25 @@ SENTENCES: Dict[str, str] = {
     'V9': 'R10 is written',
     'V10': 'the last instruction is no EXIT',
     'V11': 'a register is read that some path leaves unset',
-    'V12': 'a register is read that two paths set differently: to a number and a place in the stack, or to two places',
+    'V12': 'a register is read that two paths set differently: to a number and a place in the '
+    'stack, or to two places',
     'V13': 'expected a number, found a place in the stack',
     'V14': 'expected a place in the stack, found a number',
     'V15': 'an access, or a moved place, outside the stack',
     'V16': "a load of a byte that some path hasn't stored",
-    'M1': "line 1 is missing, doesn't have five words, or its first isn't %%MatrixMarket in this case",
-    'M2': 'another word of line 1 is none of matrix, coordinate, integer or pattern, general or symmetric',
+    'M1': "line 1 is missing, doesn't have five words, or its first isn't %%MatrixMarket in "
+    "this case",
+    'M2': 'another word of line 1 is none of matrix, coordinate, integer or pattern, general or '
+    'symmetric',
     'M3': "the size line is missing, or isn't three numbers without -",
     'M4': 'rows, columns or entries above 16,777,216, or in symmetric entries above 8,388,608',
-    'M5': 'an entry line has the wrong number of fields, or a field that is no number (an index has no -)',
+    'M5': 'an entry line has the wrong number of fields, or a field that is no number (an index '
+    'has no -)',
     'M6': 'an index is 0 or above its size',
     'M7': 'a value is outside -2^63 to 2^63 - 1',
     'M8': 'the position was given before, or in symmetric its mirror',
-    'M9': 'too few entries; the line named is the number of lines plus 1, as for a missing line 1 or size line',
+    'M9': 'too few entries; the line named is the number of lines plus 1, as for a missing line '
+    '1 or size line',
     'M10': "a line behind the last entry that isn't passed over, whatever it holds",
     'M11': 'a line of over 1,024 bytes, LF and CR not counted',
     'M12': 'symmetric, and rows differ from columns (after M4)',
@@ -80,13 +93,15 @@ SENTENCES: Dict[str, str] = {
     'J9': "the mask's shape is not the result's",
     'memory': 'out of memory for what the command needs',
     'memory SPENT': 'run: out of memory, after so many steps',
-    'thread SPENT': 'run: a thread could not be started for a worker; those that were started went on, to so many steps',
+    'thread SPENT': 'run: a thread could not be started for a worker; those that were started '
+    'went on, to so many steps',
     'busy': 'the server has as many sessions as it serves',
     'login': 'the gateway knows no such user, or another token is right',
     'quota': 'this user, or its group, has used up a quota',
     'ledger': 'the gateway can book no session now; try later',
     'engine': 'the gateway could not start a session',
-    'session': 'the gateway has ended the session; it says why, how the steps are known, and how many it charges',
+    'session': 'the gateway has ended the session; it says why, how the steps are known, and '
+    'how many it charges',
 }
 
 MORE_STEPS = 'open a session with more steps, and other.adopt(G) takes a matrix there'
@@ -97,7 +112,8 @@ MENDS: Dict[str, str] = {
     'V10': 'end with exit',
     'V11': 'set it on all paths, as at the start; EXIT reads R0',
     'V12': 'read it on each path, before they meet',
-    'V13': 'places are copied (mov64), moved (add64 of a number) and used as bases, and nothing else',
+    'V13': 'places are copied (mov64), moved (add64 of a number) and used as bases, and nothing '
+    'else',
     'V14': 'load and store through R10, or a copy of it',
     'V15': 'b bytes want a place from -512 to -b',
     'V16': 'store it on all paths first',
@@ -105,8 +121,9 @@ MENDS: Dict[str, str] = {
 
 
 # arguments of calls that errors of files and sessions are about; words write them as `columns=`
-ARGUMENTS = ('bipartite', 'columns', 'comments', 'date_format', 'delimiter', 'directed', 'dup_op', 'format', 'header', 'missing', 'name',
-             'program', 'scale', 'steps', 'tls', 'token', 'unit', 'values', 'workers')
+ARGUMENTS = ('bipartite', 'columns', 'comments', 'date_format', 'delimiter', 'directed', 'dup_op',
+             'format', 'header', 'missing', 'name', 'program', 'scale', 'steps', 'tls', 'token',
+             'unit', 'values', 'workers')
 _ARGUMENT = re.compile(r'(?<![\w"\'.-])(%s)=' % '|'.join(ARGUMENTS))
 
 
@@ -120,25 +137,30 @@ class SpmatError(Exception):
 
 
 class Closed(SpmatError):
-    """The session has ended: by close, by a refusal, or as the program or the connection is gone. The words have what the program said."""
+    """The session has ended: by close, by a refusal, or as the program or the connection is gone.
+    The words have what the program said."""
 
 
 class ProtocolError(Closed):
-    """What came is no reply to the command that was sent: the other side is no server of spmat, or something between drops, repeats or
-    swaps replies. The session is ended, as commands and replies are out of step."""
+    """What came is no reply to the command that was sent: the other side is no server of spmat, or
+    something between drops, repeats or swaps replies. The session is ended, as commands and replies
+    are out of step."""
 
 
 class MaskWarning(UserWarning):
-    """A matrix was given as a mask: it means its structure, `A.S`, where the C API of the GraphBLAS means its values, `A.V`."""
+    """A matrix was given as a mask: it means its structure, `A.S`, where the C API of the GraphBLAS
+    means its values, `A.V`."""
 
 
 class OverflowWarning(UserWarning):
-    """Results of a job on values with a unit, such as decimals, may be beyond 64 bits. They wrap there, and stand for other numbers."""
+    """Results of a job on values with a unit, such as decimals, may be beyond 64 bits. They wrap
+    there, and stand for other numbers."""
 
 
 class ReadError(SpmatError, ValueError):
-    """A file isn't what was to be read: `.file` its name, `.at` the line, from 1, or None, `.line` what stands there. `.arguments` are
-    the names of the arguments of a call that the words are about, such as ``columns``."""
+    """A file isn't what was to be read: `.file` its name, `.at` the line, from 1, or None, `.line`
+    what stands there. `.arguments` are the names of the arguments of a call that the words are
+    about, such as ``columns``."""
 
     def __init__(self, file: str, at: Optional[int], words: str, line: str = '') -> None:
         self.file, self.at, self.words, self.line = file, at, words, line
@@ -151,8 +173,9 @@ class ReadError(SpmatError, ValueError):
 
 
 class NamesDiffer(SpmatError, ValueError):
-    """Two matrices that a job would combine have different names for their rows or columns: by position the values of different
-    vertices would meet. `spmat.align` brings matrices to the same names, and `nodelist=` reads one with the names of another.
+    """Two matrices that a job would combine have different names for their rows or columns: by
+    position the values of different vertices would meet. `spmat.align` brings matrices to the same
+    names, and `nodelist=` reads one with the names of another.
 
     Notes
     -----
@@ -161,18 +184,21 @@ class NamesDiffer(SpmatError, ValueError):
 
 
 class NotMade(SpmatError):
-    """The result of a job whose run was refused, so that it never came to be. The refusal is the cause. `ResultLost` is the same class."""
+    """The result of a job whose run was refused, so that it never came to be. The refusal is the
+    cause. `ResultLost` is the same class."""
 
 
 ResultLost = NotMade
 
 
 class UnitsDiffer(SpmatError, ValueError):
-    """Numbers of two units would meet, such as hundredths and thousandths; or a result would have two units. The words say what to write."""
+    """Numbers of two units would meet, such as hundredths and thousandths; or a result would have
+    two units. The words say what to write."""
 
 
 class CompileError(SpmatError):
-    """A function of Python or C that can't be an operator, or that clang refused; no server was asked. The words say what to do."""
+    """A function of Python or C that can't be an operator, or that clang refused; no server was
+    asked. The words say what to do."""
 
 
 class NotSettled(RuntimeError):
@@ -180,18 +206,22 @@ class NotSettled(RuntimeError):
 
 
 class Refused(SpmatError):
-    """A refusal: `.rule` as the documents name it ('J5'; 'memory', 'thread', 'busy'), `.sentence` in words, `.at` the line (M and
-    A rules) or slot (V rules) or None, `.line` what stands there, `.command` the command's line, `.numbers` all numbers of the
-    reply; of a loop `.round` the round that it came in."""
+    """A refusal: `.rule` as the documents name it ('J5'; 'memory', 'thread', 'busy'), `.sentence`
+    in words, `.at` the line (M and A rules) or slot (V rules) or None, `.line` what stands there,
+    `.command` the command's line, `.numbers` all numbers of the reply; of a loop `.round` the round
+    that it came in."""
 
     round: Optional[int] = None
 
-    def __init__(self, rule: str, numbers: Sequence[int] = (), command: str = '', line: str = '', detail: str = '') -> None:
-        self.rule, self.numbers, self.command, self.line, self.detail = rule, tuple(numbers), command, line, detail
+    def __init__(self, rule: str, numbers: Sequence[int] = (), command: str = '', line: str = '',
+                 detail: str = '') -> None:
+        self.rule, self.numbers, self.command, self.line, self.detail = rule, tuple(
+            numbers), command, line, detail
         self.at: Optional[int] = self.numbers[0] if self.numbers and is_placed(rule) else None
         self.file, self.said = '', ''
         self.text_line: Optional[int] = None
-        key = rule if rule in SENTENCES and not (self.numbers and rule + ' SPENT' in SENTENCES) else rule + ' SPENT'
+        key = (rule if rule in SENTENCES and not (self.numbers and rule + ' SPENT' in SENTENCES)
+               else rule + ' SPENT')
         self.sentence = SENTENCES.get(key, 'a refusal that this client does not know')
         super().__init__(self.message())
 
@@ -211,7 +241,8 @@ class Refused(SpmatError):
         return '; '.join([text] + more)
 
     def of_file(self, file: str = '', said: str = '') -> 'Refused':
-        """This refusal, of a line of a file, with other words for its sentence where they are given."""
+        """This refusal, of a line of a file, with other words for its sentence where they are
+        given."""
         return self._told(self.detail, file or self.file, said or self.said, self.text_line)
 
     def on_line(self, number: Optional[int], detail: str = '') -> 'Refused':
@@ -231,16 +262,19 @@ class Refused(SpmatError):
         return self._told(hint, self.file, self.said, self.text_line)
 
     def __reduce__(self) -> Tuple[Any, ...]:
-        return _again, (type(self), (self.rule, self.numbers, self.command, self.line, self.detail), self.file, self.said, self.text_line)
+        return _again, (type(self), (self.rule, self.numbers, self.command, self.line, self.detail),
+                        self.file, self.said, self.text_line)
 
 
-def _again(kind: Type[Refused], told: Tuple[Any, ...], file: str, said: str, text_line: Optional[int]) -> Refused:
+def _again(kind: Type[Refused], told: Tuple[Any, ...], file: str, said: str,
+           text_line: Optional[int]) -> Refused:
     """A refusal that was pickled."""
     return kind(*told).of_file(file, said).on_line(text_line)
 
 
 class OperatorRefused(Refused):
-    """An operator breaks a rule of assembly text (A1 to A6), of code (V1 to V6, S9) or of the verifier (V7 to V16)."""
+    """An operator breaks a rule of assembly text (A1 to A6), of code (V1 to V6, S9) or of the
+    verifier (V7 to V16)."""
 
 
 class TextRefused(Refused, ValueError):
@@ -260,11 +294,13 @@ class DomainMismatch(Refused, TypeError):
 
 
 class BudgetWarning(UserWarning):
-    """A call may take more steps than are left, so that it may be refused amid its work. It is told before its first job."""
+    """A call may take more steps than are left, so that it may be refused amid its work. It is told
+    before its first job."""
 
 
 class _Spent(Refused):
-    def __init__(self, rule: str, numbers: Sequence[int] = (), command: str = '', line: str = '', detail: str = '') -> None:
+    def __init__(self, rule: str, numbers: Sequence[int] = (), command: str = '', line: str = '',
+                 detail: str = '') -> None:
         spent = '%s steps were spent' % format(numbers[0], ',') if numbers else ''
         super().__init__(rule, numbers, command, line, detail or spent)
 
@@ -290,40 +326,49 @@ class Busy(Refused):
 
 
 class BudgetExceeded(Refused):
-    """A job's price is above what is left, also after the queue was run. `algorithm` is the function of `spmat.algorithms` that wants it, or
-    empty. `partial` is what that function had found by then, where that means something: a result of the same kind, as the function's
+    """A job's price is above what is left, also after the queue was run. `algorithm` is the
+    function of `spmat.algorithms` that wants it, or empty. `partial` is what that function had
+    found by then, where that means something: a result of the same kind, as the function's
     docstring says, else None. Reading it takes no steps."""
 
     algorithm = ''
     arguments = ('steps',)
     partial: Any = None
 
-    def __init__(self, rule: str, numbers: Sequence[int] = (), command: str = '', line: str = '', detail: str = '') -> None:
-        detail = detail or ('the price is %d, and %d are left' % tuple(numbers[:2]) if len(numbers) >= 2 else '')
+    def __init__(self, rule: str, numbers: Sequence[int] = (), command: str = '', line: str = '',
+                 detail: str = '') -> None:
+        detail = (detail or ('the price is %d, and %d are left' % tuple(numbers[:2])
+                             if len(numbers) >= 2 else ''))
         super().__init__(rule, numbers, command, line, detail)
 
     def with_advice(self) -> 'BudgetExceeded':
         """This refusal of a job, with what can be done."""
-        return type(self)(self.rule, self.numbers, self.command, self.line, 'the price is %d, and %d are left: %s; spmat.price(lambda: ..) '
-                          'tells beforehand what a call takes' % (self.price, self.left, MORE_STEPS))
+        return type(self)(self.rule, self.numbers, self.command, self.line,
+                          'the price is %d, and %d are left: %s; spmat.price(lambda: ..) tells '
+                          'beforehand what a call takes' % (self.price, self.left, MORE_STEPS))
 
     def name_algorithm(self, name: str) -> None:
         """Notes which algorithm wanted the job."""
         wanted = '%s wants a job of up to %s steps' % (name, format(self.price, ','))
-        self.algorithm, self.detail = name, self.detail.replace('the price is %d' % self.price, wanted, 1)
+        self.algorithm, self.detail = name, self.detail.replace('the price is %d' % self.price,
+                                                                wanted, 1)
         self.args = (self.message(),)
 
     def of_call(self, name: str) -> 'BudgetExceeded':
-        """This refusal, of a whole call of an algorithm before any of its jobs, with what can be done."""
-        out = type(self)(self.rule, self.numbers, self.command, self.line, '%s needs at least %s steps, and %s are left; none of its jobs was '
-                         'sent: %s' % (name, format(self.needed, ','), format(self.left, ','), MORE_STEPS))
+        """This refusal, of a whole call of an algorithm before any of its jobs, with what can be
+        done."""
+        out = type(self)(self.rule, self.numbers, self.command, self.line,
+                         '%s needs at least %s steps, and %s are left; none of its jobs was '
+                         'sent: %s' % (name, format(self.needed, ','), format(self.left, ','),
+                                       MORE_STEPS))
         out.algorithm, out.said = name, 'fewer steps are left than the call needs'
         out.args = (out.message(),)
         return out
 
     def by(self, way: str) -> 'BudgetExceeded':
         """This refusal, with another way to more steps."""
-        out = type(self)(self.rule, self.numbers, self.command, self.line, self.detail.replace(MORE_STEPS, way))
+        out = type(self)(self.rule, self.numbers, self.command, self.line,
+                         self.detail.replace(MORE_STEPS, way))
         out.algorithm, out.said = self.algorithm, self.said
         out.partial = self.partial
         out.args = (out.message(),)
@@ -331,7 +376,8 @@ class BudgetExceeded(Refused):
 
     @property
     def price(self) -> int:
-        """The most steps that the job can take; of a call that was refused before its first job, those that it takes at the least."""
+        """The most steps that the job can take; of a call that was refused before its first job,
+        those that it takes at the least."""
         return self.numbers[0]
 
     @property
@@ -346,8 +392,10 @@ class BudgetExceeded(Refused):
 
 
 _CLASSES: Dict[str, Type[Refused]] = {
-    'J4': DomainMismatch, 'J5': DimensionMismatch, 'J9': DimensionMismatch, 'J7': TooLarge, 'J8': TooLarge, 'M4': TooLarge,
-    'S7': TooLarge, 'S8': BudgetExceeded, 'S9': OperatorRefused, 'memory': OutOfMemory, 'thread': NoThread, 'busy': Busy,
+    'J4': DomainMismatch, 'J5': DimensionMismatch, 'J9': DimensionMismatch, 'J7': TooLarge,
+    'J8': TooLarge, 'M4': TooLarge,
+    'S7': TooLarge, 'S8': BudgetExceeded, 'S9': OperatorRefused, 'memory': OutOfMemory,
+    'thread': NoThread, 'busy': Busy,
     'ledger': Busy}
 _FAMILIES: Dict[str, Type[Refused]] = {'A': OperatorRefused, 'V': OperatorRefused, 'M': TextRefused}
 
@@ -367,33 +415,40 @@ def class_of(rule: str) -> Type[Refused]:
     return _CLASSES.get(rule, family)
 
 
-def refusal(rule: str, numbers: Sequence[int] = (), command: str = '', line: str = '', detail: str = '') -> Refused:
+def refusal(rule: str, numbers: Sequence[int] = (), command: str = '', line: str = '',
+            detail: str = '') -> Refused:
     """The exception of a rule, for a refusal that the client foresees."""
     return class_of(rule)(rule, numbers, command, line, detail)
 
 
 def refusal_of(reply: str, command: str, near: Optional[Near] = None) -> Refused:
-    """The exception of a reply `no ..`; `near` gives the line that stands at a place that a rule names."""
+    """The exception of a reply `no ..`; `near` gives the line that stands at a place that a rule
+    names."""
     words = reply.split()
     rule = words[1] if len(words) > 1 else ''
     numbers = [int(word) for word in words[2:] if word.isdigit()]
     line = near(rule, numbers[0]) if near is not None and numbers and is_placed(rule) else ''
-    detail = form_of(command) if rule in ('S1', 'S2') else ' '.join(words[2:]) if rule in OF_GATEWAY else ''
+    detail = (form_of(command) if rule in ('S1', 'S2') else ' '.join(words[2:])
+              if rule in OF_GATEWAY else '')
     return refusal(rule, numbers, command, line, detail)
 
 
 def form_of(command: str) -> str:
-    """How the command of a line is written, in words; of a line that is no command's all there are."""
+    """How the command of a line is written, in words; of a line that is no command's all there
+    are."""
     word = command.split()[0] if command.split() else ''
     if word in COMMANDS:
         words = COMMANDS[word].words
-        return 'it is written `%s`%s' % (('%s %s' % (word, words)).strip(), '; KIND is unary, binary or index' if 'KIND' in words else '')
+        return 'it is written `%s`%s' % (('%s %s' % (word, words)).strip(),
+                                         '; KIND is unary, binary or index' if 'KIND' in words
+                                         else '')
     return 'commands are ' + ', '.join(COMMANDS)
 
 
 def without_frames(fault: BaseException) -> BaseException:
-    """The same exception without the frames that it came through, which would keep their matrices."""
+    """The same exception without the frames that it came through, which would keep their
+    matrices."""
     try:
         return copy.copy(fault).with_traceback(None)
-    except Exception:                              # pylint: disable=broad-exception-caught  # of whatever can't be copied
+    except Exception:  # pylint: disable=broad-exception-caught  # of whatever can't be copied
         return SpmatError('%s: %s' % (type(fault).__name__, fault))

@@ -1,4 +1,5 @@
-"""Import modules that only some calls need, with an error that says how to install one that is missing."""
+"""Import modules that only some calls need, with an error that says how to install one that is
+missing."""
 from __future__ import annotations
 
 import importlib
@@ -6,7 +7,8 @@ from typing import Any, Dict, NamedTuple
 
 
 class Extra(NamedTuple):
-    """What brings a module: an extra of spmat, a project of pip, and a Debian package ('' if Debian has none)."""
+    """What brings a module: an extra of spmat, a project of pip, and a Debian package ('' if Debian
+    has none)."""
     extra: str
     project: str
     debian: str
@@ -45,11 +47,13 @@ def describe_missing(module: str, purpose: str) -> str:
     Examples
     --------
     >>> describe_missing('matplotlib', 'a picture')
-    'a picture needs matplotlib (extra pictures): pip install matplotlib, or on Debian apt install python3-matplotlib'
+    'a picture needs matplotlib (extra pictures): pip install matplotlib, or on Debian apt install
+    python3-matplotlib'
     """
     extra = EXTRAS[module]
     debian = ', or on Debian apt install ' + extra.debian if extra.debian else ''
-    return '%s needs %s (extra %s): pip install %s%s' % (purpose, module, extra.extra, extra.project, debian)
+    return '%s needs %s (extra %s): pip install %s%s' % (purpose, module, extra.extra,
+                                                         extra.project, debian)
 
 
 def import_extra(module: str, purpose: str) -> Any:
@@ -70,10 +74,12 @@ def import_extra(module: str, purpose: str) -> Any:
     Raises
     ------
     ImportError
-        If the module is missing or broken. The text names the extra and what to type; `name` is the module's name.
+        If the module is missing or broken. The text names the extra and what to type; `name` is the
+        module's name.
     """
     try:
         return importlib.import_module(module)
     except ImportError as fault:
         first = module.partition('.')[0]
-        raise ImportError('%s (%s)' % (describe_missing(first, purpose), fault), name=first) from fault
+        raise ImportError('%s (%s)' % (describe_missing(first, purpose), fault),
+                          name=first) from fault

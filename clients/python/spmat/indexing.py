@@ -1,6 +1,8 @@
-"""`G[i, j]`, `G[i, :]`, `G[rows, columns]`, `G[mask]`, made of products and copies: what an index means, and what it gives.
+"""`G[i, j]`, `G[i, :]`, `G[rows, columns]`, `G[mask]`, made of products and copies: what an index
+means, and what it gives.
 
-A product with a matrix of ones gathers rows or columns, as GrB_extract does: P G has the rows of G that P names, G Q the columns.
+A product with a matrix of ones gathers rows or columns, as GrB_extract does: P G has the rows of G
+that P names, G Q the columns.
 """
 from __future__ import annotations
 
@@ -19,12 +21,15 @@ if TYPE_CHECKING:
     from .matrix import Matrix
 
 WHAT = ('row', 'column')
-TWO = 'an index is two: G[i, j], G[i, :], G[:, j], G[rows, columns], or a mask: G[M.S]; G.by_node()[i] is one value of a column'
-COLLECTIONS = (Set, dict, Iterator, KeysView, ValuesView)    # what has no order of its own, or is read once
+TWO = ('an index is two: G[i, j], G[i, :], G[:, j], G[rows, columns], or a mask: G[M.S]; '
+       'G.by_node()[i] is one value of a column')
+# what has no order of its own, or is read once
+COLLECTIONS = (Set, dict, Iterator, KeysView, ValuesView)
 
 
 class Chosen(NamedTuple):
-    """Rows or columns that are asked for: their numbers, or None for all; and whether it is one that was given alone."""
+    """Rows or columns that are asked for: their numbers, or None for all; and whether it is one
+    that was given alone."""
     places: Optional[List[int]]
     one: bool = False
 
@@ -50,27 +55,33 @@ def picked(matrix: 'Matrix', at: Any) -> Union['Matrix', int, float, None]:
 
 
 def _check_once(matrix: 'Matrix', chosen: Chosen, axis: int) -> None:
-    """ValueError where a row (or column) that has a name is asked for twice: of a result no two have one name, as those of pandas may."""
+    """ValueError where a row (or column) that has a name is asked for twice: of a result no two
+    have one name, as those of pandas may."""
     places = chosen.places
     if places is None or len(set(places)) == len(places) or not matrix.notes.axis(axis).has_names:
         return
     twice = next(place for place, count in collections.Counter(places).items() if count > 1)
     name, what = matrix.notes.axis(axis).listed(matrix.shape[axis])[twice], WHAT[axis]
-    raise ValueError('the %s %r is asked for twice, and no two %ss have one name: list(dict.fromkeys(names)) takes each once; to repeat %ss, '
-                     'take the names off first, B = A.dup(); B.%s_nodes = None, and write positions' % (what, name, what, what, what))
+    raise ValueError(
+        'the %s %r is asked for twice, and no two %ss have one name: list(dict.fromkeys(names)) '
+        'takes each once; to repeat %ss, take the names off first, B = A.dup(); B.%s_nodes = '
+        'None, and write positions' % (what, name, what, what, what))
 
 
 def _pair_of(at: Any) -> Any:
     """The index of the rows and that of the columns. TypeError where there aren't two."""
     if isinstance(at, Held):
-        raise TypeError('a matrix as an index is a mask: write G[M.S] for the positions that are stored in M, G[M.V] for those '
-                        'whose value is not 0')
+        raise TypeError(
+            'a matrix as an index is a mask: write G[M.S] for the positions that are stored in '
+            'M, G[M.V] for those whose value is not 0')
     if _is_boolean_table(at):
-        raise TypeError('an array of True and False as an index of both sides is a mask: write G.select(">", 3) for a condition '
-                        'on values, or G[s.from_dense(array, missing=0).S]')
+        raise TypeError('an array of True and False as an index of both sides is a mask: write '
+                        'G.select(">", 3) for a condition on values, or G[s.from_dense(array, '
+                        'missing=0).S]')
     found = list(at) if isinstance(at, tuple) else [at]
     if any(index is None for index in found):
-        raise TypeError('None adds a dimension in numpy, and a matrix has two: write : for all rows or columns')
+        raise TypeError(
+            'None adds a dimension in numpy, and a matrix has two: write : for all rows or columns')
     if any(index is Ellipsis for index in found):
         place = next(place for place, index in enumerate(found) if index is Ellipsis)
         found[place:place + 1] = [slice(None)] * (3 - len(found))
@@ -80,12 +91,14 @@ def _pair_of(at: Any) -> Any:
 
 
 def _is_boolean_table(at: Any) -> bool:
-    return getattr(at, 'ndim', 0) == 2 and all(kind == bool for kind in getattr(at, 'dtypes', [getattr(at, 'dtype', None)]))
+    return (getattr(at, 'ndim', 0) == 2
+            and all(kind == bool for kind in getattr(at, 'dtypes', [getattr(at, 'dtype', None)])))
 
 
 def choose_places(matrix: 'Matrix', index: Any, axis: int) -> Chosen:
-    """The rows (or columns) that an index means: by names where they have some, else by position. ValueError where one isn't
-    there, IndexError where a filter has another length, TypeError for what is no index."""
+    """The rows (or columns) that an index means: by names where they have some, else by position.
+    ValueError where one isn't there, IndexError where a filter has another length, TypeError for
+    what is no index."""
     if isinstance(index, slice):
         return _of_slice(matrix, index, axis)
     if isinstance(index, (Mask, Held)):
@@ -96,14 +109,17 @@ def choose_places(matrix: 'Matrix', index: Any, axis: int) -> Chosen:
     if isinstance(index, (list, range)) or is_array(index) or _is_pandas(index):
         return Chosen(_of_list(matrix, index, axis))
     if isinstance(index, COLLECTIONS) and not _is_name(matrix.notes.names(axis), index):
-        raise TypeError('%ss are chosen by a list, an array, a slice or a name, not by a %s: write list(..)'
-                        % (WHAT[axis], type(index).__name__))
+        raise TypeError(
+            '%ss are chosen by a list, an array, a slice or a name, not by a %s: write list(..)'
+            % (WHAT[axis], type(index).__name__))
     return Chosen([locate(matrix, index, axis)], one=True)
 
 
 def locate(matrix: 'Matrix', index: Any, axis: int) -> int:
-    """The place of one row (or column). A number that is no whole one, and a truth value, are names alone, where names are such."""
-    kind = bool if _is_truth(index) else float if isinstance(index, float) or _is_number_kind(index, 'f') else None
+    """The place of one row (or column). A number that is no whole one, and a truth value, are names
+    alone, where names are such."""
+    kind = (bool if _is_truth(index) else float if isinstance(index, float)
+            or _is_number_kind(index, 'f') else None)
     if kind is not None:
         names = matrix.notes.names(axis)
         found = names.places.get(index) if names is not None else None
@@ -111,15 +127,19 @@ def locate(matrix: 'Matrix', index: Any, axis: int) -> int:
             _refuse_kind(index, axis, kind)
         return found
     names = matrix.notes.names(axis)
-    if (names is None or not names.numbered) and hasattr(index, '__index__') and not _is_name(names, index) and index < 0:
-        raise ValueError('no vertex %d: they are 0 to %d; negative numbers count from the end in slices alone, G[-2:, :]'
-                         % (index, matrix.shape[axis] - 1))
+    if (names is None or not names.numbered) and hasattr(index,
+                                                         '__index__') and not _is_name(
+                                                             names, index) and index < 0:
+        raise ValueError(
+            'no vertex %d: they are 0 to %d; negative numbers count from the end in slices '
+            'alone, G[-2:, :]' % (index, matrix.shape[axis] - 1))
     return matrix.index(index, axis)
 
 
 def _refuse_kind(index: Any, axis: int, kind: type) -> NoReturn:
     if kind is bool:
-        raise TypeError('%s is no %s: a filter is a list with True or False for each' % (index, WHAT[axis]))
+        raise TypeError('%s is no %s: a filter is a list with True or False for each'
+                        % (index, WHAT[axis]))
     raise TypeError('%r is a float, and a %s is a name or a whole number' % (index, WHAT[axis])
                     + (': write %d' % index if float(index).is_integer() else ''))
 
@@ -134,7 +154,8 @@ def _is_truth(thing: Any) -> bool:
 
 def _is_number_kind(thing: Any, kind: str) -> bool:
     """Whether this is a number of numpy of a kind."""
-    return getattr(thing, 'ndim', None) == 0 and getattr(getattr(thing, 'dtype', None), 'kind', '') == kind
+    return (getattr(thing, 'ndim', None) == 0 and getattr(getattr(thing, 'dtype', None), 'kind', '')
+            == kind)
 
 
 def _pandas(name: str) -> Any:
@@ -161,17 +182,20 @@ def _is_boolean(many: Any) -> bool:
 
 
 def _of_slice(matrix: 'Matrix', index: slice, axis: int) -> Chosen:
-    """The places of a slice: names count at both ends, as in pandas; positions from the first to before the last, as in numpy. A number
-    could be either where numbers are names: ValueError."""
+    """The places of a slice: names count at both ends, as in pandas; positions from the first to
+    before the last, as in numpy. A number could be either where numbers are names: ValueError."""
     start, stop, step = index.start, index.stop, index.step
     if start is None and stop is None and step is None:
         return Chosen(None)
     names = matrix.notes.names(axis)
-    number = next((end for end in (start, stop) if hasattr(end, '__index__') and not _is_truth(end)), None)
+    number = next((end for end in (start, stop) if hasattr(end, '__index__')
+                   and not _is_truth(end)), None)
     if number is not None and names is not None and names.numbered and not names.are_counted:
-        raise ValueError('%ss have numbers for names, so that %d in a slice could be a name or a position: write a list or a range of '
-                         'names, such as range(%s, %s)' % (WHAT[axis], number, start if start is not None else names[0],
-                                                           stop if stop is not None else '..'))
+        raise ValueError(
+            '%ss have numbers for names, so that %d in a slice could be a name or a position: '
+            'write a list or a range of names, such as range(%s, %s)'
+            % (WHAT[axis], number, start if start is not None else names[0],
+               stop if stop is not None else '..'))
     for end in (start, stop):
         if _is_truth(end) or isinstance(end, float):
             _refuse_kind(end, axis, type(end) if isinstance(end, float) else bool)
@@ -192,14 +216,18 @@ def _names_vertex(end: Any) -> bool:
 def _of_list(matrix: 'Matrix', many: Any, axis: int) -> List[int]:
     """The places that a list, an array or a column of pandas names, or filters."""
     if getattr(many, 'ndim', 1) != 1:
-        raise IndexError('%ss are chosen by an array of one dimension, not of %d' % (WHAT[axis], many.ndim))
+        raise IndexError('%ss are chosen by an array of one dimension, not of %d'
+                         % (WHAT[axis], many.ndim))
     if _has_gaps(many):
-        raise IndexError('an index of %ss has missing values: fillna(False) makes a filter whole' % WHAT[axis])
+        raise IndexError('an index of %ss has missing values: fillna(False) makes a filter whole'
+                         % WHAT[axis])
     if _is_boolean(many):
         return _filtered(matrix, many, axis)
     plain = many.tolist() if hasattr(many, 'tolist') else many
     if any(map(_is_truth, plain)):
-        raise TypeError('an index of %ss has truth values and others: a filter has True or False alone' % WHAT[axis])
+        raise TypeError(
+            'an index of %ss has truth values and others: a filter has True or False alone'
+            % WHAT[axis])
     return [locate(matrix, one, axis) for one in plain]
 
 
@@ -218,9 +246,11 @@ def _filtered(matrix: 'Matrix', many: Any, axis: int) -> List[int]:
 
 
 def _of_series(matrix: 'Matrix', series: Any, axis: int) -> List[int]:
-    """The places of a column of pandas that filters: by its labels where they name the rows, else by position."""
+    """The places of a column of pandas that filters: by its labels where they name the rows, else
+    by position."""
     if _has_gaps(series):
-        raise IndexError('a filter of %ss has missing values: fillna(False) makes it whole' % WHAT[axis])
+        raise IndexError('a filter of %ss has missing values: fillna(False) makes it whole'
+                         % WHAT[axis])
     names, labels = matrix.notes.names(axis), series.index.tolist()
     wanted = list(names) if names is not None else list(range(matrix.shape[axis]))
     by_label = dict(zip(labels, series.tolist()))
@@ -231,18 +261,24 @@ def _of_series(matrix: 'Matrix', series: Any, axis: int) -> List[int]:
     if labels == list(range(len(labels))) and (names is None or not names.numbered):
         return _filtered(matrix, series.tolist(), axis)
     lacking = next((name for name in wanted if name not in by_label), None)
-    raise IndexError('the labels of the filter do not name the %ss: %s; write filter.to_numpy() to filter by position' % (
-        WHAT[axis], 'some stand twice' if lacking is None else 'there is none %r' % (lacking,)))
+    raise IndexError(
+        'the labels of the filter do not name the %ss: %s; write filter.to_numpy() to filter by '
+        'position' % (
+            WHAT[axis], 'some stand twice' if lacking is None else 'there is none %r' % (lacking,)))
 
 
 def _of_column(matrix: 'Matrix', mask: Any, axis: int) -> List[int]:
-    """The places of a mask of a column (or row); aligned by names where both have some. TypeError for the column itself."""
+    """The places of a mask of a column (or row); aligned by names where both have some. TypeError
+    for the column itself."""
     if not isinstance(mask, Mask):
-        raise TypeError('a matrix as an index of %ss could filter them or list them: write c.V for the %ss whose value is not 0, c.S for '
-                        'those with an entry, or c.to_list() for a list of %ss' % ((WHAT[axis],) * 3))
+        raise TypeError(
+            'a matrix as an index of %ss could filter them or list them: write c.V for the %ss '
+            'whose value is not 0, c.S for those with an entry, or c.to_list() for a list of %ss'
+            % ((WHAT[axis],) * 3))
     values = mask.matrix
     if 1 not in values.shape:
-        raise TypeError('%ss are filtered by a column or a row, not by a matrix of %dx%d' % (WHAT[axis], *values.shape))
+        raise TypeError('%ss are filtered by a column or a row, not by a matrix of %dx%d'
+                        % (WHAT[axis], *values.shape))
     length = values.nrows if values.ncols == 1 else values.ncols
     rows, columns, numbers = values.entries(arrays=False)
     at = rows if values.ncols == 1 else columns
@@ -257,14 +293,16 @@ def _of_column(matrix: 'Matrix', mask: Any, axis: int) -> List[int]:
             raise IndexError('the filter has no vertex %r' % (unknown,))
         return [place for place, name in enumerate(names) if (known[name] in stored) is inside]
     if length != matrix.shape[axis]:
-        raise IndexError('a filter of %d values for %d %ss' % (length, matrix.shape[axis], WHAT[axis]))
-    joined(values.notes, matrix.notes, ((side, axis, 'the filter and the %ss that it filters' % WHAT[axis]),))
+        raise IndexError('a filter of %d values for %d %ss' % (length, matrix.shape[axis],
+                                                               WHAT[axis]))
+    joined(values.notes, matrix.notes,
+           ((side, axis, 'the filter and the %ss that it filters' % WHAT[axis]),))
     return [place for place in range(length) if (place in stored) is inside]
 
 
 def gather(matrix: 'Matrix', places: List[int], axis: int) -> 'Matrix':
-    """The matrix of ones that gathers some rows (from the left) or columns (from the right). Its other side has the names of what is
-    gathered, or none where one is gathered twice."""
+    """The matrix of ones that gathers some rows (from the left) or columns (from the right). Its
+    other side has the names of what is gathered, or none where one is gathered twice."""
     count, many = matrix.shape[axis], len(places)
     whole = matrix.notes.axis(axis)
     if axis == 0:

@@ -13,13 +13,15 @@ from ._client.protocol import FORMS
 from .errors import refusal
 from .operators import READY, Op, Operator, Semiring, find, find_semiring
 
-Number = Union[int, float, Fraction, Decimal, datetime.date, datetime.timedelta, numpy.datetime64, numpy.timedelta64]
+Number = Union[int, float, Fraction, Decimal, datetime.date, datetime.timedelta, numpy.datetime64,
+               numpy.timedelta64]
 Ring = Union[str, Semiring, Tuple[Op, Op]]
 
 
 class Applied(NamedTuple):
-    """The operator and thunk that `apply` sends, whether its answers are the same at each row and column, and their unit; which operator
-    that is before the number is bound, and on which side it is."""
+    """The operator and thunk that `apply` sends, whether its answers are the same at each row and
+    column, and their unit; which operator that is before the number is bound, and on which side it
+    is."""
     op: Operator
     thunk: Optional[int]
     even: bool
@@ -29,7 +31,8 @@ class Applied(NamedTuple):
 
 
 def of_form(form: str, op: Op) -> Operator:
-    """An operator as a form of job takes it that takes those of one kind. DomainMismatch where it is of another."""
+    """An operator as a form of job takes it that takes those of one kind. DomainMismatch where it
+    is of another."""
     kind, = FORMS[form].kinds
     found = find(kind, op)
     if found.kind != kind:
@@ -37,7 +40,8 @@ def of_form(form: str, op: Op) -> Operator:
     return found
 
 
-_RINGS: Dict[str, Tuple[Semiring, Tuple[Operator, Operator]]] = {}          # by names, as they are looked up
+# by names, as they are looked up
+_RINGS: Dict[str, Tuple[Semiring, Tuple[Operator, Operator]]] = {}
 
 
 def ring_of(op: Ring) -> Tuple[Semiring, Tuple[Operator, Operator]]:
@@ -71,8 +75,9 @@ def applied(op: Op, right: Optional[Number], left: Optional[Number], unit: units
     if found.kind == 'unary' and not bound:
         return Applied(found, None, True, units.of_unary(found, unit), found)
     how = ' with %s=' % ('right' if right is not None else 'left') if bound else ''
-    raise refusal('J4', command='apply', detail='expected a unary or index operator, or a binary one with right= or left=, '
-                  'got %r%s' % (found, how))
+    raise refusal('J4', command='apply',
+                  detail='expected a unary or index operator, or a binary one with right= or '
+                  'left=, got %r%s' % (found, how))
 
 
 def _kind_of(op: Op, kinds: Tuple[str, str], bound: bool) -> str:

@@ -1,5 +1,6 @@
 """Limits of the protocol, as docs/protocol.md has them."""
-MOST_SIDE = 16_777_216                             # rows, columns and entries of a matrix; multiplications of a product
+# rows, columns and entries of a matrix; multiplications of a product
+MOST_SIDE = 16_777_216
 MOST_TEXT = 268_435_456                            # bytes of a matrix text
 MOST_OPERATOR = 262_144                            # bytes of an operator's body
 MOST_SLOTS = 4_096                                 # of an operator's code, and so instructions

@@ -13,12 +13,13 @@ if TYPE_CHECKING:
 
 
 class Mask(NamedTuple):
-    """`A.S` where A has an entry, `A.V` where it has one that isn't 0, `~A.S` and `~A.V` everywhere else. In the GraphBLAS a
-    structural mask, a value mask, and their complements. The server knows `A.S` alone; what the others take stands at `Matrix.S`
-    and `Matrix.V`.
+    """`A.S` where A has an entry, `A.V` where it has one that isn't 0, `~A.S` and `~A.V` everywhere
+    else. In the GraphBLAS a structural mask, a value mask, and their complements. The server knows
+    `A.S` alone; what the others take stands at `Matrix.S` and `Matrix.V`.
 
-    `A.S & B.S`, `|`, `^` and `-` are masks, too: of 1 job, and 5 and 3 runs where entries of one alone are wanted (`without`),
-    and 1 job and 1 run more for each mask by value. In python-graphblas the same signs."""
+    `A.S & B.S`, `|`, `^` and `-` are masks, too: of 1 job, and 5 and 3 runs where entries of one
+    alone are wanted (`without`), and 1 job and 1 run more for each mask by value. In
+    python-graphblas the same signs."""
     matrix: Any
     value: bool = False
     complement: bool = False
@@ -49,7 +50,9 @@ class Mask(NamedTuple):
         return Mask.__sub__(self | other, self & other)
 
     def __bool__(self) -> bool:
-        raise TypeError('a mask is neither true nor false: write A.S & B.S, A.S | B.S or ~A.S in place of and, or, not')
+        raise TypeError(
+            'a mask is neither true nor false: write A.S & B.S, A.S | B.S or ~A.S in place of '
+            'and, or, not')
 
     def __eq__(self, other: object) -> bool:
         return _is_same(self, other)
@@ -74,11 +77,14 @@ def structure(mask: Mask) -> Any:
 
 
 def _is_same(mask: Mask, other: object) -> bool:
-    """Whether two masks of one matrix are the same. TypeError where there are two matrices, whose entries == doesn't look at."""
+    """Whether two masks of one matrix are the same. TypeError where there are two matrices, whose
+    entries == doesn't look at."""
     if isinstance(other, Mask) and mask.matrix is other.matrix:
         return tuple(mask[1:]) == tuple(other[1:])
-    raise TypeError('a mask has no ==: write A.isequal(B) for two matrices, A.select("valueeq", 3) for some entries, '
-                    'A.ewise_mult(B, "eq") entry by entry, or (A.S ^ B.S).matrix.nvals == 0 for where two masks are')
+    raise TypeError(
+        'a mask has no ==: write A.isequal(B) for two matrices, A.select("valueeq", 3) for some '
+        'entries, A.ewise_mult(B, "eq") entry by entry, or (A.S ^ B.S).matrix.nvals == 0 for '
+        'where two masks are')
 
 
 def _as_operand(other: Any) -> Mask:
@@ -89,27 +95,36 @@ def _as_operand(other: Any) -> Mask:
 
 
 def _check_shapes(one: Mask, other: Any) -> None:
-    """DimensionMismatch where two masks have other shapes, ValueError where they are of two sessions."""
+    """DimensionMismatch where two masks have other shapes, ValueError where they are of two
+    sessions."""
     common_session(one.matrix.session, _as_operand(other).matrix.session)
     if _as_operand(other).matrix.shape != one.matrix.shape:
-        raise refusal('J9', detail='one mask is %dx%d, the other %dx%d' % (*one.matrix.shape, *other.matrix.shape))
+        raise refusal('J9',
+                      detail='one mask is %dx%d, the other %dx%d'
+                      % (*one.matrix.shape, *other.matrix.shape))
 
 
 def as_mask(mask: Union['Held', Mask, None], warns: bool = True) -> Optional[Mask]:
-    """A mask that is given as itself, or as a matrix, which is its structure; of a matrix it `warns`. TypeError for anything else."""
+    """A mask that is given as itself, or as a matrix, which is its structure; of a matrix it
+    `warns`. TypeError for anything else."""
     if mask is None or isinstance(mask, Mask):
         return mask
     from .io.exporters import Held
     if isinstance(mask, Held):
         if warns:
-            warn_user('mask=A means A.S, the stored positions: write mask=A.S, or mask=A.V for those whose value is not 0', MaskWarning)
+            warn_user(
+                'mask=A means A.S, the stored positions: write mask=A.S, or mask=A.V for those '
+                'whose value is not 0', MaskWarning)
         return Mask(mask)
     raise TypeError('a mask is A.S, A.V, ~A.S or ~A.V, not %r' % (mask,))
 
 
 def warn_user(words: str, kind: Type[Warning]) -> None:
     """Warns of the line that called this package, whatever lies between."""
-    frame, level = sys._getframe(1), 2             # pylint: disable=protected-access  # as warnings find the line
-    while frame.f_back is not None and frame.f_globals.get('__name__', '').split('.')[0] == __name__.split('.', maxsplit=1)[0]:
+    # as warnings find the line
+    frame, level = sys._getframe(1), 2  # pylint: disable=protected-access
+    while frame.f_back is not None and frame.f_globals.get('__name__',
+                                                           '').split('.')[0] == __name__.split(
+                                                               '.', maxsplit=1)[0]:
         frame, level = frame.f_back, level + 1
     warnings.warn(words, kind, stacklevel=level)

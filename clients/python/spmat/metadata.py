@@ -1,7 +1,8 @@
-"""What is known of a matrix beside its entries: the names of its rows and columns, whether it is undirected, whether it has weights.
+"""What is known of a matrix beside its entries: the names of its rows and columns, whether it is
+undirected, whether it has weights.
 
-Sessions note it of what they read, and each job hands on what stays true of its result. It is kept by the client alone: the server
-knows numbers.
+Sessions note it of what they read, and each job hands on what stays true of its result. It is kept
+by the client alone: the server knows numbers.
 """
 from __future__ import annotations
 
@@ -12,8 +13,10 @@ import enum
 import functools
 import itertools
 import numbers
+from collections import Counter
 from collections.abc import KeysView, Mapping, Set
-from typing import Any, Dict, FrozenSet, Iterable, List, NamedTuple, Optional, Protocol, Sequence, Tuple, TypeVar
+from typing import (Any, Dict, FrozenSet, Iterable, List, NamedTuple, Optional, Protocol, Sequence,
+                    Tuple, TypeVar)
 
 from . import units
 from .errors import NamesDiffer
@@ -21,12 +24,15 @@ from .mask import Mask
 from .operators import READY, Operator, Semiring, binary
 from .units import Unit
 
-# Binary operators for which the order of operands doesn't matter: a product of a symmetric matrix with itself stays symmetric.
+# Binary operators for which the order of operands doesn't matter: a product of a symmetric matrix
+# with itself stays symmetric.
 COMMUTE: FrozenSet[str] = frozenset((
-    'absdiff', 'band', 'bor', 'bxnor', 'bxor', 'eq', 'iseq', 'isne', 'land', 'lor', 'lxnor', 'lxor', 'max', 'min', 'ne', 'oneb', 'pair',
-    'plus', 'times', 'zero'))
-# Index operators that look at the value alone, and with a thunk of 0 these two: what they select of a symmetric matrix is one.
-BY_VALUE: FrozenSet[str] = frozenset(('nonzero', 'thunk', 'valueeq', 'valuege', 'valuegt', 'valuele', 'valuelt', 'valuene'))
+    'absdiff', 'band', 'bor', 'bxnor', 'bxor', 'eq', 'iseq', 'isne', 'land', 'lor', 'lxnor', 'lxor',
+    'max', 'min', 'ne', 'oneb', 'pair', 'plus', 'times', 'zero'))
+# Index operators that look at the value alone, and with a thunk of 0 these two: what they select of
+# a symmetric matrix is one.
+BY_VALUE: FrozenSet[str] = frozenset(('nonzero', 'thunk', 'valueeq', 'valuege', 'valuegt',
+                                      'valuele', 'valuelt', 'valuene'))
 BY_DIAGONAL: FrozenSet[str] = frozenset(('diag', 'offdiag'))
 IDENTITY: FrozenSet[str] = frozenset(('identity',))
 # Binary operators whose result is one of both values.
@@ -34,14 +40,16 @@ CHOOSE: FrozenSet[str] = frozenset(('any', 'first', 'max', 'min', 'second'))
 
 
 class Nodes(List[Any]):
-    """Names by index, and the index of a name: a list, in which no name stands twice. Nothing changes one."""
+    """Names by index, and the index of a name: a list, in which no name stands twice. Nothing
+    changes one."""
 
     def __init__(self, names: Iterable[Any]) -> None:
         super().__init__(names)
         self._places: Optional[Dict[Any, int]] = None
         self._numbered: Optional[bool] = None
         self._are_counted: Optional[bool] = None
-        self.equal_lists: object = self            # one object for all lists that were found equal to this one
+        # one object for all lists that were found equal to this one
+        self.equal_lists: object = self
 
     @property
     def places(self) -> Dict[Any, int]:
@@ -66,7 +74,8 @@ class Nodes(List[Any]):
         return self._are_counted
 
     def equals(self, other: 'Nodes') -> bool:
-        """Whether two lists have the same names in the same order. Two that have are compared once: both know it from then on."""
+        """Whether two lists have the same names in the same order. Two that have are compared once:
+        both know it from then on."""
         mine, theirs = self.equal_lists, other.equal_lists
         if mine is not theirs:
             if len(self) != len(other) or list.__eq__(self, other) is not True:
@@ -83,27 +92,32 @@ class Nodes(List[Any]):
 
 
 def check_names(names: Nodes) -> None:
-    """ValueError where a name stands twice, or has an end of line in it, so that it couldn't be written into a list."""
+    """ValueError where a name stands twice, or has an end of line in it, so that it couldn't be
+    written into a list."""
     if len(names.places) != len(names):
-        seen: set[Any] = set()
-        name = next(name for name in names if name in seen or seen.add(name))                # type: ignore[func-returns-value]
+        name = next(name for name, count in Counter(names).items() if count > 1)
         raise ValueError('the name %r stands twice, at %d and at %d: names of vertices differ'
                          % (name, names.index(name), names.index(name, names.index(name) + 1)))
-    wrong = next((name for name in names if isinstance(name, str) and ('\n' in name or '\r' in name)), None)
+    wrong = next((name for name in names if isinstance(name, str)
+                  and ('\n' in name or '\r' in name)), None)
     if wrong is not None:
-        raise ValueError('the name %r has an end of line in it, and lists have a line for each vertex' % wrong)
+        raise ValueError(
+            'the name %r has an end of line in it, and lists have a line for each vertex' % wrong)
 
 
 class Unnamed(enum.IntEnum):
     """What rows, or columns, are called that have no list of names."""
-    ANYTHING = 0                                   # whatever those beside them are: of constants, and of what the client makes for itself
-    ALIKE = 1                                      # the same, and rows and columns alike: of square constants, and of diagonals
+    # whatever those beside them are: of constants, and of what the client makes for itself
+    ANYTHING = 0
+    # the same, and rows and columns alike: of square constants, and of diagonals
+    ALIKE = 1
     POSITIONS = 2                                  # nothing: the caller made the matrix by indexes
     NUMBERS = 3                                    # 0 to n - 1, by whoever read the graph
 
 
 class Axis(NamedTuple):
-    """What the rows of a matrix are called, or its columns: their names, or where they have no list of them what else."""
+    """What the rows of a matrix are called, or its columns: their names, or where they have no list
+    of them what else."""
     names: Optional[Nodes] = None
     unnamed: Unnamed = Unnamed.ANYTHING
 
@@ -126,7 +140,8 @@ class Axis(NamedTuple):
         return other if self.names is None else self
 
     def part(self, places: Sequence[int]) -> 'Axis':
-        """What some of the rows, or columns, are called, in this order: nothing where one stands there twice."""
+        """What some of the rows, or columns, are called, in this order: nothing where one stands
+        there twice."""
         if not self.has_names:
             return self.alone()
         if len(set(places)) < len(places):
@@ -146,7 +161,8 @@ class Axis(NamedTuple):
 
 
 def axis_of(names: Nodes) -> Axis:
-    """What the vertices of a graph are called by whoever reads it: names that are just 0 to n - 1 need no list."""
+    """What the vertices of a graph are called by whoever reads it: names that are just 0 to n - 1
+    need no list."""
     are_plain = names.are_counted and all(type(name) is int for name in names)
     return Axis(None, Unnamed.NUMBERS) if are_plain else Axis(names)
 
@@ -156,15 +172,18 @@ Axes = Tuple[Axis, Axis]
 
 
 def list_of_names(names: Iterable[Any]) -> List[Any]:
-    """Names as a list. TypeError for a set, which has no order, and for a dict, whose values would be lost."""
+    """Names as a list. TypeError for a set, which has no order, and for a dict, whose values would
+    be lost."""
     if isinstance(names, (Set, Mapping)) and not isinstance(names, KeysView):
-        raise TypeError('names are a list, one for each vertex in their order, and not a %s: write list(..)' % type(names).__name__)
+        raise TypeError(
+            'names are a list, one for each vertex in their order, and not a %s: write list(..)'
+            % type(names).__name__)
     return list(names)
 
 
 def given_axis(names: Optional[Iterable[Any]], count: int) -> Axis:
-    """What so many vertices are called by a caller who made a matrix by indexes. ValueError where there are more or fewer names, or they can't
-    be told apart."""
+    """What so many vertices are called by a caller who made a matrix by indexes. ValueError where
+    there are more or fewer names, or they can't be told apart."""
     if names is None:
         return Axis(None, Unnamed.POSITIONS)
     found = names if isinstance(names, Nodes) else Nodes(list_of_names(names))
@@ -176,43 +195,54 @@ def given_axis(names: Optional[Iterable[Any]], count: int) -> Axis:
 
 
 def axes_of(nodes: Any, shape: Tuple[int, int]) -> Axes:
-    """What rows and columns are called by a caller: both of a square matrix, the longer side of a vector by one list, of any matrix by a pair.
-    ValueError where sizes don't fit."""
+    """What rows and columns are called by a caller: both of a square matrix, the longer side of a
+    vector by one list, of any matrix by a pair. ValueError where sizes don't fit."""
     (nrows, ncols), pair = shape, _pair(nodes)
     if pair is not None:
         return given_axis(pair[0], nrows), given_axis(pair[1], ncols)
     if nodes is None:
         return given_axis(None, nrows), given_axis(None, ncols)
     if nrows != ncols and 1 not in shape:
-        raise ValueError('rows and columns of a matrix of %dx%d have names of their own: row_nodes and column_nodes, or nodes=(rows, columns) '
-                         'where it is made' % shape)
+        raise ValueError(
+            'rows and columns of a matrix of %dx%d have names of their own: row_nodes and '
+            'column_nodes, or nodes=(rows, columns) where it is made' % shape)
     count = max(shape) if 0 not in shape else 0 if 1 in shape else nrows
     axis = given_axis(nodes, count)
     return axis if nrows == count else Axis(), axis if ncols == count else Axis()
 
 
-def sizes_of(nodes: Any, nrows: Optional[int], ncols: Optional[int]) -> Tuple[Optional[int], Optional[int]]:
+def sizes_of(nodes: Any, nrows: Optional[int],
+             ncols: Optional[int]) -> Tuple[Optional[int], Optional[int]]:
     """Rows and columns, where a caller doesn't say how many those that have names."""
     if nodes is None:
         return nrows, ncols
     pair = _pair(nodes)
-    rows, columns = pair if pair is not None else (nodes if ncols in (None, 1, len(nodes)) else None, nodes if nrows in (None, 1, len(nodes)) else None)
-    return (len(rows) if nrows is None and rows is not None else nrows, len(columns) if ncols is None and columns is not None else ncols)
+    rows, columns = (pair if pair is not None else (nodes if ncols in (None, 1, len(nodes))
+                                                    else None,
+                                                    nodes if nrows in (None, 1, len(nodes))
+                                                    else None))
+    return (len(rows) if nrows is None and rows is not None else nrows,
+            len(columns) if ncols is None and columns is not None else ncols)
 
 
 def _pair(nodes: Any) -> Optional[Tuple[Any, Any]]:
-    """The names of rows and of columns, where these are given each by themselves: a tuple of two lists, of which one may be None."""
+    """The names of rows and of columns, where these are given each by themselves: a tuple of two
+    lists, of which one may be None."""
     def is_list(many: Any) -> bool:
-        return hasattr(many, '__len__') and hasattr(many, '__getitem__') and not isinstance(many, (str, bytes, tuple))
-    is_pair = isinstance(nodes, tuple) and len(nodes) == 2 and all(many is None or is_list(many) for many in nodes)
+        return (hasattr(many, '__len__') and hasattr(many, '__getitem__')
+                and not isinstance(many, (str, bytes, tuple)))
+    is_pair = (isinstance(nodes, tuple) and len(nodes) == 2
+               and all(many is None or is_list(many) for many in nodes))
     return nodes if is_pair else None
 
 
 class Notes(NamedTuple):
-    """The names of the rows and of the columns, where they have any; whether an entry (i, j) may stand without one of (j, i), or
-    with one of another value; and whether the values are weights that the caller gave. None: not known. `source` says what was
-    taken of the file or table that the matrix was read from, and is empty for results. A stored number x stands for x / `unit`, or, where there are `value_names`, for the
-    vertex of that place among these. `unnamed_rows` and `unnamed_columns` say what those are called that have no names."""
+    """The names of the rows and of the columns, where they have any; whether an entry (i, j) may
+    stand without one of (j, i), or with one of another value; and whether the values are weights
+    that the caller gave. None: not known. `source` says what was taken of the file or table that
+    the matrix was read from, and is empty for results. A stored number x stands for x / `unit`, or,
+    where there are `value_names`, for the vertex of that place among these. `unnamed_rows` and
+    `unnamed_columns` say what those are called that have no names."""
     rows: Optional[Nodes] = None
     columns: Optional[Nodes] = None
     directed: Optional[bool] = None
@@ -222,12 +252,15 @@ class Notes(NamedTuple):
     value_names: Optional[Nodes] = None
     unnamed_rows: Unnamed = Unnamed.ANYTHING
     unnamed_columns: Unnamed = Unnamed.ANYTHING
-    sides: int = 0                                 # 1 where rows and columns are two kinds of vertices, -1 of its transpose
+    # 1 where rows and columns are two kinds of vertices, -1 of its transpose
+    sides: int = 0
 
     def __repr__(self) -> str:
-        sides = ['None' if names is None else '<%d names>' % len(names) for names in (self.rows, self.columns)]
+        sides = ['None' if names is None else '<%d names>' % len(names)
+                 for names in (self.rows, self.columns)]
         return 'Notes(rows=%s, columns=%s, directed=%r, weighted=%r, source=%r, unit=%s%s)' % (
-            *sides, self.directed, self.weighted, self.source, self.unit, ', values are vertices' if self.value_names is not None else '')
+            *sides, self.directed, self.weighted, self.source, self.unit,
+            ', values are vertices' if self.value_names is not None else '')
 
     def names(self, axis: int) -> Optional[Nodes]:
         """The names of the rows, with an axis of 1 those of the columns."""
@@ -235,11 +268,13 @@ class Notes(NamedTuple):
 
     def axis(self, axis: int) -> Axis:
         """What the rows are called, with an axis of 1 the columns."""
-        return Axis(self.columns, self.unnamed_columns) if axis else Axis(self.rows, self.unnamed_rows)
+        return (Axis(self.columns, self.unnamed_columns) if axis
+                else Axis(self.rows, self.unnamed_rows))
 
     def with_axes(self, rows: Axis, columns: Axis) -> 'Notes':
         """The same of a matrix whose rows and columns are called so."""
-        return self._replace(rows=rows.names, columns=columns.names, unnamed_rows=rows.unnamed, unnamed_columns=columns.unnamed)
+        return self._replace(rows=rows.names, columns=columns.names, unnamed_rows=rows.unnamed,
+                             unnamed_columns=columns.unnamed)
 
 
 NOTHING = Notes()
@@ -260,37 +295,46 @@ N = TypeVar('N', bound=HasNotes)
 
 
 def without_names(matrix: N) -> N:
-    """A matrix that was made by indexes, as one that the client makes for itself: it goes with any names."""
+    """A matrix that was made by indexes, as one that the client makes for itself: it goes with any
+    names."""
     matrix.notes = NOTHING
     return matrix
 
 
 def as_constant(matrix: N) -> N:
-    """A constant, which goes with any names; where it is square, its rows and columns are the same vertices, and it is symmetric."""
+    """A constant, which goes with any names; where it is square, its rows and columns are the same
+    vertices, and it is symmetric."""
     nrows, ncols = matrix.shape
     matrix.notes = ALIKE._replace(directed=False) if nrows == ncols > 1 else NOTHING
     return matrix
 
 
 SHOWN_NAMES = 3                                    # of two lists that differ
-ALIGN = 'spmat.align(A, B) brings both to the same names, and nodelist=A.nodes reads B with those of A'
+ALIGN = (
+    'spmat.align(A, B) brings both to the same names, and nodelist=A.nodes reads B with those of A')
 GATHER = 'B[A.column_nodes, :] has the rows of the second in the order of the columns of the first'
-POSITIONS = ('what was made by positions has no names: v.nodes = G.nodes says that it has those of G, as nodes=G.nodes of from_coo, '
-             'from_triples and from_dense does')
-# What has to agree, by form of job: the rows (0) or columns (1) of the first, those of the second, and what both are in words.
+POSITIONS = (
+    'what was made by positions has no names: v.nodes = G.nodes says that it has those of G, as '
+    'nodes=G.nodes of from_coo, from_triples and from_dense does')
+# What has to agree, by form of job: the rows (0) or columns (1) of the first, those of the second,
+# and what both are in words.
 Pairs = Tuple[Tuple[int, int, str], ...]
-ELEMENTWISE: Pairs = ((ROWS, ROWS, 'the rows of the two matrices'), (COLUMNS, COLUMNS, 'the columns of the two matrices'))
+ELEMENTWISE: Pairs = ((ROWS, ROWS, 'the rows of the two matrices'),
+                      (COLUMNS, COLUMNS, 'the columns of the two matrices'))
 PRODUCT: Pairs = ((COLUMNS, ROWS, 'the columns of the first and the rows of the second'),)
-MASK: Pairs = ((ROWS, ROWS, 'the rows of the result and of the mask'), (COLUMNS, COLUMNS, 'the columns of the result and of the mask'))
+MASK: Pairs = ((ROWS, ROWS, 'the rows of the result and of the mask'),
+               (COLUMNS, COLUMNS, 'the columns of the result and of the mask'))
 TRANSPOSE: Pairs = ((ROWS, COLUMNS, 'the rows of the graph and the columns of its transpose'),
                     (COLUMNS, ROWS, 'the columns of the graph and the rows of its transpose'))
 VERTICES: Pairs = ((ROWS, ROWS, 'the vertices of the graph and the rows of the column'),)
 
 
 def joined(first: Notes, second: Notes, pairs: Pairs) -> List[Axis]:
-    """What each pair of rows or columns of two matrices is called that have to mean the same vertices. NamesDiffer where two can't.
+    """What each pair of rows or columns of two matrices is called that have to mean the same
+    vertices. NamesDiffer where two can't.
 
-    The one row of a row vector, and the one column of a column, are not compared: it has no name where they differ."""
+    The one row of a row vector, and the one column of a column, are not compared: it has no name
+    where they differ."""
     out = []
     for i, j, words in pairs:
         a, b = first.axis(i), second.axis(j)
@@ -299,7 +343,8 @@ def joined(first: Notes, second: Notes, pairs: Pairs) -> List[Axis]:
         elif _is_one(a, b) and not (_is_vertex(first) and _is_vertex(second)):
             out.append(Axis())
         else:
-            raise NamesDiffer('%s have different names: %s; %s' % (words, _differences(a, b), _remedy(first, second, (a, b), pairs)))
+            raise NamesDiffer('%s have different names: %s; %s'
+                              % (words, _differences(a, b), _remedy(first, second, (a, b), pairs)))
     return out
 
 
@@ -307,22 +352,27 @@ def _remedy(first: Notes, second: Notes, axes: Axes, pairs: Pairs) -> str:
     """What to do about names that differ."""
     if not all(axis.has_names for axis in axes):
         return POSITIONS
-    return GATHER if pairs is PRODUCT and None in (vertices_of(first), vertices_of(second)) else ALIGN
+    return (GATHER if pairs is PRODUCT and None in (vertices_of(first), vertices_of(second))
+            else ALIGN)
 
 
 def _differences(a: Axis, b: Axis) -> str:
-    """The first names that differ of two lists, with their places. Where there is no list, they are the places."""
+    """The first names that differ of two lists, with their places. Where there is no list, they are
+    the places."""
     count = len(a.names if a.names is not None else b.names or ())
     both = zip(*(range(count) if axis.names is None else axis.names for axis in (a, b)))
-    words = ['position %r' if axis.names is None and axis.unnamed is Unnamed.POSITIONS else '%r' for axis in (a, b)]
+    words = ['position %r' if axis.names is None and axis.unnamed is Unnamed.POSITIONS else '%r'
+             for axis in (a, b)]
     found = ('%d: %s and %s' % (at, words[0] % (one,), words[1] % (other,))
              for at, (one, other) in enumerate(both) if one is not other and one != other)
     return ', '.join(itertools.islice(found, SHOWN_NAMES))
 
 
 def hint_of(first: Notes, second: Notes) -> str:
-    """What to do about two matrices with vertices of their own whose sizes differ, behind a semicolon; else nothing."""
-    return '; ' + ALIGN if all(axis.has_names for one in (first, second) for axis in (one.axis(ROWS), one.axis(COLUMNS))) else ''
+    """What to do about two matrices with vertices of their own whose sizes differ, behind a
+    semicolon; else nothing."""
+    return ('; ' + ALIGN if all(axis.has_names for one in (first, second)
+                                for axis in (one.axis(ROWS), one.axis(COLUMNS))) else '')
 
 
 def _is_one(a: Axis, b: Axis) -> bool:
@@ -343,23 +393,28 @@ def even(*both: Notes) -> Optional[bool]:
 
 
 def _mirrored(notes: Notes, op: Operator, mirrors: bool) -> Notes:
-    """What is known of a result; symmetric where its operands are transposes of one another, and their order doesn't matter."""
+    """What is known of a result; symmetric where its operands are transposes of one another, and
+    their order doesn't matter."""
     return notes._replace(directed=False) if mirrors and _is_ready(op, COMMUTE) else notes
 
 
 def _chosen(op: Operator, first: Optional[Nodes], second: Optional[Nodes]) -> Optional[Nodes]:
-    """The vertices that a result's values are, each of which is one of two values that may meet: none where these mean other vertices, or
-    the operator makes numbers of them."""
-    return first if first is not None and second is not None and _is_ready(op, CHOOSE) and first.equals(second) else None
+    """The vertices that a result's values are, each of which is one of two values that may meet:
+    none where these mean other vertices, or the operator makes numbers of them."""
+    return (first if first is not None and second is not None and _is_ready(op, CHOOSE)
+            and first.equals(second) else None)
 
 
 def of_applied(first: Notes, op: Operator, alike: bool, unit: Unit) -> Notes:
-    """What is known of the result of `apply`, whose unit is given; `alike` says that the operator doesn't look at rows and columns."""
-    if first.value_names is None and first.directed is None and first.weighted is None and not first.source and unit == first.unit:
+    """What is known of the result of `apply`, whose unit is given; `alike` says that the operator
+    doesn't look at rows and columns."""
+    if (first.value_names is None and first.directed is None and first.weighted is None
+        and not first.source and unit == first.unit):
         return first                               # all that is known are names, which stay
     same = _is_ready(op, IDENTITY)
-    return first._replace(directed=even(first) if alike or _is_ready(op, BY_VALUE) else None, weighted=first.weighted if same else None, source='',
-                          unit=unit, value_names=first.value_names if same else None)
+    return first._replace(directed=even(first) if alike or _is_ready(op, BY_VALUE) else None,
+                          weighted=first.weighted if same else None, source='', unit=unit,
+                          value_names=first.value_names if same else None)
 
 
 def of_selected(first: Notes, op: Operator, thunk: int) -> Notes:
@@ -372,13 +427,15 @@ def of_selected(first: Notes, op: Operator, thunk: int) -> Notes:
 
 def of_union(first: Notes, second: Notes, op: Operator, mirrors: bool = False) -> Notes:
     """What is known of a union; `mirrors` says that its operands are transposes of one another."""
-    made = _of_pair(first, second, units.of_union(op, first.unit, second.unit), _chosen(op, first.value_names, second.value_names))
+    made = _of_pair(first, second, units.of_union(op, first.unit, second.unit),
+                    _chosen(op, first.value_names, second.value_names))
     return _mirrored(made, op, mirrors)
 
 
 def of_both(first: Notes, second: Notes, op: Operator, mirrors: bool = False) -> Notes:
     """What is known of an intersection; `mirrors` is as for a union."""
-    made = _of_pair(first, second, units.of_both(op, first.unit, second.unit), _met(op, first, second))
+    made = _of_pair(first, second, units.of_both(op, first.unit, second.unit),
+                    _met(op, first, second))
     return _mirrored(made, op, mirrors)
 
 
@@ -393,62 +450,76 @@ def _met(op: Operator, first: Notes, second: Notes) -> Optional[Nodes]:
 def _of_pair(first: Notes, second: Notes, unit: Unit, value_names: Optional[Nodes] = None) -> Notes:
     if first is NOTHING and second is NOTHING:
         return NOTHING
-    return _elementwise(first, second, ELEMENTWISE)._replace(directed=even(first, second), weighted=None, source='', unit=unit,
+    return _elementwise(first, second, ELEMENTWISE)._replace(directed=even(first, second),
+                                                             weighted=None, source='', unit=unit,
                                                              value_names=value_names)
 
 
 def _elementwise(first: Notes, second: Notes, pairs: Pairs) -> Notes:
-    """The notes of the first with what the rows and columns of both are called. Where these are the same, or one has none, nothing is compared."""
-    alike = first.rows is second.rows and first.columns is second.columns and first[7:] == second[7:]
+    """The notes of the first with what the rows and columns of both are called. Where these are the
+    same, or one has none, nothing is compared."""
+    alike = (first.rows is second.rows and first.columns is second.columns
+             and first[7:] == second[7:])
     if second is NOTHING or alike:
         return first
     if first is NOTHING:
         return second._replace(weighted=None)
-    return first.with_axes(*joined(first, second, pairs))._replace(sides=first.sides or second.sides)
+    return first.with_axes(*joined(first, second, pairs))._replace(sides=first.sides
+                                                                   or second.sides)
 
 
-def of_product(first: Notes, second: Notes, ring: Semiring, same: bool, mirrors: bool = False) -> Notes:
-    """What is known of a product; `same` says that both operands are one matrix, `mirrors` that they are transposes of one another."""
+def of_product(first: Notes, second: Notes, ring: Semiring, same: bool,
+               mirrors: bool = False) -> Notes:
+    """What is known of a product; `same` says that both operands are one matrix, `mirrors` that
+    they are transposes of one another."""
     if first is second and not mirrors and (first is NOTHING or first is BY_POSITIONS):
         return first
     inner = joined(first, second, PRODUCT)[0]
-    rows, columns = (inner if _are_alike(one) else one.axis(axis) for one, axis in ((first, ROWS), (second, COLUMNS)))
+    rows, columns = (inner if _are_alike(one) else one.axis(axis)
+                     for one, axis in ((first, ROWS), (second, COLUMNS)))
     if not (_are_alike(first) and _are_alike(second)):
         rows, columns = rows.alone(), columns.alone()
     met = _met(ring.mul, first, second)
     # the product of a bipartite matrix and the transpose of one has one kind of vertices
     sides = 0 if first.sides == -second.sides else first.sides or second.sides
-    made = Notes(directed=even(first) if same and _is_ready(ring.mul, COMMUTE) else None, value_names=_chosen(ring.add, met, met),
+    made = Notes(directed=even(first) if same and _is_ready(ring.mul, COMMUTE) else None,
+                 value_names=_chosen(ring.add, met, met),
                  unit=units.of_product(ring.add, ring.mul, first.unit, second.unit), sides=sides)
     return _mirrored(made, ring.mul, mirrors).with_axes(rows, columns)
 
 
 def _are_alike(notes: Notes) -> bool:
     """Whether rows and columns are called alike, whatever they are called."""
-    return notes.rows is notes.columns is None and notes.unnamed_rows is notes.unnamed_columns is Unnamed.ALIKE
+    return (notes.rows is notes.columns is None and notes.unnamed_rows is notes.unnamed_columns
+            is Unnamed.ALIKE)
 
 
 def of_rows(first: Notes, op: Operator) -> Notes:
     """What is known of a column that has the fold of each row."""
-    return NOTHING if first is NOTHING else Notes(
-        unit=units.of_fold(op, first.unit), value_names=_chosen(op, first.value_names, first.value_names)).with_axes(
-        first.axis(ROWS).alone(), Axis())
+    return (NOTHING if first is NOTHING else Notes(
+        unit=units.of_fold(op, first.unit),
+        value_names=_chosen(op, first.value_names, first.value_names)).with_axes(
+            first.axis(ROWS).alone(), Axis()))
 
 
 def masked(result: Notes, mask: Notes) -> Notes:
     """What is known of a result that is cut to the structure of a mask."""
     if result is NOTHING and mask is NOTHING:
         return NOTHING
-    return _elementwise(result, mask, MASK)._replace(directed=even(result, mask), source='', unit=result.unit, value_names=result.value_names)
+    return _elementwise(result, mask, MASK)._replace(directed=even(result, mask), source='',
+                                                     unit=result.unit,
+                                                     value_names=result.value_names)
 
 
 def of_structure(mask: Notes, value: bool) -> Notes:
-    """What is known of the positions that a mask means; `value` says that entries of 0 don't count."""
+    """What is known of the positions that a mask means; `value` says that entries of 0 don't
+    count."""
     return mask._replace(directed=even(mask)) if value and mask is not NOTHING else mask
 
 
 def outside(result: Notes, mask: Notes) -> Notes:
-    """What is known of the entries of a result that lie outside of a mask: undirected only where both are."""
+    """What is known of the entries of a result that lie outside of a mask: undirected only where
+    both are."""
     if result is NOTHING and mask is NOTHING:
         return NOTHING
     alone = masked(result, mask)
@@ -468,10 +539,12 @@ def under(result: Notes, mask: Optional[Notes], value: bool, complement: bool) -
     return outside(result, there) if complement else masked(result, there)
 
 
-def of_update(first: Notes, second: Notes, accum: Optional[Operator], where: Optional[Mask], replace: bool) -> Notes:
+def of_update(first: Notes, second: Notes, accum: Optional[Operator], where: Optional[Mask],
+              replace: bool) -> Notes:
     """What is known of C<M, accum> = second, where `first` is of C."""
     both = _of_pair(first, second, second.unit) if accum is None else of_union(first, second, accum)
-    inside = of_copy(second.with_axes(both.axis(ROWS), both.axis(COLUMNS))) if accum is None else both
+    inside = (of_copy(second.with_axes(both.axis(ROWS), both.axis(COLUMNS))) if accum is None
+              else both)
     if where is None:
         return inside
     there = under(of_copy(inside), where.matrix.notes, where.value, where.complement)
@@ -479,11 +552,13 @@ def of_update(first: Notes, second: Notes, accum: Optional[Operator], where: Opt
         return there
     unit = units.common('update', first.unit, there.unit)
     alike = _chosen(binary.first, first.value_names, there.value_names)
-    return _of_pair(under(of_copy(first), where.matrix.notes, where.value, not where.complement), there, unit, alike)
+    return _of_pair(under(of_copy(first), where.matrix.notes, where.value, not where.complement),
+                    there, unit, alike)
 
 
 def check_equal(first: Notes, second: Notes) -> None:
-    """Raises NamesDiffer or UnitsDiffer where two matrices can't be compared, as they are of other vertices, or other parts."""
+    """Raises NamesDiffer or UnitsDiffer where two matrices can't be compared, as they are of other
+    vertices, or other parts."""
     units.common('isequal', first.unit, second.unit)
     check_same_names(first, second)
 
@@ -495,44 +570,52 @@ def check_same_names(first: Notes, second: Notes) -> None:
 
 def turned(first: Notes) -> Notes:
     """What is known of the transpose."""
-    return first.with_axes(first.axis(COLUMNS), first.axis(ROWS))._replace(source='', sides=-first.sides)
+    return first.with_axes(first.axis(COLUMNS),
+                           first.axis(ROWS))._replace(source='', sides=-first.sides)
 
 
 def of_both_sides(first: Notes, nrows: int, ncols: int) -> Notes:
-    """What is known of the square matrix of a bipartite graph: its names are those of the rows and of the columns, or where some are
-    the same, or there are none, ('row', name) and ('column', name)."""
+    """What is known of the square matrix of a bipartite graph: its names are those of the rows and
+    of the columns, or where some are the same, or there are none, ('row', name) and ('column',
+    name)."""
     rows = first.rows if first.rows is not None else Nodes(range(nrows))
     columns = first.columns if first.columns is not None else Nodes(range(ncols))
     apart = rows.places.keys().isdisjoint(columns.places)
-    names = Nodes([*rows, *columns] if apart else [*(('row', name) for name in rows), *(('column', name) for name in columns)])
+    names = Nodes([*rows, *columns] if apart else [*(('row', name) for name in rows),
+                                                   *(('column', name) for name in columns)])
     return Notes(names, names, False, first.weighted, unit=first.unit)
 
 
 def on_diagonal(first: Notes, along: int) -> Notes:
-    """What is known of the square matrix with the entries of a column (along its rows, 0) or of a row (along its columns, 1) on its
-    diagonal."""
+    """What is known of the square matrix with the entries of a column (along its rows, 0) or of a
+    row (along its columns, 1) on its diagonal."""
     axis = first.axis(along)
     if axis == Axis():
         return ALIKE._replace(directed=False, unit=first.unit, value_names=first.value_names)
-    return Notes(directed=False, unit=first.unit, value_names=first.value_names).with_axes(axis, axis)
+    return Notes(directed=False, unit=first.unit,
+                 value_names=first.value_names).with_axes(axis, axis)
 
 
 BY_PLACE: Dict[str, int] = {'rowle': ROWS, 'rowgt': ROWS, 'colle': COLUMNS, 'colgt': COLUMNS}
 
 
 def check_counts_places(op: str, first: Notes) -> None:
-    """ValueError where a ready operator counts rows or columns that have other numbers for names."""
+    """ValueError where a ready operator counts rows or columns that have other numbers for
+    names."""
     axis = BY_PLACE.get(op)
     names = None if axis is None else first.names(axis)
     if names is not None and names.numbered and not names.are_counted:
         what = 'columns' if axis else 'rows'
-        raise ValueError('"%s" counts %s from 0, and here %s have numbers for names, such as %r: write A[%s] with a list of names, or '
-                         'A.select(spmat.indexunary.%s, ..) to count them all the same' % (
-                             op, what, what, names[0], ':, names' if axis else 'names, :', op))
+        raise ValueError(
+            '"%s" counts %s from 0, and here %s have numbers for names, such as %r: write A[%s] '
+            'with a list of names, or A.select(spmat.indexunary.%s, ..) to count them all the '
+            'same' % (
+                op, what, what, names[0], ':, names' if axis else 'names, :', op))
 
 
-TWO_KINDS = ('a graph has one kind of vertices, and rows and columns of this matrix are two kinds: spmat.bipartite(B) is the graph of both, '
-             'and B.mxm(B.T, "plus_pair") says how many neighbours two rows share')
+TWO_KINDS = ('a graph has one kind of vertices, and rows and columns of this matrix are two kinds: '
+             'spmat.bipartite(B) is the graph of both, and B.mxm(B.T, "plus_pair") says how many '
+             'neighbours two rows share')
 
 
 def check_one_kind(graph: Notes) -> None:
@@ -543,19 +626,22 @@ def check_one_kind(graph: Notes) -> None:
 
 
 def of_vertices(first: Notes, graph: Notes) -> Notes:
-    """What is known of a column, of which nothing is known but that it says something of each vertex of a graph."""
+    """What is known of a column, of which nothing is known but that it says something of each
+    vertex of a graph."""
     axis = vertices_of(graph)
     return first if axis is None else first._replace(rows=axis.names, unnamed_rows=axis.unnamed)
 
 
 def vertices_of(graph: Notes) -> Optional[Axis]:
-    """What the vertices of a square matrix are called: its rows and its columns; None where these differ."""
+    """What the vertices of a square matrix are called: its rows and its columns; None where these
+    differ."""
     rows, columns = graph.axis(ROWS), graph.axis(COLUMNS)
     return rows.with_other(columns) if rows.agrees(columns) and not graph.sides else None
 
 
 def _is_ready(op: Operator, names: FrozenSet[str]) -> bool:
-    """Whether this is the ready operator of one of the names, whatever it is called, as one from a function is."""
+    """Whether this is the ready operator of one of the names, whatever it is called, as one from a
+    function is."""
     return op in _ready(op.kind, names)
 
 

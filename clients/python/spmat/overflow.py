@@ -1,13 +1,16 @@
-"""Whether stored numbers that have a unit can pass 64 bits, where they wrap: what values a result can have follows from those of its operands.
+"""Whether stored numbers that have a unit can pass 64 bits, where they wrap: what values a result
+can have follows from those of its operands.
 
-What a session reads with a unit has its least and greatest value noted. A job's result has the bounds that follow from these. Where they leave
-64 bits, or aren't known, the session is asked for the operands' values, and for how many there are in a row, once for each matrix.
+What a session reads with a unit has its least and greatest value noted. A job's result has the
+bounds that follow from these. Where they leave 64 bits, or aren't known, the session is asked for
+the operands' values, and for how many there are in a row, once for each matrix.
 """
 from __future__ import annotations
 
 import math
 from fractions import Fraction
-from typing import TYPE_CHECKING, Any, Callable, Dict, List, NamedTuple, Optional, Sequence, TypeVar, cast
+from typing import (TYPE_CHECKING, Any, Callable, Dict, List, NamedTuple, Optional, Sequence,
+                    TypeVar, cast)
 
 import numpy
 
@@ -24,11 +27,13 @@ if TYPE_CHECKING:
 
 M = TypeVar('M')
 KEY, ROW, COLUMN = 'span', 'greatest row', 'greatest column'    # facts of matrices
-SUMS = ('plus', 'minus', 'rminus', 'absdiff')      # folds that can be as large as all terms together
+# folds that can be as large as all terms together
+SUMS = ('plus', 'minus', 'rminus', 'absdiff')
 
 
 class Span(NamedTuple):
-    """The least and the greatest value that entries can have, and whether some entries have these."""
+    """The least and the greatest value that entries can have, and whether some entries have
+    these."""
     least: int = LEAST
     most: int = MOST
     exact: bool = False
@@ -63,23 +68,32 @@ def _product(x: Span, y: Span) -> Span:
 
 # What op(x, y) can be. Of operators that aren't here it is any number of 64 bits.
 TERMS: Dict[str, Term] = {
-    'plus': lambda x, y: Span(x.least + y.least, x.most + y.most), 'minus': lambda x, y: Span(x.least - y.most, x.most - y.least),
-    'rminus': lambda x, y: Span(y.least - x.most, y.most - x.least), 'absdiff': lambda x, y: Span(0, max(x.most - y.least, y.most - x.least)),
-    'times': _product, 'floordiv': lambda x, y: Span(-x.size, x.size), 'cdiv': lambda x, y: Span(-x.size, x.size),
-    'rdiv': lambda x, y: Span(-y.size, y.size), 'cmod': lambda x, y: Span(min(x.least, 0), max(x.most, 0)),
-    'min': lambda x, y: Span(min(x.least, y.least), min(x.most, y.most)), 'max': lambda x, y: Span(max(x.least, y.least), max(x.most, y.most)),
+    'plus': lambda x, y: Span(x.least + y.least, x.most + y.most),
+    'minus': lambda x, y: Span(x.least - y.most, x.most - y.least),
+    'rminus': lambda x, y: Span(y.least - x.most, y.most - x.least),
+    'absdiff': lambda x, y: Span(0, max(x.most - y.least, y.most - x.least)),
+    'times': _product, 'floordiv': lambda x, y: Span(-x.size, x.size),
+    'cdiv': lambda x, y: Span(-x.size, x.size),
+    'rdiv': lambda x, y: Span(-y.size, y.size),
+    'cmod': lambda x, y: Span(min(x.least, 0), max(x.most, 0)),
+    'min': lambda x, y: Span(min(x.least, y.least), min(x.most, y.most)),
+    'max': lambda x, y: Span(max(x.least, y.least), max(x.most, y.most)),
     'any': _hull, 'first': lambda x, y: x, 'second': lambda x, y: y,
     'lsh': lambda x, y: Span(x.least << (y.most & 63), x.most << (y.most & 63)),
-    'identity': lambda x, y: x, 'abs': lambda x, y: Span(0, x.size), 'ainv': lambda x, y: Span(-x.most, -x.least)}
-NAMED: Dict[Operator, str] = {READY[kind][name]: name for kind in ('unary', 'binary') for name in TERMS if name in READY[kind]}
-WANTED = {'first': (0,), 'second': (1,), 'floordiv': (0,), 'cdiv': (0,), 'rdiv': (1,)}      # the operands that results depend on
+    'identity': lambda x, y: x, 'abs': lambda x, y: Span(0, x.size),
+    'ainv': lambda x, y: Span(-x.most, -x.least)}
+NAMED: Dict[Operator, str] = {READY[kind][name]: name for kind in ('unary', 'binary')
+                              for name in TERMS if name in READY[kind]}
+# the operands that results depend on
+WANTED = {'first': (0,), 'second': (1,), 'floordiv': (0,), 'cdiv': (0,), 'rdiv': (1,)}
 
 
 def note(matrix: Any, values: Any) -> None:
     """Notes what the values of a matrix with a unit are, as they are sent."""
     if matrix.unit != 1 and len(values):
         matrix.kept[KEY] = Span(int(min(values) if isinstance(values, list) else values.min()),
-                                int(max(values) if isinstance(values, list) else values.max()), True)
+                                int(max(values) if isinstance(values, list) else values.max()),
+                                True)
 
 
 def noted(matrix: M, span: Optional[Span]) -> M:
@@ -89,23 +103,31 @@ def noted(matrix: M, span: Optional[Span]) -> M:
     return matrix
 
 
-def folded(fold: Callable[[Triples, Optional[Op]], Triples], triples: Triples, dup_op: Optional[Op], unit: units.Unit) -> Triples:
-    """Triples that are read with a unit, of which those of one position are folded. ValueError where a sum is beyond 64 bits."""
-    if unit != 1 and dup_op is not None and find('binary', dup_op) == READY['binary'].plus and len(triples.values):
-        many, at = numpy.unique(triples.rows * max(triples.ncols, 1) + triples.columns, return_inverse=True)
+def folded(fold: Callable[[Triples, Optional[Op]], Triples], triples: Triples, dup_op: Optional[Op],
+           unit: units.Unit) -> Triples:
+    """Triples that are read with a unit, of which those of one position are folded. ValueError
+    where a sum is beyond 64 bits."""
+    if unit != 1 and dup_op is not None and find('binary',
+                                                 dup_op) == READY['binary'].plus and len(
+                                                     triples.values):
+        many, at = numpy.unique(triples.rows * max(triples.ncols, 1) + triples.columns,
+                                return_inverse=True)
         high, low = numpy.zeros(len(many), numpy.int64), numpy.zeros(len(many), numpy.int64)
         numpy.add.at(high, at, triples.values >> 32)
         numpy.add.at(low, at, triples.values & 0xffffffff)
         high += low >> 32
         if len(many) < len(at) and ((high >= 1 << 31) | (high < -1 << 31)).any():
             place = int(many[(high >= 1 << 31) | (high < -1 << 31)][0])
-            raise ValueError('the values at row %d, column %d add up to a number beyond 64 bits in %s: a smaller scale= has room' % (
-                *divmod(place, triples.ncols), units.told(unit)))
+            raise ValueError(
+                'the values at row %d, column %d add up to a number beyond 64 bits in %s: a '
+                'smaller scale= has room' % (
+                    *divmod(place, triples.ncols), units.told(unit)))
     return fold(triples, dup_op)
 
 
 def of_applied(matrix: Any, sent: 'Applied') -> Optional[Span]:
-    """What values `apply` gives; None where the operator tells nothing of them. ValueError where one would be beyond 64 bits."""
+    """What values `apply` gives; None where the operator tells nothing of them. ValueError where
+    one would be beyond 64 bits."""
     term, backend = TERMS.get(NAMED.get(sent.by, '')), matrix.session.backend
     if term is None or backend.takes_others:
         return None
@@ -118,12 +140,14 @@ def of_applied(matrix: Any, sent: 'Applied') -> Optional[Span]:
         found = span(_asked(matrix))
     if not found.fits and not backend.is_estimate:
         raise ValueError('%s would be beyond 64 bits in %s, where it would wrap: %s' % (
-            units.to_text(found.most if found.most > MOST else found.least, sent.unit), units.told(sent.unit), _mend([matrix], found, False)))
+            units.to_text(found.most if found.most > MOST else found.least, sent.unit),
+            units.told(sent.unit), _mend([matrix], found, False)))
     return found if found.fits else None
 
 
 def of_job(backend: 'Backend', job: 'Job', operands: Sequence[Any]) -> Optional[Span]:
-    """What values the result of another job can have; None where that isn't known. It warns where some can be beyond 64 bits."""
+    """What values the result of another job can have; None where that isn't known. It warns where
+    some can be beyond 64 bits."""
     if backend.takes_others:
         return None
     known: List[Span] = [operand.kept.get(KEY, ANY) for operand in operands]
@@ -135,17 +159,20 @@ def of_job(backend: 'Backend', job: 'Job', operands: Sequence[Any]) -> Optional[
     found = _span(job.form, names, known, operands[0].ncols)
     if not found.fits:
         wanted = WANTED.get(names[-1] or '', (0, 1)) if job.form != 'union' else (0, 1)
-        known = [_asked(operand) if at in wanted else span for at, (operand, span) in enumerate(zip(operands, known))]
+        known = [_asked(operand) if at in wanted else span
+                 for at, (operand, span) in enumerate(zip(operands, known))]
         found = _span(job.form, names, known, operands[0].ncols)
     if not found.fits and job.form in ('reduce', 'product') and names[0] in SUMS:
-        found = _sums(names, known, operands, _span('both', names[-1:], known, 1) if job.form == 'product' else known[0])
+        found = _sums(names, known, operands, _span('both', names[-1:], known, 1)
+                      if job.form == 'product' else known[0])
     if not found.fits and not backend.is_estimate:
         _warn(names, operands, found)
     return found if found.fits else None
 
 
 def _span(form: str, names: Sequence[Optional[str]], known: Sequence[Span], many: int) -> Span:
-    """What values a job's result can have by those of its operands, where up to so many terms are folded."""
+    """What values a job's result can have by those of its operands, where up to so many terms are
+    folded."""
     term = known[0] if form == 'reduce' else TERMS[names[-1] or ''](known[0], known[1])
     if form == 'union':
         return _hull(_hull(known[0], known[1]), term)
@@ -154,11 +181,15 @@ def _span(form: str, names: Sequence[Optional[str]], known: Sequence[Span], many
     return term.times(many) if names[0] == 'plus' else Span(-term.size * many, term.size * many)
 
 
-def _sums(names: Sequence[Optional[str]], known: Sequence[Span], operands: Sequence[Any], term: Span) -> Span:
-    """What sums can be, by the greatest sum of a row of absolute values, or of a column of the second operand's."""
+def _sums(names: Sequence[Optional[str]], known: Sequence[Span], operands: Sequence[Any],
+          term: Span) -> Span:
+    """What sums can be, by the greatest sum of a row of absolute values, or of a column of the
+    second operand's."""
     row = _total(operands[0], known[0], True) if names[-1] != 'second' or len(operands) == 1 else 0
-    column = _total(operands[1], known[1], False) if len(operands) == 2 and names[-1] != 'first' else 0
-    size = min(row * known[1].size, column * known[0].size) if names[-1] == 'times' and len(operands) == 2 else row + column
+    column = (_total(operands[1], known[1], False) if len(operands) == 2 and names[-1] != 'first'
+              else 0)
+    size = (min(row * known[1].size, column * known[0].size) if names[-1] == 'times'
+            and len(operands) == 2 else row + column)
     return Span(0 if term.least >= 0 and names[0] == 'plus' else -size, size)
 
 
@@ -179,8 +210,8 @@ def _asked(matrix: Any) -> Span:
 
 
 def _total(matrix: Any, span: Span, is_row: bool) -> int:
-    """No less than the greatest sum of a row's absolute values, or of a column's: by how many entries it has, and by sums of so few bits that
-    they can't wrap. 7 jobs."""
+    """No less than the greatest sum of a row's absolute values, or of a column's: by how many
+    entries it has, and by sums of so few bits that they can't wrap. 7 jobs."""
     key = ROW if is_row else COLUMN
     if key in matrix.kept:
         return int(matrix.kept[key])
@@ -188,7 +219,8 @@ def _total(matrix: Any, span: Span, is_row: bool) -> int:
     try:
         many = getattr(stored.apply('one'), fold)('plus').reduce_scalar('max')
         bits = max(0, (span.size * (many if isinstance(many, int) else 0)).bit_length() - 62)
-        most = getattr(stored.apply('abs').apply('rsh', right=bits), fold)('plus').reduce_scalar('max')
+        most = getattr(stored.apply('abs').apply('rsh', right=bits),
+                       fold)('plus').reduce_scalar('max')
     except BudgetExceeded:
         return int(span.size * (matrix.ncols if is_row else matrix.nrows))
     if isinstance(many, int) and isinstance(most, int):
@@ -198,15 +230,21 @@ def _total(matrix: Any, span: Span, is_row: bool) -> int:
 
 def _mend(operands: Sequence[Any], found: Span, is_product: bool) -> str:
     """What leaves room for values of a size."""
-    scaled = [(name, operand.unit) for name, operand in zip('AB', operands) if not units.is_whole(operand.unit)]
+    scaled = [(name, operand.unit) for name, operand in zip('AB', operands)
+              if not units.is_whole(operand.unit)]
     digits = max(1, math.ceil(math.log10(Fraction(found.size, MOST))))
     by = 10 ** (-(-digits // len(scaled)) if is_product and scaled else digits)
     if not scaled or any(unit < by for _, unit in scaled):
-        return 'write A.rescale(.., exact=False) for a coarser unit' if not scaled else 'no smaller unit has room'
-    return 'write %s, with rounding' % ' and '.join('%s.rescale(%d, exact=False)' % (name, unit // by) for name, unit in scaled)
+        return ('write A.rescale(.., exact=False) for a coarser unit' if not scaled
+                else 'no smaller unit has room')
+    return 'write %s, with rounding' % ' and '.join('%s.rescale(%d, exact=False)'
+                                                    % (name, unit // by) for name, unit in scaled)
 
 
 def _warn(names: Sequence[Optional[str]], operands: Sequence[Any], found: Span) -> None:
     unit = next((operand.unit for operand in operands if operand.unit != 1), 1)
-    warn_user('"%s" of values in %s: some results may be beyond 64 bits, where they wrap, and stand for other numbers; %s' % (
-        '_'.join(name or '' for name in names), units.told(unit), _mend(operands, found, names[-1] == 'times')), OverflowWarning)
+    warn_user(
+        '"%s" of values in %s: some results may be beyond 64 bits, where they wrap, and stand '
+        'for other numbers; %s' % (
+            '_'.join(name or '' for name in names), units.told(unit),
+            _mend(operands, found, names[-1] == 'times')), OverflowWarning)

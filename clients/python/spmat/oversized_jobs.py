@@ -1,7 +1,8 @@
 """What is too large for one job: how large it is, what the limit is, and products by parts.
 
-A product may make 16,777,216 multiplications (J7), and a job be priced at 4,294,967,296 steps at most (J8). Both are known before it
-runs. A product that is too large is made by halves of the rows of its left operand, their halves, and so on.
+A product may make 16,777,216 multiplications (J7), and a job be priced at 4,294,967,296 steps at
+most (J8). Both are known before it runs. A product that is too large is made by halves of the rows
+of its left operand, their halves, and so on.
 """
 from __future__ import annotations
 
@@ -18,12 +19,15 @@ if TYPE_CHECKING:
 
 
 BY_PARTS = 'mxm(.., parts=True) makes it by parts of the rows'
-SMALLER = 'select() some rows with "rowle" and "rowgt", and do them one after the other; spmat.blocks does so over several sessions'
+SMALLER = (
+    'select() some rows with "rowle" and "rowgt", and do them one after the other; spmat.blocks '
+    'does so over several sessions')
 
 
 def explained(fault: Refused, job: Job, matrices: Sequence['Matrix']) -> Refused:
-    """A refusal of a job that is too large, with its size, the limit, and the way out. `matrices` are its operands, and the mask's
-    where it has one. A product is counted by a few small jobs; where these are refused too, the number is left out."""
+    """A refusal of a job that is too large, with its size, the limit, and the way out. `matrices`
+    are its operands, and the mask's where it has one. A product is counted by a few small jobs;
+    where these are refused too, the number is left out."""
     if fault.rule not in ('J7', 'J8') or fault.detail:
         return fault
     calls: Optional[int] = None
@@ -32,9 +36,10 @@ def explained(fault: Refused, job: Job, matrices: Sequence['Matrix']) -> Refused
     return type(fault)(fault.rule, fault.numbers, job.form, '', _words(fault.rule, job, calls))
 
 
-def count_calls(form: str, first: 'Matrix', second: Optional['Matrix'] = None, mask: Optional['Matrix'] = None) -> int:
-    """Of a product its multiplications, in the rows of which a mask stores something; of a union the entries of both operands, of
-    another form the entries of the first, which it looks at."""
+def count_calls(form: str, first: 'Matrix', second: Optional['Matrix'] = None,
+                mask: Optional['Matrix'] = None) -> int:
+    """Of a product its multiplications, in the rows of which a mask stores something; of a union
+    the entries of both operands, of another form the entries of the first, which it looks at."""
     if form == 'product':
         assert second is not None
         rows = None if mask is None else mask.reduce_rowwise('first').S
@@ -48,16 +53,20 @@ def _words(rule: str, job: Job, calls: Optional[int]) -> str:
     if rule == 'J7':
         what = 'multiplications' if job.form == 'product' else 'entries of both together'
         number = '' if calls is None else '%s %s, and ' % (format(calls, ','), what)
-        return '%s%s is the most of a job%s: %s' % (number, format(MOST_SIDE, ','), '' if number else ' (%s)' % what, way)
+        return '%s%s is the most of a job%s: %s' % (number, format(MOST_SIDE, ','),
+                                                    '' if number else ' (%s)' % what, way)
     length = sum(job.operands[0].backend.length_of(op) for op in job.operators)
-    reckoned = '' if calls is None else 'up to %s calls of %d instructions, which are %s steps, and ' % (
-        format(calls, ','), length, format(calls * length, ','))
-    return '%s%s is the most of a job: a shorter operator is cheaper, and %s' % (reckoned, format(MOST_PRICE, ','), way)
+    reckoned = ('' if calls is None
+                else 'up to %s calls of %d instructions, which are %s steps, and ' % (
+                    format(calls, ','), length, format(calls * length, ',')))
+    return '%s%s is the most of a job: a shorter operator is cheaper, and %s' % (
+        reckoned, format(MOST_PRICE, ','), way)
 
 
 def in_parts(first: Matrix, job: Callable[[Matrix], Matrix]) -> Matrix:
-    """What a job gives, which makes each row of its result of the same row of `first`; where that is too large, by halves of the rows,
-    joined by a union. TooLarge where one row is too dear, or the whole result has more entries than a matrix may have."""
+    """What a job gives, which makes each row of its result of the same row of `first`; where that
+    is too large, by halves of the rows, joined by a union. TooLarge where one row is too dear, or
+    the whole result has more entries than a matrix may have."""
     try:
         return job(first)
     except TooLarge as fault:
@@ -67,8 +76,9 @@ def in_parts(first: Matrix, job: Callable[[Matrix], Matrix]) -> Matrix:
 
 
 def _halves(first: Matrix, job: Callable[[Matrix], Matrix], start: int, end: int) -> Matrix:
-    """Both halves, each by its halves where it is too large. They are joined at once: each part has 8 bytes for every row of the whole,
-    and so no more parts are held at a time than halvings lead to one."""
+    """Both halves, each by its halves where it is too large. They are joined at once: each part has
+    8 bytes for every row of the whole, and so no more parts are held at a time than halvings lead
+    to one."""
     middle = (start + end) // 2
     parts: List[Matrix] = []
     for op, low, high in ((indexunary.rowle, start, middle), (indexunary.rowgt, middle, end)):

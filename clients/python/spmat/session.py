@@ -27,32 +27,37 @@ from .operators import Operator, diagnostics, find
 if TYPE_CHECKING:
     import ssl
 
-KEPT_ONES = 4                                      # rows of ones that a session keeps, of one length each
+# rows of ones that a session keeps, of one length each
+KEPT_ONES = 4
 CODE_RULES = ('V1', 'V2', 'V3', 'V4', 'V5', 'V6')   # of code that stands for no program
 LONG = 1 << 20                                     # longer ones are not kept
 
 
 class Session(Sources[Matrix]):
-    """One session of the server: `Session()` starts a process `spmat run` of its own, `Session.connect(host, port)` is one of
-    `spmat serve`, `Session.connect(path)` one at a socket file. Use it in a `with`, or close it.
+    """One session of the server: `Session()` starts a process `spmat run` of its own,
+    `Session.connect(host, port)` is one of `spmat serve`, `Session.connect(path)` one at a socket
+    file. Use it in a `with`, or close it.
 
-    `steps` is the budget, 0 to 2^62 (also 1e9), `workers` 1 to 64 threads, `program` the words that start the program (without
-    them the variable SPMAT, then the program that the package carries, then `spmat` on the PATH). `progress(what, done, of)` is
-    called in long work: what is 'reading' (bytes of a file), 'names' (its edges), 'sent' or 'received' (bytes of one matrix text) or
-    'jobs' (0 of n as a run begins, n of n as it ends); what it raises amid a command ends the session.
+    `steps` is the budget, 0 to 2^62 (also 1e9), `workers` 1 to 64 threads, `program` the words that
+    start the program (without them the variable SPMAT, then the program that the package carries,
+    then `spmat` on the PATH). `progress(what, done, of)` is called in long work: what is 'reading'
+    (bytes of a file), 'names' (its edges), 'sent' or 'received' (bytes of one matrix text) or
+    'jobs' (0 of n as a run begins, n of n as it ends); what it raises amid a command ends the
+    session.
 
-    Methods of matrices queue jobs; what needs a result runs the queue first. Threads take turns: while one thread waits for a
-    reply, others wait for it. Ctrl-C while a reply is awaited leaves the session as it is: the command goes on, and what comes
-    next waits for its end; `close` ends it at once, with the process that was started. Where a command isn't sent whole yet, Ctrl-C comes
-    when it is, and a second one ends the session, with all that it held (`connection.ended` says so). A session belongs to the process
-    that opened it, and can't be pickled; operators can.
+    Methods of matrices queue jobs; what needs a result runs the queue first. Threads take turns:
+    while one thread waits for a reply, others wait for it. Ctrl-C while a reply is awaited leaves
+    the session as it is: the command goes on, and what comes next waits for its end; `close` ends
+    it at once, with the process that was started. Where a command isn't sent whole yet, Ctrl-C
+    comes when it is, and a second one ends the session, with all that it held (`connection.ended`
+    says so). A session belongs to the process that opened it, and can't be pickled; operators can.
 
     `runs`, `jobs` and `connection.commands` count what was sent."""
 
     _backend_type: Type[ServerBackend] = ServerBackend
 
-    def __init__(self, steps: float = MOST_STEPS, workers: int = 1, program: Optional[Program] = None,
-                 progress: Optional[Progress] = None) -> None:
+    def __init__(self, steps: float = MOST_STEPS, workers: int = 1,
+                 program: Optional[Program] = None, progress: Optional[Progress] = None) -> None:
         self._begin(Connection.to_child(steps, workers, program, progress), int(workers))
 
     @classmethod
@@ -60,21 +65,28 @@ class Session(Sources[Matrix]):
                 progress: Optional[Progress] = None, tls: Optional[ssl.SSLContext] = None,
                 token: Optional[str] = None, ca: Optional[str] = None,
                 run_timeout: Optional[float] = None) -> Session:
-        """A session of `spmat serve`; where `host` has a slash, of `spmat.socket` or another server at this socket file. `tls` is an
-        `ssl.SSLContext`, where TLS is spoken in front of the server; the name in its certificate has to be `host`.
+        """A session of `spmat serve`; where `host` has a slash, of `spmat.socket` or another server
+        at this socket file. `tls` is an `ssl.SSLContext`, where TLS is spoken in front of the
+        server; the name in its certificate has to be `host`.
 
-        `Session.connect('spmat://anna@graphs.example:7173', token='..')` is a session of a gateway (docs/service.md), which speaks TLS.
-        `token` is by default the variable SPMAT_TOKEN. `ca` is a file with who signs the gateway's certificate, where the system
-        trusts nobody who does. Where the gateway knows the user by a certificate, `tls` has it in place of `token` and `ca`.
+        `Session.connect('spmat://anna@graphs.example:7173', token='..')` is a session of a gateway
+        (docs/service.md), which speaks TLS. `token` is by default the variable SPMAT_TOKEN. `ca` is
+        a file with who signs the gateway's certificate, where the system trusts nobody who does.
+        Where the gateway knows the user by a certificate, `tls` has it in place of `token` and
+        `ca`.
 
-        Raises OSError where nobody listens or TLS is refused, Closed where the connection is closed before a first answer, and Busy
-        where the server has as many sessions as it serves. `timeout` is how many seconds connecting may take, and then each command from
-        its first byte to the last of its reply; None waits for ever. A command that runs jobs takes as long as they do: `run_timeout` is
-        its limit, None unless given. Where a limit passes, TimeoutError is raised and the session is closed; so it is where a reply doesn't
-        answer its command (ProtocolError)."""
+        Raises OSError where nobody listens or TLS is refused, Closed where the connection is closed
+        before a first answer, and Busy where the server has as many sessions as it serves.
+        `timeout` is how many seconds connecting may take, and then each command from its first byte
+        to the last of its reply; None waits for ever. A command that runs jobs takes as long as
+        they do: `run_timeout` is its limit, None unless given. Where a limit passes, TimeoutError
+        is raised and the session is closed; so it is where a reply doesn't answer its command
+        (ProtocolError)."""
         session = cls.__new__(cls)
-        address = Address.of_gateway(host, token, ca, tls) if '://' in host else Address(host, port, tls)
-        Session._begin(session, Connection.to_server(address, Timeouts(timeout, run_timeout), progress), None)
+        address = (Address.of_gateway(host, token, ca, tls) if '://' in host
+                   else Address(host, port, tls))
+        Session._begin(session, Connection.to_server(address, Timeouts(timeout, run_timeout),
+                                                     progress), None)
         return session
 
     def _begin(self, connection: Connection, workers: Optional[int]) -> None:
@@ -94,23 +106,29 @@ class Session(Sources[Matrix]):
         raise TypeError('a session belongs to the process that opened it, and can not be pickled')
 
     def __repr__(self) -> str:
-        return '<Session, %s>' % ('%d jobs wait' % len(self.backend.queue) if self.connection.ended is None else 'ended')
+        return '<Session, %s>' % ('%d jobs wait' % len(self.backend.queue) if self.connection.ended
+                                  is None else 'ended')
 
     @property
     def backend(self) -> ServerBackend:
-        """What takes the jobs of its matrices: its own backend, or while a call is priced one that foresees them."""
-        return self._backend if not all_priced else backend_now(self._backend)  # type: ignore[no-any-return]
+        """What takes the jobs of its matrices: its own backend, or while a call is priced one that
+        foresees them."""
+        if not all_priced:
+            return self._backend
+        return backend_now(self._backend)  # type: ignore[no-any-return]
 
     @property
     def workers(self) -> Optional[int]:
-        """How many threads a batch has at most; None of a session of `spmat serve`, which doesn't say. Who knows it may set it there:
-        algorithms go by it where many workers want another way than one. No answer depends on it."""
+        """How many threads a batch has at most; None of a session of `spmat serve`, which doesn't
+        say. Who knows it may set it there: algorithms go by it where many workers want another way
+        than one. No answer depends on it."""
         return self._workers
 
     @workers.setter
     def workers(self, many: int) -> None:
         if not self._backend.queue.shared:
-            raise AttributeError('this session started its own program, with %d workers' % (self._workers or 1))
+            raise AttributeError('this session started its own program, with %d workers'
+                                 % (self._workers or 1))
         self._workers = checked_settings(0, many)[1]
 
     @property
@@ -134,8 +152,9 @@ class Session(Sources[Matrix]):
     # -- matrices in
 
     def from_text(self, text: Union[bytes, str], name: Optional[str] = None) -> Matrix:
-        """A matrix from a Matrix Market text that the server reads as it is: coordinate, integer or pattern, general or symmetric.
-        TextRefused names the line; `mmread` reads other texts too."""
+        """A matrix from a Matrix Market text that the server reads as it is: coordinate, integer or
+        pattern, general or symmetric. TextRefused names the line; `mmread` reads other texts
+        too."""
         made = self._from_text(text, name)
         made.notes = BY_POSITIONS
         return made
@@ -157,45 +176,58 @@ class Session(Sources[Matrix]):
         except TextRefused as refused:
             if refused.rule != 'M8' or refused.at is None:
                 raise
-            raise coo.repeated(triples, refused.at - matrix_text.HEAD_LINES - 1, symmetric) from None
+            raise coo.repeated(triples, refused.at - matrix_text.HEAD_LINES - 1,
+                               symmetric) from None
 
     def _folded(self, triples: Triples, dup_op: DupOp) -> Triples:
-        """Each position once: values that share one are folded by the server, in a matrix with a row for each such position."""
+        """Each position once: values that share one are folded by the server, in a matrix with a
+        row for each such position."""
         if dup_op is None:
             return triples
         op = find('binary', dup_op)
-        return coo.unrepeated(triples, lambda many: self._from(many).reduce_rowwise(op).entries()[2])
+        return coo.unrepeated(triples,
+                              lambda many: self._from(many).reduce_rowwise(op).entries()[2])
 
-    def mmread(self, source: Any, *, values: bool = True, scale: Optional[float] = None, max_bytes: Optional[int] = None,
-               dup_op: DupOp = None, name: Optional[str] = None) -> Matrix:
-        """A matrix from a Matrix Market file: a path (also .gz and .bz2), or a file opened in binary. What the server reads is
-        sent as it is; `real` values, `array`, `skew-symmetric`, and with `dup_op` positions that repeat (1 job and 1 run where any
-        do) are made so here. Values are whole numbers; with `scale` they are multiplied by it and rounded to the nearest, and with
-        `values=False` not read, so that each entry is 1, also of `complex` files. A packed file has at most 268,435,456 bytes once it is
-        unpacked, or `max_bytes`. ValueError names the file and the line. In python-graphblas `io.mmread`; `read_graph` reads other
-        formats too."""
+    def mmread(self, source: Any, *, values: bool = True, scale: Optional[float] = None,
+               max_bytes: Optional[int] = None, dup_op: DupOp = None,
+               name: Optional[str] = None) -> Matrix:
+        """A matrix from a Matrix Market file: a path (also .gz and .bz2), or a file opened in
+        binary. What the server reads is sent as it is; `real` values, `array`, `skew-symmetric`,
+        and with `dup_op` positions that repeat (1 job and 1 run where any do) are made so here.
+        Values are whole numbers; with `scale` they are multiplied by it and rounded to the nearest,
+        and with `values=False` not read, so that each entry is 1, also of `complex` files. A packed
+        file has at most 268,435,456 bytes once it is unpacked, or `max_bytes`. ValueError names the
+        file and the line. In python-graphblas `io.mmread`; `read_graph` reads other formats too."""
         request = Request('mtx', Layout(values=values, scale=scale))
         units.of_read(scale, dup_op)
-        return self._market(name_of(source), matrix_market.load(source, max_bytes), request, dup_op, name)
+        return self._market(name_of(source), matrix_market.load(source, max_bytes), request, dup_op,
+                            name)
 
-    def _market(self, file: str, text: bytes, request: Request, dup_op: DupOp, name: Optional[str]) -> Matrix:
+    def _market(self, file: str, text: bytes, request: Request, dup_op: DupOp,
+                name: Optional[str]) -> Matrix:
         values = matrix_market.Values(request.layout.values, request.layout.scale)
         try:
             made, kind = self._of_market(text, values, dup_op, name)
         except TextRefused as refused:
-            if refused.rule == 'M8' and refused.command != matrix_market.COMMAND and not matrix_market.is_plain(text):
-                found = matrix_market.find_repeated(io.BytesIO(text))            # the file's line, not that of the text that was made of it
+            if (refused.rule == 'M8' and refused.command != matrix_market.COMMAND
+                and not matrix_market.is_plain(text)):
+                # the file's line, not that of the text that was made of it
+                found = matrix_market.find_repeated(io.BytesIO(text))
                 raise (found or refused).of_file(file) from None
             said = '' if text.split()[:1] == [b'%%MatrixMarket'] else matrix_market.NO_MARKET
-            raise refused.hinting('M8', coo.DUP_OP).of_file(file, said if refused.rule == 'M1' else '') from None
+            raise refused.hinting('M8', coo.DUP_OP).of_file(file,
+                                                            said if refused.rule == 'M1'
+                                                            else '') from None
         except Refused as refused:
             raise refused.of_file(file) from None
         made.notes = kind.notes if dup_op is None else kind.notes._replace(weighted=True)
         return made
 
-    def _of_market(self, text: bytes, values: matrix_market.Values, dup_op: DupOp, name: Optional[str]) -> Tuple[Matrix, matrix_market.Kind]:
+    def _of_market(self, text: bytes, values: matrix_market.Values, dup_op: DupOp,
+                   name: Optional[str]) -> Tuple[Matrix, matrix_market.Kind]:
         """The matrix of a text, as it is sent or made here, and what its first line says."""
-        as_it_is = dup_op is None and matrix_market.is_plain(text) and values == matrix_market.Values()
+        as_it_is = (dup_op is None and matrix_market.is_plain(text)
+                    and values == matrix_market.Values())
         if as_it_is:
             made = self.from_text(text, name)      # which refuses a first line of any other form
             return made, matrix_market.kind_of(text)
@@ -220,8 +252,8 @@ class Session(Sources[Matrix]):
         return as_constant(self._from(coo.checked(at, at, value, n, n), name=name))
 
     def ones(self, ncols: int) -> Matrix:
-        """A row of ones, which folds columns. The session keeps those of the last few lengths, but for very long ones, and gives another
-        matrix of them each time."""
+        """A row of ones, which folds columns. The session keeps those of the last few lengths, but
+        for very long ones, and gives another matrix of them each time."""
         with self._backend.turn():
             row = self._ones.pop(ncols, None)
             row = self.full(1, ncols) if row is None else row
@@ -246,23 +278,28 @@ class Session(Sources[Matrix]):
         return ''.join(line + '\n' for line in self.backend.lines_of('dis', op))
 
     def types(self, op: Operator) -> List[str]:
-        """What the verifier knows before each instruction, a line each: its slot, and for R0 to R10 `u` (unset on some path), `n`
-        (a number), `p` with a distance (a place in the stack), `m` (set differently); or its slot and `-` where no path leads."""
+        """What the verifier knows before each instruction, a line each: its slot, and for R0 to R10
+        `u` (unset on some path), `n` (a number), `p` with a distance (a place in the stack), `m`
+        (set differently); or its slot and `-` where no path leads."""
         return self.backend.lines_of('types', op)
 
     def check(self, op: Operator) -> diagnostics.Check:
-        """What the verifier says of an operator: whether it is accepted, the instructions with what R0 to R10 hold before each, and
-        where it is refused the refusal, with the rows up to there. No job; it is uploaded. Printed, it is a table."""
+        """What the verifier says of an operator: whether it is accepted, the instructions with what
+        R0 to R10 hold before each, and where it is refused the refusal, with the rows up to there.
+        No job; it is uploaded. Printed, it is a table."""
         try:
             lines, types = self.dis(op).splitlines(), self.types(op)
         except OperatorRefused as refused:
-            known = refused.rule.startswith('V') and refused.at is not None and refused.rule not in CODE_RULES
-            return diagnostics.Check(op, refused, diagnostics.rows_before(op, refused.at or 0) if known else [])
+            known = (refused.rule.startswith('V') and refused.at is not None
+                     and refused.rule not in CODE_RULES)
+            return diagnostics.Check(op, refused, diagnostics.rows_before(op, refused.at or 0)
+                                     if known else [])
         return diagnostics.Check(op, None, diagnostics.rows_of(lines, types))
 
     # -- jobs
 
     def run(self) -> Run:
-        """Runs the jobs that wait. Matrix methods do it where they need a result. Where the run is refused (OutOfMemory,
-        NoThread) the queue is empty all the same, and each result of it raises NotMade from then on."""
+        """Runs the jobs that wait. Matrix methods do it where they need a result. Where the run is
+        refused (OutOfMemory, NoThread) the queue is empty all the same, and each result of it
+        raises NotMade from then on."""
         return self.backend.run()

@@ -1,4 +1,5 @@
-"""Units of times: stored whole numbers that count days, seconds or the like, since 1970-01-01 (UTC) or from one time to another."""
+"""Units of times: stored whole numbers that count days, seconds or the like, since 1970-01-01 (UTC)
+or from one time to another."""
 from __future__ import annotations
 
 import datetime
@@ -10,14 +11,16 @@ import numpy
 from .io.time_values import UNITS, nanoseconds
 
 # how many nanoseconds each unit of numpy's timedelta64 has; months and years differ in length
-STEPS = {**{name: Fraction(size) for name, size in UNITS.items()}, 'W': Fraction(7 * UNITS['D']), 'h': Fraction(3600 * UNITS['s']),
-         'm': Fraction(60 * UNITS['s']), 'ps': Fraction(1, 10 ** 3), 'fs': Fraction(1, 10 ** 6), 'as': Fraction(1, 10 ** 9)}
+STEPS = {**{name: Fraction(size) for name, size in UNITS.items()}, 'W': Fraction(7 * UNITS['D']),
+         'h': Fraction(3600 * UNITS['s']),
+         'm': Fraction(60 * UNITS['s']), 'ps': Fraction(1, 10 ** 3), 'fs': Fraction(1, 10 ** 6),
+         'as': Fraction(1, 10 ** 9)}
 TIMES = (datetime.date, datetime.timedelta, numpy.datetime64, numpy.timedelta64)
 
 
 class TimeUnit(int):
-    """What values count that are times, such as "s". As a number it is 1, as stored numbers are shown as they are; but it equals no other
-    unit."""
+    """What values count that are times, such as "s". As a number it is 1, as stored numbers are
+    shown as they are; but it equals no other unit."""
 
     name: str
 
@@ -56,12 +59,14 @@ def is_time(value: Any) -> bool:
 
 
 def count(value: Any, unit: Union[int, Fraction]) -> Fraction:
-    """A time in a unit, since 1970-01-01 (UTC) or as long as it is. TypeError where the unit is none of times, ValueError for a time that is
-    missing."""
+    """A time in a unit, since 1970-01-01 (UTC) or as long as it is. TypeError where the unit is
+    none of times, ValueError for a time that is missing."""
     if not isinstance(unit, TimeUnit):
-        raise TypeError('%r is a time, and the values of this matrix are %s: A.unit = "s" says that its stored numbers are seconds since '
-                        '1970-01-01, as unit="s" does where they are read; else write a number' % (
-                            value, 'numbers' if unit == 1 else 'parts of 1/%s' % unit))
+        raise TypeError(
+            '%r is a time, and the values of this matrix are %s: A.unit = "s" says that its '
+            'stored numbers are seconds since 1970-01-01, as unit="s" does where they are read; '
+            'else write a number' % (
+                value, 'numbers' if unit == 1 else 'parts of 1/%s' % unit))
     if str(value) == 'NaT':                        # of numpy and pandas, which is equal to nothing
         raise ValueError('expected a time, not %r' % (value,))
     return _nanoseconds(value) / unit.size
@@ -74,6 +79,8 @@ def _nanoseconds(value: Any) -> Fraction:
     if isinstance(value, numpy.timedelta64):
         name, step = numpy.datetime_data(value.dtype)
         if name not in STEPS:
-            raise ValueError('%r has no length that is always the same: write it in days, or in a shorter unit' % (value,))
+            raise ValueError(
+                '%r has no length that is always the same: write it in days, or in a shorter unit'
+                % (value,))
         return int(value.astype('int64')) * step * STEPS[name]
     return Fraction(nanoseconds(value) or 0)

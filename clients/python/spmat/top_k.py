@@ -1,4 +1,5 @@
-"""The greatest entries of a matrix, found by the session: a threshold is bisected, and few entries come to the client."""
+"""The greatest entries of a matrix, found by the session: a threshold is bisected, and few entries
+come to the client."""
 from __future__ import annotations
 
 from fractions import Fraction
@@ -9,20 +10,24 @@ from .operators import Operator, indexunary
 if TYPE_CHECKING:
     from .matrix import Matrix
 
-FEW = 1 << 14                                      # entries that come to the client sooner than they are counted
+# entries that come to the client sooner than they are counted
+FEW = 1 << 14
 SPARE = 4                                          # times as many as are asked for are few enough
 
 
 def greatest(matrix: Matrix, k: int) -> Matrix:
-    """The k greatest entries, of equals the first, and some others: all entries from a threshold on. This matrix where it has few entries.
+    """The k greatest entries, of equals the first, and some others: all entries from a threshold
+    on. This matrix where it has few entries.
 
-    Runs: 4, and 1 for each halving of what lies between the least and the greatest value; of entries of one value 1 for each halving of the
-    rows or columns. Steps: 8 an entry and 4 a row for the ends, and 3 an entry from the last threshold on for each halving."""
+    Runs: 4, and 1 for each halving of what lies between the least and the greatest value; of
+    entries of one value 1 for each halving of the rows or columns. Steps: 8 an entry and 4 a row
+    for the ends, and 3 an entry from the last threshold on for each halving."""
     enough = max(FEW, SPARE * k)
     if k < 1 or matrix.nvals <= enough:
         return matrix
     unit = matrix.unit
-    least, most = matrix.reduce_scalar('min', raw=True) or 0, matrix.reduce_scalar('max', raw=True) or 0
+    least, most = (matrix.reduce_scalar('min', raw=True) or 0, matrix.reduce_scalar('max', raw=True)
+                   or 0)
     above = matrix                                 # all entries from `least` on: more than enough
     while least < most:
         middle = least + (most - least + 1) // 2
@@ -34,7 +39,8 @@ def greatest(matrix: Matrix, k: int) -> Matrix:
         else:
             most = middle - 1
     more = above.select('valuegt', Fraction(least) / unit)
-    return more.ewise_add(first_entries(above.select('valueeq', Fraction(least) / unit), k - more.nvals), 'first')
+    return more.ewise_add(first_entries(above.select('valueeq', Fraction(least) / unit),
+                                        k - more.nvals), 'first')
 
 
 def first_entries(matrix: Matrix, k: int) -> Matrix:
@@ -44,11 +50,14 @@ def first_entries(matrix: Matrix, k: int) -> Matrix:
         return rows[0]
     before = rows[0].select(indexunary.rowle, rows[1] - 1)
     last = rows[0].select(indexunary.rowgt, rows[1] - 1)
-    return before.ewise_add(_bisected(last, k - before.nvals, matrix.ncols, (indexunary.colle, indexunary.colgt))[0], 'first')
+    return before.ewise_add(_bisected(last, k - before.nvals, matrix.ncols,
+                                      (indexunary.colle, indexunary.colgt))[0], 'first')
 
 
-def _bisected(matrix: Matrix, k: int, count: int, ops: Tuple[Operator, Operator]) -> Tuple[Matrix, int]:
-    """The entries up to the first row, or column, by which there are k of them or more; and that row."""
+def _bisected(matrix: Matrix, k: int, count: int,
+              ops: Tuple[Operator, Operator]) -> Tuple[Matrix, int]:
+    """The entries up to the first row, or column, by which there are k of them or more; and that
+    row."""
     low, high, found = 0, count - 1, matrix
     while low < high:
         middle = (low + high) // 2

@@ -18,8 +18,9 @@ from .matrix import Matrix
 class Vector(Matrix):
     """A column or a row, seen as a vector: one index for each entry, as in python-graphblas.
 
-    It is a matrix of one column, or of one row, with all methods of `Matrix`. What differs: `size`, `v[i]`, `i in v`, and the results of
-    `to_coo` and `to_dense`. Algorithms give vectors, and so does every job on one whose result has one column or row.
+    It is a matrix of one column, or of one row, with all methods of `Matrix`. What differs: `size`,
+    `v[i]`, `i in v`, and the results of `to_coo` and `to_dense`. Algorithms give vectors, and so
+    does every job on one whose result has one column or row.
 
     Parameters
     ----------
@@ -34,9 +35,11 @@ class Vector(Matrix):
 
     is_vector = True
 
-    def __init__(self, column: Matrix) -> None:  # pylint: disable=super-init-not-called  # it is the same matrix
+    def __init__(self, column: Matrix) -> None:  # pylint: disable=super-init-not-called
+        # it is the same matrix
         if 1 not in column.shape:
-            raise refusal('J5', detail='a vector is of a column or a row, not of %dx%d' % column.shape)
+            raise refusal('J5', detail='a vector is of a column or a row, not of %dx%d'
+                          % column.shape)
         self.__dict__.update(column.__dict__)
         self.handle.add_matrix(self)
 
@@ -47,8 +50,9 @@ class Vector(Matrix):
 
     @reading
     def __getitem__(self, at: Any) -> Any:
-        """`v[i]`: the value of a vertex, None where it has none. `v[indexes]`, `v[1:3]` and `v[mask]` are vectors. `v[i, j]` is as for
-        a matrix, unless (i, j) is a name. See `Matrix.__getitem__`."""
+        """`v[i]`: the value of a vertex, None where it has none. `v[indexes]`, `v[1:3]` and
+        `v[mask]` are vectors. `v[i, j]` is as for a matrix, unless (i, j) is a name. See
+        `Matrix.__getitem__`."""
         axis = 0 if self.ncols == 1 else 1
         if isinstance(at, Mask) or isinstance(at, tuple) and not self._has_name(at, axis):
             return super().__getitem__(at)
@@ -74,8 +78,10 @@ class Vector(Matrix):
         return self.get(node) is not None
 
     @reading
-    def to_coo(self, *, arrays: Optional[bool] = None, dtype: Any = None) -> Tuple[Any, Any]:  # type: ignore[override]
-        """Indexes (from 0) and values, by ascending index. `entries()` has rows, columns and values.
+    def to_coo(  # type: ignore[override]
+            self, *, arrays: Optional[bool] = None, dtype: Any = None) -> Tuple[Any, Any]:
+        """Indexes (from 0) and values, by ascending index. `entries()` has rows, columns and
+        values.
 
         Parameters
         ----------
@@ -92,7 +98,8 @@ class Vector(Matrix):
 
     @reading
     def to_dense(self, fill: Any = 0, dtype: Any = None, *, fill_value: Any = None) -> Any:
-        """An array of numpy of one dimension, `fill` where there is no entry. Else as `Matrix.to_dense`."""
+        """An array of numpy of one dimension, `fill` where there is no entry. Else as
+        `Matrix.to_dense`."""
         return numpy.asarray(super().to_dense(fill, dtype, fill_value=fill_value)).ravel()
 
     def reduce(self, op: Any = 'plus') -> Any:
@@ -101,7 +108,8 @@ class Vector(Matrix):
 
 
 def as_vector(column: Any) -> Any:
-    """A column or a row as a vector, of whatever class of matrices it is; anything else as it is."""
+    """A column or a row as a vector, of whatever class of matrices it is; anything else as it
+    is."""
     if not isinstance(column, Matrix) or column.is_vector or 1 not in column.shape:
         return column
     made = alias(column, column.notes)
@@ -114,7 +122,8 @@ def _vector_type(kind: Type[Matrix]) -> Type[Matrix]:
     """The class of vectors that are matrices of a class."""
     if kind is Matrix:
         return Vector
-    return type(kind.__name__, (Vector, kind), {'__doc__': kind.__doc__, '__module__': kind.__module__})
+    return type(kind.__name__, (Vector, kind),
+                {'__doc__': kind.__doc__, '__module__': kind.__module__})
 
 
 def as_matrix(one: Any) -> Any:
@@ -122,6 +131,7 @@ def as_matrix(one: Any) -> Any:
     if not isinstance(one, Vector):
         return one
     made = alias(one, one.notes)
-    kinds = [kind for kind in type(one).__mro__ if issubclass(kind, Matrix) and not issubclass(kind, Vector)]
+    kinds = [kind for kind in type(one).__mro__ if issubclass(kind, Matrix)
+             and not issubclass(kind, Vector)]
     made.__class__ = kinds[0]  # type: ignore[assignment]
     return made

@@ -1,4 +1,5 @@
-"""What the tests of the command line share: commands in a folder, in this process, or in one of their own where text is handed in."""
+"""What the tests of the command line share: commands in a folder, in this process, or in one of
+their own where text is handed in."""
 import contextlib
 import io
 import os
@@ -28,7 +29,8 @@ class CommandLine(unittest.TestCase):
         self.folder = folder.name
 
     def write(self, name, text):
-        with open(os.path.join(self.folder, name), 'wb' if isinstance(text, bytes) else 'w') as file:
+        with open(os.path.join(self.folder, name), 'wb' if isinstance(text, bytes)
+                  else 'w') as file:
             file.write(text)
 
     def read(self, name):
@@ -37,12 +39,15 @@ class CommandLine(unittest.TestCase):
 
     def run_words(self, *words, text=None):
         if text is not None:
-            return subprocess.run([sys.executable, '-m', 'spmat', *words], cwd=self.folder, input=text, stdout=subprocess.PIPE,
-                                  stderr=subprocess.PIPE, text=True, timeout=300, env=dict(os.environ, PYTHONPATH=PACKAGE), check=False)
+            return subprocess.run([sys.executable, '-m', 'spmat', *words], cwd=self.folder,
+                                  input=text, stdout=subprocess.PIPE, stderr=subprocess.PIPE,
+                                  text=True, timeout=300, env=dict(os.environ, PYTHONPATH=PACKAGE),
+                                  check=False)
         here = os.getcwd()
         os.chdir(self.folder)
         try:
-            with contextlib.redirect_stdout(io.StringIO()) as stdout, contextlib.redirect_stderr(io.StringIO()) as stderr:
+            with contextlib.redirect_stdout(io.StringIO()) as stdout, \
+                    contextlib.redirect_stderr(io.StringIO()) as stderr:
                 try:
                     status = main(list(words))
                 except SystemExit as ended:

@@ -1,4 +1,5 @@
-"""Functions that tests run at Dask's workers and at its scheduler, which import this module by its name."""
+"""Functions that tests run at Dask's workers and at its scheduler, which import this module by its
+name."""
 import collections
 import os
 
@@ -6,8 +7,10 @@ from spmat.blocks import worker_store
 
 
 def computed_again(dask_scheduler):
-    """How often tasks of each kind were computed more than once, by what the scheduler wrote down."""
-    ends = collections.Counter(entry[0] for entry in dask_scheduler.transition_log if entry[1:3] == ('processing', 'memory'))
+    """How often tasks of each kind were computed more than once, by what the scheduler wrote
+    down."""
+    ends = collections.Counter(entry[0] for entry in dask_scheduler.transition_log
+                               if entry[1:3] == ('processing', 'memory'))
     out = collections.Counter()
     for key, many in ends.items():
         if str(key).startswith('spmat_') and many > 1:

@@ -1,5 +1,5 @@
-"""Matrices as finite maps of Python, {(row, column): value}, and the client's methods on them: what random calls are compared
-with."""
+"""Matrices as finite maps of Python, {(row, column): value}, and the client's methods on them: what
+random calls are compared with."""
 
 
 def signed(value):
@@ -12,13 +12,18 @@ def truncated(x, y):
     return 0 if y == 0 else signed(abs(x) // abs(y) * (1 if (x < 0) == (y < 0) else -1))
 
 
-UNARY = {'identity': lambda x: x, 'one': lambda x: 1, 'ainv': lambda x: -x, 'abs': abs, 'bnot': lambda x: ~x,
+UNARY = {'identity': lambda x: x, 'one': lambda x: 1, 'ainv': lambda x: -x, 'abs': abs,
+         'bnot': lambda x: ~x,
          'lnot': lambda x: x == 0}
-BINARY = {'plus': lambda x, y: x + y, 'minus': lambda x, y: x - y, 'times': lambda x, y: x * y, 'min': min, 'max': max,
-          'first': lambda x, y: x, 'second': lambda x, y: y, 'cdiv': truncated, 'ne': lambda x, y: x != y}
+BINARY = {'plus': lambda x, y: x + y, 'minus': lambda x, y: x - y, 'times': lambda x, y: x * y,
+          'min': min, 'max': max,
+          'first': lambda x, y: x, 'second': lambda x, y: y, 'cdiv': truncated,
+          'ne': lambda x, y: x != y}
 ASSOCIATIVE = ('plus', 'times', 'min', 'max', 'first', 'second')
-INDEX = {'tril': lambda x, i, j, t: j <= i + t, 'triu': lambda x, i, j, t: j >= i + t, 'rowle': lambda x, i, j, t: i <= t,
-         'valuegt': lambda x, i, j, t: x > t, 'offdiag': lambda x, i, j, t: j != i + t, 'rowindex': lambda x, i, j, t: i + t}
+INDEX = {'tril': lambda x, i, j, t: j <= i + t, 'triu': lambda x, i, j, t: j >= i + t,
+         'rowle': lambda x, i, j, t: i <= t,
+         'valuegt': lambda x, i, j, t: x > t, 'offdiag': lambda x, i, j, t: j != i + t,
+         'rowindex': lambda x, i, j, t: i + t}
 
 
 def fold(op, values):
@@ -34,7 +39,8 @@ def folded(op, terms):
 
 
 def union(a, b, op):
-    return {p: signed(BINARY[op](a[p], b[p])) if p in a and p in b else a.get(p, b.get(p)) for p in {**a, **b}}
+    return {p: signed(BINARY[op](a[p], b[p])) if p in a and p in b else a.get(p, b.get(p))
+            for p in {**a, **b}}
 
 
 def both(a, b, op):

@@ -5,7 +5,9 @@ import operator
 
 from operator_model import LEAST, MOST, helper
 
-where, cdiv, cmod, udiv, umod, ult, rsh = map(helper, ('where', 'cdiv', 'cmod', 'udiv', 'umod', 'ult', 'rsh'))
+where, cdiv, cmod, udiv, umod, ult, rsh = map(helper,
+                                              ('where', 'cdiv', 'cmod', 'udiv', 'umod', 'ult',
+                                               'rsh'))
 
 
 def toll(x, y):
@@ -165,7 +167,8 @@ def nested(x, y):
 
 
 def packed(x, y):
-    """The lesser cost of two words of (cost, hops), and of equal costs the fewer hops; both grow along a path."""
+    """The lesser cost of two words of (cost, hops), and of equal costs the fewer hops; both grow
+    along a path."""
     cost, hops = (x >> 16) + (y >> 16), (x & 0xffff) + (y & 0xffff)
     return cost << 16 | min(hops, 0xffff)
 
@@ -195,46 +198,67 @@ class Whole:
 LIST = [lambda x, y, k=k: x + k * y for k in range(3)]
 FIVE = Whole(5)
 NAMED = [
-    ('binary', toll), ('unary', sign), ('unary', clamp), ('unary', grade), ('binary', score), ('binary', vote), ('binary', move),
-    ('unary', collatz), ('unary', collatz_steps), ('unary', bits), ('unary', count_bits), ('binary', crc), ('unary', mixed),
-    ('unary', isqrt), ('index', median), ('index', spread), ('binary', many), ('unary', digits), ('binary', saturating),
-    ('binary', gcd_steps), ('unary', table), ('unary', dictionary), ('unary', quarter), ('binary', nested), ('binary', packed),
-    ('binary', Weighted(7)), ('binary', Weighted(-3).method), ('binary', LIST[0]), ('binary', LIST[2]),
-    ('binary', functools.partial(lambda k, x, y: k - x * y, 9)), ('binary', operator.add), ('binary', min), ('binary', max),
-    ('unary', abs), ('unary', operator.neg), ('unary', operator.invert), ('unary', bool), ('unary', operator.not_)]
+    ('binary', toll), ('unary', sign), ('unary', clamp), ('unary', grade), ('binary', score),
+    ('binary', vote), ('binary', move),
+    ('unary', collatz), ('unary', collatz_steps), ('unary', bits), ('unary', count_bits),
+    ('binary', crc), ('unary', mixed),
+    ('unary', isqrt), ('index', median), ('index', spread), ('binary', many), ('unary', digits),
+    ('binary', saturating),
+    ('binary', gcd_steps), ('unary', table), ('unary', dictionary), ('unary', quarter),
+    ('binary', nested), ('binary', packed),
+    ('binary', Weighted(7)), ('binary', Weighted(-3).method), ('binary', LIST[0]),
+    ('binary', LIST[2]),
+    ('binary', functools.partial(lambda k, x, y: k - x * y, 9)), ('binary', operator.add),
+    ('binary', min), ('binary', max),
+    ('unary', abs), ('unary', operator.neg), ('unary', operator.invert), ('unary', bool),
+    ('unary', operator.not_)]
 UNARY = [
-    lambda x: x // 10, lambda x: x % 10, lambda x: x // -10, lambda x: x % -10, lambda x: x // 8 + x % 8,
-    lambda x: x // LEAST + x % LEAST, lambda x: x // MOST + x % MOST, lambda x: x // 2 ** 40 % 1000, lambda x: x // -1,
-    lambda x: x // -8 + x % -8, lambda x: (x << 70) + (x >> 70) + (x << 3), lambda x: 1 << x, lambda x: -5 >> x,
-    lambda x: x ** 5 + x ** 0 + x ** 1, lambda x: x * 0x9E3779B97F4A7C15 ^ x, lambda x: abs(x) + abs(-x), lambda x: x < 2 ** 63,
-    lambda x: x > 2 ** 31 - 1, lambda x: x <= -2 ** 31 - 1, lambda x: (x == 2 ** 40) - (x < -2 ** 40), lambda x: x + 2 ** 31,
-    lambda x: x - 2 ** 31, lambda x: 2 ** 40 - x, lambda x: 7, lambda x: LEAST, lambda x: (x >> 5 & 1) + (x >> 40 & 1) + (x & 4 == 4),
-    lambda x: sum(x > k for k in (10, 20, 30)), lambda x: any(x == k * k for k in range(5)), lambda x: max(range(x & 3), default=9),
-    lambda x: math.prod(range(1, 2 + (x & 3))), lambda x: x.bit_length(), lambda x: x.bit_count(), lambda x: x.real + x.conjugate(),
-    lambda x: round(x) + round(x, 2), lambda x: pow(x, 3), lambda x: x if x else -1, lambda x: (x > 5) * x + (x <= 5) * 7,
-    lambda x: True + x - False, lambda x: int(x > 3) * 2 + (x is None), lambda x: [10, 20, 30][x % 3], lambda x: (x & 1) * 2 ** 62 * 4]
+    lambda x: x // 10, lambda x: x % 10, lambda x: x // -10, lambda x: x % -10,
+    lambda x: x // 8 + x % 8, lambda x: x // LEAST + x % LEAST, lambda x: x // MOST + x % MOST,
+    lambda x: x // 2 ** 40 % 1000, lambda x: x // -1, lambda x: x // -8 + x % -8,
+    lambda x: (x << 70) + (x >> 70) + (x << 3), lambda x: 1 << x, lambda x: -5 >> x,
+    lambda x: x ** 5 + x ** 0 + x ** 1, lambda x: x * 0x9E3779B97F4A7C15 ^ x,
+    lambda x: abs(x) + abs(-x), lambda x: x < 2 ** 63, lambda x: x > 2 ** 31 - 1,
+    lambda x: x <= -2 ** 31 - 1, lambda x: (x == 2 ** 40) - (x < -2 ** 40), lambda x: x + 2 ** 31,
+    lambda x: x - 2 ** 31, lambda x: 2 ** 40 - x, lambda x: 7, lambda x: LEAST,
+    lambda x: (x >> 5 & 1) + (x >> 40 & 1) + (x & 4 == 4),
+    lambda x: sum(x > k for k in (10, 20, 30)), lambda x: any(x == k * k for k in range(5)),
+    lambda x: max(range(x & 3), default=9), lambda x: math.prod(range(1, 2 + (x & 3))),
+    lambda x: x.bit_length(), lambda x: x.bit_count(), lambda x: x.real + x.conjugate(),
+    lambda x: round(x) + round(x, 2), lambda x: pow(x, 3), lambda x: x if x else -1,
+    lambda x: (x > 5) * x + (x <= 5) * 7, lambda x: True + x - False,
+    lambda x: int(x > 3) * 2 + (x is None), lambda x: [10, 20, 30][x % 3],
+    lambda x: (x & 1) * 2 ** 62 * 4]
 BINARY = [
-    lambda x, y: sum(divmod(x, y)), lambda x, y: divmod(x, 7)[0] - divmod(y, -7)[1], lambda x, y: x // y, lambda x, y: x % y,
-    lambda x, y: x // y if y else 0, lambda x, y: x % y if y > 0 else x // -3, lambda x, y: 100 // x + 100 % y,
-    lambda x, y: x << y, lambda x, y: x >> y, lambda x, y: (x << (y & 63)) ^ (x >> (y & 63)), lambda x, y: x > 3 and y < 5,
-    lambda x, y: (x > 3) & (y < 5), lambda x, y: (x > 3) | ~(y < 5), lambda x, y: (x > 3) ^ (y < 5), lambda x, y: (x > 3) == (y > 3),
-    lambda x, y: x or y, lambda x, y: not (x and y), lambda x, y: 0 < x < y <= 100, lambda x, y: x in (1, 2, 3, y),
-    lambda x, y: 5 * (y > 10) + x, lambda x, y: where(y > 10, x, y) * 2 + 1, lambda x, y: where((x > 0) & (y > 0), x * y, 0),
-    lambda x, y: x if x == y else x ^ y, lambda x, y: int(x > y) + [10, 20][y > 5], lambda x, y: x != y,
+    lambda x, y: sum(divmod(x, y)), lambda x, y: divmod(x, 7)[0] - divmod(y, -7)[1],
+    lambda x, y: x // y, lambda x, y: x % y, lambda x, y: x // y if y else 0,
+    lambda x, y: x % y if y > 0 else x // -3, lambda x, y: 100 // x + 100 % y, lambda x, y: x << y,
+    lambda x, y: x >> y, lambda x, y: (x << (y & 63)) ^ (x >> (y & 63)),
+    lambda x, y: x > 3 and y < 5, lambda x, y: (x > 3) & (y < 5), lambda x, y: (x > 3) | ~(y < 5),
+    lambda x, y: (x > 3) ^ (y < 5), lambda x, y: (x > 3) == (y > 3), lambda x, y: x or y,
+    lambda x, y: not (x and y), lambda x, y: 0 < x < y <= 100, lambda x, y: x in (1, 2, 3, y),
+    lambda x, y: 5 * (y > 10) + x, lambda x, y: where(y > 10, x, y) * 2 + 1,
+    lambda x, y: where((x > 0) & (y > 0), x * y, 0), lambda x, y: x if x == y else x ^ y,
+    lambda x, y: int(x > y) + [10, 20][y > 5], lambda x, y: x != y,
     lambda x, y: cdiv(x, y) * 3 + cmod(x, y), lambda x, y: udiv(x, y) + umod(x, 10) + ult(x, y),
     lambda x, y: ult(x, 5) + (not ult(7, y)), lambda x, y: x + FIVE * y - FIVE,
-    lambda x, y: round(x) + math.floor(y) + math.trunc(x) - math.ceil(y), lambda x, y: sorted([x, y, 5])[1],
-    lambda x, y: where(x, 3, 5) * y, lambda x, y: min(x, y, key=abs), lambda x, y: max(0, x - y), lambda x, y: abs(x - y) <= 3]
+    lambda x, y: round(x) + math.floor(y) + math.trunc(x) - math.ceil(y),
+    lambda x, y: sorted([x, y, 5])[1], lambda x, y: where(x, 3, 5) * y,
+    lambda x, y: min(x, y, key=abs), lambda x, y: max(0, x - y), lambda x, y: abs(x - y) <= 3]
 INDEX = [
-    lambda x, row, column, thunk: column - row <= thunk, lambda x, row, column, thunk: row // 3 == column // 3,
-    lambda x, row, column, thunk: x if (row + column) % 2 else -x, lambda x, row, column, thunk: row * 1000 + column % 7,
-    lambda *four: sum(four), lambda x, row, column, thunk: x * (row == column) + thunk * (row < column),
-    lambda x, row, column, thunk: row % (thunk & 7 | 1) == 0, lambda x, row, column, thunk: (row << 24 | column) + (thunk and x)]
-FUNCTIONS = NAMED + [('unary', function) for function in UNARY] + [('binary', function) for function in BINARY] + [
-    ('index', function) for function in INDEX]
+    lambda x, row, column, thunk: column - row <= thunk,
+    lambda x, row, column, thunk: row // 3 == column // 3, lambda x, row, column, thunk: x
+    if (row + column) % 2 else -x, lambda x, row, column, thunk: row * 1000 + column % 7,
+    lambda *four: sum(four), lambda x, row, column, thunk: x * (row == column) + thunk
+    * (row < column), lambda x, row, column, thunk: row % (thunk & 7 | 1) == 0,
+    lambda x, row, column, thunk: (row << 24 | column) + (thunk and x)]
+FUNCTIONS = NAMED + [('unary', function)
+                     for function in UNARY] + [('binary', function) for function in BINARY] + [
+                         ('index', function) for function in INDEX]
 # Index operators that take the first operands alone, and what they mean with all four.
 SHORT = [
-    (lambda x: x * 2, lambda x, row, column, thunk: x * 2), (lambda x, row: x + row, lambda x, row, column, thunk: x + row),
+    (lambda x: x * 2, lambda x, row, column, thunk: x * 2),
+    (lambda x, row: x + row, lambda x, row, column, thunk: x + row),
     (lambda x, row, column: row < column, lambda x, row, column, thunk: row < column),
     (lambda x, factor=3: x * factor, lambda x, row, column, thunk: x * 3),
     (lambda x, row, column, thunk=5: x + thunk, lambda x, row, column, thunk: x + thunk)]

@@ -1,6 +1,8 @@
-"""Python's meaning of an operator's function on words of 64 bits, and the plain machine that runs what it becomes.
+"""Python's meaning of an operator's function on words of 64 bits, and the plain machine that runs
+what it becomes.
 
-This says what docs/operators.md says of each of Python's operations, apart from the package's own code.
+This says what docs/operators.md says of each of Python's operations, apart from the package's own
+code.
 """
 import operator
 import random
@@ -16,8 +18,9 @@ from reference.verifier import verify  # noqa: E402
 
 WORD = (1 << 64) - 1
 LEAST, MOST = -2 ** 63, 2 ** 63 - 1
-EDGES = [0, 1, -1, 2, -2, 3, -3, 5, 7, -7, 8, 10, 11, 31, 32, 63, 64, 65, 100, -100, 255, 2 ** 31 - 1, 2 ** 31, 2 ** 31 + 1, -2 ** 31,
-         -2 ** 31 - 1, 2 ** 32, 2 ** 62, MOST, MOST - 1, LEAST, LEAST + 1]
+EDGES = [0, 1, -1, 2, -2, 3, -3, 5, 7, -7, 8, 10, 11, 31, 32, 63, 64, 65, 100, -100, 255,
+         2 ** 31 - 1, 2 ** 31, 2 ** 31 + 1, -2 ** 31, -2 ** 31 - 1, 2 ** 32, 2 ** 62, MOST,
+         MOST - 1, LEAST, LEAST + 1]
 COUNTS = {'unary': 1, 'binary': 2, 'index': 4}
 READY = {'unary': spmat.unary, 'binary': spmat.binary, 'index': spmat.indexunary}
 
@@ -41,8 +44,9 @@ WRAPPED_FIRST = [MEANINGS[name] for name in ('floordiv', 'mod', 'rshift', 'divmo
 
 
 class Model:
-    """A word with the meaning that the page gives to Python's operations: each result wraps; x // 0 is 0, x % 0 is x; a shift by 64 or
-    more, or by less than 0, leaves nothing of << and the sign of >>. It is no int, since True + 3 of ints is an int."""
+    """A word with the meaning that the page gives to Python's operations: each result wraps; x // 0
+    is 0, x % 0 is x; a shift by 64 or more, or by less than 0, leaves nothing of << and the sign of
+    >>. It is no int, since True + 3 of ints is an int."""
 
     def __init__(self, word):
         self.word = signed(word)
@@ -111,13 +115,16 @@ def _quotient(x, y):
 
 # What the functions without a sign in Python mean, by Python's numbers.
 SIGNLESS = {
-    'where': lambda c, a, b: a if c else b, 'cdiv': _quotient, 'cmod': lambda x, y: x - y * _quotient(x, y),
-    'udiv': lambda x, y: (x & WORD) // (y & WORD) if y else 0, 'umod': lambda x, y: (x & WORD) % (y & WORD) if y else x,
+    'where': lambda c, a, b: a if c else b, 'cdiv': _quotient,
+    'cmod': lambda x, y: x - y * _quotient(x, y),
+    'udiv': lambda x, y: (x & WORD) // (y & WORD) if y else 0,
+    'umod': lambda x, y: (x & WORD) % (y & WORD) if y else x,
     'ult': lambda x, y: (x & WORD) < (y & WORD), 'rsh': lambda x, y: (x & WORD) >> (y & 63)}
 
 
 def helper(name):
-    """A function of `spmat` that has its meaning of the model's words, and of an operator's operands the package's."""
+    """A function of `spmat` that has its meaning of the model's words, and of an operator's
+    operands the package's."""
     def called(*operands):
         if any(isinstance(each, Model) for each in operands):
             return Model(SIGNLESS[name](*map(_plain, operands)))
@@ -148,8 +155,9 @@ class Plain:
         most = {}
         for each in reversed(self.program.instructions):
             group, action = each.spelling.group, each.spelling.action
-            follow = [] if group == 'exit' else [each.target] if action == 'ja' else [each.after] + (
-                [each.target] if each.target is not None else [])
+            follow = ([] if group == 'exit' else [each.target] if action == 'ja'
+                      else [each.after] + (
+                          [each.target] if each.target is not None else []))
             most[each.slot] = 1 + max((most[slot] for slot in follow), default=0)
         return most[0]
 
@@ -160,17 +168,19 @@ def meaning(function, operands):
 
 
 def operands_of(dice, kind):
-    """Operands of a call: edges, small numbers, and any words; rows and columns as matrices have them."""
-    out = [dice.choice(EDGES) if dice.random() < 0.6 else dice.randrange(-120, 120) if dice.random() < 0.7 else
-           signed(dice.getrandbits(64)) for _ in range(COUNTS[kind])]
+    """Operands of a call: edges, small numbers, and any words; rows and columns as matrices have
+    them."""
+    out = [dice.choice(EDGES) if dice.random() < 0.6 else dice.randrange(-120, 120)
+           if dice.random() < 0.7 else signed(dice.getrandbits(64)) for _ in range(COUNTS[kind])]
     if kind == 'index':
-        out[1:3] = [dice.randrange(1 << 24) if dice.random() < 0.4 else dice.randrange(12) for _ in range(2)]
+        out[1:3] = [dice.randrange(1 << 24) if dice.random() < 0.4 else dice.randrange(12)
+                    for _ in range(2)]
     return out
 
 
 def differences(op, function, kind, times, seed=1):
-    """Calls in which the plain machine says something else of an operator than the model, or takes more steps than it has
-    instructions: (operands, what it gave, what was expected)."""
+    """Calls in which the plain machine says something else of an operator than the model, or takes
+    more steps than it has instructions: (operands, what it gave, what was expected)."""
     plain, dice = Plain(op), random.Random(seed)
     found = []
     for _ in range(times):

@@ -1,4 +1,5 @@
-"""Random functions as users might write them, as source: expressions, conditions, branches, short loops, look-ups."""
+"""Random functions as users might write them, as source: expressions, conditions, branches, short
+loops, look-ups."""
 import random
 
 from operator_model import helper
@@ -7,10 +8,11 @@ UNARY = ('-%s', '~%s', 'abs(%s)', '(not %s)', '%s ** 2', '%s ** 3')
 METHODS = ('(%s).bit_length()', '(%s).bit_count()')
 ARITHMETIC = ('+', '-', '*', '&', '|', '^', '+', '-', '*', '//', '%', '<<', '>>')
 COMPARISONS = ('<', '<=', '>', '>=', '==', '!=')
-CONSTANTS = (0, 1, 2, 3, 5, 7, 8, 10, 16, 63, 64, 100, -1, -2, -3, -7, -8, 255, 2 ** 31 - 1, 2 ** 31, -2 ** 31, -2 ** 31 - 1, 2 ** 32,
-             2 ** 62, 2 ** 63 - 1, -2 ** 63)
+CONSTANTS = (0, 1, 2, 3, 5, 7, 8, 10, 16, 63, 64, 100, -1, -2, -3, -7, -8, 255, 2 ** 31 - 1,
+             2 ** 31, -2 ** 31, -2 ** 31 - 1, 2 ** 32, 2 ** 62, 2 ** 63 - 1, -2 ** 63)
 DIVISORS = (1, 2, 3, 7, 8, 10, 64, -1, -2, -3, -7, -2 ** 63, 2 ** 63 - 1, 2 ** 40, 1000)
-TABLES = ('(3, 1, 4, 1, 5, 9, 2, 6)[%s %% 8]', '[7, -2 ** 40, 0, 1][%s & 3]', '{0: 5, 2: -1}.get(%s %% 5, 3)', '((%s & 7) in (1, 4, 6))')
+TABLES = ('(3, 1, 4, 1, 5, 9, 2, 6)[%s %% 8]', '[7, -2 ** 40, 0, 1][%s & 3]',
+          '{0: 5, 2: -1}.get(%s %% 5, 3)', '((%s & 7) in (1, 4, 6))')
 HELPERS = {name: helper(name) for name in ('where', 'rsh', 'udiv', 'umod', 'ult', 'cdiv', 'cmod')}
 PARAMETERS = {'unary': ('x',), 'binary': ('x', 'y'), 'index': ('x', 'row', 'column', 'thunk')}
 
@@ -26,7 +28,8 @@ class Writer:
         self.dice, self.names = dice, list(names)
 
     def constant(self):
-        return '(%d)' % (self.dice.choice(CONSTANTS) if self.dice.random() < 0.7 else self.dice.randrange(-20, 20))
+        return '(%d)' % (self.dice.choice(CONSTANTS) if self.dice.random() < 0.7
+                         else self.dice.randrange(-20, 20))
 
     def expression(self, deep):
         dice = self.dice
@@ -38,19 +41,24 @@ class Writer:
         if kind < 0.6:
             return self.arithmetic(deep)
         if kind < 0.7:
-            return '(%s if %s else %s)' % (self.expression(deep - 1), self.condition(deep - 1), self.expression(deep - 1))
+            return '(%s if %s else %s)' % (self.expression(deep - 1), self.condition(deep - 1),
+                                           self.expression(deep - 1))
         if kind < 0.78:
-            return 'where(%s, %s, %s)' % (self.condition(deep - 1), self.expression(deep - 1), self.expression(deep - 1))
+            return 'where(%s, %s, %s)' % (self.condition(deep - 1), self.expression(deep - 1),
+                                          self.expression(deep - 1))
         if kind < 0.84:
-            return '%s(%s, %s)' % (dice.choice(('min', 'max')), self.expression(deep - 1), self.expression(deep - 1))
+            return '%s(%s, %s)' % (dice.choice(('min', 'max')), self.expression(deep - 1),
+                                   self.expression(deep - 1))
         if kind < 0.9:
             return '(%s)' % self.condition(deep - 1)
         if kind < 0.93:
             return dice.choice(TABLES) % ('(%s)' % self.word(deep - 1))
         if kind < 0.94:
             return dice.choice(METHODS) % self.word(deep - 2)
-        return '%s(%s, %s)' % (dice.choice(('rsh', 'udiv', 'umod', 'cdiv', 'cmod')), self.expression(deep - 1),
-                               self.expression(deep - 1) if dice.random() < 0.5 else self.constant())
+        return '%s(%s, %s)' % (dice.choice(('rsh', 'udiv', 'umod', 'cdiv', 'cmod')),
+                               self.expression(deep - 1),
+                               self.expression(deep - 1) if dice.random() < 0.5
+                               else self.constant())
 
     def word(self, deep):
         """An expression that is no number of Python's."""
@@ -74,7 +82,8 @@ class Writer:
         return '(%s %s %s)' % (left, op, right)
 
     def comparison(self, deep):
-        return '%s %s %s' % (self.expression(deep - 1), self.dice.choice(COMPARISONS), self.expression(deep - 1))
+        return '%s %s %s' % (self.expression(deep - 1), self.dice.choice(COMPARISONS),
+                             self.expression(deep - 1))
 
     def condition(self, deep):
         dice, kind = self.dice, self.dice.random()
@@ -83,12 +92,15 @@ class Writer:
         if kind < 0.65:
             return '%s & %s' % (dice.choice(self.names), self.constant())
         if kind < 0.8:
-            return '(%s) %s (%s)' % (self.condition(deep - 1), dice.choice(('and', 'or')), self.condition(deep - 1))
+            return '(%s) %s (%s)' % (self.condition(deep - 1), dice.choice(('and', 'or')),
+                                     self.condition(deep - 1))
         if kind < 0.9:
-            return '((%s) %s (%s))' % (self.comparison(deep - 1), dice.choice('&|^'), self.comparison(deep - 1))
+            return '((%s) %s (%s))' % (self.comparison(deep - 1), dice.choice('&|^'),
+                                       self.comparison(deep - 1))
         if kind < 0.95:
             return 'not (%s)' % self.condition(deep - 1)
-        return '%sult(%s, %s)' % (dice.choice(('', 'not ')), self.expression(deep - 1), self.expression(deep - 1))
+        return '%sult(%s, %s)' % (dice.choice(('', 'not ')), self.expression(deep - 1),
+                                  self.expression(deep - 1))
 
     def statements(self, count, indent, deep):
         """Lines of a body."""
@@ -107,18 +119,22 @@ class Writer:
         if kind < 0.35:
             return ['%s%s = %s' % (indent, target, self.expression(deep))]
         if kind < 0.5:
-            return ['%s%s %s= %s' % (indent, target, dice.choice('+-*^'), self.expression(deep - 1))]
+            return ['%s%s %s= %s' % (indent, target, dice.choice('+-*^'),
+                                     self.expression(deep - 1))]
         if kind < 0.8 and len(indent) < 12:
             return self.branches(indent, deep)
         if kind < 0.9:
-            return ['%sif %s: return %s' % (indent, self.condition(deep - 1), self.expression(deep - 1))]
+            return ['%sif %s: return %s' % (indent, self.condition(deep - 1),
+                                            self.expression(deep - 1))]
         return ['%sfor k in range(%d):' % (indent, dice.randrange(2, 4)),
                 '%s    %s = %s + k * %s' % (indent, target, target, self.expression(deep - 2))]
 
     def branches(self, indent, deep):
-        lines = ['%sif %s:' % (indent, self.condition(deep - 1)), *self.statements(1, indent + '    ', deep - 1)]
+        lines = ['%sif %s:' % (indent, self.condition(deep - 1)),
+                 *self.statements(1, indent + '    ', deep - 1)]
         if self.dice.random() < 0.3:
-            lines += ['%selif %s:' % (indent, self.condition(deep - 1)), *self.statements(1, indent + '    ', deep - 1)]
+            lines += ['%selif %s:' % (indent, self.condition(deep - 1)),
+                      *self.statements(1, indent + '    ', deep - 1)]
         if self.dice.random() < 0.5:
             lines += ['%selse:' % indent, *self.statements(1, indent + '    ', deep - 1)]
         return lines

@@ -1,4 +1,5 @@
-"""What the tests share: the program, a session, TCP between a client and it, and a server whose replies a test writes."""
+"""What the tests share: the program, a session, TCP between a client and it, and a server whose
+replies a test writes."""
 import contextlib
 import faulthandler
 import importlib.util
@@ -13,13 +14,16 @@ import unittest
 import spmat
 
 TOP = os.path.normpath(os.path.join(os.path.dirname(os.path.abspath(__file__)), '..', '..', '..'))
-CLIENT = os.path.dirname(os.path.dirname(os.path.abspath(spmat.__file__)))          # the folder that spmat is imported from
+# the folder that spmat is imported from
+CLIENT = os.path.dirname(os.path.dirname(os.path.abspath(spmat.__file__)))
 BANNER = '%%MatrixMarket matrix coordinate integer general\n'
 
 
 def program():
-    """The built program: the variable SPMAT, `spmat` on the PATH, or crates/spmat/out/spmat, in this order."""
-    found = os.environ.get('SPMAT') or shutil.which('spmat') or os.path.join(TOP, 'crates', 'spmat', 'out', 'spmat')
+    """The built program: the variable SPMAT, `spmat` on the PATH, or crates/spmat/out/spmat, in
+    this order."""
+    found = (os.environ.get('SPMAT') or shutil.which('spmat')
+             or os.path.join(TOP, 'crates', 'spmat', 'out', 'spmat'))
     if not os.environ.get('SPMAT') and not os.path.exists(found):
         raise FileNotFoundError('the tests want the built program: set SPMAT, or build it')
     return found
@@ -28,11 +32,13 @@ def program():
 os.environ['SPMAT'] = program()
 
 
-LONGEST = 900                                      # seconds of a test, on a busy machine and by the program with run-time checks
+# seconds of a test, on a busy machine and by the program with run-time checks
+LONGEST = 900
 
 
 def _watched(test, result=None, run=unittest.TestCase.run):
-    """Runs a test. One that hangs ends all, and tells by names and lines where each thread stands."""
+    """Runs a test. One that hangs ends all, and tells by names and lines where each thread
+    stands."""
     faulthandler.dump_traceback_later(LONGEST, exit=True)
     return run(test, result)
 
@@ -49,15 +55,16 @@ def needs(*modules):
 
 
 def has(module):
-    """Whether a module can be imported. Of one in a package the package is looked at first: find_spec would raise without it. A folder of
-    tests that is called like a module is none."""
+    """Whether a module can be imported. Of one in a package the package is looked at first:
+    find_spec would raise without it. A folder of tests that is called like a module is none."""
     package = module.rpartition('.')[0]
     found = importlib.util.find_spec(module) if not package or has(package) else None
     return found is not None and found.origin is not None
 
 
 class InSession(unittest.TestCase):
-    """Tests that share a session: `s`, or `session` where a test has several things of one letter."""
+    """Tests that share a session: `s`, or `session` where a test has several things of one
+    letter."""
 
     @classmethod
     def setUpClass(cls):
@@ -110,7 +117,8 @@ class Relay(Listener):
                 connection.shutdown(socket.SHUT_WR)
                 connection.recv(1 << 16)
             return
-        child = subprocess.Popen([os.environ['SPMAT']] + self._words, stdin=connection, stdout=connection)
+        child = subprocess.Popen([os.environ['SPMAT']] + self._words, stdin=connection,
+                                 stdout=connection)
         child.wait()
         self._seats.release()
         with connection, contextlib.suppress(OSError):
@@ -122,7 +130,8 @@ class Last(bytes):
 
 
 class Scripted(Listener):
-    """Answers commands as `answer(words, body)` says; with None the connection is closed. `seen` has the commands' lines."""
+    """Answers commands as `answer(words, body)` says; with None the connection is closed. `seen`
+    has the commands' lines."""
 
     def __init__(self, answer):
         self._answer = answer
@@ -161,5 +170,7 @@ class Plausible:
 
 def plausible(words, body):
     """What a server might answer, without looking at anything."""
-    return {'budget': b'ok budget 100 0 0\n', 'quit': b'ok quit\n', 'run': b'ok run 0 0\n', 'asm': b'ok op 1 1\n',
-            'op': b'ok op 1 1\n', 'matrix': b'ok matrix 1 1 1\n', 'show': b'ok show 0\n'}.get(words[0], b'ok queued 1 1\n')
+    return {'budget': b'ok budget 100 0 0\n', 'quit': b'ok quit\n', 'run': b'ok run 0 0\n',
+            'asm': b'ok op 1 1\n',
+            'op': b'ok op 1 1\n', 'matrix': b'ok matrix 1 1 1\n',
+            'show': b'ok show 0\n'}.get(words[0], b'ok queued 1 1\n')

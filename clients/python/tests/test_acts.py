@@ -78,7 +78,8 @@ def series(values, index):
 def of_frame(**how):
     """The edges of a table with columns a, b and perhaps w."""
     given = {name: how.pop(name) for name in ('a', 'b', 'w') if name in how}
-    return lambda s: edges(s.from_pandas_edgelist(frame(**given), 'a', 'b', 'w' if 'w' in given else None, **how))
+    return lambda s: edges(s.from_pandas_edgelist(frame(**given), 'a', 'b',
+                                                  'w' if 'w' in given else None, **how))
 
 
 def mine(s):
@@ -161,7 +162,8 @@ FRAMES = [
         frame(a=[1, 2], b=[2., 3.]), 'a', 'b', directed=False)).sets(), [{1, 2, 3}]),
     ('ids beyond int64', of_frame(a=numpy.array([2 ** 63 + 1], 'uint64'), b=[5]),
      [(2 ** 63 + 1, 5, 1)]),
-    ('a table with gaps', lambda s: s.from_dense(frame(p=[1, math.nan], q=[2, 3])), Says('missing')),
+    ('a table with gaps', lambda s: s.from_dense(frame(p=[1, math.nan], q=[2, 3])),
+     Says('missing')),
     ('filter by labels', lambda s: edges(s.from_edgelist(TWO)[
         series([False, False, True], ['c', 'b', 'a']), :]), [('a', 'b', 1)]),
     ('filter by other labels', lambda s: s.from_edgelist(TWO)[series([True] * 3, [7, 8, 9]), :],
@@ -174,21 +176,23 @@ FRAMES = [
     ('names below 0', lambda s: edges(s.from_edgelist([(-1, 5, 3), (5, -2, 4)])[[-1], :]),
      [(-1, 5, 3)]),
     ('names 1 and "1"', lambda s: s.from_edgelist([(1, '1', 5)]).nodes, [1, '1']),
-    ('if A', lambda s: bool(s.from_edgelist(TWO).select('>', 5)), Says('truth value: write A.nvals')),
+    ('if A', lambda s: bool(s.from_edgelist(TWO).select('>', 5)),
+     Says('truth value: write A.nvals')),
     ('"a" in A', lambda s: 'a' in s.from_edgelist(TWO), Says('name in A.nodes')),
     ('dict of a column', lambda s: dict(algorithms.degrees(directed(s))), Says('iteration')),
     ('a name that is not there', lambda s: algorithms.degrees(directed(s))['zoe'], Says("'zoe'")),
     ('sum of matrices', lambda s: sum(months(s)), Says('ewise_add')),
-    ('a column minus a vector, in numpy', lambda s: directed(s).reduce_rowwise().to_dense()
-     - algorithms.degrees(directed(s)).to_dense(), Says('ravel()')),
-    ('out minus in, in numpy', lambda s: directed(s).reduce_rowwise().to_dense()
-     - directed(s).reduce_columnwise().to_dense(), Says('ravel()')),
+    ('a column minus a vector, in numpy',
+     lambda s: directed(s).reduce_rowwise().to_dense() - algorithms.degrees(directed(s)).to_dense(),
+     Says('ravel()')),
+    ('out minus in, in numpy',
+     lambda s: directed(s).reduce_rowwise().to_dense() - directed(s).reduce_columnwise().to_dense(),
+     Says('ravel()')),
     ('rows by their sums, in numpy', lambda s: (lambda A: (A.to_dense() / (
         A.reduce_rowwise().to_dense(1))).sum())(s.full(2, 2, 3)), 2.0)]
 
 MONTHS = [
-    ('add two months', lambda s: months(s)[0].ewise_add(months(s)[1]),
-     Says('spmat.align(A, B)')),
+    ('add two months', lambda s: months(s)[0].ewise_add(months(s)[1]), Says('spmat.align(A, B)')),
     ('their shapes', aligned(lambda a, b: (a.shape, b.shape)), ((4, 4), (4, 4))),
     ('what changed', aligned(lambda a, b: edges(a.ewise_union(b, 'minus', 0, 0))),
      [('a', 'b', 1), ('a', 'd', -7), ('b', 'a', -5), ('b', 'c', 2)]),
@@ -198,7 +202,8 @@ MONTHS = [
     ('join by a product', lambda s: edges(s.from_edgelist([('u', 'i', 2)], bipartite=True).mxm(
         s.from_edgelist([('i', 'c', 1)], bipartite=True))), [('u', 'c', 2)]),
     ('out less in', lambda s: (lambda A: A.reduce_rowwise().ewise_union(
-        A.reduce_columnwise().T, 'minus', 0, 0).by_node())(months(s)[0]), {'a': 1, 'b': 1, 'c': -2}),
+        A.reduce_columnwise().T, 'minus', 0, 0).by_node())(months(s)[0]),
+     {'a': 1, 'b': 1, 'c': -2}),
     ('ranks beside a frame', lambda s: frame(n=['a', 'd']).set_index('n').join(
         algorithms.degrees(months(s)[0]).to_pandas()).fillna(-1).values.tolist(), [[1.0], [-1.0]]),
     ('nodes stay where edges go', lambda s: s.from_edgelist(TWO).select('>', 5).nodes,
@@ -231,12 +236,14 @@ FILES = [
      [('x', 'y', 1), ('y', 'z', 2)]),
     ('a header that ends as on an old Mac', lambda s: read(s, 'source,target\rx,y\ny,z\n'),
      [('x', 'y', 1), ('y', 'z', 1)]),
-    ('capitals and blanks', lambda s: read(s, ' SOURCE ; Target;WEIGHT \na;b;7\n'), [('a', 'b', 7)]),
+    ('capitals and blanks', lambda s: read(s, ' SOURCE ; Target;WEIGHT \na;b;7\n'),
+     [('a', 'b', 7)]),
     ('columns in another order', lambda s: read(s, 'weight,target,source\n7,b,a\n'),
      [('a', 'b', 7)]),
-    ('the index of a frame', lambda s: read(s, ',source,target,weight\n0,a,b,7\n'), [('a', 'b', 7)]),
-    ('a header that nobody knows', lambda s: warned(lambda: read(s, 'account,counterparty\nx,y\ny,z\n')),
-     'header=True'),
+    ('the index of a frame', lambda s: read(s, ',source,target,weight\n0,a,b,7\n'),
+     [('a', 'b', 7)]),
+    ('a header that nobody knows',
+     lambda s: warned(lambda: read(s, 'account,counterparty\nx,y\ny,z\n')), 'header=True'),
     ('the same, told', lambda s: read(s, 'account,counterparty\nx,y\ny,z\n', header=True),
      [('x', 'y', 1), ('y', 'z', 1)]),
     ('no header', lambda s: read(s, 'x,y\ny,z\n'), [('x', 'y', 1), ('y', 'z', 1)]),
@@ -260,7 +267,8 @@ FILES = [
     ('authors and papers', lambda s: read(s, 'author,paper\n1,1\n'), Says('bipartite=True')),
     ('hashtags', lambda s: read(s, 'source,target\n#a,b\n'), [('#a', 'b', 1)]),
     ('some vertices alone', lambda s: s.read_graph(io.BytesIO(PAY.encode()), nodelist=[
-        'ann', 'bob']).notes.source.rpartition('; ')[2], '2 edges of vertices outside nodelist left out'),
+        'ann', 'bob']).notes.source.rpartition('; ')[2],
+     '2 edges of vertices outside nodelist left out'),
     ('callee before caller', lambda s: read(s, 'callee,caller\na,b\n'), [('b', 'a', 1)]),
     ('a file again', lambda s: there_and_back(s, 'x', G=s.from_edgelist([('a', (1, 2), 5)])),
      {'G': [('a', (1, 2), 5)]})]

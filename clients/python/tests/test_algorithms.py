@@ -1,4 +1,5 @@
-"""Each algorithm beside plain Python, on graphs of one part and of several, directed and undirected."""
+"""Each algorithm beside plain Python, on graphs of one part and of several, directed and
+undirected."""
 import random
 import unittest
 from unittest import mock
@@ -12,7 +13,8 @@ from spmat.algorithms import components
 
 class Algorithms(support.InSession):
     def each(self, some, look):
-        """Looks at each graph, by its name: at its neighbours, its matrix, and itself as its transpose where it is undirected."""
+        """Looks at each graph, by its name: at its neighbours, its matrix, and itself as its
+        transpose where it is undirected."""
         for graph in graphs.tried(some):
             with self.subTest(graph=graph.name):
                 G = graph.matrix(self.session)
@@ -20,15 +22,18 @@ class Algorithms(support.InSession):
 
     def test_degrees(self):
         def look(graph, near, G, _):
-            self.assertEqual(algorithms.degrees(G).to_dict(), {(i, 0): len(js) for i, js in enumerate(near) if js})
+            self.assertEqual(algorithms.degrees(G).to_dict(),
+                             {(i, 0): len(js) for i, js in enumerate(near) if js})
         self.each(graphs.ALL, look)
 
     def test_breadth_first_search(self):
         def look(graph, near, G, GT):
             for source in sorted({0, graph.count // 2, graph.count - 1}) if graph.count else []:
                 want = graphs.levels(near, source)
-                self.assertEqual(algorithms.bfs_levels(G, source, GT).to_dict(), {(i, 0): level for i, level in want.items()})
-                parents = {(i, 0): min(j for j in range(graph.count) if i in near[j] and want.get(j) == level - 1)
+                self.assertEqual(algorithms.bfs_levels(G, source, GT).to_dict(),
+                                 {(i, 0): level for i, level in want.items()})
+                parents = {(i, 0): min(j for j in range(graph.count) if i in near[j]
+                                       and want.get(j) == level - 1)
                            for i, level in want.items() if level}
                 parents[source, 0] = source
                 self.assertEqual(algorithms.bfs_parents(G, source, GT).to_dict(), parents)
@@ -56,37 +61,47 @@ class Algorithms(support.InSession):
         def look(graph, near, G, GT):
             want = [graphs.shortest(graph.edges, near, i) for i in range(graph.count)]
             for source in sorted({0, graph.count - 1}) if graph.count else []:
-                self.assertEqual(algorithms.sssp(G, source, GT).to_dict(), {(i, 0): length for i, length in want[source].items()})
+                self.assertEqual(algorithms.sssp(G, source, GT).to_dict(),
+                                 {(i, 0): length for i, length in want[source].items()})
             self.assertEqual(algorithms.all_pairs(G).to_dict(),
-                             {(i, j): length for i, lengths in enumerate(want) for j, length in lengths.items()})
+                             {(i, j): length for i, lengths in enumerate(want)
+                              for j, length in lengths.items()})
         self.each(graphs.ALL, look)
 
     def test_lengths_of_all_sizes(self):
-        """Lengths of 0, of few bits and of many; few edges, so that the client goes on, and many, so that jobs do."""
+        """Lengths of 0, of few bits and of many; few edges, so that the client goes on, and many,
+        so that jobs do."""
         chance = random.Random(5)
-        for count, each, least, most in ((60, 1, 0, 1), (400, 2, 1, 255), (300, 8, 1, 255), (300, 6, 0, 3), (200, 3, 7, 1 << 40),
+        for count, each, least, most in ((60, 1, 0, 1), (400, 2, 1, 255), (300, 8, 1, 255),
+                                         (300, 6, 0, 3), (200, 3, 7, 1 << 40),
                                          (1500, 4, 1, 9000), (90, 30, 1, 1)):
-            places = {(chance.randrange(count), chance.randrange(count)) for _ in range(count * each)}
+            places = {(chance.randrange(count), chance.randrange(count))
+                      for _ in range(count * each)}
             edges = {place: chance.randint(least, most) for place in sorted(places)}
             graph = graphs.Graph('by chance', count, edges, True)
             want, W = graphs.shortest(edges, graph.near(), 0), graph.matrix(self.session)
-            self.assertEqual(algorithms.sssp(W, 0).to_dict(), {(i, 0): x for i, x in want.items()}, (count, each, most))
+            self.assertEqual(algorithms.sssp(W, 0).to_dict(), {(i, 0): x for i, x in want.items()},
+                             (count, each, most))
             self.assertTrue(algorithms.sssp(W, 0, check=False).isequal(algorithms.sssp(W, 0)))
             cutoff = sorted(want.values())[len(want) // 2]
             self.assertEqual(algorithms.sssp(W, 0, cutoff=cutoff, check=False).to_dict(),
                              {(i, 0): x for i, x in want.items() if x <= cutoff})
             target = max(want, key=want.__getitem__)
-            self.assertEqual(algorithms.sssp(W, 0, target=target, check=False).to_dict()[target, 0], want[target])
+            self.assertEqual(algorithms.sssp(W, 0, target=target, check=False).to_dict()[target, 0],
+                             want[target])
 
     def test_lengths_below_zero(self):
-        """Shifting each edge by a potential makes lengths below 0, and shifts each path by that of its ends alone."""
+        """Shifting each edge by a potential makes lengths below 0, and shifts each path by that of
+        its ends alone."""
         def look(graph, near, G, _):
             potential = [k * 31 % 37 for k in range(graph.count)]
-            shifted = {(i, j): value + potential[j] - potential[i] for (i, j), value in graph.edges.items()}
+            shifted = {(i, j): value + potential[j] - potential[i]
+                       for (i, j), value in graph.edges.items()}
             self.assertLess(min(shifted.values()), 0)
             W = graph._replace(edges=shifted).matrix(self.session)
             want = graphs.shortest(graph.edges, near, 0)
-            self.assertEqual(algorithms.sssp(W, 0).to_dict(), {(i, 0): v + potential[i] - potential[0] for i, v in want.items()})
+            self.assertEqual(algorithms.sssp(W, 0).to_dict(),
+                             {(i, 0): v + potential[i] - potential[0] for i, v in want.items()})
             pairs = algorithms.all_pairs(W).to_dict()
             self.assertEqual({j: v for (i, j), v in pairs.items() if i == 0},
                              {j: v + potential[j] - potential[0] for j, v in want.items()})
@@ -98,11 +113,13 @@ class Algorithms(support.InSession):
             algorithms.sssp(W, 0)
         with self.assertRaisesRegex(ValueError, 'negative length'):
             algorithms.all_pairs(W)
-        self.assertEqual(algorithms.sssp(W, 3).to_dict(), {(3, 0): 0, (4, 0): 1})          # which doesn't reach it
+        # which doesn't reach it
+        self.assertEqual(algorithms.sssp(W, 3).to_dict(), {(3, 0): 0, (4, 0): 1})
 
     def test_transitive_closure(self):
         def look(graph, near, G, _):
-            want = {(i, j): 1 for i in range(graph.count) for k in near[i] for j in graphs.levels(near, k)}
+            want = {(i, j): 1 for i in range(graph.count) for k in near[i]
+                    for j in graphs.levels(near, k)}
             self.assertEqual(algorithms.transitive_closure(G).to_dict(), want)
         self.each(graphs.ALL, look)
 
@@ -110,8 +127,10 @@ class Algorithms(support.InSession):
         def look(graph, near, G, _):
             want = graphs.triangles(near)
             self.assertEqual(algorithms.triangle_count(G), sum(want) // 3)
-            self.assertEqual(algorithms.triangles(G).to_dict(), {(i, 0): many for i, many in enumerate(want) if many})
-            shares = {(i, 0): 2 * 10 ** 9 * many // (len(near[i]) * (len(near[i]) - 1)) for i, many in enumerate(want) if many}
+            self.assertEqual(algorithms.triangles(G).to_dict(),
+                             {(i, 0): many for i, many in enumerate(want) if many})
+            shares = {(i, 0): 2 * 10 ** 9 * many // (len(near[i]) * (len(near[i]) - 1))
+                      for i, many in enumerate(want) if many}
             self.assertEqual(algorithms.clustering(G).to_dict(), shares)
         self.each(graphs.UNDIRECTED, look)
 
@@ -120,7 +139,8 @@ class Algorithms(support.InSession):
             for k in (2, 3, 4, 5, 7):
                 self.assertEqual(algorithms.k_truss(G, k).to_dict(), graphs.truss(near, k))
             for k in (0, 1, 2, 3, 4, 6):
-                self.assertEqual(algorithms.k_core(G, k).to_dict(), {(i, 0): many for i, many in graphs.core(near, k).items()})
+                self.assertEqual(algorithms.k_core(G, k).to_dict(),
+                                 {(i, 0): many for i, many in graphs.core(near, k).items()})
         self.each(graphs.UNDIRECTED, look)
 
     def test_pagerank(self):
@@ -134,7 +154,8 @@ class Algorithms(support.InSession):
 
     def test_pagerank_of_another_damping(self):
         graph = graphs.DIRECTED[2]
-        got = algorithms.pagerank(graph.matrix(self.session), damping=0.5, tolerance=1e-9, scale=1 << 52).to_list()
+        got = algorithms.pagerank(graph.matrix(self.session), damping=0.5, tolerance=1e-9,
+                                  scale=1 << 52).to_list()
         want = graphs.pagerank(graph.near(), 0.5)
         self.assertLess(sum(abs(a / 2 ** 52 - b) for a, b in zip(got, want)), 1.001e-9)
 
@@ -156,14 +177,20 @@ class Algorithms(support.InSession):
         """What is said to pass over loops does, and ends."""
         graph = graphs.UNDIRECTED[3]
         G, near = graph.matrix(self.session), graph.near()
-        looped = G.ewise_add(self.session.from_triples([(i, i, 5) for i in range(0, 34, 2)], 34, 34), 'first')
+        looped = G.ewise_add(self.session.from_triples([(i, i, 5) for i in range(0, 34, 2)], 34,
+                                                       34), 'first')
         self.assertEqual(algorithms.triangle_count(looped), sum(graphs.triangles(near)) // 3)
-        self.assertTrue(algorithms.maximal_independent_set(looped, 1).isequal(algorithms.maximal_independent_set(G, 1)))
-        self.assertEqual(algorithms.bfs_levels(looped, 0).to_list(), algorithms.bfs_levels(G, 0).to_list())
+        self.assertTrue(algorithms.maximal_independent_set(looped,
+                                                           1).isequal(
+                                                               algorithms.maximal_independent_set(
+                                                                   G, 1)))
+        self.assertEqual(algorithms.bfs_levels(looped, 0).to_list(),
+                         algorithms.bfs_levels(G, 0).to_list())
 
     def test_undirected(self):
         def look(graph, near, G, _):
-            looped = G.ewise_add(self.session.from_triples([(i, i, 0) for i in range(graph.count)], *G.shape), 'first')
+            looped = G.ewise_add(self.session.from_triples([(i, i, 0) for i in range(graph.count)],
+                                                           *G.shape), 'first')
             want = {(i, j): 1 for i, js in enumerate(graphs.both_ways(near)) for j in js}
             for transpose in (None, looped.T):
                 self.assertEqual(algorithms.undirected(looped, transpose).to_dict(), want)
@@ -174,9 +201,12 @@ class Algorithms(support.InSession):
         wide, G = s.from_triples([(0, 1, 1)], 2, 3), s.from_triples([(0, 1, 1), (1, 0, 1)], 2, 2)
         for name in algorithms.__all__:
             function = getattr(algorithms, name)
-            more = {'bfs_levels': (0,), 'bfs_parents': (0,), 'sssp': (0,), 'k_truss': (3,), 'k_core': (2,), 'k_hop': (1,),
-                    'path_lengths': ([0],), 'shared_neighbours': ([0], [0]), 'has_path': (0, 1), 'shortest_path': (0, 1),
-                    'shortest_paths': (0,), 'k_shortest_paths': (0, 1, 1), 'modularity': (G,)}.get(name, ())
+            more = {'bfs_levels': (0,), 'bfs_parents': (0,), 'sssp': (0,), 'k_truss': (3,),
+                    'k_core': (2,), 'k_hop': (1,),
+                    'path_lengths': ([0],), 'shared_neighbours': ([0], [0]), 'has_path': (0, 1),
+                    'shortest_path': (0, 1),
+                    'shortest_paths': (0,), 'k_shortest_paths': (0, 1, 1),
+                    'modularity': (G,)}.get(name, ())
             if name[0].islower():
                 with self.subTest(algorithm=name), self.assertRaisesRegex(ValueError, 'square'):
                     function(wide, *more)
@@ -188,9 +218,12 @@ class Algorithms(support.InSession):
                     function(G, 0, target=source if source is not None else 7)
             with self.assertRaisesRegex(ValueError, 'transpose'):
                 function(G, 0, wide)
-        for call in (lambda: algorithms.k_truss(G, 1), lambda: algorithms.k_truss(G, 3.5), lambda: algorithms.k_core(G, -1),
-                     lambda: algorithms.k_core(G, 1.5), lambda: algorithms.label_propagation(G, 2.5), lambda: algorithms.pagerank(G, damping=1),
-                     lambda: algorithms.pagerank(G, tolerance=0), lambda: algorithms.pagerank(G, scale=1 << 53),
+        for call in (lambda: algorithms.k_truss(G, 1), lambda: algorithms.k_truss(G, 3.5),
+                     lambda: algorithms.k_core(G, -1), lambda: algorithms.k_core(G, 1.5),
+                     lambda: algorithms.label_propagation(G, 2.5),
+                     lambda: algorithms.pagerank(G, damping=1),
+                     lambda: algorithms.pagerank(G, tolerance=0),
+                     lambda: algorithms.pagerank(G, scale=1 << 53),
                      lambda: algorithms.clustering(G, 0)):
             with self.assertRaises(ValueError):
                 call()

@@ -1,4 +1,5 @@
-"""bench/algorithms.py: it has a task for each algorithm of the client, and what it times is right."""
+"""bench/algorithms.py: it has a task for each algorithm of the client, and what it times is
+right."""
 import ast
 import functools
 import inspect
@@ -17,7 +18,8 @@ NAMES = [name for name in algorithms.__all__ if inspect.isfunction(getattr(algor
 
 def called(text):
     """The algorithms that tasks call, by their name in a file: `algorithms.NAME(..)`."""
-    return {node.func.attr for node in ast.walk(ast.parse(text)) if isinstance(node, ast.Call) and isinstance(node.func, ast.Attribute)
+    return {node.func.attr for node in ast.walk(ast.parse(text)) if isinstance(node, ast.Call)
+            and isinstance(node.func, ast.Attribute)
             and isinstance(node.func.value, ast.Name) and node.func.value.id == 'algorithms'}
 
 
@@ -31,23 +33,31 @@ def tasks_file():
 class Tasks(unittest.TestCase):
     def test_each_algorithm_has_one(self):
         missing = sorted(set(NAMES) - called(tasks_file()))
-        self.assertEqual(missing, [], 'bench/algorithm_tasks.py has no task for %s' % ', '.join(missing))
+        self.assertEqual(missing, [],
+                         'bench/algorithm_tasks.py has no task for %s' % ', '.join(missing))
 
     def test_one_that_is_left_out_is_missed(self):
         for name in NAMES:
-            self.assertNotIn(name, called(re.sub(r'algorithms\.%s\(' % name, 'other.%s(' % name, tasks_file())))
+            self.assertNotIn(name,
+                             called(re.sub(r'algorithms\.%s\(' % name, 'other.%s(' % name,
+                                           tasks_file())))
 
     @support.needs('numpy')
     def test_answers_are_those_of_the_peers(self):
-        """Once through all tasks, on graphs of 64 vertices; status 1 were an answer that differs."""
-        words = [sys.executable, os.path.join(BENCH, 'algorithms.py'), os.environ['SPMAT'], '--scale', '6', '--sizes', '1', '--rounds', '0']
-        done = subprocess.run(words, stdout=subprocess.PIPE, stderr=subprocess.PIPE, text=True, check=False)
+        """Once through all tasks, on graphs of 64 vertices; status 1 were an answer that
+        differs."""
+        words = [sys.executable, os.path.join(BENCH, 'algorithms.py'), os.environ['SPMAT'],
+                 '--scale', '6', '--sizes', '1', '--rounds', '0']
+        done = subprocess.run(words, stdout=subprocess.PIPE, stderr=subprocess.PIPE, text=True,
+                              check=False)
         self.assertEqual(done.returncode, 0, done.stderr)
         table, figures = done.stdout.split('\n\nWhole algorithms, 4 workers, seconds')
-        measured = {line.split(' | ')[1] for line in figures.splitlines() if line.startswith('| ') and ' vertices, ' in line}
+        measured = {line.split(' | ')[1] for line in figures.splitlines() if line.startswith('| ')
+                    and ' vertices, ' in line}
         said = {line.split(' | ')[0][2:].replace('`', '') for line in table.splitlines()[4:]}
         self.assertEqual(measured, said)
-        self.assertEqual({name for name in NAMES if not any(re.match(r'%s\b' % name, task) for task in said)}, set())
+        self.assertEqual({name for name in NAMES
+                          if not any(re.match(r'%s\b' % name, task) for task in said)}, set())
 
 
 if __name__ == '__main__':

@@ -1,4 +1,5 @@
-"""Matrices of two kinds of vertices, also where both have the same names: nobody takes them for one kind."""
+"""Matrices of two kinds of vertices, also where both have the same names: nobody takes them for one
+kind."""
 import io
 import tempfile
 import unittest
@@ -14,16 +15,20 @@ OTHERS = [('a', 'x', 1), ('b', 'y', 2), ('c', 'z', 3)]
 
 class TwoKinds(support.InSession):
     def refused(self, call):
-        with self.assertRaisesRegex(ValueError, 'a graph has one kind of vertices, .* spmat.bipartite'):
+        with self.assertRaisesRegex(ValueError,
+                                    'a graph has one kind of vertices, .* spmat.bipartite'):
             call()
 
     def test_algorithms_and_networkx(self):
         for edges in (SAME, NUMBERS, OTHERS):
             B = self.s.from_edgelist(edges, bipartite=True)
             self.assertIsNone(B.nodes)
-            for matrix in (B, B.T, B.apply('one'), B.select('>', 1), B.dup(mask=B.S), B.ewise_add(B), B.mxm(B.T).mxm(B)):
-                self.refused(lambda: algorithms.bfs_levels(matrix, 0))          # pylint: disable=cell-var-from-loop
-                self.refused(lambda: algorithms.connected_components(matrix))   # pylint: disable=cell-var-from-loop
+            for matrix in (B, B.T, B.apply('one'), B.select('>', 1), B.dup(mask=B.S),
+                           B.ewise_add(B), B.mxm(B.T).mxm(B)):
+                # pylint: disable-next=cell-var-from-loop
+                self.refused(lambda: algorithms.bfs_levels(matrix, 0))
+                # pylint: disable-next=cell-var-from-loop
+                self.refused(lambda: algorithms.connected_components(matrix))
                 self.refused(matrix.to_networkx)
             self.assertEqual(len(B.to_networkx(nodes=range(3)).edges), 3)
 

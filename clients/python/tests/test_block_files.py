@@ -1,4 +1,5 @@
-"""Files that workers read by ranges: the matrix of one session, or its refusal; what is changed, lost, and told meanwhile."""
+"""Files that workers read by ranges: the matrix of one session, or its refusal; what is changed,
+lost, and told meanwhile."""
 import os
 import random
 import signal
@@ -25,10 +26,13 @@ def a_text(chance, field='integer', symmetry='general', n=None, order='ascending
     places = sorted(places)
     if order != 'ascending':
         chance.shuffle(places)
-    value = {'integer': lambda: ' %d' % chance.randrange(-9, 9), 'real': lambda: ' %.1f' % chance.randrange(-9, 9), 'pattern': lambda: ''}[field]
+    value = {'integer': lambda: ' %d' % chance.randrange(-9, 9),
+             'real': lambda: ' %.1f' % chance.randrange(-9, 9), 'pattern': lambda: ''}[field]
     wide = order == 'zeros'
-    lines = ''.join(('%08d %04d' if wide else '%d %d') % (i + 1, j + 1) + value() + '\n' for i, j in places)
-    return ('%%%%MatrixMarket matrix coordinate %s %s\n%% said\n%d %d %d\n' % (field, symmetry, n, n, len(places)) + lines).encode()
+    lines = ''.join(('%08d %04d' if wide else '%d %d') % (i + 1, j + 1) + value() + '\n'
+                    for i, j in places)
+    return ('%%%%MatrixMarket matrix coordinate %s %s\n%% said\n%d %d %d\n'
+            % (field, symmetry, n, n, len(places)) + lines).encode()
 
 
 class Files(unittest.TestCase):
@@ -54,7 +58,8 @@ class Files(unittest.TestCase):
         self.addCleanup(patched.stop)
 
     def refused_or_read(self, session):
-        """What a session makes of the file: its text, or the rule, the line and the file that are named; the words of M7 differ."""
+        """What a session makes of the file: its text, or the rule, the line and the file that are
+        named; the words of M7 differ."""
         try:
             return session.mmread(self.path).to_text()
         except spmat.Refused as fault:
@@ -68,7 +73,8 @@ class Files(unittest.TestCase):
     def test_as_one_session_reads_them(self):
         """Of each kind and order, in ranges of 300 bytes, by workers."""
         chance = random.Random(5)
-        kinds = [(field, symmetry, order) for field in ('integer', 'real', 'pattern') for symmetry in SYMMETRIES for order in ('ascending', 'shuffled', 'zeros')
+        kinds = [(field, symmetry, order) for field in ('integer', 'real', 'pattern')
+                 for symmetry in SYMMETRIES for order in ('ascending', 'shuffled', 'zeros')
                  if (field, symmetry) != ('pattern', 'skew-symmetric')]
         with blocks.Sessions(2, blocks=3) as several, blocks.Sessions(3) as many:
             for kind in kinds:
@@ -77,36 +83,52 @@ class Files(unittest.TestCase):
                     want = alike.outcome(lambda: self.one.mmread(self.path, **options))
                     for sessions in (several, many):
                         with self.subTest(kind=kind, options=options):
-                            self.assertEqual(alike.outcome(lambda: sessions.mmread(self.path, **options)), want)
+                            self.assertEqual(
+                                alike.outcome(lambda: sessions.mmread(self.path, **options)), want)
         self.assertEqual(self.by_workers, [True] * 6 * len(kinds))
 
     @support.needs('numpy')
     def test_large_numbers(self):
-        """Rows of eight digits, and values of nineteen, which numbers of floats don't tell apart."""
+        """Rows of eight digits, and values of nineteen, which numbers of floats don't tell
+        apart."""
         head = b'%%MatrixMarket matrix coordinate integer general\n16777216 16777216 3\n'
         with blocks.Sessions(2) as s:
-            for lines in (b'9 1 -9223372036854775808\n9999999 16777216 9223372036854775807\n16777216 2 9007199254740993\n',
-                          b'16777216 2 9007199254740993\n9999999 16777216 -5\n9 1 -7\n'):
+            for lines in (
+                b'9 1 -9223372036854775808\n9999999 16777216 9223372036854775807\n16777216 2 '
+                b'9007199254740993\n',
+                b'16777216 2 9007199254740993\n9999999 16777216 -5\n9 1 -7\n'):
                 self.write(head + lines)
-                self.assertEqual(sorted(s.mmread(self.path).to_triples()), sorted(self.one.mmread(self.path).to_triples()))
+                self.assertEqual(sorted(s.mmread(self.path).to_triples()),
+                                 sorted(self.one.mmread(self.path).to_triples()))
             self.assertTrue(self.by_workers[0])
 
     @support.needs('numpy')
     def test_what_is_unusual_or_wrong(self):
         """Is read by the caller's process, which names the line as one session does."""
         head = b'%%MatrixMarket matrix coordinate integer general\n9 9 4\n'
-        bodies = {'comment': b'1 1 1\n2 2 2\n% said\n3 3 3\n4 4 4\n', 'blank line': b'1 1 1\n\n2 2 2\n3 3 3\n4 4 4\n', 'sign': b'1 1 1\n+2 2 2\n3 3 3\n4 4 4\n',
-                  'repeats': b'1 1 1\n2 2 2\n2 2 5\n4 4 4\n', 'too few': b'1 1 1\n2 2 2\n', 'too many': b'1 1 1\n2 2 2\n3 3 3\n4 4 4\n5 5 5\n',
-                  'outside': b'1 1 1\n2 2 2\n3 3 3\n10 4 4\n', 'column outside': b'1 1 1\n2 12 2\n3 3 3\n5 4 4\n', 'no row': b'0 1 1\n2 1 2\n3 3 3\n5 4 4\n',
-                  'no number': b'1 1 1\n2 2 x\n3 3 3\n4 4 4\n', 'few fields': b'1 1 1\n2 2\n3 3 3\n4 4 4\n', 'large value': b'1 1 1\n2 2 2\n3 3 9223372036854775808\n4 4 4\n',
-                  'long row': b'1 1 1\n2 2 2\n000000003 3 3\n4 4 4\n', 'wrong shuffled': b'4 4 4\n1 1 1\n2 2-2\n3 3 3\n', 'word': b'1x 1 1\n2 2 2\n3 3 3\n4 4 4\n'}
+        bodies = {'comment': b'1 1 1\n2 2 2\n% said\n3 3 3\n4 4 4\n',
+                  'blank line': b'1 1 1\n\n2 2 2\n3 3 3\n4 4 4\n',
+                  'sign': b'1 1 1\n+2 2 2\n3 3 3\n4 4 4\n',
+                  'repeats': b'1 1 1\n2 2 2\n2 2 5\n4 4 4\n', 'too few': b'1 1 1\n2 2 2\n',
+                  'too many': b'1 1 1\n2 2 2\n3 3 3\n4 4 4\n5 5 5\n',
+                  'outside': b'1 1 1\n2 2 2\n3 3 3\n10 4 4\n',
+                  'column outside': b'1 1 1\n2 12 2\n3 3 3\n5 4 4\n',
+                  'no row': b'0 1 1\n2 1 2\n3 3 3\n5 4 4\n',
+                  'no number': b'1 1 1\n2 2 x\n3 3 3\n4 4 4\n',
+                  'few fields': b'1 1 1\n2 2\n3 3 3\n4 4 4\n',
+                  'large value': b'1 1 1\n2 2 2\n3 3 9223372036854775808\n4 4 4\n',
+                  'long row': b'1 1 1\n2 2 2\n000000003 3 3\n4 4 4\n',
+                  'wrong shuffled': b'4 4 4\n1 1 1\n2 2-2\n3 3 3\n',
+                  'word': b'1x 1 1\n2 2 2\n3 3 3\n4 4 4\n'}
         with blocks.Sessions(2) as s, mock.patch.object(parallel_read, 'MOST', 12):
             for name, body in bodies.items():
-                for text in (head + body, (head + body).replace(b'\n', b'\r\n'), (head + body)[:-1]):
+                for text in (head + body, (head + body).replace(b'\n', b'\r\n'),
+                             (head + body)[:-1]):
                     self.write(text)
                     with self.subTest(name=name, text=text):
                         self.assertEqual(self.refused_or_read(s), self.refused_or_read(self.one))
-        self.assertEqual({name for number, name in enumerate(bodies) if any(self.by_workers[3 * number:3 * number + 3])}, {'sign', 'long row'})
+        self.assertEqual({name for number, name in enumerate(bodies)
+                          if any(self.by_workers[3 * number:3 * number + 3])}, {'sign', 'long row'})
 
     @support.needs('numpy')
     def test_a_cut_that_is_asked_for(self):
@@ -142,7 +164,8 @@ class Files(unittest.TestCase):
 
     @support.needs('numpy')
     def test_lost_and_changed(self):
-        """A killed program's block is read again from what was laid aside, also where the file is gone; that has to be as it was."""
+        """A killed program's block is read again from what was laid aside, also where the file is
+        gone; that has to be as it was."""
         self.write(a_text(random.Random(4), n=50))
         want = self.one.mmread(self.path).to_text()
         with blocks.Sessions(2) as s:
@@ -176,7 +199,8 @@ class Files(unittest.TestCase):
             lines = [b'x' * chance.randrange(9) + b'\n' for _ in range(chance.randrange(1, 20))]
             text = b''.join(lines)[:-1 if chance.random() < .3 else None]
             self.write(b'head\n' + text)
-            parts = file_ranges.cut_file(self.path, file_ranges.read_stamp(self.path), 5, chance.randrange(1, 40), chance.randrange(1, 5))
+            parts = file_ranges.cut_file(self.path, file_ranges.read_stamp(self.path), 5,
+                                         chance.randrange(1, 40), chance.randrange(1, 5))
             found = b''.join(map(file_ranges.read_lines, parts))
             self.assertEqual(found, text if text.endswith(b'\n') or not text else text + b'\n')
 
@@ -190,7 +214,9 @@ class Files(unittest.TestCase):
             with open(self.path, 'rb') as file:
                 self.assertIsNone(parallel_read.find_shared(s, file))
             with mock.patch.object(parallel_read, 'LEAST', len(text) + 1):
-                self.assertIsNone(parallel_read.read_matrix_market(s, self.path, matrix_market.Values(), None, None))
+                self.assertIsNone(parallel_read.read_matrix_market(s, self.path,
+                                                                   matrix_market.Values(), None,
+                                                                   None))
         self.assertEqual(self.by_workers, [False, False])
 
 

@@ -1,4 +1,5 @@
-"""Matrices in row blocks over threads give the bytes, the prices and the steps of one session, and refusals name the block."""
+"""Matrices in row blocks over threads give the bytes, the prices and the steps of one session, and
+refusals name the block."""
 import contextlib
 import os
 import random
@@ -22,7 +23,8 @@ def entries(seed, nrows, ncols, many, rows=None):
     """Random entries, in some rows alone where these are given."""
     random_ = random.Random(seed)
     rows = range(nrows) if rows is None else rows
-    return {(random_.choice(rows), random_.randrange(ncols)): random_.randrange(-4, 5) for _ in range(many)} if nrows and ncols else {}
+    return ({(random_.choice(rows), random_.randrange(ncols)): random_.randrange(-4, 5)
+             for _ in range(many)} if nrows and ncols else {})
 
 
 def one_long_row(seed):
@@ -33,14 +35,18 @@ def one_long_row(seed):
 # The sizes, the entries of A and B, and those of K, which A and B are multiplied by.
 CASES = {
     'random': (40, 30, entries(1, 40, 30, 220), entries(2, 40, 30, 200), entries(3, 30, 25, 150)),
-    'empty blocks': (60, 20, entries(4, 60, 20, 60, [21, 22, 50]), entries(5, 60, 20, 60), entries(6, 20, 9, 60)),
-    'more blocks than rows': (3, 8, entries(7, 3, 8, 12), entries(8, 3, 8, 12), entries(9, 8, 4, 16)),
+    'empty blocks': (60, 20, entries(4, 60, 20, 60, [21, 22, 50]), entries(5, 60, 20, 60),
+                     entries(6, 20, 9, 60)),
+    'more blocks than rows': (3, 8, entries(7, 3, 8, 12), entries(8, 3, 8, 12),
+                              entries(9, 8, 4, 16)),
     'one row': (1, 50, entries(10, 1, 50, 30), entries(11, 1, 50, 20), entries(12, 50, 6, 90)),
-    'one row with most entries': (30, 40, one_long_row(13), entries(15, 30, 40, 90), entries(16, 40, 10, 100)),
+    'one row with most entries': (30, 40, one_long_row(13), entries(15, 30, 40, 90),
+                                  entries(16, 40, 10, 100)),
     'no entries': (12, 5, {}, entries(17, 12, 5, 10), {}),
     'no rows': (0, 5, {}, {}, entries(18, 5, 3, 6)),
 }
-HASTY = spmat.asm('binary', 'mov64 r0, r1\njsgt64 r1, r2, 1\nmov64 r0, r2\nadd64 r0, 1\nexit\n')     # not associative, its steps differ
+# not associative, its steps differ
+HASTY = spmat.asm('binary', 'mov64 r0, r1\njsgt64 r1, r2, 1\nmov64 r0, r2\nadd64 r0, 1\nexit\n')
 
 # Each form by one method: of A, B, K and a mask of the result's shape.
 FORMS = {
@@ -59,7 +65,8 @@ FORMS = {
     'reduce': lambda A, B, K, mask: A.reduce_rowwise(HASTY, mask=mask),
     'fold of columns': lambda A, B, K, mask: A.reduce_columnwise(HASTY, mask=mask),
 }
-MASKS = {'none': lambda M: None, 'S': lambda M: M.S, '~V': lambda M: ~M.V, 'V': lambda M: M.V, '~S': lambda M: ~M.S}
+MASKS = {'none': lambda M: None, 'S': lambda M: M.S, '~V': lambda M: ~M.V, 'V': lambda M: M.V,
+         '~S': lambda M: ~M.S}
 FEW = ('none', 'S', '~V')                          # masks for all cases; the others for the first
 
 
@@ -73,14 +80,16 @@ class Pair:
         for s in (one, many):
             A = s.from_triples([(*at, x) for at, x in a.items()], nrows, ncols)
             here = s if s is one else A.session                    # the others cut as A is
-            self.sides.append((A, here.from_triples([(*at, x) for at, x in b.items()], nrows, ncols),
+            self.sides.append((A, here.from_triples([(*at, x) for at, x in b.items()], nrows,
+                                                    ncols),
                                s.from_triples([(*at, x) for at, x in k.items()], ncols, wide)))
         self.one, self.many = one, many
 
     def mask(self, form, seed):
         """A mask of the result's shape, on either side."""
         shape = FORMS[form](*self.sides[0], None).wait().shape
-        triples = [(*at, x) for at, x in entries(seed, *shape, 3 + shape[0] * shape[1] // 3).items()]
+        triples = [(*at, x) for at, x in entries(seed, *shape,
+                                                 3 + shape[0] * shape[1] // 3).items()]
         return [s.from_triples(triples, *shape) for s in (self.one, self.many)]
 
 
@@ -105,18 +114,23 @@ class Same(unittest.TestCase):
                         with self.subTest(sessions=count, case=case, form=form, mask=kind):
                             self.assertEqual(got.to_text(), want.to_text())
                             self.assertEqual(got.nvals, want.nvals)
-                            self.assertEqual((got.price, got.steps), (want.price or 0, want.steps or 0))
-                            self.assertEqual(one.budget().spent - before[0], many.budget().spent - before[1])
+                            self.assertEqual((got.price, got.steps),
+                                             (want.price or 0, want.steps or 0))
+                            self.assertEqual(one.budget().spent - before[0],
+                                             many.budget().spent - before[1])
         self.each(look)
 
     def test_a_method_under_a_mask_is_one_visit(self):
-        """Of several jobs, too: each block's session makes all of them in one task, and what lies between comes to no client."""
+        """Of several jobs, too: each block's session makes all of them in one task, and what lies
+        between comes to no client."""
         with blocks.Sessions(3) as s:
             A = Pair(s, s, 'random').sides[0][0]
             asked, submit = [], s.engine.submit
-            s.engine.submit = lambda settings, place, label, function, *more: asked.append(function) or submit(settings, place, label, function, *more)
+            s.engine.submit = (lambda settings, place, label, function, *more: asked.append(
+                function) or submit(settings, place, label, function, *more))
             for mask in (A.V, ~A.S, ~A.V):
-                for call in (lambda: A.apply('abs', mask=mask), lambda: A.dup(mask=mask), lambda: A.ewise_mult(A, mask=mask), lambda: A.update(A, 'plus', mask),
+                for call in (lambda: A.apply('abs', mask=mask), lambda: A.dup(mask=mask),
+                             lambda: A.ewise_mult(A, mask=mask), lambda: A.update(A, 'plus', mask),
                              lambda: A.update(A, None, mask, True), lambda: A.update(A, None, A.S)):
                     asked.clear()
                     call().wait()
@@ -127,11 +141,14 @@ class Same(unittest.TestCase):
             for case in CASES:
                 (A, B, K), (X, Y, Z) = Pair(one, many, case).sides
                 with self.subTest(sessions=count, case=case):
-                    self.assertEqual((X.shape, X.nvals, X.to_dict()), (A.shape, A.nvals, A.to_dict()))
+                    self.assertEqual((X.shape, X.nvals, X.to_dict()),
+                                     (A.shape, A.nvals, A.to_dict()))
                     self.assertEqual(X.to_triples(), A.to_triples())
                     self.assertEqual(X.to_coo(arrays=False), A.to_coo(arrays=False))
                     self.assertEqual(X.T.to_text(), A.T.to_text())
-                    self.assertEqual([a is b for a, b in zip(X.T.handle.futures, X.T.handle.futures)], [True] * X.T.cut.blocks)
+                    self.assertEqual([a is b
+                                      for a, b in zip(X.T.handle.futures, X.T.handle.futures)],
+                                     [True] * X.T.cut.blocks)
                     self.assertEqual(X.diag().to_text(), A.diag().to_text())
                     self.assertEqual(X.without(Y).to_text(), A.without(B).to_text())
                     self.assertTrue(X.isequal(X.apply('identity')))
@@ -144,11 +161,13 @@ class Same(unittest.TestCase):
         def look(one, many, count):
             for case in CASES:
                 (A, _, _), (X, _, _) = Pair(one, many, case).sides
-                for op in ('plus', 'times', 'first', 'second'):                 # all calls take as many steps
+                for op in ('plus', 'times', 'first', 'second'):
+                    # all calls take as many steps
                     before = [one.budget().spent, many.budget().spent]
                     with self.subTest(sessions=count, case=case, op=op):
                         self.assertEqual(X.reduce_scalar(op), A.reduce_scalar(op))
-                        self.assertEqual(one.budget().spent - before[0], many.budget().spent - before[1])
+                        self.assertEqual(one.budget().spent - before[0],
+                                         many.budget().spent - before[1])
                 self.assertEqual(X.reduce_scalar('min'), A.reduce_scalar('min'))
         self.each(look)
 
@@ -165,19 +184,23 @@ class Same(unittest.TestCase):
                             got = X.mxm(Z, ring, mask=W.S if mask else None, associative=True)
                             self.assertEqual(got.to_text(), want.to_text())
                             self.assertEqual(got.steps, want.steps)
-                self.assertEqual(X.mxm(Z, 'min_plus', associative=True).to_text(), A.mxm(K, 'min_plus').to_text())
-                self.assertEqual(X.reduce_columnwise('plus', associative=True).to_text(), A.reduce_columnwise('plus').to_text())
+                self.assertEqual(X.mxm(Z, 'min_plus', associative=True).to_text(),
+                                 A.mxm(K, 'min_plus').to_text())
+                self.assertEqual(X.reduce_columnwise('plus', associative=True).to_text(),
+                                 A.reduce_columnwise('plus').to_text())
         self.each(look)
 
     def test_products_by_blocks_change_others(self):
-        """`minus` isn't associative: cut into blocks, 8 - (4 - 2) - .. is another number, and the whole gives the right one."""
+        """`minus` isn't associative: cut into blocks, 8 - (4 - 2) - .. is another number, and the
+        whole gives the right one."""
         row = [(0, k, 1) for k in range(4)]
         column = [(k, 0, x) for k, x in enumerate((8, 4, 2, 1))]
         with blocks.Sessions(2) as s:
             A, B = s.from_triples(row, 1, 4), s.from_triples(column, 4, 1)
             halves = B.recut([0, 2, 4])
             self.assertEqual(A.mxm(halves, 'minus_times').to_list(), [8 - 4 - 2 - 1])
-            self.assertEqual(A.mxm(halves, 'minus_times', associative=True).to_list(), [(8 - 4) - (2 - 1)])
+            self.assertEqual(A.mxm(halves, 'minus_times', associative=True).to_list(),
+                             [(8 - 4) - (2 - 1)])
             self.assertEqual(A.mxm(halves, 'plus_times', associative=True).to_list(), [15])
 
     def test_said_once_for_all_products(self):
@@ -185,7 +208,8 @@ class Same(unittest.TestCase):
             (A, _, K), (X, _, Z) = Pair(one, many, 'random').sides
             product = X.mxm(Z)
             self.assertEqual(product.to_text(), A.mxm(K).to_text())
-            self.assertGreater(product.price, A.mxm(K).wait().price)            # unions were queued as well
+            # unions were queued as well
+            self.assertGreater(product.price, A.mxm(K).wait().price)
             self.assertEqual(X.mxm(Z, 'minus_times').price, A.mxm(K, 'minus_times').wait().price)
             self.assertEqual(X.mxm(Z, associative=False).price, A.mxm(K).wait().price)
 
@@ -194,7 +218,8 @@ class Same(unittest.TestCase):
             (A, B, K), (X, Y, Z) = Pair(one, many, 'random').sides
             self.assertEqual(X.cut.blocks, 7)
             self.assertEqual(X.mxm(Z, 'minus_times').to_text(), A.mxm(K, 'minus_times').to_text())
-            self.assertEqual(X.ewise_add(Y, 'minus').T.to_text(), A.ewise_add(B, 'minus').T.to_text())
+            self.assertEqual(X.ewise_add(Y, 'minus').T.to_text(),
+                             A.ewise_add(B, 'minus').T.to_text())
 
 
 class Algorithms(unittest.TestCase):
@@ -206,18 +231,22 @@ class Algorithms(unittest.TestCase):
                 for graph in many_graphs:
                     for function in functions:
                         both = graph.matrix(one), graph.matrix(many)
-                        for matrix in both:                # what blocks alone want to know is found out by either
+                        for matrix in both:
+                            # what blocks alone want to know is found out by either
                             algorithms.cached_properties.is_both_ways(matrix)
                             algorithms.cached_properties.extremes(matrix)
                         before = [one.budget().spent, many.budget().spent]
                         want, got = function(both[0], graph), function(both[1], graph)
-                        with self.subTest(graph=graph.name, function=function.__name__, sessions=count):
+                        with self.subTest(graph=graph.name, function=function.__name__,
+                                          sessions=count):
                             self.assertEqual(got if isinstance(got, int) else got.to_text(),
                                              want if isinstance(want, int) else want.to_text())
                             spent = one.budget().spent - before[0], many.budget().spent - before[1]
-                            if function.__name__ == 'pagerank':    # a row is folded by a reduction, a column by a product
+                            if function.__name__ == 'pagerank':
+                                # a row is folded by a reduction, a column by a product
                                 self.assertLess(abs(spent[0] - spent[1]), 0.1 * max(spent))
-                            elif function.__name__ in BY_FRONTS:   # what blocks find for one vertex is folded by the client
+                            elif function.__name__ in BY_FRONTS:
+                                # what blocks find for one vertex is folded by the client
                                 self.assertLessEqual(spent[1], spent[0])
                             else:
                                 self.assertEqual(*spent)
@@ -240,7 +269,8 @@ class Algorithms(unittest.TestCase):
 
         def closure(G, graph):
             return algorithms.transitive_closure(G)
-        self.each(graphs.DIRECTED[::2], bfs_levels, bfs_parents, sssp, components, pagerank, closure)
+        self.each(graphs.DIRECTED[::2], bfs_levels, bfs_parents, sssp, components, pagerank,
+                  closure)
 
     def test_of_undirected_graphs(self):
         def triangle_count(G, graph):
@@ -257,18 +287,25 @@ class Algorithms(unittest.TestCase):
 
         def clustering(G, graph):
             return algorithms.clustering(G)
-        self.each([graph for graph in graphs.UNDIRECTED if graph.count > 1], triangle_count, truss, core, independent, clustering)
+        self.each([graph for graph in graphs.UNDIRECTED if graph.count > 1], triangle_count, truss,
+                  core, independent, clustering)
 
     def test_known_answers(self):
         with blocks.Sessions(3) as s:
             for graph in graphs.UNDIRECTED[2:]:
                 near, G = graph.near(), graph.matrix(s)
                 self.assertEqual(algorithms.triangle_count(G), sum(graphs.triangles(near)) // 3)
-                self.assertEqual({i: x for (i, _), x in algorithms.bfs_levels(G, 1, G).to_dict().items()}, graphs.levels(near, 1))
+                self.assertEqual({i: x
+                                  for (i, _), x in algorithms.bfs_levels(G, 1,
+                                                                         G).to_dict().items()},
+                                 graphs.levels(near, 1))
 
     def test_a_product_that_is_too_large_for_one_job(self):
-        """Each block may cost as much as one session's job; beyond that, the algorithms make the product by halves."""
-        dear = spmat.asm('binary', 'mov64 r0, r1\njeq64 r1, r1, 4000\n' + 4000 * 'mov64 r0, r2\n' + 'exit\n')   # and takes 3 steps
+        """Each block may cost as much as one session's job; beyond that, the algorithms make the
+        product by halves."""
+        # and takes 3 steps
+        dear = spmat.asm('binary', 'mov64 r0, r1\njeq64 r1, r1, 4000\n' + 4000 * 'mov64 r0, r2\n'
+                         + 'exit\n')
         with spmat.Session() as one, blocks.Sessions(2) as many:
             with self.assertRaisesRegex(spmat.TooLarge, 'J8'):
                 one.full(1200, 32).mxm(one.full(32, 32), ('plus', dear))
@@ -285,14 +322,17 @@ class Refusals(unittest.TestCase):
     def test_found_where_the_method_is_called(self):
         with blocks.Sessions(2) as s, blocks.Sessions(2) as other, spmat.Session() as one:
             X = s.from_triples([(0, 0, 1), (3, 2, 1)], 4, 3)
-            for call in (lambda: X.ewise_add(X.T), lambda: X.mxm(X), lambda: X.mxv(X), lambda: X.vxm(X), lambda: X.apply('abs', mask=X.T.S)):
+            for call in (lambda: X.ewise_add(X.T), lambda: X.mxm(X), lambda: X.mxv(X),
+                         lambda: X.vxm(X), lambda: X.apply('abs', mask=X.T.S)):
                 with self.assertRaises(spmat.DimensionMismatch):
                     call()
-            for call in (lambda: X.apply(spmat.binary.plus), lambda: X.select(spmat.binary.plus), lambda: X.ewise_add(X, spmat.unary.abs)):
+            for call in (lambda: X.apply(spmat.binary.plus), lambda: X.select(spmat.binary.plus),
+                         lambda: X.ewise_add(X, spmat.unary.abs)):
                 with self.assertRaises(spmat.DomainMismatch):
                     call()
             A = one.from_triples([(0, 0, 1), (1, 1, 1)], 4, 3)
-            for call in (lambda: X.ewise_add(A), lambda: A.ewise_add(X), lambda: X.apply('abs', mask=A.S), lambda: X.isequal(A),
+            for call in (lambda: X.ewise_add(A), lambda: A.ewise_add(X),
+                         lambda: X.apply('abs', mask=A.S), lambda: X.isequal(A),
                          lambda: X.ewise_add(other.full(4, 3))):
                 with self.assertRaisesRegex(ValueError, 'another session'):
                     call()
@@ -306,7 +346,8 @@ class Refusals(unittest.TestCase):
         with blocks.Sessions(3) as s:
             X = s.from_triples([(i, i, i) for i in range(9)], 9, 9)
             wrong = spmat.asm('unary', 'ldx64 r0, r1, 0\nexit', 'f')
-            with self.assertRaisesRegex(spmat.OperatorRefused, r'V14.*block 0 of 3, rows 0 to 2') as caught:
+            with self.assertRaisesRegex(spmat.OperatorRefused,
+                                        r'V14.*block 0 of 3, rows 0 to 2') as caught:
                 X.apply(wrong).nvals
             self.assertEqual(caught.exception.block, 'block 0 of 3, rows 0 to 2')
             self.assertEqual((caught.exception.rule, caught.exception.at), ('V14', 0))
@@ -325,7 +366,8 @@ class Refusals(unittest.TestCase):
         with blocks.Sessions(Dying(2)) as s:
             X = s.from_coo(range(40), range(40), 1, 40, 40)
             s.engine.killing = True
-            with self.assertRaisesRegex(blocks.BlockFailed, 'block 1 of 2, rows 20 to 39: Closed: ') as caught:
+            with self.assertRaisesRegex(blocks.BlockFailed,
+                                        'block 1 of 2, rows 20 to 39: Closed: ') as caught:
                 X.apply('abs').nvals
             self.assertEqual(caught.exception.block, 'block 1 of 2, rows 20 to 39')
 
@@ -337,15 +379,18 @@ class Refusals(unittest.TestCase):
             blocks.Sessions(2, program='/no/such/program')
 
     def test_matrices_that_are_cut_elsewhere_are_of_the_same_sessions(self):
-        """A loop takes them together, whatever objects tell how they are cut; it takes none of other sessions."""
+        """A loop takes them together, whatever objects tell how they are cut; it takes none of
+        other sessions."""
         with blocks.Sessions(2) as s, blocks.Sessions(2) as t:
             A = s.from_triples([(0, 0, 1), (1, 0, 2), (2, 0, 3), (3, 0, 4)], 4, 1)
             B, C = A.recut([0, 1, 4]), t.from_triples([(0, 0, 1)], 4, 1)
-            of_a, of_b = A.session, B.session      # both are held, so that neither is where the other was
+            # both are held, so that neither is where the other was
+            of_a, of_b = A.session, B.session
             self.assertIsNot(of_a, of_b)
             self.assertEqual((of_a, hash(of_a)), (of_b, hash(of_b)))
             self.assertNotEqual(of_a, C.session)
-            loop = spmat.loop(lambda state: {'a': state.a.ewise_mult(state.b, 'minus')}, {'a': A, 'b': B})
+            loop = spmat.loop(lambda state: {'a': state.a.ewise_mult(state.b, 'minus')},
+                              {'a': A, 'b': B})
             loop.advance(1)
             self.assertEqual(loop.state.a.to_list(), [0, 0, 0, 0])
             with self.assertRaisesRegex(ValueError, 'of one session, and here of 2'):
@@ -363,12 +408,14 @@ class Lost(unittest.TestCase):
 
     def kill(self, s, place=1):
         store = next(store for key, store in s.engine._stores.items() if key[1] == place)
-        with contextlib.suppress(ProcessLookupError):              # it was killed before, and nobody asked since
+        with contextlib.suppress(ProcessLookupError):
+            # it was killed before, and nobody asked since
             os.kill(store.session.connection.process, signal.SIGKILL)
 
     def test_between_jobs(self):
         told = []
-        with spmat.Session() as one, blocks.Sessions(3, progress=lambda *now: told.append(now)) as s:
+        with spmat.Session() as one, \
+                blocks.Sessions(3, progress=lambda *now: told.append(now)) as s:
             (A, B, K), (X, Y, Z) = Pair(one, s, 'random').sides
             W = X.mxm(Z).ewise_add(X.mxm(Z, 'min_plus'))
             W.wait()
@@ -376,19 +423,22 @@ class Lost(unittest.TestCase):
             for place in (1, 0, 2, 1):
                 self.kill(s, place)
                 self.assertEqual(X.ewise_add(Y).to_text(), A.ewise_add(B).to_text())
-                self.assertEqual(W.T.to_text(), A.mxm(K).ewise_add(A.mxm(K, 'min_plus')).T.to_text())
+                self.assertEqual(W.T.to_text(),
+                                 A.mxm(K).ewise_add(A.mxm(K, 'min_plus')).T.to_text())
             self.assertGreater(s.again, 4)
             self.assertIn('blocks', [word for word, _, _ in told])
 
     def test_amid_an_algorithm(self):
-        """In each round another program is killed; the answer is right, and a chain of rounds isn't made again from the start."""
+        """In each round another program is killed; the answer is right, and a chain of rounds isn't
+        made again from the start."""
         graph = graphs.UNDIRECTED[-1]
         with spmat.Session() as one, blocks.Sessions(3) as s:
             want = algorithms.pagerank(graph.matrix(one), damping=.6, tolerance=.001).to_text()
 
             def progress(word, number, of):
                 self.kill(s, number % 3)
-            got = algorithms.pagerank(graph.matrix(s), damping=.6, tolerance=.001, progress=progress)
+            got = algorithms.pagerank(graph.matrix(s), damping=.6, tolerance=.001,
+                                      progress=progress)
             self.assertEqual(got.to_text(), want)
             self.assertLess(s.again, 300)
 
@@ -425,7 +475,8 @@ class OneClass(unittest.TestCase):
         with blocks.Sessions(3) as s:
             X = s.from_triples([(i, (i + 1) % 9, 1) for i in range(9)], 9, 9)
             column = X.reduce_rowwise()
-            for one in (X, X.T, X.mxm(X), X.without(X.T), column, X.recut([0, 4, 9]), X.checkpoint()):
+            for one in (X, X.T, X.mxm(X), X.without(X.T), column, X.recut([0, 4, 9]),
+                        X.checkpoint()):
                 self.assertIsInstance(one, spmat.Matrix)
                 self.assertIsInstance(one, blocks.BlockMatrix)
                 self.assertIs(one.in_one_place, False)
@@ -437,23 +488,27 @@ class OneClass(unittest.TestCase):
                              (X.cut, X.counts(), X.sessions))
 
     def test_columns_are_folded_where_they_lie(self):
-        """With `associative=True`, and in `reduce_scalar`, each block is folded at its session, and a row comes from each."""
+        """With `associative=True`, and in `reduce_scalar`, each block is folded at its session, and
+        a row comes from each."""
         triples = [(*at, x) for at, x in entries(5, 40, 7, 90).items()]
         mask = [(0, j, j % 2) for j in range(0, 7, 2)]
         with spmat.Session() as one, blocks.Sessions(2, blocks=5) as many:
-            sides = [(s.from_triples(triples, 40, 7), s.from_triples(mask, 1, 7)) for s in (one, many)]
+            sides = [(s.from_triples(triples, 40, 7), s.from_triples(mask, 1, 7))
+                     for s in (one, many)]
             asked, submit = [], many.engine.submit
             many.engine.submit = lambda settings, place, label, function, *args: \
                 asked.append(function) or submit(settings, place, label, function, *args)
             for op in ('plus', 'min', 'first', 'second', 'times'):
                 for kind in ('none', 'S', 'V', '~S'):
-                    want, got = (A.reduce_columnwise(op, mask=MASKS[kind](K), associative=True) for A, K in sides)
+                    want, got = (A.reduce_columnwise(op, mask=MASKS[kind](K), associative=True)
+                                 for A, K in sides)
                     with self.subTest(op=op, mask=kind):
                         self.assertEqual((got.to_text(), got.cut.nrows), (want.to_text(), 1))
                 (A, _), (X, _) = sides
                 self.assertEqual(X.reduce_scalar(op), A.reduce_scalar(op))
             self.assertEqual(asked.count(worker_tasks.fold_rows), 5 * 5 * 5)
-            self.assertEqual(asked.count(worker_tasks.full), 0)        # no row of ones goes to a block
+            # no row of ones goes to a block
+            self.assertEqual(asked.count(worker_tasks.full), 0)
 
 
 class Fronts(unittest.TestCase):
@@ -474,19 +529,22 @@ class Fronts(unittest.TestCase):
             for ring in map(spmat.semiring, *zip(*(name.split('_') for name in self.RINGS))):
                 for number, size in enumerate((0, 1, 9, 50)):
                     front = self.vector(n, size, number)
-                    row = one.from_coo([0] * size, front.at.tolist(), front.values.tolist(), 1, n).mxm(G, ring)
+                    row = one.from_coo([0] * size, front.at.tolist(), front.values.tolist(), 1,
+                                       n).mxm(G, ring)
                     want = row.to_coo(arrays=False)[1:]
                     found = jobs.push_front(X, front, ring), jobs.pull_front(X.T, front, swap(ring))
                     for way, got in zip(('push', 'pull'), found):
                         with self.subTest(ring=ring, size=size, way=way):
-                            self.assertEqual((got.at.tolist(), got.values.tolist()), tuple(map(list, want)))
+                            self.assertEqual((got.at.tolist(), got.values.tolist()),
+                                             tuple(map(list, want)))
 
     def test_only_blocks_that_have_the_front_are_asked(self):
         with blocks.Sessions(4) as s:
             X = s.identity(40)
             X.wait()
             asked, submit = [], s.engine.submit
-            s.engine.submit = lambda settings, place, *more: asked.append(place) or submit(settings, place, *more)
+            s.engine.submit = (lambda settings, place, *more: asked.append(place)
+                               or submit(settings, place, *more))
             got = jobs.push_front(X, vector_of([11, 12], [1, 1]), spmat.semiring('any', 'first'))
             self.assertEqual((got.at.tolist(), got.values.tolist(), asked), ([11, 12], [1, 1], [1]))
 
@@ -501,11 +559,14 @@ class Steps(unittest.TestCase):
                 a = entries(seed, n, n, random_.randrange(12))
                 X = s.from_triples([(*at, x) for at, x in a.items()], n, n)
                 for _ in range(6):
-                    b, op = entries(seed + 1000, n, n, random_.randrange(12)), random_.choice(list(model.BINARY))
+                    b, op = entries(seed + 1000, n, n,
+                                    random_.randrange(12)), random_.choice(list(model.BINARY))
                     Y = s.from_triples([(*at, x) for at, x in b.items()], n, n)     # cut elsewhere
                     X, a = random_.choice((
-                        lambda: (X.ewise_add(Y, op), model.union(a, b, op)), lambda: (X.ewise_mult(Y, op), model.both(a, b, op)),
-                        lambda: (X.mxm(Y, op + '_plus'), model.product(a, b, op, 'plus')), lambda: (X.T, model.transposed(a)),
+                        lambda: (X.ewise_add(Y, op), model.union(a, b, op)),
+                        lambda: (X.ewise_mult(Y, op), model.both(a, b, op)),
+                        lambda: (X.mxm(Y, op + '_plus'), model.product(a, b, op, 'plus')),
+                        lambda: (X.T, model.transposed(a)),
                         lambda: (X.dup(mask=~Y.S), model.cut(a, lambda p: p not in b)),
                         lambda: (X.recut(Y.cut), a)))()
                 self.assertEqual(X.to_dict(), a, seed)

@@ -1,4 +1,5 @@
-"""What calls need for certain: never more than they do, told before anything is sent, and of every algorithm that begins with a job of known size."""
+"""What calls need for certain: never more than they do, told before anything is sent, and of every
+algorithm that begins with a job of known size."""
 import inspect
 import random
 import unittest
@@ -14,28 +15,44 @@ from spmat.pricing import call_price
 
 # Calls of algorithms; of any other that of `alike`.
 OWN = {
-    'all_pairs': algorithms.all_pairs, 'betweenness': algorithms.betweenness, 'bipartite_sides': algorithms.bipartite_sides,
-    'bfs_levels': lambda G: algorithms.bfs_levels(G, 0), 'bfs_parents': lambda G: algorithms.bfs_parents(G, 0),
-    'closeness': algorithms.closeness, 'clustering': algorithms.clustering, 'common_neighbours': algorithms.common_neighbours,
-    'connected_components': algorithms.connected_components, 'core_numbers': algorithms.core_numbers, 'degrees': algorithms.degrees,
+    'all_pairs': algorithms.all_pairs, 'betweenness': algorithms.betweenness,
+    'bipartite_sides': algorithms.bipartite_sides,
+    'bfs_levels': lambda G: algorithms.bfs_levels(G, 0),
+    'bfs_parents': lambda G: algorithms.bfs_parents(G, 0),
+    'closeness': algorithms.closeness, 'clustering': algorithms.clustering,
+    'common_neighbours': algorithms.common_neighbours,
+    'connected_components': algorithms.connected_components,
+    'core_numbers': algorithms.core_numbers, 'degrees': algorithms.degrees,
     'diameter': algorithms.diameter, 'distance_counts': algorithms.distance_counts,
-    'eccentricity': algorithms.eccentricity, 'eigenvector': algorithms.eigenvector, 'has_path': lambda G: algorithms.has_path(G, 0, 5),
-    'hits': algorithms.hits, 'jaccard': algorithms.jaccard, 'k_core': lambda G: algorithms.k_core(G, 2),
-    'k_hop': lambda G: algorithms.k_hop(G, 2), 'k_shortest_paths': lambda G: algorithms.k_shortest_paths(G, 0, 5, 2),
-    'k_truss': lambda G: algorithms.k_truss(G, 3), 'katz': lambda G: algorithms.katz(G, .05), 'label_propagation': algorithms.label_propagation,
-    'longest_paths': algorithms.longest_paths, 'louvain': algorithms.louvain, 'maximal_independent_set': algorithms.maximal_independent_set,
+    'eccentricity': algorithms.eccentricity, 'eigenvector': algorithms.eigenvector,
+    'has_path': lambda G: algorithms.has_path(G, 0, 5),
+    'hits': algorithms.hits, 'jaccard': algorithms.jaccard,
+    'k_core': lambda G: algorithms.k_core(G, 2),
+    'k_hop': lambda G: algorithms.k_hop(G, 2),
+    'k_shortest_paths': lambda G: algorithms.k_shortest_paths(G, 0, 5, 2),
+    'k_truss': lambda G: algorithms.k_truss(G, 3), 'katz': lambda G: algorithms.katz(G, .05),
+    'label_propagation': algorithms.label_propagation,
+    'longest_paths': algorithms.longest_paths, 'louvain': algorithms.louvain,
+    'maximal_independent_set': algorithms.maximal_independent_set,
     'minimum_spanning_forest': algorithms.minimum_spanning_forest,
-    'modularity': lambda G: algorithms.modularity(G, G.session.from_coo(range(G.nrows), [0] * G.nrows, range(G.nrows))),
+    'modularity': lambda G: algorithms.modularity(
+        G, G.session.from_coo(range(G.nrows), [0] * G.nrows, range(G.nrows))),
     'pagerank': algorithms.pagerank, 'path_lengths': lambda G: algorithms.path_lengths(G, [0, 1]),
     'shared_neighbours': lambda G: algorithms.shared_neighbours(G, [0, 1], [2, 3]),
-    'shortest_path': lambda G: algorithms.shortest_path(G, 0, 5), 'shortest_paths': lambda G: algorithms.shortest_paths(G, 0),
+    'shortest_path': lambda G: algorithms.shortest_path(G, 0, 5),
+    'shortest_paths': lambda G: algorithms.shortest_paths(G, 0),
     'squares': algorithms.squares, 'sssp': lambda G: algorithms.sssp(G, 0),
-    'strongly_connected_components': algorithms.strongly_connected_components, 'topological_levels': algorithms.topological_levels,
-    'transitive_closure': algorithms.transitive_closure, 'triangle_count': algorithms.triangle_count, 'triangles': algorithms.triangles,
+    'strongly_connected_components': algorithms.strongly_connected_components,
+    'topological_levels': algorithms.topological_levels,
+    'transitive_closure': algorithms.transitive_closure,
+    'triangle_count': algorithms.triangle_count, 'triangles': algorithms.triangles,
     'undirected': algorithms.undirected}
-CALLS = {**{name: calls[0] for name, calls in alike.ALGORITHMS.items() if name in algorithms.__all__}, **OWN}
-# What a search does first depends on where it begins; small graphs are looked at whole for strong components, and labels are read first.
-UNKNOWN = {'bfs_levels', 'bfs_parents', 'has_path', 'shortest_path', 'shortest_paths', 'shared_neighbours', 'strongly_connected_components', 'modularity'}
+CALLS = {**{name: calls[0] for name, calls in alike.ALGORITHMS.items()
+            if name in algorithms.__all__}, **OWN}
+# What a search does first depends on where it begins; small graphs are looked at whole for strong
+# components, and labels are read first.
+UNKNOWN = {'bfs_levels', 'bfs_parents', 'has_path', 'shortest_path', 'shortest_paths',
+           'shared_neighbours', 'strongly_connected_components', 'modularity'}
 FACTS = ('both ways', 'loops', 'extremes')         # those that aren't matrices of a session
 TRIANGLES, KARATE, FORWARD = graphs.UNDIRECTED[2], graphs.UNDIRECTED[3], graphs.DIRECTED[1]
 
@@ -53,7 +70,8 @@ def ended(call, G):
 
 def unguarded(call, graph, steps, known):
     """What a call comes to on so many steps where nobody looks at the budget beforehand."""
-    with spmat.Session(steps=steps) as session, mock.patch('spmat.pricing.call_price._check_budget'):
+    with spmat.Session(steps=steps) as session, \
+            mock.patch('spmat.pricing.call_price._check_budget'):
         G = graph.matrix(session)
         G.kept.update(known)
         return ended(call, G)
@@ -61,12 +79,13 @@ def unguarded(call, graph, steps, known):
 
 class Needs(unittest.TestCase):
     def test_all(self):
-        functions = {name for name in algorithms.__all__ if inspect.isfunction(getattr(algorithms, name))}
+        functions = {name for name in algorithms.__all__
+                     if inspect.isfunction(getattr(algorithms, name))}
         self.assertEqual(functions - set(CALLS), set())
 
     def look(self, graph, name, known):
-        """A call on one step less than what it needs for certain is refused before anything is sent, and would be refused without that. The
-        steps that it needs, and what it found out."""
+        """A call on one step less than what it needs for certain is refused before anything is
+        sent, and would be refused without that. The steps that it needs, and what it found out."""
         call = CALLS[name]
         with spmat.Session() as session:
             G = graph.matrix(session)
@@ -75,7 +94,8 @@ class Needs(unittest.TestCase):
             needed = call_price.needed_by(lambda: call(G))
             if needed:
                 self.refused(G, name, needed)
-            self.assertEqual((session.connection.commands, session.jobs, G.kept), (commands, 0, known))
+            self.assertEqual((session.connection.commands, session.jobs, G.kept),
+                             (commands, 0, known))
             end = ended(call, G)
             found = {fact: G.kept[fact] for fact in FACTS if fact in G.kept}
         if end == 'done' and needed:
@@ -84,7 +104,8 @@ class Needs(unittest.TestCase):
 
     def refused(self, G, name, needed):
         """With one step less than it needs a call is refused, and says why."""
-        with mock.patch.object(G.session.backend.queue, 'ceiling', needed - 1), self.assertRaises(spmat.BudgetExceeded) as caught:
+        with mock.patch.object(G.session.backend.queue, 'ceiling', needed - 1), \
+                self.assertRaises(spmat.BudgetExceeded) as caught:
             CALLS[name](G)
         fault = caught.exception
         self.assertEqual((fault.algorithm, fault.needed, fault.left), (name, needed, needed - 1))
@@ -108,7 +129,8 @@ class Needs(unittest.TestCase):
         self.assertEqual(set(facts), set(FACTS))
         self.assertEqual({name for name, needed in needs.items() if not needed}, UNKNOWN)
         known, _ = self.on(TRIANGLES, facts)
-        self.assertLessEqual({name for name, needed in known.items() if not needed}, UNKNOWN | {'diameter', 'k_hop', 'k_shortest_paths', 'sssp'})
+        self.assertLessEqual({name for name, needed in known.items() if not needed},
+                             UNKNOWN | {'diameter', 'k_hop', 'k_shortest_paths', 'sssp'})
 
     def test_directed(self):
         needs, _ = self.on(FORWARD)
@@ -118,7 +140,8 @@ class Needs(unittest.TestCase):
 
 class Enough(unittest.TestCase):
     def test_spent(self):
-        """On what it spent a call isn't refused before its first job, but where a price is above that, and the server refuses it, too."""
+        """On what it spent a call isn't refused before its first job, but where a price is above
+        that, and the server refuses it, too."""
         for name, call in CALLS.items():
             with self.subTest(call=name):
                 with spmat.Session() as session:
@@ -128,11 +151,13 @@ class Enough(unittest.TestCase):
                 with spmat.Session(steps=spent) as session:
                     again, jobs = ended(call, TRIANGLES.matrix(session)), session.jobs
                 if again != end:
-                    self.assertEqual((again, unguarded(call, TRIANGLES, spent, {})), ('BudgetExceeded', 'BudgetExceeded'))
+                    self.assertEqual((again, unguarded(call, TRIANGLES, spent, {})),
+                                     ('BudgetExceeded', 'BudgetExceeded'))
                     self.assertEqual(jobs == 0 < spent, needed > spent)
 
     def test_other_graphs(self):
-        """A graph that isn't what an algorithm asks for is told by its ValueError where the steps for that are there."""
+        """A graph that isn't what an algorithm asks for is told by its ValueError where the steps
+        for that are there."""
         with spmat.Session(steps=2000) as session:
             G = FORWARD.matrix(session)
             for _ in range(2):
@@ -142,15 +167,18 @@ class Enough(unittest.TestCase):
 
 class Counted(support.InSession):
     def test_sizes(self):
-        """The client knows operators' instructions as the server does, and the shortest way through them."""
+        """The client knows operators' instructions as the server does, and the shortest way through
+        them."""
         for kind in ('unary', 'binary', 'indexunary'):
             ready = getattr(spmat, kind)
             for name in ready:
                 size = estimate.size_of(ready[name])
                 self.assertEqual(size.length, self.s.backend.length_of(ready[name]), name)
                 self.assertLessEqual(size.shortest, size.length)
-        code = spmat.code('unary', 'bf10000000000000' '1500010000000000' '0700000001000000' '9500000000000000')
-        for op in (spmat.asm('unary', 'wide r0, 5\njeq64 r1, 7, 2\nadd64 r0, 1\nadd64 r0, 2\nexit\n'), code):
+        code = spmat.code('unary',
+                          'bf10000000000000150001000000000007000000010000009500000000000000')
+        for op in (spmat.asm('unary',
+                             'wide r0, 5\njeq64 r1, 7, 2\nadd64 r0, 1\nadd64 r0, 2\nexit\n'), code):
             size = estimate.size_of(op)
             self.assertEqual((size.length, size.shortest), (self.s.backend.length_of(op), 3))
         A = self.s.from_coo([0, 0], [0, 1], [0, 5])
@@ -170,24 +198,30 @@ class Counted(support.InSession):
         s = self.s
         A = s.from_coo([0, 0, 1, 3], [1, 2, 0, 3], [5, 6, 7, 8], 4, 4)
         full, column, row = s.full(4, 4), s.full(4, 1), s.full(1, 4)
-        calls = {'apply': lambda: A.apply('one'), 'select': lambda: A.select('tril'), 'same mask': lambda: A.apply('one', mask=A.S),
-                 'full mask': lambda: A.apply('one', mask=full.S), 'union': lambda: A.ewise_add(A), 'both': lambda: A.ewise_mult(full, 'min'),
-                 'mxv': lambda: A.mxv(column), 'vxm': lambda: row.mxm(A), 'of ones': lambda: full.mxm(A),
-                 'under full': lambda: A.mxm(full, mask=full.S), 'under itself': lambda: A.mxm(full, mask=A.S), 'reduce': lambda: full.reduce_rowwise()}
+        calls = {'apply': lambda: A.apply('one'), 'select': lambda: A.select('tril'),
+                 'same mask': lambda: A.apply('one', mask=A.S),
+                 'full mask': lambda: A.apply('one', mask=full.S), 'union': lambda: A.ewise_add(A),
+                 'both': lambda: A.ewise_mult(full, 'min'),
+                 'mxv': lambda: A.mxv(column), 'vxm': lambda: row.mxm(A),
+                 'of ones': lambda: full.mxm(A),
+                 'under full': lambda: A.mxm(full, mask=full.S),
+                 'under itself': lambda: A.mxm(full, mask=A.S),
+                 'reduce': lambda: full.reduce_rowwise()}
         for name, call in calls.items():
             with self.subTest(job=name):
                 needed, price, _ = self.steps_of(call)
                 self.assertEqual(needed, price)
         lower, diagonal = A.select('tril').wait(), s.identity(4)
-        for name, call in {'reduce': A.reduce_rowwise, 'product': lambda: A.mxm(A), 'part': lambda: A.ewise_add(lower, 'min'),
+        for name, call in {'reduce': A.reduce_rowwise, 'product': lambda: A.mxm(A),
+                           'part': lambda: A.ewise_add(lower, 'min'),
                            'other mask': lambda: A.apply('one', mask=diagonal.S)}.items():
             with self.subTest(job=name):
                 needed, price, _ = self.steps_of(call)
                 self.assertLessEqual(needed, price)
 
     def test_products(self):
-        """Of a graph whose edges lead both ways the terms of its square are at least those of one whose vertices are all alike; of matrices that
-        were counted they are known."""
+        """Of a graph whose edges lead both ways the terms of its square are at least those of one
+        whose vertices are all alike; of matrices that were counted they are known."""
         ring = self.s.from_triples([(i, (i + d) % 8, 1) for i in range(8) for d in (1, 7)], 8, 8)
         ring.kept['both ways'] = True
         needed, price, _ = self.steps_of(lambda: ring.mxm(ring, 'plus_pair', mask=ring.S))
@@ -204,22 +238,31 @@ class Counted(support.InSession):
         """A product that is made by parts needs no more than the largest of them is priced at."""
         column, row = self.s.full(5000, 1), self.s.full(1, 5000)
         needed = call_price.needed_by(lambda: column.mxm(row, 'plus_times', parts=True))
-        self.assertEqual(needed, (1 << 23) * sum(self.s.backend.length_of(op) for op in (spmat.binary.plus, spmat.binary.times)))
+        self.assertEqual(needed,
+                         (1 << 23) * sum(self.s.backend.length_of(op)
+                                         for op in (spmat.binary.plus, spmat.binary.times)))
 
 
 class Chains(support.InSession):
     """Jobs by chance, one after the other, beside what the server says of them."""
 
     def matrices(self, random_):
-        """Square matrices, columns and rows, some full, some with entries at the same places, some with the client."""
+        """Square matrices, columns and rows, some full, some with entries at the same places, some
+        with the client."""
         n = random_.randrange(1, 6)
 
         def some(nrows, ncols):
-            places = [(i, j) for i in range(nrows) for j in range(ncols) if random_.random() < random_.choice((.2, .8, 1))]
+            places = [(i, j) for i in range(nrows) for j in range(ncols) if random_.random()
+                      < random_.choice((.2, .8, 1))]
             if random_.random() < .3:
-                return self.s.backend.keep(spmat.io.matrix_text.Triples([i for i, _ in places], [j for _, j in places], [1] * len(places), nrows, ncols))
-            return self.s.from_triples([(i, j, random_.randrange(3)) for i, j in places], nrows, ncols)
-        made = [some(n, n), some(n, n), some(n, 1), some(1, n), self.s.full(n, n), self.s.full(n, 1), self.s.identity(n)]
+                return self.s.backend.keep(spmat.io.matrix_text.Triples([i for i, _ in places],
+                                                                        [j for _, j in places],
+                                                                        [1] * len(places), nrows,
+                                                                        ncols))
+            return self.s.from_triples([(i, j, random_.randrange(3)) for i, j in places], nrows,
+                                       ncols)
+        made = [some(n, n), some(n, n), some(n, 1), some(1, n), self.s.full(n, n),
+                self.s.full(n, 1), self.s.identity(n)]
         both = some(n, n)
         both = both.ewise_add(both.T, 'max').wait()
         both.kept['both ways'] = True
@@ -233,11 +276,16 @@ class Chains(support.InSession):
             a = random_.choice(known)
             alike = [one for one in known if one.shape == a.shape]
             mask = random_.choice([None] * len(alike) + [one.S for one in alike])
-            b, c = random_.choice(alike), random_.choice([one for one in known if one.nrows == a.ncols])
-            under = random_.choice([None, *(one.S for one in known if one.shape == (a.nrows, c.ncols))])
+            b, c = random_.choice(alike), random_.choice([one for one in known
+                                                          if one.nrows == a.ncols])
+            under = random_.choice([None,
+                                    *(one.S for one in known if one.shape == (a.nrows, c.ncols))])
             made.append(random_.choice((
-                lambda: a.apply(jumps, mask=mask), lambda: a.select(random_.choice(('tril', 'offdiag', 'nonzero')), mask=mask),
-                lambda: a.ewise_add(b, 'plus', mask=mask), lambda: a.ewise_mult(b, 'max', mask=mask), lambda: a.mxm(c, 'plus_times', mask=under),
+                lambda: a.apply(jumps, mask=mask),
+                lambda: a.select(random_.choice(('tril', 'offdiag', 'nonzero')), mask=mask),
+                lambda: a.ewise_add(b, 'plus', mask=mask),
+                lambda: a.ewise_mult(b, 'max', mask=mask),
+                lambda: a.mxm(c, 'plus_times', mask=under),
                 lambda: a.mxm(c, 'min_plus', mask=under), lambda: a.reduce_rowwise('plus')))())
             known.append(made[-1])
         return made
@@ -261,7 +309,8 @@ class Chains(support.InSession):
         self.assertGreater(exact, 10)
 
     def test_granted(self):
-        """What only a result tells is taken for true where a graph of another kind would be refused, and nowhere else."""
+        """What only a result tells is taken for true where a graph of another kind would be
+        refused, and nowhere else."""
         G, sure = self.s.full(2, 2), call_price.Price(sends=False).inside()
 
         def refuse():
@@ -279,12 +328,14 @@ class Chains(support.InSession):
     def test_diagonals(self):
         """A selection off the diagonal leaves all but as many entries as there are rows."""
         G = self.s.full(4, 4)
-        self.assertEqual(call_price.needed_by(lambda: G.select('offdiag').apply('one')), 16 * estimate.size_of(spmat.indexunary.offdiag).shortest + 12 * 2)
+        self.assertEqual(call_price.needed_by(lambda: G.select('offdiag').apply('one')),
+                         16 * estimate.size_of(spmat.indexunary.offdiag).shortest + 12 * 2)
 
 
 class Sessions(unittest.TestCase):
     def test_ceiling(self):
-        """What can be left is known without asking: reserved steps may come back, and those spent don't."""
+        """What can be left is known without asking: reserved steps may come back, and those spent
+        don't."""
         with spmat.Session(steps=1000) as session:
             A = session.full(3, 3)
             waits = A.apply('one')
@@ -304,14 +355,18 @@ class Sessions(unittest.TestCase):
             loop = spmat.loop(lambda s: {'front': s.front.mxm(G, 'any_pair')}, {'front': front})
             spent = session.budget().spent
             priced = spmat.price(lambda: loop.run(spmat.steady('front')))
-            self.assertEqual((session.budget().spent, priced.complete, [job.form for job in priced.jobs]), (spent, False, ['product']))
+            self.assertEqual((session.budget().spent, priced.complete,
+                              [job.form for job in priced.jobs]), (spent, False, ['product']))
             priced = spmat.price(lambda: algorithms.bfs_levels(G, 0))
-            self.assertEqual((session.budget().spent, session.jobs, priced.complete), (spent, 0, False))
+            self.assertEqual((session.budget().spent, session.jobs, priced.complete),
+                             (spent, 0, False))
             self.assertEqual(loop.run(spmat.steady('front')) > 0, True)
 
     def test_ample(self):
-        """Where the budget has much left nobody looks; nor where an argument can be read but once."""
-        with spmat.Session() as session, mock.patch('spmat.pricing.call_price._check_budget', side_effect=AssertionError):
+        """Where the budget has much left nobody looks; nor where an argument can be read but
+        once."""
+        with spmat.Session() as session, mock.patch('spmat.pricing.call_price._check_budget',
+                                                    side_effect=AssertionError):
             algorithms.degrees(KARATE.matrix(session)).wait()
         with spmat.Session(steps=100000) as session:
             G = KARATE.matrix(session)

@@ -1,5 +1,5 @@
-"""Nothing wrong in silence: what a graph has to be is found out, once, and what it isn't is refused in words that say what to do; and
-arguments that end searches early."""
+"""Nothing wrong in silence: what a graph has to be is found out, once, and what it isn't is refused
+in words that say what to do; and arguments that end searches early."""
 import unittest
 
 import graphs
@@ -8,9 +8,11 @@ import spmat
 from spmat import algorithms
 from spmat.algorithms import cached_properties
 
-UNDIRECTED_ALONE = ('triangle_count', 'triangles', 'clustering', 'k_core', 'core_numbers', 'k_truss', 'maximal_independent_set',
-                    'label_propagation', 'minimum_spanning_forest')
-LOOPS_DO_NOT_COUNT = ('triangle_count', 'maximal_independent_set', 'label_propagation', 'minimum_spanning_forest')
+UNDIRECTED_ALONE = ('triangle_count', 'triangles', 'clustering', 'k_core', 'core_numbers',
+                    'k_truss', 'maximal_independent_set', 'label_propagation',
+                    'minimum_spanning_forest')
+LOOPS_DO_NOT_COUNT = ('triangle_count', 'maximal_independent_set', 'label_propagation',
+                      'minimum_spanning_forest')
 MORE = {'k_core': (1,), 'k_truss': (3,)}
 
 
@@ -23,10 +25,12 @@ class Checks(support.InSession):
         one_way = self.graph((0, 1), (1, 2), (2, 0), (2, 3))
         for name in UNDIRECTED_ALONE:
             function = getattr(algorithms, name)
-            with self.subTest(name), self.assertRaisesRegex(ValueError, r'one way alone: algorithms\.undirected\(G\).*check=False'):
+            says = r'one way alone: algorithms\.undirected\(G\).*check=False'
+            with self.subTest(name), self.assertRaisesRegex(ValueError, says):
                 function(one_way, *MORE.get(name, ()))
             function(one_way, *MORE.get(name, ()), check=False)
-        for length in (2, 3, 4, 5, 40):            # a circle that leads one way alone, long or short, even or odd
+        for length in (2, 3, 4, 5, 40):
+            # a circle that leads one way alone, long or short, even or odd
             circle = self.graph(*((i, (i + 1) % length) for i in range(length)), count=length)
             self.assertGreater(algorithms.minimum_spanning_forest(circle, check=False).nvals, 0)
         both = algorithms.undirected(one_way)
@@ -39,14 +43,17 @@ class Checks(support.InSession):
         self.assertEqual(algorithms.connected_components(one_way).to_list(), [0, 0, 0, 0])
 
     def test_loops(self):
-        loops = algorithms.undirected(self.graph((0, 1), (1, 2), (2, 0), (2, 3))).ewise_add(self.graph((1, 1), (3, 3)), 'first')
+        loops = algorithms.undirected(self.graph((0, 1), (1, 2), (2, 0),
+                                                 (2, 3))).ewise_add(self.graph((1, 1), (3, 3)),
+                                                                    'first')
         for name in UNDIRECTED_ALONE:
             function = getattr(algorithms, name)
             with self.subTest(name):
                 if name in LOOPS_DO_NOT_COUNT:
                     function(loops)
                     continue
-                with self.assertRaisesRegex(ValueError, r'without loops.*algorithms\.undirected\(G\)'):
+                with self.assertRaisesRegex(ValueError,
+                                            r'without loops.*algorithms\.undirected\(G\)'):
                     function(loops, *MORE.get(name, ()))
                 function(loops, *MORE.get(name, ()), check=False)
 
@@ -65,11 +72,13 @@ class Checks(support.InSession):
         """Beside plain Python, on each graph, and on each with one edge less."""
         for graph in graphs.ALL:
             G = graph.matrix(self.session)
-            self.assertEqual(cached_properties.is_both_ways(G), all((j, i) in graph.edges for i, j in graph.edges), graph.name)
+            self.assertEqual(cached_properties.is_both_ways(G),
+                             all((j, i) in graph.edges for i, j in graph.edges), graph.name)
             if not graph.directed and graph.edges:
                 edges = dict(graph.edges)
                 del edges[max(edges)]
-                self.assertFalse(cached_properties.is_both_ways(graph._replace(edges=edges).matrix(self.session)), graph.name)
+                self.assertFalse(cached_properties.is_both_ways(
+                    graph._replace(edges=edges).matrix(self.session)), graph.name)
 
     def test_transposes(self):
         for graph in graphs.DIRECTED:
@@ -77,7 +86,8 @@ class Checks(support.InSession):
             self.assertTrue(cached_properties.is_transpose(G, G.T))
             self.assertTrue(cached_properties.is_transpose(G, G.T, values=True))
             self.assertTrue(cached_properties.is_transpose(G, G.T.apply('one')))
-            self.assertFalse(cached_properties.is_transpose(G, G.T.apply('plus', right=1), values=True))
+            self.assertFalse(cached_properties.is_transpose(G, G.T.apply('plus', right=1),
+                                                            values=True))
             self.assertFalse(cached_properties.is_transpose(G, G))
             self.assertFalse(cached_properties.is_transpose(G, G.T.select('rowgt', 3)))
 
@@ -87,7 +97,8 @@ class Checks(support.InSession):
             G = graphs.DIRECTED[0].matrix(s)
             with self.assertRaisesRegex(ValueError, 'GT has to be the transpose'):
                 algorithms.bfs_levels(G, 0, G)
-            self.assertEqual(algorithms.bfs_levels(G, 0, G.T).to_dict(), algorithms.bfs_levels(G, 0).to_dict())
+            self.assertEqual(algorithms.bfs_levels(G, 0, G.T).to_dict(),
+                             algorithms.bfs_levels(G, 0).to_dict())
 
     def test_lengths_that_wrap(self):
         far = 1 << 62
@@ -105,15 +116,20 @@ class Checks(support.InSession):
         G, near = graph.matrix(self.session), graph.near()
         levels, lengths = graphs.levels(near, 0), graphs.shortest(graph.edges, near, 0)
         for depth in (0, 1, 4, 99):
-            self.assertEqual(algorithms.bfs_levels(G, 0, depth=depth).to_dict(), {(i, 0): k for i, k in levels.items() if k <= depth})
+            self.assertEqual(algorithms.bfs_levels(G, 0, depth=depth).to_dict(),
+                             {(i, 0): k for i, k in levels.items() if k <= depth})
         self.assertEqual(algorithms.bfs_levels(G, 0, target=9).to_dict()[9, 0], levels[9])
         for cutoff in (0, 7, 30, 10 ** 9):
-            self.assertEqual(algorithms.sssp(G, 0, cutoff=cutoff).to_dict(), {(i, 0): x for i, x in lengths.items() if x <= cutoff})
+            self.assertEqual(algorithms.sssp(G, 0, cutoff=cutoff).to_dict(),
+                             {(i, 0): x for i, x in lengths.items() if x <= cutoff})
         for target in (0, 9, 41):
-            self.assertEqual(algorithms.sssp(G, 0, target=target).to_dict()[target, 0], lengths[target])
+            self.assertEqual(algorithms.sssp(G, 0, target=target).to_dict()[target, 0],
+                             lengths[target])
         both = {i: min(k, graphs.levels(near, 41)[i]) for i, k in levels.items()}
-        self.assertEqual(algorithms.bfs_levels(G, [0, 41]).to_dict(), {(i, 0): k for i, k in both.items()})
-        for call in (lambda: algorithms.bfs_levels(G, 0, depth=-1), lambda: algorithms.bfs_levels(G, [])):
+        self.assertEqual(algorithms.bfs_levels(G, [0, 41]).to_dict(),
+                         {(i, 0): k for i, k in both.items()})
+        for call in (lambda: algorithms.bfs_levels(G, 0, depth=-1),
+                     lambda: algorithms.bfs_levels(G, [])):
             with self.assertRaises(ValueError):
                 call()
 
@@ -122,7 +138,8 @@ class Checks(support.InSession):
         G.nodes = ['a', 'b', 'c', 'd']
         self.assertEqual(algorithms.bfs_levels(G, 'b').by_node(), {'b': 0, 'c': 1, 'd': 2})
         self.assertEqual(algorithms.sssp(G, 'c', target='d').by_node(), {'c': 0, 'd': 6})
-        self.assertEqual(algorithms.connected_components(G).by_node(), dict.fromkeys('abcd', 'a'))      # each value is a vertex
+        # each value is a vertex
+        self.assertEqual(algorithms.connected_components(G).by_node(), dict.fromkeys('abcd', 'a'))
         self.assertEqual(algorithms.pagerank(G).nodes, G.nodes)
 
 

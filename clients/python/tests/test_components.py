@@ -51,19 +51,25 @@ class Parts(InSession):
             with self.subTest(graph=graph.name):
                 G, near = graph.matrix(self.session), graph.near()
                 groups = [reached(graphs.both_ways(near), i) for i in range(graph.count)]
-                self.assertEqual(algorithms.connected_components(G).to_list(), least_of(groups, graph.count))
+                self.assertEqual(algorithms.connected_components(G).to_list(),
+                                 least_of(groups, graph.count))
                 want = least_of(strong_groups(near), graph.count)
-                for at_once, most, pulls in ((1 << 12, 1 << 18, 16), (0, 1 << 18, 16), (0, 1 << 18, 1), (0, 0, 1)):
+                for at_once, most, pulls in ((1 << 12, 1 << 18, 16), (0, 1 << 18, 16),
+                                             (0, 1 << 18, 1), (0, 0, 1)):
                     if most or graph.count < 40:
-                        with mock.patch.object(strong_components, 'AT_ONCE', at_once), mock.patch.object(strong_components, 'SMALL', most), \
+                        with mock.patch.object(strong_components, 'AT_ONCE', at_once), \
+                                mock.patch.object(strong_components, 'SMALL', most), \
                                 mock.patch.object(strong_components, 'PULLS', pulls):
                             G.kept.pop('transpose', None)
-                            self.assertEqual(algorithms.strongly_connected_components(G).to_list(), want)
+                            self.assertEqual(algorithms.strongly_connected_components(G).to_list(),
+                                             want)
         for graph in FORESTS:
             weight, parts = forest_weight(graph)
             forest = algorithms.minimum_spanning_forest(graph.matrix(self.session))
-            self.assertEqual((spanning_forest.weight_of(forest), forest.nvals), (weight, 2 * (graph.count - parts)), graph.name)
-            self.assertEqual(forest.to_triples(), self.session.from_coo(*forest.to_coo(), *forest.shape).to_triples())
+            self.assertEqual((spanning_forest.weight_of(forest), forest.nvals),
+                             (weight, 2 * (graph.count - parts)), graph.name)
+            self.assertEqual(forest.to_triples(),
+                             self.session.from_coo(*forest.to_coo(), *forest.shape).to_triples())
 
     def test_independent_sets(self):
         """A seed means one set; it is maximal, and no two of it are neighbours."""
@@ -71,9 +77,11 @@ class Parts(InSession):
             G, near = graph.matrix(self.session), graph.near()
             for seed in (0, 7):
                 found = algorithms.maximal_independent_set(G, seed).to_dict()
-                self.assertEqual(algorithms.maximal_independent_set(G, seed).to_dict(), found, graph.name)
+                self.assertEqual(algorithms.maximal_independent_set(G, seed).to_dict(), found,
+                                 graph.name)
                 chosen = {i for i, _ in found}
-                wrong = [i for i in range(graph.count) if (i in chosen) == bool(chosen & (set(near[i]) - {i}))]
+                wrong = [i for i in range(graph.count)
+                         if (i in chosen) == bool(chosen & (set(near[i]) - {i}))]
                 self.assertEqual(wrong, [], graph.name)
 
     def test_blocks(self):
@@ -81,19 +89,23 @@ class Parts(InSession):
             for graph in graphs.ALL:
                 G = many.from_triples([(i, j, 1) for i, j in graph.edges], graph.count, graph.count)
                 groups = [reached(graphs.both_ways(graph.near()), i) for i in range(graph.count)]
-                self.assertEqual(algorithms.connected_components(G).to_list(), least_of(groups, graph.count), graph.name)
+                self.assertEqual(algorithms.connected_components(G).to_list(),
+                                 least_of(groups, graph.count), graph.name)
 
     def test_many_parts_beside_a_hub(self):
-        """Parts whose members have lesser and greater neighbours than the hub, to which only one of them has an edge: no more rounds than
-        the logarithm."""
+        """Parts whose members have lesser and greater neighbours than the hub, to which only one of
+        them has an edge: no more rounds than the logarithm."""
         hub, pairs = 500, []
         for k in range(100):
             low, high = [k, 100 + k, 200 + k], [600 + k, 700 + k, 800 + k]
             part = low + high
-            pairs += [(a, b) for a in part for b in part if a < b] + [(300 + k, low[0]), (900 + k, high[0]), (low[1], hub)]
+            pairs += [(a, b) for a in part for b in part if a < b] + [(300 + k, low[0]),
+                                                                      (900 + k, high[0]),
+                                                                      (low[1], hub)]
         graph = graphs.undirected('hub', 1001, pairs + [(hub, 499), (hub, 1000)])
         told = []
-        got = algorithms.connected_components(graph.matrix(self.session), progress=lambda *now: told.append(now)).to_list()
+        got = algorithms.connected_components(graph.matrix(self.session),
+                                              progress=lambda *now: told.append(now)).to_list()
         self.assertEqual(got, least_of([reached(graph.near(), hub)], 1001))
         self.assertLessEqual(len(told), 8)
 
@@ -104,7 +116,8 @@ class Parts(InSession):
             for i, j in edges:
                 near[i].add(j)
             rows, columns = [i for i, _ in edges], [j for _, j in edges]
-            at, labels = strong_components.find_strong_components(numpy.array(rows), numpy.array(columns))
+            at, labels = strong_components.find_strong_components(numpy.array(rows),
+                                                                  numpy.array(columns))
             out = list(range(30))
             for i, label in zip(at.tolist(), labels.tolist()):
                 out[i] = label
@@ -116,10 +129,12 @@ class Models(InSession):
     """Pushes along entries that the client has are those of the session."""
 
     def test_pushes(self):
-        rings = [('any', 'first'), ('min', 'first'), ('min', 'plus'), ('plus', 'times'), ('max', 'second'), ('plus', 'first')]
+        rings = [('any', 'first'), ('min', 'first'), ('min', 'plus'), ('plus', 'times'),
+                 ('max', 'second'), ('plus', 'first')]
         for graph in graphs.ALL:
             G = graph.matrix(self.session)
-            rows, model = traversal.Rows(G), graph_model.GraphModel(G, Triples(*G.to_coo(), *G.shape))
+            rows, model = traversal.Rows(G), graph_model.GraphModel(
+                G, Triples(*G.to_coo(), *G.shape))
             for some in (range(graph.count), range(0, graph.count, 3), []):
                 front = traversal.vector_of(some, [7 * i - 20 for i in some])
                 for add, mul in rings:
@@ -135,7 +150,8 @@ class Models(InSession):
         G = graphs.UNDIRECTED[3].matrix(self.session)
         model = graph_model.GraphModel(G, Triples(*G.to_coo(), *G.shape))
         front = traversal.vector_of(range(34), [1] * 34)
-        with mock.patch.object(graph_model, 'MOST_WALKED', 1000), self.assertRaises(graph_model.TooLong):
+        with mock.patch.object(graph_model, 'MOST_WALKED', 1000), \
+                self.assertRaises(graph_model.TooLong):
             for _ in range(9):
                 model.push(front, Semiring(binary.plus, binary.first))
 
@@ -152,7 +168,8 @@ class Scans(InSession):
     def test_searches(self):
         scanned = []
         step = traversal.Rows.step
-        with mock.patch.object(traversal.Rows, 'step', lambda *given, **named: scanned.append(1) or step(*given, **named)):
+        with mock.patch.object(traversal.Rows, 'step', lambda *given, **named: scanned.append(1)
+                               or step(*given, **named)):
             for graph in graphs.ALL:
                 if not graph.count:
                     continue

@@ -1,4 +1,5 @@
-"""Methods that are made of others, against plain models: random small matrices, empty ones, masks, names, and row blocks."""
+"""Methods that are made of others, against plain models: random small matrices, empty ones, masks,
+names, and row blocks."""
 import itertools
 import random
 import unittest
@@ -14,7 +15,8 @@ MASKS = ('none', 'S', 'V', '~S', '~V')
 
 def some(random_, nrows, ncols, share=.4, least=-3, most=4):
     """Random entries."""
-    return {(i, j): random_.randint(least, most) for i in range(nrows) for j in range(ncols) if random_.random() < share}
+    return {(i, j): random_.randint(least, most) for i in range(nrows) for j in range(ncols)
+            if random_.random() < share}
 
 
 def mask_of(matrix, cells, kind):
@@ -28,7 +30,8 @@ def mask_of(matrix, cells, kind):
 
 class Composites(InSession):
     def made(self, cells, nrows, ncols, session=None):
-        return (session or self.s).from_triples([(*at, value) for at, value in cells.items()], nrows, ncols)
+        return (session or self.s).from_triples([(*at, value) for at, value in cells.items()],
+                                                nrows, ncols)
 
 
 class Assign(Composites):
@@ -39,30 +42,40 @@ class Assign(Composites):
         rows, columns = chosen
         region = {(i, j) for i in rows for j in columns}
         spread = {(rows[i], columns[j]): value for (i, j), value in b.items()}
-        whole = model.union(c, spread, accum) if accum else {**model.cut(c, lambda at: at not in region), **spread}
-        return {**({} if replace else model.cut(c, lambda at: not inside(at))), **model.cut(whole, inside)}
+        whole = (model.union(c, spread, accum) if accum
+                 else {**model.cut(c, lambda at: at not in region), **spread})
+        return {**({} if replace else model.cut(c, lambda at: not inside(at))),
+                **model.cut(whole, inside)}
 
     def compare(self, session, random_, nrows, ncols):
         c, m = some(random_, nrows, ncols), some(random_, nrows, ncols, .5, 0, 2)
-        rows = random_.choice([None, random_.sample(range(nrows), random_.randint(0, nrows)), slice(0, nrows, 2)])
-        columns = random_.choice([None, random_.sample(range(ncols), random_.randint(0, ncols)), slice(1, ncols)])
-        at = tuple(list(range(count)) if index is None else list(range(count))[index] if isinstance(index, slice) else index
+        rows = random_.choice([None, random_.sample(range(nrows), random_.randint(0, nrows)),
+                               slice(0, nrows, 2)])
+        columns = random_.choice([None, random_.sample(range(ncols), random_.randint(0, ncols)),
+                                  slice(1, ncols)])
+        at = tuple(list(range(count)) if index is None else list(range(count))[index]
+                   if isinstance(index, slice) else index
                    for index, count in ((rows, nrows), (columns, ncols)))
-        accum, kind, replace = random_.choice((None, 'plus', 'minus', 'second')), random_.choice(MASKS), random_.random() < .4
+        accum, kind, replace = random_.choice((None, 'plus', 'minus',
+                                               'second')), random_.choice(
+                                                   MASKS), random_.random() < .4
         C = self.made(c, nrows, ncols, session)
         mask, inside = mask_of(self.made(m, nrows, ncols, session), m, kind)
         if random_.random() < .4:
             value = random_.randint(-9, 9)
             b = {(i, j): value for i in range(len(at[0])) for j in range(len(at[1]))}
             what = value
-            if mask is not None and not mask.complement:         # a number for each place of the mask alone
+            if mask is not None and not mask.complement:
+                # a number for each place of the mask alone
                 b = {(i, j): value for (i, j) in b if inside((at[0][i], at[1][j]))}
         else:
             b = some(random_, len(at[0]), len(at[1]))
             what = self.made(b, len(at[0]), len(at[1]), session)
         got = C.assign(what, rows, columns, accum=accum, mask=mask, replace=replace)
-        with self.subTest(rows=rows, columns=columns, accum=accum, mask=kind, replace=replace, what=what):
-            self.assertEqual((got.shape, got.to_dict()), ((nrows, ncols), self.model(c, at, b, accum, inside, replace)))
+        with self.subTest(rows=rows, columns=columns, accum=accum, mask=kind, replace=replace,
+                          what=what):
+            self.assertEqual((got.shape, got.to_dict()),
+                             ((nrows, ncols), self.model(c, at, b, accum, inside, replace)))
 
     def test_random_parts(self):
         for seed in range(60):
@@ -76,18 +89,22 @@ class Assign(Composites):
 
     def test_rows_and_columns(self):
         C = self.made({(0, 0): 1, (1, 1): 2, (2, 2): 3}, 3, 3)
-        row, column = self.made({(0, 0): 7, (0, 1): 8}, 1, 3), self.made({(0, 0): 7, (1, 0): 8}, 3, 1)
+        row, column = self.made({(0, 0): 7, (0, 1): 8}, 1,
+                                3), self.made({(0, 0): 7, (1, 0): 8}, 3, 1)
         want = {(0, 0): 1, (1, 0): 7, (1, 1): 8, (2, 2): 3}
         self.assertEqual(C.assign(row, 1).to_dict(), want)
-        self.assertEqual(C.assign(column, 1).to_dict(), want)    # a column for a row, since vectors are columns
-        self.assertEqual(C.assign(row, columns=1).to_dict(), {(0, 0): 1, (0, 1): 7, (1, 1): 8, (2, 2): 3})
+        # a column for a row, since vectors are columns
+        self.assertEqual(C.assign(column, 1).to_dict(), want)
+        self.assertEqual(C.assign(row, columns=1).to_dict(),
+                         {(0, 0): 1, (0, 1): 7, (1, 1): 8, (2, 2): 3})
         self.assertEqual(C.assign(9, 1, 2).to_dict(), {**C.to_dict(), (1, 2): 9})
         self.assertEqual(C.assign(9, [0, 2], [0]).to_dict(), {**C.to_dict(), (2, 0): 9, (0, 0): 9})
         self.assertEqual(C.assign(0).to_dict(), {(i, j): 0 for i in range(3) for j in range(3)})
         self.assertEqual(C.assign(4, mask=C.S).to_dict(), dict.fromkeys(C.to_dict(), 4))
         self.assertEqual(C.assign(C.select('valuegt', 9)).nvals, 0)
         self.assertTrue(C.assign(C.apply('ainv'), name='new').name == 'new')
-        with self.assertRaisesRegex(spmat.DimensionMismatch, '2x3 places are set, and the matrix has 3x3'):
+        with self.assertRaisesRegex(spmat.DimensionMismatch,
+                                    '2x3 places are set, and the matrix has 3x3'):
             C.assign(C, [0, 1])
         with self.assertRaisesRegex(ValueError, 'the row 1 is given twice'):
             C.assign(3, [1, 1])
@@ -99,10 +116,13 @@ class Assign(Composites):
     def test_names(self):
         W = self.s.from_edgelist([('a', 'b', 1), ('b', 'c', 2), ('c', 'a', 3)])
         got = W.assign(9, ['a'], ['b', 'c'])
-        self.assertEqual((sorted(got.to_edgelist()), got.nodes), ([('a', 'b', 9), ('a', 'c', 9), ('b', 'c', 2), ('c', 'a', 3)], ['a', 'b', 'c']))
+        self.assertEqual((sorted(got.to_edgelist()), got.nodes),
+                         ([('a', 'b', 9), ('a', 'c', 9), ('b', 'c', 2), ('c', 'a', 3)],
+                          ['a', 'b', 'c']))
         part = W[['b', 'c'], :].apply('ainv')
         got = W.assign(part, ['b', 'c'])
-        self.assertEqual((sorted(got.to_edgelist()), got.nodes), ([('a', 'b', 1), ('b', 'c', -2), ('c', 'a', -3)], ['a', 'b', 'c']))
+        self.assertEqual((sorted(got.to_edgelist()), got.nodes),
+                         ([('a', 'b', 1), ('b', 'c', -2), ('c', 'a', -3)], ['a', 'b', 'c']))
 
 
 class Entries(Composites):
@@ -110,23 +130,28 @@ class Entries(Composites):
         for seed in range(12):
             random_ = random.Random(seed)
             a, b, m = (some(random_, 4, 3) for _ in range(3))
-            op, left, right = random_.choice((('minus', 0, 0), ('times', 5, -2), ('first', 9, 8), ('second', 9, 8)))
+            op, left, right = random_.choice((('minus', 0, 0), ('times', 5, -2), ('first', 9, 8),
+                                              ('second', 9, 8)))
             kind = MASKS[seed % 5]
             mask, inside = mask_of(self.made(m, 4, 3), m, kind)
-            want = {at: model.signed(model.BINARY[op](a.get(at, left), b.get(at, right))) for at in {**a, **b} if inside(at)}
+            want = {at: model.signed(model.BINARY[op](a.get(at, left), b.get(at, right)))
+                    for at in {**a, **b} if inside(at)}
             got = self.made(a, 4, 3).ewise_union(self.made(b, 4, 3), op, left, right, mask=mask)
             self.assertEqual(got.to_dict(), want, (seed, op, kind))
 
     def test_union_of_units(self):
-        A, B = self.s.from_coo([0], [0], [1.5], 1, 2, scale=10), self.s.from_coo([0], [1], [2.5], 1, 2, scale=10)
+        A, B = self.s.from_coo([0], [0], [1.5], 1, 2,
+                               scale=10), self.s.from_coo([0], [1], [2.5], 1, 2, scale=10)
         got = A.ewise_union(B, 'minus', .5, 1.5)
         self.assertEqual((got.unit, got.to_edgelist()), (10, [(0, 0, 0.0), (0, 1, -2.0)]))
 
     def test_get(self):
         W = self.s.from_edgelist([('a', 'b', 1), ('b', 'c', 0)])
-        self.assertEqual([W.get('a', 'b'), W.get('b', 'c', 7), W.get('a', 'c'), W.get('a', 'c', 7), W.get('a', 'c', default=0)], [1, 0, None, 7, 0])
+        self.assertEqual([W.get('a', 'b'), W.get('b', 'c', 7), W.get('a', 'c'), W.get('a', 'c', 7),
+                          W.get('a', 'c', default=0)], [1, 0, None, 7, 0])
         column = W.reduce_rowwise()
-        self.assertEqual([column.get('a'), column.get('c'), column.get('c', default=-1), column.T.get('b'), column.T.get('c', default=5)],
+        self.assertEqual([column.get('a'), column.get('c'), column.get('c', default=-1),
+                          column.T.get('b'), column.T.get('c', default=5)],
                          [1, None, -1, 0, 5])
         with self.assertRaisesRegex(TypeError, 'is of two, and this is 3x3'):
             W.get('a')
@@ -140,14 +165,18 @@ class Entries(Composites):
     def test_isclose(self):
         A = self.made({(0, 0): 1000, (1, 1): -5}, 2, 2)
         near = self.made({(0, 0): 1001, (1, 1): -5}, 2, 2)
-        self.assertEqual([A.isclose(A), A.isclose(near), A.isclose(near, .001), A.isclose(near, 0, 1), A.isclose(near, 0, .5)],
+        self.assertEqual([A.isclose(A), A.isclose(near), A.isclose(near, .001),
+                          A.isclose(near, 0, 1), A.isclose(near, 0, .5)],
                          [True, False, True, True, False])
-        for other in (self.made({(0, 0): 1000}, 2, 2), self.made({(0, 0): 1000, (1, 0): -5}, 2, 2), self.made({(0, 0): 1000, (1, 1): -5}, 2, 3)):
+        for other in (self.made({(0, 0): 1000}, 2, 2), self.made({(0, 0): 1000, (1, 0): -5}, 2, 2),
+                      self.made({(0, 0): 1000, (1, 1): -5}, 2, 3)):
             self.assertFalse(A.isclose(other, 1, 9))
         ends = self.made({(0, 0): 2 ** 63 - 1}, 1, 1), self.made({(0, 0): -2 ** 63}, 1, 1)
         self.assertFalse(ends[0].isclose(ends[1], .5))           # a difference beyond 64 bits
         self.assertTrue(ends[0].isclose(ends[1], 2))
-        self.assertTrue(self.s.from_coo([0], [0], [1.5], scale=10).isclose(self.s.from_coo([0], [0], [1.5], scale=1000)))
+        self.assertTrue(self.s.from_coo([0], [0], [1.5],
+                                        scale=10).isclose(
+                                            self.s.from_coo([0], [0], [1.5], scale=1000)))
         with self.assertRaises(TypeError):
             A.isclose(3)
         with self.assertRaises(ValueError):
@@ -158,11 +187,16 @@ class Entries(Composites):
 
 
 AGGREGATORS = {
-    'sum': lambda at, v: sum(v), 'prod': lambda at, v: model.fold('times', v), 'last': lambda at, v: v[-1], 'any_value': lambda at, v: v[0],
-    'count': lambda at, v: len(v), 'count_nonzero': lambda at, v: sum(map(bool, v)), 'count_zero': lambda at, v: v.count(0),
-    'exists': lambda at, v: 1, 'all': lambda at, v: int(all(v)), 'sum_of_squares': lambda at, v: sum(x * x for x in v),
-    'first_index': lambda at, v: at[0], 'last_index': lambda at, v: at[-1], 'argmin': lambda at, v: at[v.index(min(v))],
-    'argmax': lambda at, v: at[v.index(max(v))], 'peak_to_peak': lambda at, v: max(v) - min(v), 'mean': lambda at, v: round(sum(v) / len(v), 6),
+    'sum': lambda at, v: sum(v), 'prod': lambda at, v: model.fold('times', v),
+    'last': lambda at, v: v[-1], 'any_value': lambda at, v: v[0],
+    'count': lambda at, v: len(v), 'count_nonzero': lambda at, v: sum(map(bool, v)),
+    'count_zero': lambda at, v: v.count(0),
+    'exists': lambda at, v: 1, 'all': lambda at, v: int(all(v)),
+    'sum_of_squares': lambda at, v: sum(x * x for x in v),
+    'first_index': lambda at, v: at[0], 'last_index': lambda at, v: at[-1],
+    'argmin': lambda at, v: at[v.index(min(v))],
+    'argmax': lambda at, v: at[v.index(max(v))], 'peak_to_peak': lambda at, v: max(v) - min(v),
+    'mean': lambda at, v: round(sum(v) / len(v), 6),
     'min': lambda at, v: min(v), 'first': lambda at, v: v[0]}
 
 
@@ -171,27 +205,35 @@ class Aggregators(Composites):
         A, M = self.made(a, nrows, ncols, session), self.made(m, nrows, 1, session)
         for name, found in AGGREGATORS.items():
             for kind in ('none', 'S', '~V'):
-                lines = {i: ([j for r, j in sorted(a) if r == i], [a[at] for at in sorted(a) if at[0] == i]) for i in {at[0] for at in a}}
+                lines = {i: ([j for r, j in sorted(a) if r == i],
+                             [a[at] for at in sorted(a) if at[0] == i])
+                         for i in {at[0] for at in a}}
                 mask, inside = mask_of(M, m, kind)
                 with self.subTest(aggregator=name, mask=kind, a=a):
                     got = A.reduce_rowwise(name, mask=mask)
-                    want = [(i, 0, found(*line)) for i, line in sorted(lines.items()) if inside((i, 0))]
+                    want = [(i, 0, found(*line)) for i, line in sorted(lines.items())
+                            if inside((i, 0))]
                     self.assertEqual((got.shape, got.to_edgelist()), ((nrows, 1), want))
-            lines = {j: ([i for i, c in sorted(a) if c == j], [a[at] for at in sorted(a) if at[1] == j]) for j in {at[1] for at in a}}
+            lines = {j: ([i for i, c in sorted(a) if c == j],
+                         [a[at] for at in sorted(a) if at[1] == j]) for j in {at[1] for at in a}}
             with self.subTest(aggregator=name, a=a, axis='columns'):
                 got = A.reduce_columnwise(name)
-                self.assertEqual((got.shape, got.to_edgelist()), ((1, ncols), [(0, j, found(*line)) for j, line in sorted(lines.items())]))
+                self.assertEqual((got.shape, got.to_edgelist()),
+                                 ((1, ncols),
+                                  [(0, j, found(*line)) for j, line in sorted(lines.items())]))
 
     def test_of_rows_and_columns(self):
         for seed in range(3):
             random_ = random.Random(seed)
             self.compare(None, some(random_, 5, 4), 5, 4, some(random_, 5, 1, .6, 0, 2))
         for shape in ((0, 0), (3, 1), (1, 3), (1, 1)):
-            self.compare(None, some(random.Random(7), *shape, share=.7), *shape, some(random.Random(8), shape[0], 1))
+            self.compare(None, some(random.Random(7), *shape, share=.7), *shape,
+                         some(random.Random(8), shape[0], 1))
 
     def test_in_blocks(self):
         with blocks.Sessions(2) as session:
-            self.compare(session, some(random.Random(5), 5, 4), 5, 4, some(random.Random(6), 5, 1, .6, 0, 2))
+            self.compare(session, some(random.Random(5), 5, 4), 5, 4,
+                         some(random.Random(6), 5, 1, .6, 0, 2))
 
     def test_of_all(self):
         a = {(0, 1): 4, (1, 0): 0, (1, 2): -3}
@@ -205,7 +247,9 @@ class Aggregators(Composites):
             else:
                 self.assertEqual(A.reduce_scalar(name), found(None, values), name)
         empty = self.made({}, 2, 3)
-        self.assertEqual([empty.reduce_scalar(name) for name in ('count', 'count_zero', 'mean', 'sum', 'peak_to_peak')], [0, 0, None, None, None])
+        self.assertEqual([empty.reduce_scalar(name)
+                          for name in ('count', 'count_zero', 'mean', 'sum', 'peak_to_peak')],
+                         [0, 0, None, None, None])
 
     def test_names_and_units(self):
         W = self.s.from_edgelist([('a', 'b', 1.25), ('a', 'c', 2.5), ('b', 'c', 4)], scale=100)
@@ -213,9 +257,11 @@ class Aggregators(Composites):
         self.assertEqual(W.reduce_rowwise('count').by_node(), {'a': 2, 'b': 1})
         self.assertEqual(W.reduce_rowwise('argmax').by_node(), {'a': 'c', 'b': 'c'})
         self.assertEqual(W.reduce_columnwise('argmin').by_node(), {'b': 'a', 'c': 'a'})
-        self.assertEqual((W.reduce_scalar('mean'), W.reduce_scalar('mean', raw=True)), (7.75 / 3, 775 / 3))
+        self.assertEqual((W.reduce_scalar('mean'), W.reduce_scalar('mean', raw=True)),
+                         (7.75 / 3, 775 / 3))
         huge = self.made({(0, 0): 2 ** 62, (1, 0): 5, (1, 1): 6}, 2, 2).reduce_rowwise('mean')
-        self.assertEqual((huge.unit, huge.to_list()), (1, [2 ** 62, 6]))         # halves to the even number
+        # halves to the even number
+        self.assertEqual((huge.unit, huge.to_list()), (1, [2 ** 62, 6]))
         with self.assertRaisesRegex(ValueError, 'takes? it as an aggregator'):
             W.ewise_add(W, 'count')
 
@@ -228,8 +274,10 @@ class Products(Composites):
             a, b = some(random_, *shape), some(random_, *other)
             for op in ('times', 'minus', 'second'):
                 got = self.made(a, *shape).kronecker(self.made(b, *other), op)
-                want = {(i * other[0] + k, j * other[1] + l): model.signed(model.BINARY[op](x, y)) for (i, j), x in a.items() for (k, l), y in b.items()}
-                self.assertEqual((got.shape, got.to_dict()), ((shape[0] * other[0], shape[1] * other[1]), want))
+                want = {(i * other[0] + k, j * other[1] + l): model.signed(model.BINARY[op](x, y))
+                        for (i, j), x in a.items() for (k, l), y in b.items()}
+                self.assertEqual((got.shape, got.to_dict()),
+                                 ((shape[0] * other[0], shape[1] * other[1]), want))
         W, V = self.s.from_edgelist([('a', 'b', 2)]), self.s.from_edgelist([('x', 'y', 3)])
         self.assertEqual(W.kronecker(V).to_edgelist(), [(('a', 'x'), ('b', 'y'), 6)])
         self.assertIsNone(W.kronecker(self.made({(0, 1): 3}, 2, 2)).nodes)
@@ -244,10 +292,12 @@ class Products(Composites):
         import numpy
         r = numpy.random.default_rng(1)
         a, b = r.integers(-3, 4, (3, 4)), r.integers(-3, 4, (2, 3))
-        self.assertTrue((self.s.from_dense(a).kronecker(self.s.from_dense(b)).to_dense() == numpy.kron(a, b)).all())
+        self.assertTrue((self.s.from_dense(a).kronecker(self.s.from_dense(b)).to_dense()
+                         == numpy.kron(a, b)).all())
         square = r.integers(-3, 4, (4, 4))
         for n in range(9):
-            self.assertTrue((self.s.from_dense(square, 0).power(n).to_dense() == numpy.linalg.matrix_power(square, n)).all(), n)
+            self.assertTrue((self.s.from_dense(square, 0).power(n).to_dense()
+                             == numpy.linalg.matrix_power(square, n)).all(), n)
 
     def test_power(self):
         a = some(random.Random(2), 4, 4, .4, 1, 4)
@@ -256,32 +306,44 @@ class Products(Composites):
             self.assertEqual(A.power(n, 'min_plus').to_dict(), want, n)
             want = model.product(want, a, 'min', 'plus')
         self.assertEqual(A.power(0, 'min_plus').to_dict(), {(i, i): 0 for i in range(4)})
-        self.assertEqual(A.power(3, 'min_plus').nvals, A.mxm(A, 'min_plus').mxm(A, 'min_plus').nvals)
+        self.assertEqual(A.power(3, 'min_plus').nvals,
+                         A.mxm(A, 'min_plus').mxm(A, 'min_plus').nvals)
         W = self.s.from_edgelist([('a', 'b', 2), ('b', 'a', 3)])
-        self.assertEqual((W.power(2).to_edgelist(), W.power(0).nodes), ([('a', 'a', 6), ('b', 'b', 6)], ['a', 'b']))
-        for call, kind, words in ((lambda: A.power(-1), ValueError, '0 or more, not -1'), (lambda: A.power(.5), ValueError, 'whole'),
-                                  (lambda: A.power(0, 'max_times'), ValueError, 'powers are 1 or more'),
-                                  (lambda: self.s.full(2, 3).power(2), spmat.DimensionMismatch, 'square')):
+        self.assertEqual((W.power(2).to_edgelist(), W.power(0).nodes),
+                         ([('a', 'a', 6), ('b', 'b', 6)], ['a', 'b']))
+        for call, kind, words in ((lambda: A.power(-1), ValueError, '0 or more, not -1'),
+                                  (lambda: A.power(.5), ValueError, 'whole'),
+                                  (lambda: A.power(0, 'max_times'), ValueError,
+                                   'powers are 1 or more'),
+                                  (lambda: self.s.full(2, 3).power(2), spmat.DimensionMismatch,
+                                   'square')):
             with self.assertRaisesRegex(kind, words):
                 call()
 
     def test_positions(self):
-        a, b, m = some(random.Random(3), 4, 5), some(random.Random(4), 5, 3), some(random.Random(5), 4, 3, .5)
+        a, b, m = some(random.Random(3), 4, 5), some(random.Random(4), 5,
+                                                     3), some(random.Random(5), 4, 3, .5)
         A, B, M = self.made(a, 4, 5), self.made(b, 5, 3), self.made(m, 4, 3)
-        places = {'firsti': lambda i, k, j: i, 'firstj': lambda i, k, j: k, 'secondi': lambda i, k, j: k, 'secondj': lambda i, k, j: j}
-        for (name, place), shift, add in itertools.product(places.items(), (0, 1), ('any', 'min', 'max', 'plus')):
+        places = {'firsti': lambda i, k, j: i, 'firstj': lambda i, k, j: k,
+                  'secondi': lambda i, k, j: k, 'secondj': lambda i, k, j: j}
+        for (name, place), shift, add in itertools.product(places.items(), (0, 1),
+                                                           ('any', 'min', 'max', 'plus')):
             terms = {}
             for (i, k), (l, j) in itertools.product(sorted(a), sorted(b)):
                 if k == l:
                     terms.setdefault((i, j), []).append(place(i, k, j) + shift)
             fold = {'any': lambda many: many[0], 'min': min, 'max': max, 'plus': sum}[add]
             op = '%s_%s%s' % (add, name, '1' * shift)
-            self.assertEqual(A.mxm(B, op).to_dict(), {at: fold(many) for at, many in terms.items()}, op)
-            self.assertEqual(A.mxm(B, (add, name + '1' * shift), mask=M.S).to_dict(), {at: fold(many) for at, many in terms.items() if at in m}, op)
+            self.assertEqual(A.mxm(B, op).to_dict(), {at: fold(many) for at, many in terms.items()},
+                             op)
+            self.assertEqual(A.mxm(B, (add, name + '1' * shift), mask=M.S).to_dict(),
+                             {at: fold(many) for at, many in terms.items() if at in m}, op)
         front = self.made({(0, 1): 1, (0, 3): 1}, 1, 5)
-        self.assertEqual(front.vxm(B, 'min_secondi').to_dict(), model.folded('min', self._parents(front.to_dict(), b)))
+        self.assertEqual(front.vxm(B, 'min_secondi').to_dict(),
+                         model.folded('min', self._parents(front.to_dict(), b)))
         self.assertEqual(A.mxv(self.made({(1, 0): 9, (3, 0): 9}, 5, 1), 'any_secondi').to_dict(),
-                         {(i, 0): min(k for k in (1, 3) if (i, k) in a) for i in range(4) if (i, 1) in a or (i, 3) in a})
+                         {(i, 0): min(k for k in (1, 3) if (i, k) in a) for i in range(4)
+                          if (i, 1) in a or (i, 3) in a})
         with self.assertRaises(spmat.DimensionMismatch):
             A.mxm(A, 'any_secondi')
         with self.assertRaisesRegex(ValueError, 'any_firsti'):
@@ -307,7 +369,8 @@ class Shapes(Composites):
             A = self.made(a, *shape)
             for k in range(-6, 7):
                 length = max(0, min(shape[0] + min(k, 0), shape[1] - max(k, 0)))
-                want = {(p, 0): a[p + max(-k, 0), p + max(k, 0)] for p in range(length) if (p + max(-k, 0), p + max(k, 0)) in a}
+                want = {(p, 0): a[p + max(-k, 0), p + max(k, 0)] for p in range(length)
+                        if (p + max(-k, 0), p + max(k, 0)) in a}
                 got = A.diag(k)
                 self.assertEqual(got.to_dict(), want, (shape, k))
                 if k:
@@ -317,14 +380,17 @@ class Shapes(Composites):
             for k in (-2, 0, 1):
                 got = column.diag(k)
                 self.assertEqual((got.shape, got.to_dict()),
-                                 ((3 + abs(k),) * 2, {(i + max(-k, 0), i + max(k, 0)): x for (i, _), x in v.items()}))
+                                 ((3 + abs(k),) * 2,
+                                  {(i + max(-k, 0), i + max(k, 0)): x for (i, _), x in v.items()}))
         W = self.s.from_edgelist([('a', 'a', 2), ('a', 'b', 3)])
-        self.assertEqual((W.diag().by_node(), W.diag().diag().nodes, W.diag(1).nodes), ({'a': 2}, ['a', 'b'], None))
+        self.assertEqual((W.diag().by_node(), W.diag().diag().nodes, W.diag(1).nodes),
+                         ({'a': 2}, ['a', 'b'], None))
 
     def test_tiles(self):
         for seed in range(8):
             random_ = random.Random(seed)
-            heights, widths = ([random_.randint(0, 3) for _ in range(random_.randint(1, 3))] for _ in range(2))
+            heights, widths = ([random_.randint(0, 3) for _ in range(random_.randint(1, 3))]
+                               for _ in range(2))
             nrows, ncols = sum(heights), sum(widths)
             a = some(random_, nrows, ncols)
             A = self.made(a, nrows, ncols)
@@ -332,32 +398,46 @@ class Shapes(Composites):
             for i, height in enumerate(heights):
                 for j, width in enumerate(widths):
                     top, left = sum(heights[:i]), sum(widths[:j])
-                    want = {(r - top, c - left): x for (r, c), x in a.items() if top <= r < top + height and left <= c < left + width}
-                    self.assertEqual((parts[i][j].shape, parts[i][j].to_dict()), ((height, width), want))
+                    want = {(r - top, c - left): x for (r, c), x in a.items()
+                            if top <= r < top + height and left <= c < left + width}
+                    self.assertEqual((parts[i][j].shape, parts[i][j].to_dict()),
+                                     ((height, width), want))
             self.assertTrue(spmat.concat(parts).isequal(A))
         A = self.s.full(5, 3)
-        self.assertEqual([[tile.shape for tile in row] for row in A.split(2)], [[(2, 3)], [(2, 3)], [(1, 3)]])
+        self.assertEqual([[tile.shape for tile in row] for row in A.split(2)],
+                         [[(2, 3)], [(2, 3)], [(1, 3)]])
         self.assertEqual([tile.shape for tile in A.split([5], 2)[0]], [(5, 2), (5, 1)])
         B = spmat.concat([[A, None], [None, A.T]])
         self.assertEqual((B.shape, B.nvals), ((8, 8), 30))
-        for call, kind, words in ((lambda: A.split([2, 2]), ValueError, '2 and 2 rows are 4 together, and there are 5'),
-                                  (lambda: A.split(0), ValueError, '1 row or more'), (lambda: A.split([6, -1]), ValueError, 'together'),
-                                  (lambda: spmat.concat([A, A]), TypeError, 'a list of rows of matrices'), (lambda: spmat.concat([]), TypeError, 'rows'),
-                                  (lambda: spmat.concat([[A], [A, A]]), ValueError, 'rows of 1 and 2 tiles'),
-                                  (lambda: spmat.concat([[A, A.T]]), spmat.DimensionMismatch, 'row 0 have 3 and 5 rows'),
-                                  (lambda: spmat.concat([[A, None], [A, None]]), ValueError, 'column 1 of tiles has None alone')):
+        for call, kind, words in ((lambda: A.split([2, 2]), ValueError,
+                                   '2 and 2 rows are 4 together, and there are 5'),
+                                  (lambda: A.split(0), ValueError, '1 row or more'),
+                                  (lambda: A.split([6, -1]), ValueError, 'together'),
+                                  (lambda: spmat.concat([A, A]), TypeError,
+                                   'a list of rows of matrices'),
+                                  (lambda: spmat.concat([]), TypeError, 'rows'),
+                                  (lambda: spmat.concat([[A], [A, A]]), ValueError,
+                                   'rows of 1 and 2 tiles'),
+                                  (lambda: spmat.concat([[A, A.T]]), spmat.DimensionMismatch,
+                                   'row 0 have 3 and 5 rows'),
+                                  (lambda: spmat.concat([[A, None], [A, None]]), ValueError,
+                                   'column 1 of tiles has None alone')):
             with self.assertRaisesRegex(kind, words):
                 call()
 
     def test_tiles_of_names(self):
         W = self.s.from_edgelist([('a', 'b', 1), ('b', 'c', 2), ('c', 'a', 3)])
         parts = W.split([1, 2], [2, 1])
-        self.assertEqual((parts[1][0].row_nodes, parts[1][0].column_nodes), (['b', 'c'], ['a', 'b']))
-        self.assertEqual((spmat.concat(parts).to_edgelist(), spmat.concat(parts).nodes), (W.to_edgelist(), ['a', 'b', 'c']))
+        self.assertEqual((parts[1][0].row_nodes, parts[1][0].column_nodes),
+                         (['b', 'c'], ['a', 'b']))
+        self.assertEqual((spmat.concat(parts).to_edgelist(), spmat.concat(parts).nodes),
+                         (W.to_edgelist(), ['a', 'b', 'c']))
         twice = spmat.concat([[W], [W]])
-        self.assertEqual((twice.row_nodes, twice.column_nodes, twice.nvals), (None, ['a', 'b', 'c'], 6))
+        self.assertEqual((twice.row_nodes, twice.column_nodes, twice.nvals),
+                         (None, ['a', 'b', 'c'], 6))
         V = self.s.from_edgelist([('x', 'y', 1), ('y', 'z', 2)])
-        with self.assertRaisesRegex(ValueError, 'the rows of the tiles of row 0 have different names'):
+        with self.assertRaisesRegex(ValueError,
+                                    'the rows of the tiles of row 0 have different names'):
             spmat.concat([[W, V]])
 
     def test_sizes(self):
@@ -365,22 +445,27 @@ class Shapes(Composites):
         A = self.made(a, 3, 4)
         for nrows, ncols in itertools.product((0, 2, 3, 5), (0, 3, 4, 6)):
             got = A.resize(nrows, ncols)
-            self.assertEqual((got.shape, got.to_dict()), ((nrows, ncols), model.cut(a, lambda at: at[0] < nrows and at[1] < ncols)))
+            self.assertEqual((got.shape, got.to_dict()),
+                             ((nrows, ncols),
+                              model.cut(a, lambda at: at[0] < nrows and at[1] < ncols)))
         for nrows, ncols in ((3, 4), (4, 3), (1, 12), (12, 1), (2, 6), (-1, 6), (2, -1)):
             shape = (nrows if nrows > 0 else 12 // ncols, ncols if ncols > 0 else 12 // nrows)
             for order in ('rowwise', 'columnwise', 'C', 'F'):
                 got = A.reshape(nrows, ncols, order)
                 by_rows = order in ('rowwise', 'C')
                 at = {i * 4 + j if by_rows else j * 3 + i: x for (i, j), x in a.items()}
-                want = {(divmod(p, shape[1]) if by_rows else divmod(p, shape[0])[::-1]): x for p, x in at.items()}
+                want = {(divmod(p, shape[1]) if by_rows else divmod(p, shape[0])[::-1]): x
+                        for p, x in at.items()}
                 self.assertEqual((got.shape, got.to_dict()), (shape, want))
-        for call, words in ((lambda: A.reshape(5, 2), '3x4 has 12 places, and 5x2 has 10'), (lambda: A.reshape(-1, 5), 'places')):
+        for call, words in ((lambda: A.reshape(5, 2), '3x4 has 12 places, and 5x2 has 10'),
+                            (lambda: A.reshape(-1, 5), 'places')):
             with self.assertRaisesRegex(spmat.DimensionMismatch, words):
                 call()
         with self.assertRaisesRegex(ValueError, 'rowwise'):
             A.reshape(4, 3, 'Z')
         W = self.s.from_edgelist([('a', 'b', 1), ('b', 'c', 2)])
-        self.assertEqual((W.resize(2, 3).row_nodes, W.resize(5, 3).row_nodes, W.resize(5, 3).column_nodes), (['a', 'b'], None, ['a', 'b', 'c']))
+        self.assertEqual((W.resize(2, 3).row_nodes, W.resize(5, 3).row_nodes,
+                          W.resize(5, 3).column_nodes), (['a', 'b'], None, ['a', 'b', 'c']))
         self.assertEqual(self.made({}, 0, 3).reshape(3, 0).shape, (3, 0))
 
 
@@ -397,19 +482,25 @@ class Forms(Composites):
                 self.assertTrue(self.s.from_csr(*rows, ncols=shape[1]).isequal(A))
                 self.assertTrue(self.s.from_csc(*columns, nrows=shape[0]).isequal(A))
                 self.assertEqual([list(map(int, rows[0])), list(map(int, columns[0]))],
-                                 [[sum(at[axis] < line for at in a) for line in range(shape[axis] + 1)] for axis in (0, 1)])
+                                 [[sum(at[axis] < line for at in a)
+                                   for line in range(shape[axis] + 1)] for axis in (0, 1)])
                 by_rows, by_columns = A.to_dicts(), A.to_dicts('columnwise')
-                self.assertEqual({(i, j): x for i, inner in by_rows.items() for j, x in inner.items()}, a)
-                self.assertEqual({(i, j): x for j, inner in by_columns.items() for i, x in inner.items()}, a)
+                self.assertEqual({(i, j): x for i, inner in by_rows.items()
+                                  for j, x in inner.items()}, a)
+                self.assertEqual({(i, j): x for j, inner in by_columns.items()
+                                  for i, x in inner.items()}, a)
                 self.assertTrue(self.s.from_dicts(by_rows, *shape).isequal(A))
-                self.assertTrue(self.s.from_dicts(by_columns, *shape, order='columnwise').isequal(A))
-        self.assertEqual(self.s.from_csr([0, 1, 1, 3], [2, 0, 1]).to_dict(), {(0, 2): 1, (2, 0): 1, (2, 1): 1})
+                self.assertTrue(self.s.from_dicts(by_columns, *shape,
+                                                  order='columnwise').isequal(A))
+        self.assertEqual(self.s.from_csr([0, 1, 1, 3], [2, 0, 1]).to_dict(),
+                         {(0, 2): 1, (2, 0): 1, (2, 1): 1})
         self.assertEqual(self.s.from_csr([0, 1], [0], [1.5], scale=10).to_edgelist(), [(0, 0, 1.5)])
 
     @needs('scipy', 'numpy')
     def test_as_scipy_has_them(self):
         A = self.made(some(random.Random(4), 6, 5), 6, 5)
-        for got, want in ((A.to_csr(), A.to_scipy_sparse('csr')), (A.to_csc(), A.to_scipy_sparse('csc'))):
+        for got, want in ((A.to_csr(), A.to_scipy_sparse('csr')),
+                          (A.to_csc(), A.to_scipy_sparse('csc'))):
             want.sort_indices()
             for mine, theirs in zip(got, (want.indptr, want.indices, want.data)):
                 self.assertEqual(mine.tolist(), theirs.tolist())
@@ -418,20 +509,29 @@ class Forms(Composites):
 
     def test_what_is_refused(self):
         s = self.s
-        for call, kind, words in ((lambda: s.from_csr([0, 2, 1], [0]), ValueError, 'comes after'), (lambda: s.from_csr([0, 2], [0]), ValueError, 'from 0 to 2'),
-                                  (lambda: s.from_csr([1, 1], [0]), ValueError, 'from 1 to 1'), (lambda: s.from_csr([], []), ValueError, 'over none'),
-                                  (lambda: s.from_csr([0, 1], [0], nrows=2), ValueError, '2 rows are given, and the beginnings are of 1'),
-                                  (lambda: s.from_dicts([(0, 1)]), TypeError, 'row: {column: value}'), (lambda: s.from_dicts({0: 1}), TypeError, 'other things'),
-                                  (lambda: s.from_dicts({'a': {'b': 1}}), TypeError, 'from_edgelist'), (lambda: s.from_dicts({}, order='x'), ValueError, 'rowwise'),
+        for call, kind, words in ((lambda: s.from_csr([0, 2, 1], [0]), ValueError, 'comes after'),
+                                  (lambda: s.from_csr([0, 2], [0]), ValueError, 'from 0 to 2'),
+                                  (lambda: s.from_csr([1, 1], [0]), ValueError, 'from 1 to 1'),
+                                  (lambda: s.from_csr([], []), ValueError, 'over none'),
+                                  (lambda: s.from_csr([0, 1], [0], nrows=2), ValueError,
+                                   '2 rows are given, and the beginnings are of 1'),
+                                  (lambda: s.from_dicts([(0, 1)]), TypeError,
+                                   'row: {column: value}'),
+                                  (lambda: s.from_dicts({0: 1}), TypeError, 'other things'),
+                                  (lambda: s.from_dicts({'a': {'b': 1}}), TypeError,
+                                   'from_edgelist'),
+                                  (lambda: s.from_dicts({}, order='x'), ValueError, 'rowwise'),
                                   (lambda: s.identity(2).to_dicts('x'), ValueError, 'rowwise'),
-                                  (lambda: s.from_csr([0, 2], [1, 1]), spmat.TextRefused, 'given as entry')):
+                                  (lambda: s.from_csr([0, 2], [1, 1]), spmat.TextRefused,
+                                   'given as entry')):
             with self.assertRaisesRegex(kind, words):
                 call()
 
     def test_classes_name_the_session(self):
         for kind in (spmat.Matrix, blocks.BlockMatrix):
             for name in ('from_coo', 'from_dense', 'from_csr', 'from_dicts'):
-                with self.assertRaisesRegex(AttributeError, r'a matrix belongs to a session.*s\.%s\(\.\.\)' % name):
+                with self.assertRaisesRegex(AttributeError,
+                                            r'a matrix belongs to a session.*s\.%s\(\.\.\)' % name):
                     getattr(kind, name)
             with self.assertRaisesRegex(AttributeError, 'has no attribute .nosuch'):
                 kind.nosuch
@@ -447,7 +547,8 @@ class Loops(Composites):
 
         def step(state):
             now = state.now.ewise_union(state.other, 'minus', 1, 2).assign(7, mask=state.other.S)
-            return {'now': now, 'other': state.other.power(2, 'min_plus'), 'count': now.reduce_rowwise('count')}
+            return {'now': now, 'other': state.other.power(2, 'min_plus'),
+                    'count': now.reduce_rowwise('count')}
         first = {'now': A, 'other': B, 'count': A.reduce_rowwise('count')}
         loop = spmat.loop(step, first)
         loop.advance(3)

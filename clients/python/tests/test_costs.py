@@ -1,4 +1,5 @@
-"""What the algorithms say that they cost in runs, that they tell how far they are, and products that are too large for one job."""
+"""What the algorithms say that they cost in runs, that they tell how far they are, and products
+that are too large for one job."""
 import collections
 import functools
 import os
@@ -19,7 +20,8 @@ WITHOUT_CYCLES = ('topological_levels', 'longest_paths')       # what refuses a 
 
 class Costs(unittest.TestCase):
     def setUp(self):
-        self.session = spmat.Session(1 << 50, program=support.program())       # so few that it matters how many are taken
+        # so few that it matters how many are taken
+        self.session = spmat.Session(1 << 50, program=support.program())
         self.graph = graphs.UNDIRECTED[3]
         self.G = self.graph.matrix(self.session)
 
@@ -35,14 +37,16 @@ class Costs(unittest.TestCase):
         return self.session.runs - before
 
     def bounded(self, graph):
-        """The algorithms that say the most runs that they take, each with a call of it on a graph that it is for."""
+        """The algorithms that say the most runs that they take, each with a call of it on a graph
+        that it is for."""
         lower = graphs.directed(graph.name, graph.count, {(i, j) for i, j in graph.edges if i < j})
         for name, one in sorted(ALGORITHMS.items()):
             if one.runs:
                 own = lower if name in WITHOUT_CYCLES else graph
                 G = own.matrix(self.session)
                 given = {'source': 0, 'k': 3, 'GT': G, 'WT': G}
-                named = {what: given[what] for what in one.parameters if what in given and own is graph}
+                named = {what: given[what] for what in one.parameters if what in given
+                         and own is graph}
                 told = []
                 if 'progress' in one.parameters:
                     named['progress'] = lambda word, number, of, told=told: told.append(number)
@@ -53,14 +57,15 @@ class Costs(unittest.TestCase):
         return Size(graph.count, len(told))
 
     def test_runs(self):
-        """Each algorithm takes no more runs than it says, and up to 4 for checks, which are made once. A number that doesn't depend on the
-        graph stands in the docstring."""
+        """Each algorithm takes no more runs than it says, and up to 4 for checks, which are made
+        once. A number that doesn't depend on the graph stands in the docstring."""
         seen = set()
         for one, graph, told, call in self.bounded(self.graph):
             for checks in (4, 0):
                 told.clear()
                 took = self.runs(call)
-                self.assertLessEqual(took, one.runs(self.size(graph, told)) + checks, one.function.__name__)
+                self.assertLessEqual(took, one.runs(self.size(graph, told)) + checks,
+                                     one.function.__name__)
             if one.runs(Size(1, 1)) == one.runs(Size(9, 9)):
                 self.assertIn('Runs: %d' % one.runs(Size(1, 1)), one.function.__doc__)
             seen.add(one.function.__name__)
@@ -86,21 +91,25 @@ class Costs(unittest.TestCase):
         """What is found out of a graph is paid once."""
         for graph in graphs.UNDIRECTED[2:]:
             G, (n, m) = graph.matrix(self.session), (graph.count, len(graph.edges))
-            self.assertLessEqual(self.spent(cached_properties.check_undirected, G, True), 18 * m + 5 * n)
+            self.assertLessEqual(self.spent(cached_properties.check_undirected, G, True),
+                                 18 * m + 5 * n)
             self.assertEqual(self.spent(cached_properties.check_undirected, G, True), 0)
             self.assertLessEqual(self.spent(cached_properties.extremes, G), 8 * m + 4 * n)
 
     @support.needs('numpy')
     def test_no_more_steps_than_by_columns(self):
-        """On a skewed graph of 256 vertices no search takes more steps than it took when all vertices were walked along in each level
-        or round, by products with columns; on a uniform one no more than when all that changed were pushed at once. So it is where
-        steps are counted."""
+        """On a skewed graph of 256 vertices no search takes more steps than it took when all
+        vertices were walked along in each level or round, by products with columns; on a uniform
+        one no more than when all that changed were pushed at once. So it is where steps are
+        counted."""
         session = spmat.Session(1 << 50, program=support.program())
         self.addCleanup(session.close)
         sys.path.append(os.path.join(support.TOP, 'bench'))
         from algorithms import edges_of
-        before = {'kron': {'bfs_levels': 3922, 'bfs_parents': 4368, 'connected_components': 88518, 'sssp': 119460, 'k_core': 48782},
-                  'urand': {'bfs_levels': 5326, 'bfs_parents': 6126, 'connected_components': 63182, 'sssp': 108095, 'k_core': 39632}}
+        before = {'kron': {'bfs_levels': 3922, 'bfs_parents': 4368, 'connected_components': 88518,
+                           'sssp': 119460, 'k_core': 48782},
+                  'urand': {'bfs_levels': 5326, 'bfs_parents': 6126, 'connected_components': 63182,
+                            'sssp': 108095, 'k_core': 39632}}
         for kind, steps in before.items():
             edges = edges_of(kind, 8)
             places = list(zip(edges.i.tolist(), edges.j.tolist()))
@@ -110,7 +119,9 @@ class Costs(unittest.TestCase):
             source = max(range(edges.vertices), key=lambda i: (near[i], -i))
             cached_properties.is_both_ways(G)
             for name, most in steps.items():
-                graph, more = (W if name == 'sssp' else G), {'k_core': (10,), 'connected_components': (G,)}.get(name, (source,))
+                graph, more = (W if name == 'sssp' else G), {'k_core': (10,),
+                                                             'connected_components': (G,)}.get(
+                                                                 name, (source,))
                 start = session.budget().spent
                 getattr(algorithms, name)(graph, *more).wait()
                 self.assertLessEqual(session.budget().spent - start, most, name)
@@ -120,7 +131,8 @@ class Costs(unittest.TestCase):
         for number, source in ((1, 0), (3, 16), (4, 0)):
             graph = graphs.UNDIRECTED[number]
             G = graph.matrix(self.session)
-            cached_properties.is_both_ways(G)                  # which is looked at once where a transpose is handed in
+            # which is looked at once where a transpose is handed in
+            cached_properties.is_both_ways(G)
             deepest = max(graphs.levels(graph.near(), source).values())
             for function, large in ((algorithms.bfs_levels, 3), (algorithms.bfs_parents, 4)):
                 told, runs = self.counted(function, G, source, G)
@@ -130,37 +142,50 @@ class Costs(unittest.TestCase):
         path = graphs.undirected('path', 90, [(i, i + 1) for i in range(89)]).matrix(self.session)
         for function in (algorithms.bfs_levels, algorithms.bfs_parents):
             told, runs = self.counted(function, path, 30)
-            self.assertEqual((len(told), runs), (59, 59))          # the last front isn't pushed: nobody is left
-            self.assertEqual(self.counted(function, graphs.undirected('one more', 91, [(i, i + 1) for i in range(89)]).matrix(self.session), 30)[1], 60)
-            self.assertEqual(self.counted(function, path, 30, depth=7), ([('level', k, 0) for k in range(1, 8)], 7))
+            # the last front isn't pushed: nobody is left
+            self.assertEqual((len(told), runs), (59, 59))
+            self.assertEqual(self.counted(function,
+                                          graphs.undirected('one more', 91,
+                                                            [(i, i + 1) for i in range(89)]).matrix(
+                                                                self.session), 30)[1], 60)
+            self.assertEqual(self.counted(function, path, 30, depth=7),
+                             ([('level', k, 0) for k in range(1, 8)], 7))
             self.assertEqual(self.counted(function, path, 30, target=33)[1], 3)
 
     def test_long_searches(self):
-        """On an ample budget the levels behind the 32nd are a loop: as many steps an edge as is said, and a few trips."""
+        """On an ample budget the levels behind the 32nd are a loop: as many steps an edge as is
+        said, and a few trips."""
         count = 600
         graph = graphs.undirected('path', count, [(i, i + 1) for i in range(count - 1)])
         with spmat.Session() as session:
             path = graph.matrix(session)
             cached_properties.is_both_ways(path), cached_properties.extremes(path)
-            for function, steps in ((algorithms.bfs_levels, 30), (algorithms.bfs_parents, 40), (algorithms.sssp, 300)):
+            for function, steps in ((algorithms.bfs_levels, 30), (algorithms.bfs_parents, 40),
+                                    (algorithms.sssp, 300)):
                 before, told = session.budget().spent, []
-                self.assertEqual(function(path, 0, progress=lambda *now: told.append(now)).nvals, count)
+                self.assertEqual(function(path, 0, progress=lambda *now: told.append(now)).nvals,
+                                 count)
                 self.assertLessEqual(session.budget().spent - before, steps * path.nvals, function)
-                self.assertGreater(20 * (session.budget().spent - before), steps * path.nvals, function)
+                self.assertGreater(20 * (session.budget().spent - before), steps * path.nvals,
+                                   function)
                 self.assertEqual([number for _, number, _ in told], list(range(1, len(told) + 1)))
 
     def test_fronts_alone_are_paid(self):
-        """A search along a path costs steps for its edges, and not for all vertices a level: 4 an edge, 6 with parents; lengths of
-        paths 7, and 8 once for the least and the greatest."""
+        """A search along a path costs steps for its edges, and not for all vertices a level: 4 an
+        edge, 6 with parents; lengths of paths 7, and 8 once for the least and the greatest."""
         count = 200
-        path = graphs.undirected('path', count, [(i, i + 1) for i in range(count - 1)]).matrix(self.session)
-        for function, steps in ((algorithms.bfs_levels, 4), (algorithms.bfs_parents, 6), (algorithms.sssp, 15)):
+        path = graphs.undirected('path', count,
+                                 [(i, i + 1) for i in range(count - 1)]).matrix(self.session)
+        for function, steps in ((algorithms.bfs_levels, 4), (algorithms.bfs_parents, 6),
+                                (algorithms.sssp, 15)):
             self.assertLessEqual(self.spent(function, path, 0), steps * path.nvals, function)
-        self.assertLessEqual(self.spent(algorithms.core_numbers, path, check=False), 10 * path.nvals)
+        self.assertLessEqual(self.spent(algorithms.core_numbers, path, check=False),
+                             10 * path.nvals)
 
     def test_what_is_made_once(self):
-        """Loops and a column of one value are sent once for a graph, and a column without entries when a job wants it. Each caller
-        has a matrix of its own, whose names the next one doesn't see."""
+        """Loops and a column of one value are sent once for a graph, and a column without entries
+        when a job wants it. Each caller has a matrix of its own, whose names the next one doesn't
+        see."""
         for make in (loops, column):
             first = make(self.G, 3)
             sent = self.session.connection.sent
@@ -172,24 +197,30 @@ class Costs(unittest.TestCase):
             self.assertEqual(first.reduce_scalar('plus'), 3 * self.G.nrows)
         commands = self.session.connection.commands
         empty = nothing(self.G)
-        self.assertEqual((empty.shape, empty.nvals, self.session.connection.commands - commands), ((self.G.nrows, 1), 0, 0))
+        self.assertEqual((empty.shape, empty.nvals, self.session.connection.commands - commands),
+                         ((self.G.nrows, 1), 0, 0))
         self.assertTrue(column(self.G, 3).ewise_add(empty, 'plus').isequal(column(self.G, 3)))
 
     def test_squarings(self):
         path = graphs.undirected('path', 12, [(i, i + 1) for i in range(11)]).matrix(self.session)
-        for function, more, rest in ((algorithms.all_pairs, (), 8), (algorithms.path_lengths, ([0, 5],), 8),
+        for function, more, rest in ((algorithms.all_pairs, (), 8),
+                                     (algorithms.path_lengths, ([0, 5],), 8),
                                      (algorithms.transitive_closure, (), 2)):
-            told, runs = self.counted(function, path, *more)      # squared four times, which covers all its edges
+            # squared four times, which covers all its edges
+            told, runs = self.counted(function, path, *more)
             self.assertLessEqual(len(told), 2)
             self.assertLessEqual(runs, 3 * len(told) + 3 * 4 + rest)
-            told, runs = self.counted(function, self.G, *more)    # a square has too many entries, and is tried once
+            # a square has too many entries, and is tried once
+            told, runs = self.counted(function, self.G, *more)
             self.assertGreater(len(told), 3)
             self.assertLessEqual(runs, 3 * len(told) + 3 + rest)
 
     def test_orders(self):
-        """6 a level, and 5; 8 a level, and 9, where lengths are kept; of a loop that makes 12 rounds at least."""
+        """6 a level, and 5; 8 a level, and 9, where lengths are kept; of a loop that makes 12
+        rounds at least."""
         lower = graphs.directed('lower', 40, {(i, j) for i, j in graphs.DIRECTED[2].edges if i < j})
-        for function, words in ((algorithms.topological_levels, '6 a level, and 5'), (algorithms.longest_paths, '8 a level, and 9')):
+        for function, words in ((algorithms.topological_levels, '6 a level, and 5'),
+                                (algorithms.longest_paths, '8 a level, and 9')):
             told, runs = self.counted(function, lower.matrix(self.session))
             self.assertGreater(len(told), 3)
             self.assertLessEqual(runs, ALGORITHMS[function.__name__].runs(self.size(lower, told)))
@@ -213,11 +244,11 @@ class Costs(unittest.TestCase):
         self.assertLessEqual(runs, 9 * len(told) + 4)
 
     def test_bands(self):
-        """On a grid the nearest vertices are taken first: a third of the steps that it takes to push all that changed at once, and
-        half as many rounds again."""
+        """On a grid the nearest vertices are taken first: a third of the steps that it takes to
+        push all that changed at once, and half as many rounds again."""
         side, chance = 100, random.Random(8)
-        at = [(i * side + j, i * side + j + step) for i in range(side) for j in range(side) for step in (1, side)
-              if (j if step == 1 else i) < side - 1]
+        at = [(i * side + j, i * side + j + step) for i in range(side) for j in range(side)
+              for step in (1, side) if (j if step == 1 else i) < side - 1]
         edges = {pair: chance.randint(1, 255) for pair in at}
         edges.update({(b, a): length for (a, b), length in list(edges.items())})
         near = graphs.Graph('grid', side * side, edges, False).near()
@@ -229,30 +260,38 @@ class Costs(unittest.TestCase):
                     reached[j] = min(reached.get(j, known[i] + edges[i, j]), known[i] + edges[i, j])
             changed = {j for j, length in reached.items() if j not in known or length < known[j]}
             known.update({j: reached[j] for j in changed})
-        W = self.session.from_triples([(i, j, length) for (i, j), length in edges.items()], side * side, side * side)
+        W = self.session.from_triples([(i, j, length) for (i, j), length in edges.items()],
+                                      side * side, side * side)
         cached_properties.extremes(W)
         told = []
-        self.assertLess(3 * self.spent(algorithms.sssp, W, 0, None, lambda *now: told.append(now)), 4 * pushed)
+        self.assertLess(3 * self.spent(algorithms.sssp, W, 0, None, lambda *now: told.append(now)),
+                        4 * pushed)
         self.assertLess(2 * len(told), 3 * rounds)
-        self.assertEqual(algorithms.sssp(W, 0).to_dict(), {(i, 0): length for i, length in known.items()})
+        self.assertEqual(algorithms.sssp(W, 0).to_dict(),
+                         {(i, 0): length for i, length in known.items()})
 
     def test_components_of_long_paths(self):
-        """2 a round, and 3; no more rounds than the logarithm of the number of vertices, in whatever order they stand."""
+        """2 a round, and 3; no more rounds than the logarithm of the number of vertices, in
+        whatever order they stand."""
         for seed in range(3):
             at = list(range(500))
             random.Random(seed).shuffle(at)
-            path = graphs.undirected('path', 500, [(a, b) for a, b in zip(at, at[1:])]).matrix(self.session)
+            path = graphs.undirected('path', 500,
+                                     [(a, b) for a, b in zip(at, at[1:])]).matrix(self.session)
             told, runs = self.counted(algorithms.connected_components, path, path)
             self.assertLessEqual(len(told), 9)
             self.assertLessEqual(runs, 2 * len(told) + 3)
 
     def test_rounds(self):
         """Of some rounds, and without the checks."""
-        for function, more in ((algorithms.k_truss, (4,)), (algorithms.k_core, (4,)), (algorithms.core_numbers, ()),
+        for function, more in ((algorithms.k_truss, (4,)), (algorithms.k_core, (4,)),
+                               (algorithms.core_numbers, ()),
                                (algorithms.maximal_independent_set, (1,))):
             told, runs = self.counted(function, self.G, *more, check=False)
             self.assertGreater(len(told), 1)
-            self.assertLessEqual(runs, ALGORITHMS[function.__name__].runs(self.size(self.graph, told)), function.__name__)
+            self.assertLessEqual(runs,
+                                 ALGORITHMS[function.__name__].runs(self.size(self.graph, told)),
+                                 function.__name__)
 
     def test_settle(self):
         """1 a round, of which two are in vain; no more than are allowed are tried."""
@@ -264,7 +303,8 @@ class Costs(unittest.TestCase):
         runs = self.runs(settle, lambda far: steps.append(far) or near.mxv(far, 'min_plus'), start)
         self.assertEqual((len(steps), runs), (11, 11))
         far = settle(lambda far: near.mxv(far, 'min_plus'), start, most=8)
-        self.assertEqual(far.to_list(), [sum(path.edges[i, i + 1] for i in range(end)) for end in range(9)])
+        self.assertEqual(far.to_list(),
+                         [sum(path.edges[i, i + 1] for i in range(end)) for end in range(9)])
         with self.assertRaisesRegex(spmat.NotSettled, 'after 10 rounds'):
             settle(lambda far: near.mxv(far, 'min_plus'), start, most=7)
 
@@ -297,13 +337,16 @@ class Parts(unittest.TestCase):
         self.session.close()
 
     def test_products(self):
-        A, B = self.session.full(21, 1000).apply('rowindex', right=1), self.session.full(1000, 800).apply('colindex', right=1)
+        A, B = self.session.full(21, 1000).apply('rowindex',
+                                                 right=1), self.session.full(1000, 800).apply(
+                                                     'colindex', right=1)
         with self.assertRaises(spmat.TooLarge):
             A.mxm(B)
         want = {(i, j): 1000 * (i + 1) * (j + 1) for i in range(21) for j in range(800)}
         self.assertEqual(product(A, B, 'plus_times').to_dict(), want)
         dear = spmat.asm('binary', 'mov64 r0, r1\n' * 3000 + 'exit')
-        with self.assertRaises(spmat.TooLarge) as caught:              # one row, at a price above 2^32
+        with self.assertRaises(spmat.TooLarge) as caught:
+            # one row, at a price above 2^32
             product(A.select('rowle', 0), B, spmat.Semiring(dear, dear))
         self.assertEqual(caught.exception.rule, 'J8')
 
@@ -316,7 +359,8 @@ class Parts(unittest.TestCase):
         with self.assertRaises(spmat.TooLarge):
             G.mxm(G, 'plus_pair', mask=G.S)
         self.assertEqual(algorithms.triangle_count(G), ring)
-        self.assertEqual(algorithms.triangles(G).to_dict(), {(i, 0): ring if i == hub else 2 for i in range(ring + 1)})
+        self.assertEqual(algorithms.triangles(G).to_dict(),
+                         {(i, 0): ring if i == hub else 2 for i in range(ring + 1)})
         self.assertEqual(algorithms.k_truss(G, 3).nvals, 4 * ring)
         self.assertEqual(algorithms.k_truss(G, 4).nvals, 0)
 

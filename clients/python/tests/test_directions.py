@@ -1,4 +1,5 @@
-"""Results that are known to be undirected: each says so, is its own transpose, and becomes a Graph of networkx."""
+"""Results that are known to be undirected: each says so, is its own transpose, and becomes a Graph
+of networkx."""
 import contextlib
 import random
 import unittest
@@ -11,7 +12,8 @@ EDGES = [('a', 'b', 2), ('b', 'c', 3), ('a', 'c', 10), ('c', 'd', 1)]
 
 
 def operations(s, G, U):
-    """What is known to be undirected, of a graph that leads one way and of one that is undirected."""
+    """What is known to be undirected, of a graph that leads one way and of one that is
+    undirected."""
     two, turned = ['a', 'b'], ['d', 'c', 'b', 'a']
     yield 'undirected', algorithms.undirected(G)
     yield 'undirected, of a transpose', algorithms.undirected(G, G.T)
@@ -74,17 +76,27 @@ def others(s, G, U):
     yield 'a truss that nobody checks', algorithms.k_truss(both_ways(s), 3, check=False)
 
 
-BINARY = ('plus', 'times', 'min', 'max', 'minus', 'first', 'second', 'any', 'pair', 'eq', 'gt', 'cdiv')
-STEPS = (                                          # of two matrices of one size, and a source of chance
-    lambda A, B, chance: A.ewise_add(B, chance.choice(BINARY)), lambda A, B, chance: A.ewise_mult(B, chance.choice(BINARY)),
-    lambda A, B, chance: A.mxm(B, 'plus_' + chance.choice(('times', 'pair', 'first', 'plus', 'minus'))),
-    lambda A, B, chance: A.apply(chance.choice(('rowindex', 'thunk', 'tril', 'offdiag', 'plus', 'minus')), chance.choice((0, 1))),
-    lambda A, B, chance: A.select(chance.choice(('tril', 'offdiag', 'valuegt', 'rowle')), chance.choice((0, 1))),
+BINARY = ('plus', 'times', 'min', 'max', 'minus', 'first', 'second', 'any', 'pair', 'eq', 'gt',
+          'cdiv')
+# of two matrices of one size, and a source of chance
+STEPS = (
+    lambda A, B, chance: A.ewise_add(B, chance.choice(BINARY)),
+    lambda A, B, chance: A.ewise_mult(B, chance.choice(BINARY)),
+    lambda A, B, chance: A.mxm(B, 'plus_'
+                               + chance.choice(('times', 'pair', 'first', 'plus', 'minus'))),
+    lambda A, B, chance: A.apply(chance.choice(('rowindex', 'thunk', 'tril', 'offdiag', 'plus',
+                                                'minus')), chance.choice((0, 1))),
+    lambda A, B, chance: A.select(chance.choice(('tril', 'offdiag', 'valuegt', 'rowle')),
+                                  chance.choice((0, 1))),
     lambda A, B, chance: A[::-1, ::chance.choice((1, -1))], lambda A, B, chance: A.T,
-    lambda A, B, chance: A.update(B, chance.choice((None, 'plus', 'first')), mask=chance.choice((None, B.S, ~A.S, ~B.V)), replace=chance.random() < .5),
+    lambda A, B, chance: A.update(B, chance.choice((None, 'plus', 'first')),
+                                  mask=chance.choice((None, B.S, ~A.S, ~B.V)),
+                                  replace=chance.random() < .5),
     lambda A, B, chance: A.dup(mask=chance.choice((~B.S, B.V, A.S & B.S, A.S ^ B.S, A.S | ~B.S))),
-    lambda A, B, chance: A.power(chance.randint(0, 3), chance.choice(('plus_times', 'any_pair', 'min_plus'))),
-    lambda A, B, chance: A.kronecker(B).resize(A.nrows, A.nrows), lambda A, B, chance: A.ewise_union(B, 'minus', 0, 1),
+    lambda A, B, chance: A.power(chance.randint(0, 3),
+                                 chance.choice(('plus_times', 'any_pair', 'min_plus'))),
+    lambda A, B, chance: A.kronecker(B).resize(A.nrows, A.nrows),
+    lambda A, B, chance: A.ewise_union(B, 'minus', 0, 1),
     lambda A, B, chance: A.assign(5, mask=B.S))
 
 
@@ -95,16 +107,19 @@ class Undirected(unittest.TestCase):
         with spmat.Session() as s:
             for _ in range(20):
                 count = chance.randint(2, 5)
-                places = sorted({tuple(sorted(chance.choices(range(count), k=2))) for _ in range(6)})
+                places = sorted({tuple(sorted(chance.choices(range(count), k=2)))
+                                 for _ in range(6)})
                 values = [chance.randint(-3, 3) for _ in places]
-                made = [s.from_coo(*zip(*places), values, count, count, symmetric=one) for one in (False, True)] + [s.identity(count), s.full(count, count)]
+                made = [s.from_coo(*zip(*places), values, count, count, symmetric=one)
+                        for one in (False, True)] + [s.identity(count), s.full(count, count)]
                 for _ in range(20):
                     A = chance.choice(made)
                     with contextlib.suppress(spmat.NamesDiffer):
                         found = chance.choice(STEPS)(A, chance.choice((A, A.T, *made)), chance)
                         made.append(found)
                         known += found.directed is False
-                        self.assertTrue(found.directed is not False or found.to_text() == found.T.to_text(), found)
+                        self.assertTrue(found.directed is not False
+                                        or found.to_text() == found.T.to_text(), found)
         self.assertGreater(known, 100)
 
     def graphs(self):

@@ -1,4 +1,5 @@
-"""Lengths and distances between many vertices, beside plain Python: what is refused before it begins, and what rounds take."""
+"""Lengths and distances between many vertices, beside plain Python: what is refused before it
+begins, and what rounds take."""
 import random
 import unittest
 from unittest import mock
@@ -12,11 +13,13 @@ from spmat.algorithms import all_pairs_lengths, distance_measures
 
 class Distances(support.InSession):
     def each(self, look):
-        """Looks at each graph: at its distances, its matrix, and its transpose where it has one of its own."""
+        """Looks at each graph: at its distances, its matrix, and its transpose where it has one of
+        its own."""
         for graph in graphs.tried(graphs.ALL):
             with self.subTest(graph=graph.name):
                 G, near = graph.matrix(self.session), graph.near()
-                look(graph, [graphs.levels(near, i) for i in range(graph.count)], G, G.T if graph.directed else G)
+                look(graph, [graphs.levels(near, i) for i in range(graph.count)], G,
+                     G.T if graph.directed else G)
 
     def ring(self, count):
         """A cycle both ways."""
@@ -48,7 +51,8 @@ class Distances(support.InSession):
         numbers = [0, 1, -1, 1 << 63, -(1 << 63), 0x5555, -2, (1 << 62) + 5]
         words = [number - (1 << 64) if number >= 1 << 63 else number for number in numbers]
         column = self.session.from_coo(range(len(words)), [0] * len(words), words)
-        self.assertEqual(column.apply(distance_measures.BITS).to_list(), [bin(number & (1 << 64) - 1).count('1') for number in words])
+        self.assertEqual(column.apply(distance_measures.BITS).to_list(),
+                         [bin(number & (1 << 64) - 1).count('1') for number in words])
 
     def test_eccentricity_and_diameter(self):
         def look(graph, far, G, GT):
@@ -71,16 +75,20 @@ class Distances(support.InSession):
     def test_diameter_of_long_paths_takes_few_searches(self):
         side, chance = 24, random.Random(2)
         at = {(i, j): i * side + j for i in range(side) for j in range(side)}
-        pairs = [(at[i, j], at[k, m]) for i, j in at for k, m in ((i + 1, j), (i, j + 1)) if (k, m) in at]
+        pairs = [(at[i, j], at[k, m]) for i, j in at for k, m in ((i + 1, j), (i, j + 1))
+                 if (k, m) in at]
         cuts = chance.sample([pair for pair in pairs if pair[0] % side and pair[0] >= side], 60)
         grid = graphs.undirected('grid', side * side, [pair for pair in pairs if pair not in cuts])
         exact = max(max(graphs.levels(grid.near(), i).values()) for i in range(grid.count))
-        one_way = graphs.directed('one way', side * side, {*grid.edges, (0, side * side - 1), (5, 300)})
+        one_way = graphs.directed('one way', side * side,
+                                  {*grid.edges, (0, side * side - 1), (5, 300)})
         for graph in (grid, one_way):
             G, told = graph.matrix(self.session), []
             G.nodes = chance.sample(range(side * side), side * side)
-            found = max(max(graphs.levels(graph.near(), i).values()) for i in range(graph.count)) if graph is one_way else exact
-            self.assertEqual(algorithms.diameter(G, progress=lambda *now: told.append(now)), (found, found))
+            found = (max(max(graphs.levels(graph.near(), i).values()) for i in range(graph.count))
+                     if graph is one_way else exact)
+            self.assertEqual(algorithms.diameter(G, progress=lambda *now: told.append(now)),
+                             (found, found))
             searches = [number for word, number, of in told if word == 'search' and of == 0]
             self.assertEqual(searches, list(range(1, len(searches) + 1)))
             self.assertLess(len(searches), 16)
@@ -89,15 +97,20 @@ class Distances(support.InSession):
     def test_diameter_names_a_vertex_that_is_not_reached(self):
         G = self.session.from_edgelist([('a', 'b'), ('b', 'a'), ('c', 'a')])
         for searches in (None, 1):
-            with self.assertRaisesRegex(ValueError, "there is no diameter, as no path leads from '[ab]' to 'c'"):
+            with self.assertRaisesRegex(ValueError,
+                                        "there is no diameter, as no path leads from '[ab]' to "
+                                        "'c'"):
                 algorithms.diameter(G, searches=searches)
-            with self.assertRaisesRegex(ValueError, "there is no diameter, as no path leads to '[ab]' from 'c'"):
+            with self.assertRaisesRegex(ValueError,
+                                        "there is no diameter, as no path leads to '[ab]' from "
+                                        "'c'"):
                 algorithms.diameter(G.T, searches=searches)
 
     def test_path_lengths(self):
         def look(graph, far, G, _):
             near = graph.near()
-            for sources in ([0], [graph.count - 1, 0, 0], range(graph.count)) if graph.count else []:
+            for sources in ([0], [graph.count - 1, 0, 0],
+                            range(graph.count)) if graph.count else []:
                 want = {(row, j): length for row, i in enumerate(sources)
                         for j, length in graphs.shortest(graph.edges, near, i).items()}
                 self.assertEqual(algorithms.path_lengths(G, sources).to_dict(), want)
@@ -113,27 +126,32 @@ class Distances(support.InSession):
     def test_long_lengths(self):
         """Lengths that leave no bit for a mark."""
         long = 1 << 61
-        W = self.session.from_triples([(0, 1, long), (1, 2, long), (0, 2, long + long // 2), (2, 3, -long)], 4, 4)
+        W = self.session.from_triples([(0, 1, long), (1, 2, long), (0, 2, long + long // 2),
+                                       (2, 3, -long)], 4, 4)
         self.assertEqual(algorithms.all_pairs(W).to_dict(), {
-            (0, 0): 0, (0, 1): long, (0, 2): long + long // 2, (0, 3): long // 2, (1, 1): 0, (1, 2): long, (1, 3): 0,
+            (0, 0): 0, (0, 1): long, (0, 2): long + long // 2, (0, 3): long // 2, (1, 1): 0,
+            (1, 2): long, (1, 3): 0,
             (2, 2): 0, (2, 3): -long, (3, 3): 0})
         with self.assertRaisesRegex(ValueError, 'negative length'):
             algorithms.all_pairs(self.session.from_triples([(0, 1, -long), (1, 0, long - 1)], 2, 2))
         steps = [(k, k + 1, 3 << 59) for k in range(9)]
-        with self.assertRaisesRegex(ValueError, '2\\^63'):       # where all of them together would wrap
+        with self.assertRaisesRegex(ValueError, '2\\^63'):
+            # where all of them together would wrap
             algorithms.all_pairs(self.session.from_triples(steps, 10, 10))
 
     def test_rounds(self):
-        """A ring is squared while its rows are short, so that rounds are an eighth of its longest paths; what is refused in later
-        rounds is refused before the first."""
+        """A ring is squared while its rows are short, so that rounds are an eighth of its longest
+        paths; what is refused in later rounds is refused before the first."""
         told = []
         found = algorithms.all_pairs(self.ring(60), lambda *now: told.append(now))
-        self.assertEqual(sorted(found.to_coo(arrays=False)[2]), sorted(min(k, 60 - k) for k in range(60) for _ in range(60)))
+        self.assertEqual(sorted(found.to_coo(arrays=False)[2]),
+                         sorted(min(k, 60 - k) for k in range(60) for _ in range(60)))
         self.assertEqual([number for _, number, _ in told], list(range(1, len(told) + 1)))
         self.assertLessEqual(len(told), 30 // 8 + 2)
 
     def test_work(self):
-        """Each pair is lengthened once by each edge: steps grow as pairs times edges, and not as the cube of the vertices."""
+        """Each pair is lengthened once by each edge: steps grow as pairs times edges, and not as
+        the cube of the vertices."""
         graph = graphs.UNDIRECTED[3]
         G, before = graph.matrix(self.session).apply('one'), self.session.budget().spent
         algorithms.all_pairs(G).wait()

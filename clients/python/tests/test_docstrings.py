@@ -10,8 +10,8 @@ from support import InSession, needs
 
 # What numpydoc looks for: sections in their order, each parameter with its type and what it means,
 # a summary of one line, and what is returned.
-CHECKS = ('GL03', 'GL05', 'GL06', 'GL07', 'GL08', 'SS01', 'SS02', 'SS03', 'SS04', 'PR01', 'PR02', 'PR03',
-          'PR04', 'PR07', 'PR08', 'PR09', 'PR10', 'RT01', 'RT03', 'RT04', 'RT05', 'EX01')
+CHECKS = ('GL03', 'GL05', 'GL06', 'GL07', 'GL08', 'SS01', 'SS02', 'SS03', 'SS04', 'PR01', 'PR02',
+          'PR03', 'PR04', 'PR07', 'PR08', 'PR09', 'PR10', 'RT01', 'RT03', 'RT04', 'RT05', 'EX01')
 
 
 class Docstrings(InSession):
@@ -26,7 +26,8 @@ class Docstrings(InSession):
     def test_costs(self):
         """Notes say runs, and steps or whose steps these are."""
         for name, one in ALGORITHMS.items():
-            notes = inspect.getdoc(one.function).split('\nNotes\n-----\n')[1].split('\nExamples\n')[0]
+            notes = inspect.getdoc(one.function).split('\nNotes\n-----\n')[1].split(
+                '\nExamples\n')[0]
             self.assertRegex(' '.join(notes.split()), r'Runs(: | and steps are )', name)
 
     def test_examples(self):

@@ -1,4 +1,5 @@
-"""Pictures: that they are written, for graphs small, large and empty, and show what is there. Skipped without matplotlib."""
+"""Pictures: that they are written, for graphs small, large and empty, and show what is there.
+Skipped without matplotlib."""
 import collections
 import os
 import subprocess
@@ -44,17 +45,21 @@ class Pictures(unittest.TestCase):
         return self.path
 
     def test_every_graph(self):
-        for graph in (graphs.UNDIRECTED[0], graphs.UNDIRECTED[1], graphs.UNDIRECTED[5], graphs.DIRECTED[3]):
+        for graph in (graphs.UNDIRECTED[0], graphs.UNDIRECTED[1], graphs.UNDIRECTED[5],
+                      graphs.DIRECTED[3]):
             G = graph.matrix(self.session)
             self.drawn(draw.spy, G)
             self.drawn(draw.degree_histogram, G)
-            found = algorithms.bfs_levels(G, 0) if graph.count else self.session.from_coo([], [], [], 0, 1)
+            found = (algorithms.bfs_levels(G, 0) if graph.count
+                     else self.session.from_coo([], [], [], 0, 1))
             self.drawn(draw.levels, G, found)
 
     def test_route(self):
-        """A path's edges have a colour of their own, and longer paths more of it; above 150 vertices the path alone is drawn."""
+        """A path's edges have a colour of their own, and longer paths more of it; above 150
+        vertices the path alone is drawn."""
         G = graphs.UNDIRECTED[4].matrix(self.session)
-        short, long = (ink(self.drawn(draw.route, G, algorithms.shortest_path(G, 0, end)), pictures.WARM) for end in (1, 41))
+        short, long = (ink(self.drawn(draw.route, G, algorithms.shortest_path(G, 0, end)),
+                           pictures.WARM) for end in (1, 41))
         self.assertGreater(short, 0)
         self.assertGreater(long, 3 * short)
         many = self.session.from_coo(range(199), range(1, 200), range(199), 200, 200)
@@ -74,7 +79,8 @@ class Pictures(unittest.TestCase):
         less, more = (ink(self.drawn(draw.spy, A), pictures.INK) for A in (half, whole))
         self.assertAlmostEqual(more / less, 2, delta=.05)
         self.assertGreater(more, .3)
-        self.assertEqual(ink(self.drawn(draw.spy, self.session.from_coo([], [], [], 40, 40)), pictures.INK), 0)
+        self.assertEqual(ink(self.drawn(draw.spy, self.session.from_coo([], [], [], 40, 40)),
+                             pictures.INK), 0)
 
     def test_vectors(self):
         """A result of an algorithm is a vector, and is drawn as its column."""
@@ -123,17 +129,21 @@ class Pictures(unittest.TestCase):
     def texts(self, axes):
         """The words of a picture's texts and ticks, once it is drawn."""
         axes.figure.savefig(self.path)
-        ticks = [tick.get_text() for axis in (axes.xaxis, axes.yaxis) for tick in axis.get_ticklabels()]
+        ticks = [tick.get_text() for axis in (axes.xaxis, axes.yaxis)
+                 for tick in axis.get_ticklabels()]
         return [text.get_text() for text in axes.texts] + ticks + [axes.get_title()]
 
     def test_names_on_axes(self):
         """`spy` has the names of rows and columns, of a few each, of many at round places."""
-        G = self.session.from_edgelist([('Ann', 'Bob', 3), ('Bob', 'A name of more than twenty-four letters', 2)], directed=True)
+        G = self.session.from_edgelist([('Ann', 'Bob', 3),
+                                        ('Bob', 'A name of more than twenty-four letters', 2)],
+                                       directed=True)
         told = self.texts(draw.spy(G))
         for name in ('Ann', 'Bob', 'A name of more than tw..'):
             self.assertEqual(told.count(name), 2)
         self.assertEqual(told[-1], '3 rows, 3 columns, 2 entries')
-        many = self.session.from_edgelist([('n%d' % i, 'n%d' % (i + 1), 1) for i in range(399)], directed=True)
+        many = self.session.from_edgelist([('n%d' % i, 'n%d' % (i + 1), 1) for i in range(399)],
+                                          directed=True)
         told = self.texts(draw.spy(many))
         self.assertIn('n100', told)
         self.assertNotIn('100', told)
@@ -141,31 +151,40 @@ class Pictures(unittest.TestCase):
     def test_names_of_levels(self):
         """All within their circles where all are short, else all above; edges end at the rim."""
         from matplotlib.patches import FancyArrowPatch
-        for names, room, place in ((['a', 'b', 'c'], 8, (0, 0)), (['Ann', 'Bob', 'Dora'], 4, (0, 5))):
+        for names, room, place in ((['a', 'b', 'c'], 8, (0, 0)),
+                                   (['Ann', 'Bob', 'Dora'], 4, (0, 5))):
             G = self.session.from_edgelist(list(zip(names, names[1:], [1, 1])), directed=True)
             axes = draw.levels(G, algorithms.bfs_levels(G, names[0]))
             self.assertEqual({text.get_text() for text in axes.texts}, set(names))
-            self.assertEqual({tuple(text.xyann) for text in axes.texts if text.xyann != text.xy} or {(0, 0)}, {place})
-            self.assertEqual({patch.shrinkA for patch in axes.patches if isinstance(patch, FancyArrowPatch)}, {room})
+            self.assertEqual({tuple(text.xyann) for text in axes.texts if text.xyann != text.xy}
+                             or {(0, 0)}, {place})
+            self.assertEqual({patch.shrinkA for patch in axes.patches
+                              if isinstance(patch, FancyArrowPatch)}, {room})
 
     def test_graph(self):
         """The graph itself: names, values of few edges, loops told, neighbours near one another."""
-        G = self.session.from_edgelist([('Ann', 'Bob', 3), ('Bob', 'Dora', 77), ('Dora', 'Dora', 5)], directed=True)
+        G = self.session.from_edgelist([('Ann', 'Bob', 3), ('Bob', 'Dora', 77),
+                                        ('Dora', 'Dora', 5)], directed=True)
         told = self.texts(draw.graph(G))
         self.assertEqual(sorted(told[:5]), ['3', '77', 'Ann', 'Bob', 'Dora'])
         self.assertEqual(told[-1], '3 vertices, 2 edges, 1 loop not shown')
-        for graph in (graphs.UNDIRECTED[0], graphs.UNDIRECTED[1], graphs.UNDIRECTED[5], graphs.DIRECTED[3]):
+        for graph in (graphs.UNDIRECTED[0], graphs.UNDIRECTED[1], graphs.UNDIRECTED[5],
+                      graphs.DIRECTED[3]):
             self.drawn(draw.graph, graph.matrix(self.session))
-        sides = [(i, j) for part in (0, 10) for i in range(part, part + 10) for j in range(part, i)] + [(0, 10)]
+        sides = [(i, j) for part in (0, 10) for i in range(part, part + 10)
+                 for j in range(part, i)] + [(0, 10)]
         at = graph_pictures.lay_out(20, set(sides))
         self.assertEqual(at.tolist(), graph_pictures.lay_out(20, set(sides)).tolist())
         self.assertLessEqual(abs(at).max(), 1)
         within, across = (sum(abs(at[i] - at[j]).sum() for i, j in pairs) / len(pairs)
-                          for pairs in (sides[:-1], [(i, j) for i in range(10) for j in range(10, 20)]))
+                          for pairs in (sides[:-1],
+                                        [(i, j) for i in range(10) for j in range(10, 20)]))
         self.assertLess(2 * within, across)
         many = self.session.from_coo(range(900), [i // 2 for i in range(900)], 1, 900, 900)
         self.assertGreater(ink(self.drawn(draw.graph, many), pictures.INK), 0)
-        with self.assertRaisesRegex(ValueError, 'up to 1,000 vertices and 5,000 edges, and this has 1,001 and 0'):
+        with self.assertRaisesRegex(ValueError,
+                                    'up to 1,000 vertices and 5,000 edges, and this has 1,001 '
+                                    'and 0'):
             draw.graph(self.session.from_coo([], [], [], 1001, 1001))
         with self.assertRaisesRegex(ValueError, 'expected a square matrix'):
             draw.graph(self.session.full(2, 3))
@@ -174,7 +193,9 @@ class Pictures(unittest.TestCase):
         draw.check(self.path)
         draw.check('picture')                          # matplotlib's own ending is added
         for kind, path, words in ((ValueError, 'picture.of-no-kind', 'a picture ends in .png'),
-                                  (FileNotFoundError, os.path.join(self.folder.name, 'none', 'a.png'), 'no such folder')):
+                                  (FileNotFoundError,
+                                   os.path.join(self.folder.name, 'none', 'a.png'),
+                                   'no such folder')):
             with self.assertRaises(kind) as said:
                 draw.check(path)
             self.assertIn(words, str(said.exception))
@@ -194,7 +215,8 @@ class Pictures(unittest.TestCase):
         """Each function draws on the axes that it gets, and returns them."""
         from matplotlib.figure import Figure
         G = graphs.UNDIRECTED[4].matrix(self.session)
-        calls = ((draw.spy,), (draw.degree_histogram,), (draw.graph,), (draw.levels, algorithms.bfs_levels(G, 0)),
+        calls = ((draw.spy,), (draw.degree_histogram,), (draw.graph,),
+                 (draw.levels, algorithms.bfs_levels(G, 0)),
                  (draw.route, algorithms.shortest_path(G, 0, 5)))
         for function, *more in calls:
             with self.subTest(function=function.__name__):
@@ -202,12 +224,14 @@ class Pictures(unittest.TestCase):
                 self.assertIs(function(G, *more, ax=right), right)
                 self.assertTrue(right.has_data())
                 self.assertFalse(left.has_data())
-                function(G, *more, self.path, ax=left)                 # a path gets the figure of the axes
+                # a path gets the figure of the axes
+                function(G, *more, self.path, ax=left)
                 self.assertTrue(left.has_data())
                 self.assertGreater(os.path.getsize(self.path), 0)
 
     def test_pyplot_shows_it(self):
-        """`plt.savefig` writes what was drawn last; a figure of the caller that is empty is drawn on."""
+        """`plt.savefig` writes what was drawn last; a figure of the caller that is empty is drawn
+        on."""
         import matplotlib
         matplotlib.use('Agg')
         from matplotlib import pyplot
@@ -222,7 +246,8 @@ class Pictures(unittest.TestCase):
             pyplot.savefig(self.path)
             self.assertGreater(ink(self.path, pictures.INK), 0)
             pyplot.close('all')
-        first, second = draw.spy(G), draw.degree_histogram(G)          # nothing is drawn over a picture
+        # nothing is drawn over a picture
+        first, second = draw.spy(G), draw.degree_histogram(G)
         self.assertIsNot(first.figure, second.figure)
 
     def test_pyplot_is_left_alone(self):
@@ -239,7 +264,8 @@ class Looks(support.InSession):
     def setUp(self):
         from matplotlib.figure import Figure
         self.ax = Figure().add_subplot()
-        self.G = self.s.from_edgelist([('Ann', 'Bob'), ('Bob', 'Cid'), ('Cid', 'Ann'), ('Cid', 'Dora')], directed=False)
+        self.G = self.s.from_edgelist([('Ann', 'Bob'), ('Bob', 'Cid'), ('Cid', 'Ann'),
+                                       ('Cid', 'Dora')], directed=False)
 
     def dots(self):
         """The vertices as they are drawn: colours and areas."""
@@ -251,7 +277,8 @@ class Looks(support.InSession):
         """The words of the legend, and the colours beside them."""
         from matplotlib.colors import to_rgba
         found = self.ax.get_legend()
-        return {text.get_text(): list(to_rgba(line.get_color())) for text, line in zip(found.get_texts(), found.get_lines())}
+        return {text.get_text(): list(to_rgba(line.get_color()))
+                for text, line in zip(found.get_texts(), found.get_lines())}
 
     def test_few_numbers_have_a_legend(self):
         draw.graph(self.G, color=algorithms.core_numbers(self.G), ax=self.ax)
@@ -268,8 +295,8 @@ class Looks(support.InSession):
         self.assertAlmostEqual(high, max(found.by_node().values()))
 
     def test_communities_have_hues(self):
-        G = self.s.from_edgelist([(i, j) for part in (0, 5) for i in range(part, part + 5) for j in range(part, i)] + [(0, 5)],
-                                 directed=False)
+        G = self.s.from_edgelist([(i, j) for part in (0, 5) for i in range(part, part + 5)
+                                  for j in range(part, i)] + [(0, 5)], directed=False)
         draw.graph(G, color=algorithms.louvain(G), ax=self.ax)
         self.assertEqual(list(self.legend()), ['0 (5)', '5 (5)'])
         self.assertEqual(self.ax.get_legend().get_title().get_text(), 'community (vertices)')
@@ -302,7 +329,8 @@ class Looks(support.InSession):
         self.assertEqual(sizes[2], pictures.MOST_AREA)
 
     def test_texts(self):
-        for labels, want in ((None, {'Ann', 'Bob', 'Cid', 'Dora'}), (False, set()), ({'Bob': 'B'}, {'B'}),
+        for labels, want in ((None, {'Ann', 'Bob', 'Cid', 'Dora'}), (False, set()),
+                             ({'Bob': 'B'}, {'B'}),
                              (numpy.arange(4) * 10, {'0', '10', '20', '30'})):
             self.ax.clear()
             draw.graph(self.G, labels=labels, ax=self.ax)
@@ -313,38 +341,49 @@ class Looks(support.InSession):
         draw.graph(self.G, pos=where, ax=self.ax)
         from matplotlib.collections import PathCollection
         (found,) = [part for part in self.ax.collections if isinstance(part, PathCollection)]
-        self.assertEqual(found.get_offsets().tolist(), [list(map(float, where[name])) for name in self.G.nodes])
+        self.assertEqual(found.get_offsets().tolist(),
+                         [list(map(float, where[name])) for name in self.G.nodes])
 
     def test_a_series(self):
         pandas = support.has('pandas') and __import__('pandas')
         if not pandas:
             self.skipTest('no module pandas')
-        draw.graph(self.G, color=pandas.Series({'Ann': 'x', 'Bob': 'x', 'Cid': 'y', 'Dora': 'y'}), ax=self.ax)
+        draw.graph(self.G, color=pandas.Series({'Ann': 'x', 'Bob': 'x', 'Cid': 'y', 'Dora': 'y'}),
+                   ax=self.ax)
         self.assertEqual(list(self.legend()), ['x (2)', 'y (2)'])
 
     def test_what_is_refused(self):
-        for given, kind, words in (({'color': [1, 2]}, spmat.DimensionMismatch, 'color: expected 4 values, one for each vertex, got 2'),
-                                   ({'size': self.s.full(3, 1)}, spmat.DimensionMismatch, 'expected a column of 4 rows'),
-                                   ({'size': [1, -1, 1, 1]}, ValueError, 'size: expected numbers of 0 or more, got -1'),
-                                   ({'color': {'Eve': 1}}, ValueError, 'Eve'), ({'labels': 3}, TypeError, 'labels: expected a column'),
-                                   ({'pos': {'Ann': (0, 0)}}, ValueError, "pos: expected a position of each vertex, and 'Bob' has none")):
+        for given, kind, words in (({'color': [1, 2]}, spmat.DimensionMismatch,
+                                    'color: expected 4 values, one for each vertex, got 2'),
+                                   ({'size': self.s.full(3, 1)}, spmat.DimensionMismatch,
+                                    'expected a column of 4 rows'),
+                                   ({'size': [1, -1, 1, 1]}, ValueError,
+                                    'size: expected numbers of 0 or more, got -1'),
+                                   ({'color': {'Eve': 1}}, ValueError, 'Eve'),
+                                   ({'labels': 3}, TypeError, 'labels: expected a column'),
+                                   ({'pos': {'Ann': (0, 0)}}, ValueError,
+                                    "pos: expected a position of each vertex, and 'Bob' has none")):
             with self.subTest(given=given), self.assertRaisesRegex(kind, words):
                 draw.graph(self.G, ax=self.ax, **given)
 
 
 class Names(unittest.TestCase):
     def test_its_functions_alone(self):
-        self.assertEqual(dir(draw), ['check', 'degree_histogram', 'graph', 'levels', 'raster', 'route', 'spy'])
+        self.assertEqual(dir(draw), ['check', 'degree_histogram', 'graph', 'levels', 'raster',
+                                     'route', 'spy'])
 
     def test_matplotlib_waits(self):
         """The module is there without matplotlib, and doesn't import it."""
-        code = 'import sys, spmat; spmat.draw.spy; print("matplotlib" in sys.modules, "networkx" in sys.modules)'
-        self.assertEqual(subprocess.run([sys.executable, '-c', code], stdout=subprocess.PIPE, text=True, check=True).stdout, 'False False\n')
+        code = ('import sys, spmat; spmat.draw.spy; print("matplotlib" in sys.modules, "networkx" '
+                'in sys.modules)')
+        self.assertEqual(subprocess.run([sys.executable, '-c', code], stdout=subprocess.PIPE,
+                                        text=True, check=True).stdout, 'False False\n')
 
 
 class RoundNumbers(unittest.TestCase):
     def test_round_numbers(self):
-        for least, most, want in ((1, 8, [1, 2, 5]), (3, 4, [3, 4]), (1, 1, [1]), (1, 300, [1, 2, 5, 10, 20, 50, 100, 200]),
+        for least, most, want in ((1, 8, [1, 2, 5]), (3, 4, [3, 4]), (1, 1, [1]),
+                                  (1, 300, [1, 2, 5, 10, 20, 50, 100, 200]),
                                   (2, 100000, [10, 100, 1000, 10000, 100000])):
             self.assertEqual(pictures.choose_round_numbers(least, most), want)
 
@@ -354,7 +393,8 @@ class WithoutMatplotlib(unittest.TestCase):
         with mock.patch.dict(sys.modules, {'matplotlib': None, 'matplotlib.figure': None}):
             with self.assertRaises(ImportError) as said:
                 draw.check('picture.png')
-        self.assertIn('a picture needs matplotlib (extra pictures): pip install matplotlib', str(said.exception))
+        self.assertIn('a picture needs matplotlib (extra pictures): pip install matplotlib',
+                      str(said.exception))
 
     def test_the_rest_works(self):
         """Nothing but the picture wants it: the module is there without it."""

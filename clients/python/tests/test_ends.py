@@ -43,7 +43,8 @@ class Closing(unittest.TestCase):
             A = s.from_triples([(0, 0, 1)])
             B = A.apply('abs')
         self.assertEqual(child_of(s).returncode, 0)
-        for call in (s.budget, A.to_text, lambda: B.nvals, lambda: A.apply('abs'), lambda: s.from_triples([])):
+        for call in (s.budget, A.to_text, lambda: B.nvals, lambda: A.apply('abs'),
+                     lambda: s.from_triples([])):
             with self.assertRaises(spmat.Closed) as said:
                 call()
             self.assertIn('it was closed', str(said.exception))
@@ -65,22 +66,32 @@ class Closing(unittest.TestCase):
         self.assertTrue(gone(process))
 
     def test_forgotten_at_exit(self):
-        script = 'import spmat; s = spmat.Session(); print(s.connection._channel.process.pid); A = s.full(2, 2)'
-        done = subprocess.run([sys.executable, '-c', script], env=ENVIRONMENT, capture_output=True, text=True, timeout=60)
+        script = (
+            'import spmat; s = spmat.Session(); print(s.connection._channel.process.pid); A = '
+            's.full(2, 2)')
+        done = subprocess.run([sys.executable, '-c', script], env=ENVIRONMENT, capture_output=True,
+                              text=True, timeout=60)
         self.assertEqual((done.returncode, done.stderr), (0, ''))
         self.assertTrue(gone(int(done.stdout)))
 
 
     def test_closed_by_a_handler_at_exit(self):
-        """One that was registered before the first session runs after the channel was closed: nothing is said."""
-        script = 'import atexit; kept = []; atexit.register(lambda: kept[0].close()); import spmat; kept.append(spmat.Session())'
-        done = subprocess.run([sys.executable, '-c', script], env=ENVIRONMENT, capture_output=True, text=True, timeout=60)
+        """One that was registered before the first session runs after the channel was closed:
+        nothing is said."""
+        script = (
+            'import atexit; kept = []; atexit.register(lambda: kept[0].close()); import spmat; '
+            'kept.append(spmat.Session())')
+        done = subprocess.run([sys.executable, '-c', script], env=ENVIRONMENT, capture_output=True,
+                              text=True, timeout=60)
         self.assertEqual((done.returncode, done.stdout, done.stderr), (0, '', ''))
 
     def test_used_by_a_handler_at_exit(self):
-        script = ('import atexit, spmat\ndef late():\n try: kept[0].budget()\n except spmat.Closed as fault: print(fault)\n'
-                  'kept = []; atexit.register(late); kept.append(spmat.Session())')
-        done = subprocess.run([sys.executable, '-c', script], env=ENVIRONMENT, capture_output=True, text=True, timeout=60)
+        script = (
+            'import atexit, spmat\ndef late():\n try: kept[0].budget()\n except spmat.Closed as '
+            'fault: print(fault)\n'
+            'kept = []; atexit.register(late); kept.append(spmat.Session())')
+        done = subprocess.run([sys.executable, '-c', script], env=ENVIRONMENT, capture_output=True,
+                              text=True, timeout=60)
         self.assertEqual((done.returncode, done.stderr), (0, ''))
         self.assertIn('the interpreter ends', done.stdout)
 
@@ -155,14 +166,16 @@ with spmat.Session() as s:
 
 class Interrupts(unittest.TestCase):
     def setUp(self):
-        # a shell starts what runs in the background with SIGINT ignored, and Python then leaves it so
-        self.addCleanup(signal.signal, signal.SIGINT, signal.signal(signal.SIGINT, signal.default_int_handler))
+        # a shell starts what runs in the background with SIGINT ignored, and Python then leaves it
+        # so
+        self.addCleanup(signal.signal, signal.SIGINT,
+                        signal.signal(signal.SIGINT, signal.default_int_handler))
 
     @contextlib.contextmanager
     def amid_a_run(self, script):
         """A client that waits for its run, and its program, which was stopped before it."""
-        with subprocess.Popen([sys.executable, '-c', script], env=ENVIRONMENT, stdin=subprocess.PIPE, stdout=subprocess.PIPE,
-                              text=True) as client:
+        with subprocess.Popen([sys.executable, '-c', script], env=ENVIRONMENT,
+                              stdin=subprocess.PIPE, stdout=subprocess.PIPE, text=True) as client:
             process = int(client.stdout.readline())
             os.kill(process, signal.SIGSTOP)
             client.stdin.write('go\n')
@@ -172,7 +185,8 @@ class Interrupts(unittest.TestCase):
             yield client, process
 
     def interrupted(self, script, meanwhile=lambda process: None):
-        """What a client prints that gets a SIGINT amid its run, whose program stands still for as long as that takes."""
+        """What a client prints that gets a SIGINT amid its run, whose program stands still for as
+        long as that takes."""
         with self.amid_a_run(script) as (client, process):
             client.send_signal(signal.SIGINT)
             said = client.stdout.readline()
@@ -185,14 +199,18 @@ class Interrupts(unittest.TestCase):
         return said
 
     def test_ctrl_c(self):
-        """A SIGINT to the client amid a run: the session goes on, nothing is lost, and what comes next waits for the run."""
-        said = self.interrupted(AMID_A_RUN % ('print(before.to_coo(arrays=False)[2][:2], kept[0].nvals, s.runs, A.nvals, s.connection.owes)'))
+        """A SIGINT to the client amid a run: the session goes on, nothing is lost, and what comes
+        next waits for the run."""
+        said = self.interrupted(AMID_A_RUN
+                                % ('print(before.to_coo(arrays=False)[2][:2], kept[0].nvals, '
+                                   's.runs, A.nvals, s.connection.owes)'))
         self.assertEqual(said.splitlines(), ['interrupted None True', '[-1, -1] 16 1 16 False'])
 
     def test_ctrl_c_and_closed(self):
         """Closing a session whose reply is owed waits for nothing: the program is ended."""
         said = self.interrupted(AMID_A_RUN % ('s.close(); print(s.connection.ended)'))
-        self.assertEqual(said.splitlines(), ['interrupted None True', 'it was closed while a reply was awaited'])
+        self.assertEqual(said.splitlines(),
+                         ['interrupted None True', 'it was closed while a reply was awaited'])
 
     def test_ctrl_c_and_dead(self):
         """Where the program ends before the reply, the results were never made."""
@@ -205,10 +223,13 @@ class Interrupts(unittest.TestCase):
         self.assertEqual(said.splitlines(), ['interrupted None True', 'Closed True', 'Closed'])
 
     def test_each_command(self):
-        """Ctrl-C amid each kind of command, by a server that answers late: the next commands are in step, and what was queued is known."""
+        """Ctrl-C amid each kind of command, by a server that answers late: the next commands are in
+        step, and what was queued is known."""
         late = threading.Event()
-        answers = {'matrix': b'ok matrix 1 1 1\n', 'asm': b'ok op 3 3\n', 'budget': b'ok budget 9 0 0\n',
-                   'show': b'ok show 61\n%%MatrixMarket matrix coordinate integer general\n1 1 1\n1 1 5\n', 'quit': b'ok quit\n'}
+        answers = {'matrix': b'ok matrix 1 1 1\n', 'asm': b'ok op 3 3\n',
+                   'budget': b'ok budget 9 0 0\n',
+                   'show': b'ok show 61\n%%MatrixMarket matrix coordinate integer general\n1 1 '
+                   b'1\n1 1 5\n', 'quit': b'ok quit\n'}
         slow = []
 
         def answer(words, body):
@@ -217,13 +238,18 @@ class Interrupts(unittest.TestCase):
                 os.kill(os.getpid(), signal.SIGINT)
                 late.wait(10)
             if words[0] == 'run':
-                return b'ok run %d %d\n' % (len(jobs), 2 * len(jobs)) + b''.join(b'%s 1 1 1 2\n' % name.encode() for name in jobs)
+                return b'ok run %d %d\n' % (len(jobs),
+                                            2 * len(jobs)) + b''.join(
+                                                b'%s 1 1 1 2\n' % name.encode() for name in jobs)
             if words[0] == 'apply':
                 jobs.append(words[1])
                 return b'ok queued %d 3\n' % len(jobs)
             return answers[words[0]]
-        for command, call in (('budget', lambda s, A: s.budget()), ('show', lambda s, A: A.to_text()), ('matrix', lambda s, A: s.full(1, 1)),
-                              ('asm', lambda s, A: A.apply('sgn')), ('apply', lambda s, A: A.apply('ainv'))):
+        for command, call in (('budget', lambda s, A: s.budget()),
+                              ('show', lambda s, A: A.to_text()),
+                              ('matrix', lambda s, A: s.full(1, 1)),
+                              ('asm', lambda s, A: A.apply('sgn')),
+                              ('apply', lambda s, A: A.apply('ainv'))):
             with support.Scripted(answer) as server, spmat.Session.connect(port=server.port) as s:
                 jobs = []
                 A = s.full(1, 1)
@@ -293,7 +319,8 @@ class Interrupts(unittest.TestCase):
                 signal.signal(signal.SIGINT, before)
 
     def test_what_waits_is_sent_later(self):
-        """Ctrl-C while the reply to an earlier command is awaited leaves what waits to be sent, and the earlier one pending."""
+        """Ctrl-C while the reply to an earlier command is awaited leaves what waits to be sent, and
+        the earlier one pending."""
         tried = []
 
         class Slow(Command):
@@ -308,11 +335,14 @@ class Interrupts(unittest.TestCase):
             s.connection._send_all([slow])
             with self.assertRaises(KeyboardInterrupt):
                 B.wait()
-            self.assertEqual((s.connection.owes, slow.answer, s.connection.ended), (True, None, None))
-            self.assertEqual((B.nvals, slow.answer.words[0], s.connection.owes), (4, 'budget', False))
+            self.assertEqual((s.connection.owes, slow.answer, s.connection.ended),
+                             (True, None, None))
+            self.assertEqual((B.nvals, slow.answer.words[0], s.connection.owes),
+                             (4, 'budget', False))
 
     def test_exception_while_replies_are_noted(self):
-        """One that a handler of another signal raises ends the session, as what stands behind it was never noted."""
+        """One that a handler of another signal raises ends the session, as what stands behind it
+        was never noted."""
         def noted(_):
             raise TimeoutError('an alarm')
         with spmat.Session() as s:
@@ -325,21 +355,28 @@ class Interrupts(unittest.TestCase):
                     ask()
 
     def test_ctrl_c_of_a_terminal(self):
-        """A Ctrl-C at a terminal goes to all processes of the client's group: the program isn't one of them."""
+        """A Ctrl-C at a terminal goes to all processes of the client's group: the program isn't one
+        of them."""
         with spmat.Session() as s:
             self.assertNotEqual(os.getpgid(child_of(s).pid), os.getpgrp())
 
     def test_killed_amid_a_run(self):
-        """Where the client is killed amid a batch, the program ends at once, also when another thread started it."""
+        """Where the client is killed amid a batch, the program ends at once, also when another
+        thread started it."""
         script = AMID_A_RUN % 'pass'
-        for body in (script, 'import threading\n\ndef work():\n' + ''.join('    %s\n' % line for line in script.splitlines()
-                     if 'signal' not in line) + '    time.sleep(60)\n\nimport spmat, sys, time\nthreading.Thread(target=work).start()\n'):
+        for body in (script,
+                     'import threading\n\ndef work():\n'
+                     + ''.join('    %s\n' % line for line in script.splitlines()
+                               if 'signal' not in line)
+                     + '    time.sleep(60)\n\nimport spmat, sys, '
+                     'time\nthreading.Thread(target=work).start()\n'):
             with self.amid_a_run(body) as (client, process):
                 client.kill()
                 self.assertTrue(gone(process, 5))
 
     def test_nobody_watches_in_the_end(self):
-        """A session that is closed leaves no process behind, and one that a thread opened lives longer than the thread."""
+        """A session that is closed leaves no process behind, and one that a thread opened lives
+        longer than the thread."""
         opened = []
         thread = threading.Thread(target=lambda: opened.append(spmat.Session()))
         thread.start()
@@ -355,8 +392,11 @@ class Interrupts(unittest.TestCase):
 
     def test_killed_client(self):
         """Where the client is killed, the program reads the end of its input, and ends."""
-        script = 'import spmat, time; s = spmat.Session(); print(s.connection._channel.process.pid, flush=True); time.sleep(60)'
-        with subprocess.Popen([sys.executable, '-c', script], env=ENVIRONMENT, stdout=subprocess.PIPE) as client:
+        script = (
+            'import spmat, time; s = spmat.Session(); print(s.connection._channel.process.pid, '
+            'flush=True); time.sleep(60)')
+        with subprocess.Popen([sys.executable, '-c', script], env=ENVIRONMENT,
+                              stdout=subprocess.PIPE) as client:
             process = int(client.stdout.readline())
             client.kill()
         self.assertTrue(gone(process))
@@ -372,7 +412,8 @@ class Others(unittest.TestCase):
                 try:
                     for t in range(30):
                         B = A.apply('times', right=k)
-                        C = A.apply('plus', right=t, mask=~B.S) if t % 10 == 0 else B.ewise_add(A, 'minus')
+                        C = (A.apply('plus', right=t, mask=~B.S) if t % 10 == 0
+                             else B.ewise_add(A, 'minus'))
                         want = {} if t % 10 == 0 else {(i, i): (i + 1) * (k - 1) for i in range(20)}
                         if C.to_dict() != want:
                             wrong.append((k, t))
@@ -395,7 +436,8 @@ class Others(unittest.TestCase):
 
     @unittest.skipUnless(hasattr(os, 'fork'), 'no fork')
     def test_forked(self):
-        """A session belongs to the process that opened it; one that is forked off says so, and ends nothing."""
+        """A session belongs to the process that opened it; one that is forked off says so, and ends
+        nothing."""
         with spmat.Session() as s:
             A = s.from_triples([(0, 0, 1)])
             child = os.fork()

@@ -1,4 +1,5 @@
-"""Refusals as exceptions: their classes, what they quote, and their sentences beside those of the documents."""
+"""Refusals as exceptions: their classes, what they quote, and their sentences beside those of the
+documents."""
 import copy
 import os
 import pickle
@@ -15,11 +16,13 @@ def rows_of(page):
     with open(os.path.join(support.TOP, 'docs', page), encoding='utf-8') as file:
         for line in file:
             if line.startswith('|'):
-                yield [cell.replace('`', '').replace('\\|', '|').strip() for cell in re.split(r'(?<!\\)\|', line.strip())[1:-1]]
+                yield [cell.replace('`', '').replace('\\|', '|').strip()
+                       for cell in re.split(r'(?<!\\)\|', line.strip())[1:-1]]
 
 
 def documented():
-    """The sentence of each rule, and how to mend what breaks it, as docs/protocol.md and docs/bpf.md have them."""
+    """The sentence of each rule, and how to mend what breaks it, as docs/protocol.md and
+    docs/bpf.md have them."""
     sentences, mends = {}, {}
     for page in ('protocol.md', 'bpf.md'):
         for cells in rows_of(page):
@@ -27,7 +30,8 @@ def documented():
                 sentences[cells[0]] = cells[1]
                 if len(cells) == 6:
                     mends[cells[0]] = cells[4]
-            reply = re.fullmatch(r'no ([SJ]\d+|memory|thread|busy)( SPENT)?( PRICE LEFT)?', cells[0])
+            reply = re.fullmatch(r'no ([SJ]\d+|memory|thread|busy)( SPENT)?( PRICE LEFT)?',
+                                 cells[0])
             if reply:
                 sentences[reply.group(1) + (reply.group(2) or '')] = cells[1]
     return sentences, mends
@@ -38,7 +42,8 @@ class Sentences(unittest.TestCase):
         sentences, mends = documented()
         sentences.setdefault('busy', errors.SENTENCES['busy'])
         self.maxDiff = None
-        self.assertEqual({rule: said for rule, said in errors.SENTENCES.items() if rule not in errors.OF_GATEWAY}, sentences)
+        self.assertEqual({rule: said for rule, said in errors.SENTENCES.items()
+                          if rule not in errors.OF_GATEWAY}, sentences)
         self.assertEqual(errors.MENDS, mends)
 
     def test_of_a_gateway(self):
@@ -52,13 +57,20 @@ class Sentences(unittest.TestCase):
                 self.assertTrue(issubclass(errors.class_of(rule), spmat.Refused))
 
     def test_each_rule_has_a_class(self):
-        self.assertEqual({rule: errors.class_of(rule.split()[0]) for rule in errors.SENTENCES if rule not in errors.OF_GATEWAY}, {
-            **{'S%d' % k: spmat.Refused for k in (1, 2, 3, 4, 5, 6)}, 'J6': spmat.Refused,
-            **{'A%d' % k: spmat.OperatorRefused for k in range(1, 7)}, **{'V%d' % k: spmat.OperatorRefused for k in range(1, 17)},
-            **{'M%d' % k: spmat.TextRefused for k in range(1, 13)}, 'S9': spmat.OperatorRefused,
-            **{rule: spmat.TooLarge for rule in ('M4', 'S7', 'J7', 'J8')}, 'J4': spmat.DomainMismatch,
-            'J5': spmat.DimensionMismatch, 'J9': spmat.DimensionMismatch, 'S8': spmat.BudgetExceeded, 'memory': spmat.OutOfMemory,
-            'memory SPENT': spmat.OutOfMemory, 'thread SPENT': spmat.NoThread, 'busy': spmat.Busy})
+        self.assertEqual({rule: errors.class_of(rule.split()[0]) for rule in errors.SENTENCES
+                          if rule not in errors.OF_GATEWAY}, {
+                              **{'S%d' % k: spmat.Refused for k in (1, 2, 3, 4, 5, 6)},
+                              'J6': spmat.Refused,
+                              **{'A%d' % k: spmat.OperatorRefused for k in range(1, 7)},
+                              **{'V%d' % k: spmat.OperatorRefused for k in range(1, 17)},
+                              **{'M%d' % k: spmat.TextRefused for k in range(1, 13)},
+                              'S9': spmat.OperatorRefused,
+                              **{rule: spmat.TooLarge for rule in ('M4', 'S7', 'J7', 'J8')},
+                              'J4': spmat.DomainMismatch,
+                              'J5': spmat.DimensionMismatch, 'J9': spmat.DimensionMismatch,
+                              'S8': spmat.BudgetExceeded, 'memory': spmat.OutOfMemory,
+                              'memory SPENT': spmat.OutOfMemory, 'thread SPENT': spmat.NoThread,
+                              'busy': spmat.Busy})
 
     def test_other_names(self):
         """Some have two names, and are caught by either."""
@@ -84,15 +96,17 @@ class Words(unittest.TestCase):
         with spmat.Session() as s:
             A = s.from_triples([(0, 0, 1)])
             for rule, at, line, op in (
-                    ('A2', 2, 'nop', spmat.asm('unary', '; a comment\n  nop\nexit')),
-                    ('A3', 1, 'mov64 r0', spmat.asm('unary', 'mov64 r0\nexit')),
-                    ('A4', 1, 'mov64 r0, r11', spmat.asm('unary', 'mov64 r0, r11\nexit')),
-                    ('A6', 2, '', spmat.asm('unary', '\n')),
-                    ('V7', 0, 'ja -1', spmat.asm('unary', 'ja -1\nexit')),
-                    ('V14', 2, 'ldx64 r0, r1, 0', spmat.asm('unary', '; x\nwide r2, 9\n\nldx64 r0, r1, 0  ; no\nexit')),
-                    ('V11', 0, 'exit', spmat.asm('unary', 'exit')),
-                    ('V1', 0, '00', spmat.code('unary', '00')),
-                    ('V2', 1, 'ff00000000000000', spmat.code('unary', 'bf10000000000000 ff00000000000000'))):
+                ('A2', 2, 'nop', spmat.asm('unary', '; a comment\n  nop\nexit')),
+                ('A3', 1, 'mov64 r0', spmat.asm('unary', 'mov64 r0\nexit')),
+                ('A4', 1, 'mov64 r0, r11', spmat.asm('unary', 'mov64 r0, r11\nexit')),
+                ('A6', 2, '', spmat.asm('unary', '\n')),
+                ('V7', 0, 'ja -1', spmat.asm('unary', 'ja -1\nexit')),
+                ('V14', 2, 'ldx64 r0, r1, 0',
+                 spmat.asm('unary', '; x\nwide r2, 9\n\nldx64 r0, r1, 0  ; no\nexit')),
+                ('V11', 0, 'exit', spmat.asm('unary', 'exit')),
+                ('V1', 0, '00', spmat.code('unary', '00')),
+                ('V2', 1, 'ff00000000000000',
+                 spmat.code('unary', 'bf10000000000000 ff00000000000000'))):
                 fault = self.refused(spmat.OperatorRefused, rule, lambda: A.apply(op))
                 self.assertEqual((fault.at, fault.line), (at, line))
                 self.assertIn('unary', fault.command)
@@ -104,24 +118,32 @@ class Words(unittest.TestCase):
             A = s.from_triples([(0, 0, 1)])
             op = spmat.asm('unary', 'wide r2, 9\nldx64 r0, r1, 0\nexit', 'f')
             fault = self.refused(spmat.OperatorRefused, 'V14', lambda: A.apply(op))
-            self.assertEqual(str(fault), "V14: expected a place in the stack, found a number, slot 2, line 2: 'ldx64 r0, r1, 0' "
-                             '(in `asm f unary`); to mend it: load and store through R10, or a copy of it')
+            self.assertEqual(str(fault),
+                             "V14: expected a place in the stack, found a number, slot 2, line "
+                             "2: 'ldx64 r0, r1, 0' "
+                             '(in `asm f unary`); to mend it: load and store through R10, or a '
+                             'copy of it')
 
     def test_texts(self):
         with spmat.Session() as s:
             for rule, at, line, text in (
-                    ('M1', 1, 'hello', 'hello'),
-                    ('M2', 1, '%%MatrixMarket matrix array real general', '%%MatrixMarket matrix array real general\n'),
-                    ('M5', 4, '1 x 5', support.BANNER + '% a comment\n2 2 1\n1 x 5\n'),
-                    ('M6', 3, '3 1 5', support.BANNER + '2 2 1\r\n3 1 5\r\n'),
-                    ('M9', 3, '', support.BANNER + '2 2 1\n')):
+                ('M1', 1, 'hello', 'hello'),
+                ('M2', 1, '%%MatrixMarket matrix array real general',
+                 '%%MatrixMarket matrix array real general\n'),
+                ('M5', 4, '1 x 5', support.BANNER + '% a comment\n2 2 1\n1 x 5\n'),
+                ('M6', 3, '3 1 5', support.BANNER + '2 2 1\r\n3 1 5\r\n'),
+                ('M9', 3, '', support.BANNER + '2 2 1\n')):
                 fault = self.refused(spmat.TextRefused, rule, lambda: s.from_text(text))
                 self.assertEqual((fault.at, fault.line), (at, line))
                 self.assertIsInstance(fault, ValueError)
-            self.refused(spmat.TooLarge, 'M4', lambda: s.from_text(support.BANNER + '16777217 1 0\n'))
-            fault = self.refused(spmat.TextRefused, 'M8', lambda: s.from_triples([(0, 0, 1), (0, 1, 1), (0, 0, 2)]))
-            self.assertEqual(str(fault), 'M8: the position was given before, or in symmetric its mirror; row 0, column 0 is given as '
-                             'entry 0 and as entry 2; dup_op= folds the values of a position that repeats')
+            self.refused(spmat.TooLarge, 'M4',
+                         lambda: s.from_text(support.BANNER + '16777217 1 0\n'))
+            fault = self.refused(spmat.TextRefused, 'M8',
+                                 lambda: s.from_triples([(0, 0, 1), (0, 1, 1), (0, 0, 2)]))
+            self.assertEqual(str(fault),
+                             'M8: the position was given before, or in symmetric its mirror; '
+                             'row 0, column 0 is given as entry 0 and as entry 2; dup_op= folds '
+                             'the values of a position that repeats')
 
     def test_jobs(self):
         with spmat.Session() as s:
@@ -129,7 +151,8 @@ class Words(unittest.TestCase):
             ones, wide = s.full(5000, 1), s.full(1, 5000)
             self.refused(spmat.TooLarge, 'J7', lambda: ones.mxm(wide))
             dear = spmat.asm('binary', 'mov64 r0, r1\n' * 4000 + 'exit')
-            self.refused(spmat.TooLarge, 'J8', lambda: s.full(1100, 1).mxm(s.full(1, 1100), spmat.Semiring('plus', dear)))
+            self.refused(spmat.TooLarge, 'J8',
+                         lambda: s.full(1100, 1).mxm(s.full(1, 1100), spmat.Semiring('plus', dear)))
             self.assertEqual(A.apply('abs').nvals, 1)
 
     def test_budget(self):
@@ -144,11 +167,14 @@ class Pickled(unittest.TestCase):
     """Exceptions cross processes, and copies of them say the same."""
 
     def test_pickled(self):
-        for fault in (errors.refusal('V14', [2], 'asm f unary', 'ldx64 r0, r1, 0'), errors.refusal('S8', [8, 3], 'apply B f A'),
-                      errors.refusal('J9', command='apply', detail='2x2'), errors.refusal('memory', [7], 'run'),
-                      spmat.Closed('it ended'), errors.refusal('S4', command='show B')):
+        for fault in (errors.refusal('V14', [2], 'asm f unary', 'ldx64 r0, r1, 0'),
+                      errors.refusal('S8', [8, 3], 'apply B f A'),
+                      errors.refusal('J9', command='apply', detail='2x2'),
+                      errors.refusal('memory', [7], 'run'), spmat.Closed('it ended'),
+                      errors.refusal('S4', command='show B')):
             for other in (pickle.loads(pickle.dumps(fault)), copy.copy(fault)):
-                self.assertEqual((type(other), str(other), vars(other)), (type(fault), str(fault), vars(fault)))
+                self.assertEqual((type(other), str(other), vars(other)),
+                                 (type(fault), str(fault), vars(fault)))
 
 
 if __name__ == '__main__':

@@ -1,4 +1,5 @@
-"""What an index means: positions as in numpy, names as in pandas, filters, masks; and what Python's signs say."""
+"""What an index means: positions as in numpy, names as in pandas, filters, masks; and what Python's
+signs say."""
 import gc
 import random
 import unittest
@@ -19,7 +20,8 @@ EDGES = [('a', 'b', 1), ('b', 'c', 2), ('a', 'c', 10), ('d', 'e', 4), ('e', 'a',
 class Filters(InSession):
     def setUp(self):
         self.W = self.s.from_edgelist(EDGES, nodelist=ROWS)
-        self.N = self.s.from_triples([(0, 1, 5), (1, 2, 6), (2, 0, 7), (2, 2, 8)], 3, 4)      # no names
+        # no names
+        self.N = self.s.from_triples([(0, 1, 5), (1, 2, 6), (2, 0, 7), (2, 2, 8)], 3, 4)
 
     def rows(self, part):
         """The entries of a part, and the names of its rows."""
@@ -29,16 +31,21 @@ class Filters(InSession):
         W = self.W
         for chosen in ([True, False, False, True, False], [False] * 5, [True] * 5):
             want = [name for name, inside in zip(ROWS, chosen) if inside]
-            self.assertEqual(self.rows(W[chosen, :]), ([edge for edge in EDGES_BY_ROW if edge[0] in want], want))
+            self.assertEqual(self.rows(W[chosen, :]),
+                             ([edge for edge in EDGES_BY_ROW if edge[0] in want], want))
             part = W[:, chosen]
-            self.assertEqual((sorted(part.to_edgelist()), part.column_nodes), (sorted(edge for edge in EDGES if edge[1] in want), want))
-        self.assertEqual(self.N[[False, False, True], [True, False, True, False]].to_dict(), {(0, 0): 7, (0, 1): 8})
+            self.assertEqual((sorted(part.to_edgelist()), part.column_nodes),
+                             (sorted(edge for edge in EDGES if edge[1] in want), want))
+        self.assertEqual(self.N[[False, False, True], [True, False, True, False]].to_dict(),
+                         {(0, 0): 7, (0, 1): 8})
 
     def test_a_wrong_length_says_both(self):
         for index in ([True], [True] * 4, [False] * 6):
-            with self.assertRaisesRegex(IndexError, 'a filter of %d values for 5 rows' % len(index)):
+            with self.assertRaisesRegex(IndexError,
+                                        'a filter of %d values for 5 rows' % len(index)):
                 self.W[index, :]
-            with self.assertRaisesRegex(IndexError, 'a filter of %d values for 5 columns' % len(index)):
+            with self.assertRaisesRegex(IndexError,
+                                        'a filter of %d values for 5 columns' % len(index)):
                 self.W[:, index]
 
     def test_truth_values_among_others(self):
@@ -61,9 +68,12 @@ class Filters(InSession):
         self.assertEqual(self.W[out.V, :].row_nodes, ['a', 'b', 'd'])
         self.assertEqual(self.W[~out.S, :].row_nodes, ['c'])
         self.assertEqual(self.W[~out.V, ~heavy.V].row_nodes, ['c', 'e'])
-        self.assertEqual(self.W[:, self.W.reduce_columnwise('plus').V].column_nodes, ['b', 'c', 'e'])
+        self.assertEqual(self.W[:, self.W.reduce_columnwise('plus').V].column_nodes,
+                         ['b', 'c', 'e'])
         for column in (out, heavy, heavy.T):       # whatever its values are
-            with self.assertRaisesRegex(TypeError, 'could filter them or list them: write c.V for the rows whose value is not 0, c.S'):
+            with self.assertRaisesRegex(TypeError,
+                                        'could filter them or list them: write c.V for the rows '
+                                        'whose value is not 0, c.S'):
                 self.W[column, :]
         with self.assertRaisesRegex(IndexError, 'a filter of 3 values for 5 rows'):
             self.W[self.s.from_coo([0, 2], [0, 0], 1, 3, 1).S, :]
@@ -124,7 +134,9 @@ class Positions(InSession):
     def test_negative_numbers_are_refused(self):
         """Names may be numbers, so -1 isn't the last."""
         for index in (-1, [0, -1], [-6]):
-            with self.assertRaisesRegex(ValueError, r'no vertex -\d: they are 0 to 5; negative numbers count from the end in slices'):
+            with self.assertRaisesRegex(ValueError,
+                                        r'no vertex -\d: they are 0 to 5; negative numbers '
+                                        r'count from the end in slices'):
                 self.N[index, :]
         named = self.s.from_edgelist([(-1, 5, 3), (5, 7, 4)])
         self.assertEqual(named[-1, 5], 3)
@@ -135,7 +147,8 @@ class Positions(InSession):
             self.s.from_edgelist([('a', 'b')])[-1, :]
 
     def test_repeated_and_empty(self):
-        self.assertEqual(self.values(self.N[[2, 0, 2], :]), [[20, 21, 22, 23], [0, 1, 2, 3], [20, 21, 22, 23]])
+        self.assertEqual(self.values(self.N[[2, 0, 2], :]),
+                         [[20, 21, 22, 23], [0, 1, 2, 3], [20, 21, 22, 23]])
         self.assertEqual(self.N[[], :].shape, (0, 4))
         self.assertEqual(self.N[[], []].shape, (0, 0))
         self.assertEqual(self.N[3:3, :].shape, (0, 4))
@@ -144,18 +157,23 @@ class Positions(InSession):
         """A result would have a name twice, or none: neither comes without a word."""
         W = self.s.from_edgelist([('a', 'b', 1), ('b', 'c', 2)])
         counted = self.s.from_edgelist([(0, 1, 1), (1, 2, 2)])
-        for G, many, what in ((W, ['a', 'b', 'a'], 'row'), (W, [0, 1, 0], 'row'), (W, numpy.array(['a', 'a']), 'row'), (counted, [2, 2], 'row'),
+        for G, many, what in ((W, ['a', 'b', 'a'], 'row'), (W, [0, 1, 0], 'row'),
+                              (W, numpy.array(['a', 'a']), 'row'), (counted, [2, 2], 'row'),
                               (W, ['a', 'a'], 'column'), (counted, [2, 2], 'column')):
-            with self.subTest(many=many, what=what), self.assertRaisesRegex(ValueError, 'the %s .* is asked for twice.*dict.fromkeys' % what):
+            with self.subTest(many=many, what=what), \
+                    self.assertRaisesRegex(ValueError,
+                                           'the %s .* is asked for twice.*dict.fromkeys' % what):
                 G[(many, slice(None)) if what == 'row' else (slice(None), many)]
         B = W.dup()
         B.row_nodes = None
-        self.assertEqual((B[[0, 0], :].to_edgelist(), B[[0, 0], :].column_nodes), ([(0, 'b', 1), (1, 'b', 1)], ['a', 'b', 'c']))
+        self.assertEqual((B[[0, 0], :].to_edgelist(), B[[0, 0], :].column_nodes),
+                         ([(0, 'b', 1), (1, 'b', 1)], ['a', 'b', 'c']))
         self.assertEqual(W[['b', 'a'], :].row_nodes, ['b', 'a'])
 
     def test_floats_and_other_things(self):
         for index in (1.0, .5, [1.0], [0, 1.5], float('nan')):
-            with self.assertRaisesRegex(TypeError, 'is a float, and a row is a name or a whole number'):
+            with self.assertRaisesRegex(TypeError,
+                                        'is a float, and a row is a name or a whole number'):
                 self.N[index, :]
         with self.assertRaisesRegex(TypeError, 'write 1$'):
             self.N[1.0, :]
@@ -177,12 +195,16 @@ class Names(InSession):
 
     def test_slices_take_both_ends(self):
         W = self.W
-        for first, last, step, want in (('a', 'b', None, 'ab'), ('b', 'd', None, 'bcd'), ('c', 'c', None, 'c'), ('d', 'b', None, ''),
-                                        (None, 'c', None, 'abc'), ('d', None, None, 'de'), ('a', 'e', 2, 'ace'), ('d', 'b', -1, 'dcb'),
-                                        ('c', 'a', -1, 'cba'), (None, 'a', -2, 'eca'), ('a', 2, None, 'ab'), (1, 'c', None, 'bc')):
+        for first, last, step, want in (('a', 'b', None, 'ab'), ('b', 'd', None, 'bcd'),
+                                        ('c', 'c', None, 'c'), ('d', 'b', None, ''),
+                                        (None, 'c', None, 'abc'), ('d', None, None, 'de'),
+                                        ('a', 'e', 2, 'ace'), ('d', 'b', -1, 'dcb'),
+                                        ('c', 'a', -1, 'cba'), (None, 'a', -2, 'eca'),
+                                        ('a', 2, None, 'ab'), (1, 'c', None, 'bc')):
             self.assertEqual(W[first:last:step, :].row_nodes, list(want), (first, last, step))
             self.assertEqual(W[:, first:last:step].column_nodes, list(want), (first, last, step))
-        self.assertEqual(W[1:3, :].row_nodes, ['b', 'c'])        # positions, from the first to before the last
+        # positions, from the first to before the last
+        self.assertEqual(W[1:3, :].row_nodes, ['b', 'c'])
         self.assertEqual(W[-2:, :].row_nodes, ['d', 'e'])
         with self.assertRaisesRegex(ValueError, "no vertex 'x'"):
             W['a':'x', :]
@@ -192,14 +214,19 @@ class Names(InSession):
         self.assertEqual(G[range(10, 31, 10), :].row_nodes, [10, 20, 30])
         self.assertEqual(G[::2, :].row_nodes, [10, 30])
         for cut in (slice(10, 30), slice(None, 20), slice(0, 2), slice(-1, None)):
-            with self.assertRaisesRegex(ValueError, 'rows have numbers for names, so that .* in a slice could be a name or a position: .* range'):
+            with self.assertRaisesRegex(ValueError,
+                                        'rows have numbers for names, so that .* in a slice '
+                                        'could be a name or a position: .* range'):
                 G[cut, :]
 
     def test_operators_that_count(self):
         """They count from 0, which nobody may take for names from 1."""
         G = self.s.from_edgelist([(1, 2, 1), (2, 3, 2), (3, 1, 3)])
-        for op, what in (('rowle', 'rows'), ('rowgt', 'rows'), ('colle', 'columns'), ('colgt', 'columns')):
-            with self.assertRaisesRegex(ValueError, '"%s" counts %s from 0, and here %s have numbers for names, such as 1' % (op, what, what)):
+        for op, what in (('rowle', 'rows'), ('rowgt', 'rows'), ('colle', 'columns'),
+                         ('colgt', 'columns')):
+            with self.assertRaisesRegex(ValueError,
+                                        '"%s" counts %s from 0, and here %s have numbers for '
+                                        'names, such as 1' % (op, what, what)):
                 G.select(op, 1)
         self.assertEqual(G.select(spmat.indexunary.rowle, 1).to_edgelist(), [(1, 2, 1), (2, 3, 2)])
         self.assertEqual(self.W.select('rowle', 0).nvals, self.W['a', :].nvals)
@@ -240,7 +267,8 @@ class Arrays(InSession):
             self.assertTrue((N[rows, columns].to_dense() == table[numpy.ix_(rows, columns)]).all())
             at = r.integers(0, 6, 4)
             self.assertTrue((N[at, :].to_dense() == table[at]).all())
-            self.assertTrue((N[at.astype(numpy.uint8), columns].to_dense() == table[numpy.ix_(at, columns)]).all())
+            self.assertTrue((N[at.astype(numpy.uint8), columns].to_dense()
+                             == table[numpy.ix_(at, columns)]).all())
         self.assertEqual(N[numpy.int64(2), numpy.uint8(1)], table[2, 1])
         self.assertEqual(N[numpy.array([], int), :].shape, (0, 5))
         self.assertEqual(N[numpy.array([]), :].shape, (0, 5))
@@ -248,15 +276,23 @@ class Arrays(InSession):
     def test_what_is_refused(self):
         import numpy
         N = self.s.from_dense(numpy.arange(6).reshape(3, 2))
-        for index, kind, words in ((numpy.array([True, False]), IndexError, 'a filter of 2 values for 3 rows'),
-                                   (numpy.array([[0, 1]]), IndexError, 'an array of one dimension, not of 2'),
-                                   (numpy.array([0., 1.]), TypeError, 'is a float'), (numpy.array([0, -1]), ValueError, 'no vertex -1'),
-                                   (numpy.bool_(True), TypeError, 'True is no row'), (numpy.float64(1), TypeError, 'is a float'),
-                                   (numpy.array([True, 1], object), TypeError, 'a filter has True or False alone'),
-                                   (numpy.ma.array([0, 1], mask=[0, 1]), IndexError, 'missing values')):
+        for index, kind, words in ((numpy.array([True, False]), IndexError,
+                                    'a filter of 2 values for 3 rows'),
+                                   (numpy.array([[0, 1]]), IndexError,
+                                    'an array of one dimension, not of 2'),
+                                   (numpy.array([0., 1.]), TypeError, 'is a float'),
+                                   (numpy.array([0, -1]), ValueError, 'no vertex -1'),
+                                   (numpy.bool_(True), TypeError, 'True is no row'),
+                                   (numpy.float64(1), TypeError, 'is a float'),
+                                   (numpy.array([True, 1], object), TypeError,
+                                    'a filter has True or False alone'),
+                                   (numpy.ma.array([0, 1], mask=[0, 1]), IndexError,
+                                    'missing values')):
             with self.assertRaisesRegex(kind, words):
                 N[index, :]
-        with self.assertRaisesRegex(TypeError, 'an array of True and False as an index of both sides is a mask'):
+        with self.assertRaisesRegex(TypeError,
+                                    'an array of True and False as an index of both sides is a '
+                                    'mask'):
             N[numpy.ones((3, 2), bool)]
         self.assertEqual(N[numpy.array([True, False, True], object), :].nrows, 2)
 
@@ -274,10 +310,12 @@ class Arrays(InSession):
         chosen = pandas.Series([True, False, True], ['e', 'b', 'a'])
         with self.assertRaisesRegex(IndexError, "there is none 'c'"):
             W[chosen, :]
-        chosen = pandas.Series([True, False, True, False, False, True], ['e', 'b', 'a', 'c', 'd', 'x'])
+        chosen = pandas.Series([True, False, True, False, False, True],
+                               ['e', 'b', 'a', 'c', 'd', 'x'])
         self.assertEqual(W[chosen, :].row_nodes, ['a', 'e'])
         self.assertEqual(W[:, chosen].column_nodes, ['a', 'e'])
-        self.assertEqual(W[pandas.Series([True, False, False, False, True]), :].row_nodes, ['a', 'e'])
+        self.assertEqual(W[pandas.Series([True, False, False, False, True]), :].row_nodes,
+                         ['a', 'e'])
         self.assertEqual(W[chosen.astype('boolean'), :].row_nodes, ['a', 'e'])
         self.assertEqual(W[pandas.Series(['c', 'a']), :].row_nodes, ['c', 'a'])
         self.assertEqual(W[pandas.Index(['c', 'a']), :].row_nodes, ['c', 'a'])
@@ -290,7 +328,9 @@ class Arrays(InSession):
         degrees = W.reduce_rowwise('plus').to_pandas()
         self.assertEqual(W[degrees.reindex(ROWS, fill_value=0) > 3, :].row_nodes, ['a', 'd'])
         N = self.s.from_coo([0, 1, 2], [0, 1, 2], [5, 6, 7])
-        self.assertEqual(N[pandas.Series([True, False, False], [2, 0, 1]), :].to_dict(), {(0, 2): 7})    # by label
+        # by label
+        self.assertEqual(N[pandas.Series([True, False, False], [2, 0, 1]), :].to_dict(),
+                         {(0, 2): 7})
         with self.assertRaisesRegex(IndexError, 'write filter.to_numpy'):
             N[pandas.Series([True, False, False], ['a', 'b', 'c']), :]
 
@@ -299,19 +339,31 @@ class Signs(InSession):
     def test_every_sign_says_what_to_write(self):
         A = self.s.from_triples([(0, 1, 5), (1, 0, -2)], 2, 2)
         signs = {
-            '==': (lambda: A == A.dup(), r'A\.isequal\(B\).*A\.select\("valueeq", 3\).*A\.ewise_mult\(B, "eq"\)'),
-            '!=': (lambda: A != 3, r'A\.isequal\(B\)'), '@': (lambda: A @ A, r'A\.mxm'), '+': (lambda: A + A, r'A\.ewise_add'),
-            '+ left': (lambda: 1 + A, r'A\.ewise_add'), '-': (lambda: A - 1, 'minus'), '- left': (lambda: 1 - A, 'minus'),
-            '*': (lambda: 2 * A, 'times'), '/': (lambda: A / 2, 'cdiv'), '//': (lambda: A // 2, 'floordiv'), '%': (lambda: A % 2, 'cmod'),
-            '**': (lambda: A ** 2, r'A\.power\(2\)'), 'divmod': (lambda: divmod(A, 2), 'floordiv'), '&': (lambda: A & A, 'land'),
-            '|': (lambda: A | A, 'lor'), '^': (lambda: A ^ A, 'lxor'), '<<': (lambda: A << A, r'C = A\.mxm\(B\)'),
-            '>>': (lambda: A >> 1, 'arsh'), '<': (lambda: A < 3, r'A\.select\("<", 3\)'), '>=': (lambda: 3 <= A, r'A\.select'),
-            '-A': (lambda: -A, 'ainv'), '+A': (lambda: +A, r'A\.dup'), '~A': (lambda: ~A, r'~A\.S'), 'abs': (lambda: abs(A), 'abs'),
-            'round': (lambda: round(A), 'whole numbers'), 'round of tens': (lambda: round(A, -1), 'whole numbers'),
-            'len': (lambda: len(A), r'A\.nvals'), 'iter': (lambda: list(A), r'to_triples'), 'in': (lambda: 3 in A, r'A\.get\(i, j\)'),
-            'int': (lambda: int(A), r'A\.reduce_scalar'), 'float': (lambda: float(A), r'A\.reduce_scalar')}
+            '==': (lambda: A == A.dup(),
+                   r'A\.isequal\(B\).*A\.select\("valueeq", 3\).*A\.ewise_mult\(B, "eq"\)'),
+            '!=': (lambda: A != 3, r'A\.isequal\(B\)'), '@': (lambda: A @ A, r'A\.mxm'),
+            '+': (lambda: A + A, r'A\.ewise_add'),
+            '+ left': (lambda: 1 + A, r'A\.ewise_add'), '-': (lambda: A - 1, 'minus'),
+            '- left': (lambda: 1 - A, 'minus'),
+            '*': (lambda: 2 * A, 'times'), '/': (lambda: A / 2, 'cdiv'),
+            '//': (lambda: A // 2, 'floordiv'), '%': (lambda: A % 2, 'cmod'),
+            '**': (lambda: A ** 2, r'A\.power\(2\)'), 'divmod': (lambda: divmod(A, 2), 'floordiv'),
+            '&': (lambda: A & A, 'land'),
+            '|': (lambda: A | A, 'lor'), '^': (lambda: A ^ A, 'lxor'),
+            '<<': (lambda: A << A, r'C = A\.mxm\(B\)'),
+            '>>': (lambda: A >> 1, 'arsh'), '<': (lambda: A < 3, r'A\.select\("<", 3\)'),
+            '>=': (lambda: 3 <= A, r'A\.select'),
+            '-A': (lambda: -A, 'ainv'), '+A': (lambda: +A, r'A\.dup'), '~A': (lambda: ~A, r'~A\.S'),
+            'abs': (lambda: abs(A), 'abs'),
+            'round': (lambda: round(A), 'whole numbers'),
+            'round of tens': (lambda: round(A, -1), 'whole numbers'),
+            'len': (lambda: len(A), r'A\.nvals'), 'iter': (lambda: list(A), r'to_triples'),
+            'in': (lambda: 3 in A, r'A\.get\(i, j\)'),
+            'int': (lambda: int(A), r'A\.reduce_scalar'),
+            'float': (lambda: float(A), r'A\.reduce_scalar')}
         for sign, (call, words) in signs.items():
-            with self.subTest(sign=sign), self.assertRaisesRegex(TypeError, 'a matrix has no .*write.*' + words):
+            with self.subTest(sign=sign), \
+                    self.assertRaisesRegex(TypeError, 'a matrix has no .*write.*' + words):
                 call()
         with self.assertRaisesRegex(TypeError, r'A\.assign\(B, rows, columns\)'):
             A[0, 0] = 1
@@ -326,7 +378,8 @@ class Signs(InSession):
         self.assertEqual((int(one), float(one), type(float(one))), (7, 7.0, float))
         with self.assertRaisesRegex(ValueError, 'without an entry'):
             int(one.select('valuegt', 9))
-        for call in (lambda: bool(one), lambda: not one, lambda: one or 3, lambda: [1 for _ in 'x' if one.select('valuegt', 9)]):
+        for call in (lambda: bool(one), lambda: not one, lambda: one or 3,
+                     lambda: [1 for _ in 'x' if one.select('valuegt', 9)]):
             with self.assertRaisesRegex(TypeError, r'no truth value: write A\.nvals > 0'):
                 call()
 
@@ -341,7 +394,8 @@ class Signs(InSession):
         self.assertEqual(len(held), 1)
         self.assertTrue(A.S == A.S and A.S != A.V and len({A.S, A.S, ~A.S}) == 2)
         self.assertFalse(A.S != A.S)
-        for call in (lambda: A.S == A.dup().S, lambda: A.S == A, lambda: A == A.S, lambda: A.V != A.dup().V, lambda: A.S == 3):
+        for call in (lambda: A.S == A.dup().S, lambda: A.S == A, lambda: A == A.S,
+                     lambda: A.V != A.dup().V, lambda: A.S == 3):
             with self.assertRaisesRegex(TypeError, r'A\.isequal\(B\)'):
                 call()
 
@@ -349,10 +403,14 @@ class Signs(InSession):
     def test_functions_and_arrays_of_numpy(self):
         import numpy
         A = self.s.from_triples([(0, 1, 5), (1, 0, -2)], 2, 2)
-        for call, words in ((lambda: numpy.add(A, A), r'A\.ewise_mult\(B, "plus"\)'), (lambda: numpy.abs(A), r'A\.apply\("abs"\)'),
-                            (lambda: numpy.array([1, 2]) + A, 'plus'), (lambda: numpy.int64(3) * A, 'times'),
-                            (lambda: numpy.array([1]) == A, 'eq'), (lambda: numpy.sqrt(A), 'function f of your own'),
-                            (lambda: numpy.true_divide(A, A), 'cdiv'), (lambda: numpy.asarray(A), r'A\.to_dense\(\)')):
+        for call, words in ((lambda: numpy.add(A, A), r'A\.ewise_mult\(B, "plus"\)'),
+                            (lambda: numpy.abs(A), r'A\.apply\("abs"\)'),
+                            (lambda: numpy.array([1, 2]) + A, 'plus'),
+                            (lambda: numpy.int64(3) * A, 'times'),
+                            (lambda: numpy.array([1]) == A, 'eq'),
+                            (lambda: numpy.sqrt(A), 'function f of your own'),
+                            (lambda: numpy.true_divide(A, A), 'cdiv'),
+                            (lambda: numpy.asarray(A), r'A\.to_dense\(\)')):
             with self.assertRaisesRegex(TypeError, 'a matrix has no .*write.*' + words):
                 call()
 
@@ -369,9 +427,13 @@ class Signs(InSession):
 class Masks(InSession):
     def test_a_bare_matrix_warns_of_the_callers_line(self):
         A = self.s.from_triples([(0, 1, 5), (1, 0, 0)], 2, 2)
-        for call in (lambda: A.apply('one', mask=A), lambda: A.mxm(A, mask=A), lambda: A.update(A, None, A), lambda: A.dup(mask=A),
-                     lambda: A.reduce_rowwise(mask=A.reduce_rowwise()), lambda: A.mxv(A[:, 0], mask=A[:, 0])):
-            with self.assertWarnsRegex(spmat.MaskWarning, r'mask=A means A\.S, the stored positions: write mask=A\.S, or mask=A\.V') as said:
+        for call in (lambda: A.apply('one', mask=A), lambda: A.mxm(A, mask=A),
+                     lambda: A.update(A, None, A), lambda: A.dup(mask=A),
+                     lambda: A.reduce_rowwise(mask=A.reduce_rowwise()),
+                     lambda: A.mxv(A[:, 0], mask=A[:, 0])):
+            with self.assertWarnsRegex(spmat.MaskWarning,
+                                       r'mask=A means A\.S, the stored positions: write '
+                                       r'mask=A\.S, or mask=A\.V') as said:
                 call()
             self.assertEqual(said.filename.rpartition('/')[2], 'test_indexing.py')
         self.assertTrue(issubclass(spmat.MaskWarning, UserWarning))
@@ -391,7 +453,8 @@ class Masks(InSession):
         with blocks.Sessions(2) as many, warnings.catch_warnings():
             warnings.simplefilter('error', spmat.MaskWarning)
             for session in (self.s, many):
-                graphs = [graph(session) for graph in alike.graphs_of(random.Random(5), 10).values()]
+                graphs = [graph(session)
+                          for graph in alike.graphs_of(random.Random(5), 10).values()]
                 for name, calls in alike.ALGORITHMS.items():
                     for call, graph in zip(calls * len(graphs), graphs):
                         with self.subTest(algorithm=name):
@@ -401,16 +464,22 @@ class Masks(InSession):
         a = {(0, 0): 1, (0, 1): 0, (1, 1): 5, (2, 0): 0}
         b = {(0, 0): 0, (1, 1): 2, (2, 0): 3, (2, 2): 4}
         every = {(i, j) for i in range(3) for j in range(3)}
-        A, B = (self.s.from_triples([(*at, value) for at, value in cells.items()], 3, 3) for cells in (a, b))
+        A, B = (self.s.from_triples([(*at, value) for at, value in cells.items()], 3, 3)
+                for cells in (a, b))
         full = self.s.full(3, 3)
-        kinds = {'S': (lambda M: M.S, lambda cells: set(cells)), 'V': (lambda M: M.V, lambda cells: {at for at in cells if cells[at]}),
-                 '~S': (lambda M: ~M.S, lambda cells: every - set(cells)), '~V': (lambda M: ~M.V, lambda cells: every - {at for at in cells if cells[at]})}
+        kinds = {'S': (lambda M: M.S, lambda cells: set(cells)),
+                 'V': (lambda M: M.V, lambda cells: {at for at in cells if cells[at]}),
+                 '~S': (lambda M: ~M.S, lambda cells: every - set(cells)),
+                 '~V': (lambda M: ~M.V, lambda cells: every - {at for at in cells if cells[at]})}
         for one, (mask, inside) in kinds.items():
             for two, (other, within) in kinds.items():
-                for sign, call, want in (('&', lambda x, y: x & y, set.__and__), ('|', lambda x, y: x | y, set.__or__),
-                                         ('^', lambda x, y: x ^ y, set.__xor__), ('-', lambda x, y: x - y, set.__sub__)):
+                for sign, call, want in (('&', lambda x, y: x & y, set.__and__),
+                                         ('|', lambda x, y: x | y, set.__or__),
+                                         ('^', lambda x, y: x ^ y, set.__xor__),
+                                         ('-', lambda x, y: x - y, set.__sub__)):
                     with self.subTest(one=one, sign=sign, two=two):
-                        self.assertEqual(set(full.dup(mask=call(mask(A), other(B))).to_dict()), want(inside(a), within(b)))
+                        self.assertEqual(set(full.dup(mask=call(mask(A), other(B))).to_dict()),
+                                         want(inside(a), within(b)))
         for call in (lambda: A.S & A, lambda: A.S | 3, lambda: A.S - None):
             with self.assertRaisesRegex(TypeError, 'beside a mask stands a mask'):
                 call()

@@ -1,4 +1,5 @@
-"""Every algorithm on a graph whose vertices have names: they are taken wherever a vertex is asked for, and the answers are those of numbers."""
+"""Every algorithm on a graph whose vertices have names: they are taken wherever a vertex is asked
+for, and the answers are those of numbers."""
 import unittest
 
 import alike
@@ -6,8 +7,10 @@ import support  # noqa: F401 (finds the program)
 import spmat
 
 LABELS = ['Ann', 'Bob', 'Cid', 'Dee', 'Eve', 'Fay', 'Gus', 'Hal', 'Ida']
-EDGES = {'a ring, chords and a tail': [(0, 1, 3), (1, 2, 1), (2, 3, 4), (3, 4, 1), (4, 5, 5), (5, 0, 2), (1, 4, 6), (2, 5, 3), (5, 6, 1), (6, 7, 2)],
-         'no cycle': [(0, 1, 2), (0, 2, 1), (1, 3, 3), (2, 3, 1), (3, 4, 2), (2, 5, 4), (4, 6, 1), (5, 6, 2), (7, 8, 1)]}
+EDGES = {'a ring, chords and a tail': [(0, 1, 3), (1, 2, 1), (2, 3, 4), (3, 4, 1), (4, 5, 5),
+                                       (5, 0, 2), (1, 4, 6), (2, 5, 3), (5, 6, 1), (6, 7, 2)],
+         'no cycle': [(0, 1, 2), (0, 2, 1), (1, 3, 3), (2, 3, 1), (3, 4, 2), (2, 5, 4), (4, 6, 1),
+                      (5, 6, 2), (7, 8, 1)]}
 
 
 def numbered(found):
@@ -21,7 +24,8 @@ def numbered(found):
     if isinstance(found, dict):
         return {numbered(key): numbered(value) for key, value in found.items()}
     if type(found).__module__.startswith('spmat.algorithms'):
-        return {name: numbered(value) for name, value in vars(found).items() if isinstance(value, (int, float, list)) or hasattr(value, 'mxm')}
+        return {name: numbered(value) for name, value in vars(found).items()
+                if isinstance(value, (int, float, list)) or hasattr(value, 'mxm')}
     return found
 
 
@@ -37,7 +41,8 @@ def columns_of(found):
     """The columns of an answer that have a row for each vertex."""
     if hasattr(found, 'to_text') and found.shape == (len(LABELS), 1):
         return [found]
-    return [one for part in found for one in columns_of(part)] if isinstance(found, (list, tuple)) else []
+    return ([one for part in found for one in columns_of(part)] if isinstance(found, (list, tuple))
+            else [])
 
 
 class Labels(unittest.TestCase):
@@ -46,7 +51,8 @@ class Labels(unittest.TestCase):
         with spmat.Session() as session:
             for kind, edges in EDGES.items():
                 rows, columns, values = zip(*edges)
-                both = [session.from_coo(rows, columns, values, len(LABELS), len(LABELS)) for _ in range(2)]
+                both = [session.from_coo(rows, columns, values, len(LABELS), len(LABELS))
+                        for _ in range(2)]
                 both[1].nodes = LABELS
                 for name, calls in alike.ALGORITHMS.items():
                     for number, call in enumerate(calls):

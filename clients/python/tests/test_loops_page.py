@@ -15,7 +15,8 @@ def parts():
     with open(os.path.join(support.TOP, 'docs', 'loops.md'), encoding='utf-8') as file:
         page = file.read()
     for part in page.split('\n## ')[1:]:
-        blocks = [re.sub('^    ', '', block, flags=re.M) for block in re.findall(r'(?:^(?:    .*)?\n)+', part, re.M) if block.strip()]
+        blocks = [re.sub('^    ', '', block, flags=re.M)
+                  for block in re.findall(r'(?:^(?:    .*)?\n)+', part, re.M) if block.strip()]
         if blocks:
             yield part.split('\n', 1)[0], blocks[0].strip() + '\n', blocks[1].strip() + '\n'
 
@@ -40,10 +41,12 @@ class Page(unittest.TestCase):
     def test_steps(self):
         levels = graphs.levels(graphs.UNDIRECTED[3].near(), 16)
         near = sorted(vertex for vertex, level in levels.items() if level <= 2)
-        self.assertEqual(self.said['Who is within two hops, on a budget'].splitlines()[0], str(near))
+        self.assertEqual(self.said['Who is within two hops, on a budget'].splitlines()[0],
+                         str(near))
 
     def test_toll(self):
-        edges = {('a', 'b'): 12, ('b', 'd'): 4, ('a', 'c'): 9, ('c', 'd'): 10, ('d', 'e'): 30, ('e', 'a'): 1}
+        edges = {('a', 'b'): 12, ('b', 'd'): 4, ('a', 'c'): 9, ('c', 'd'): 10, ('d', 'e'): 30,
+                 ('e', 'a'): 1}
         known = {'a': 0}
         for _ in range(5):
             for (one, other), length in edges.items():
@@ -54,11 +57,13 @@ class Page(unittest.TestCase):
         self.assertEqual((rounds, ast.literal_eval(said)), ('4', known))
 
     def test_peeling(self):
-        weights = {('Ann', 'Bob'): 30, ('Bob', 'Cid'): 25, ('Cid', 'Ann'): 20, ('Cid', 'Dee'): 15, ('Dee', 'Eva'): 20, ('Eva', 'Flo'): 5}
+        weights = {('Ann', 'Bob'): 30, ('Bob', 'Cid'): 25, ('Cid', 'Ann'): 20, ('Cid', 'Dee'): 15,
+                   ('Dee', 'Eva'): 20, ('Eva', 'Flo'): 5}
         left, lines, number = {name for pair in weights for name in pair}, [], 0
         while True:
             number += 1
-            strength = {name: sum(weight for pair, weight in weights.items() if name in pair and left.issuperset(pair)) for name in left}
+            strength = {name: sum(weight for pair, weight in weights.items() if name in pair
+                                  and left.issuperset(pair)) for name in left}
             thin = sorted(name for name in left if strength[name] < 40)
             if not thin:
                 break

@@ -11,7 +11,8 @@ from spmat.algorithms.traversal import Columns, Rows
 
 PAIRS = [(i, j) for i in range(40) for j in range(40) if i != j and (7 * i + 3 * j) % 5 == 0]
 SOME_ALONE = graphs.undirected('some vertices have no edge', 50, PAIRS)
-SOME_END = graphs.directed('some vertices have no edge that leaves them', 50, PAIRS + [(i, i + 9) for i in range(31, 41)])
+SOME_END = graphs.directed('some vertices have no edge that leaves them', 50,
+                           PAIRS + [(i, i + 9) for i in range(31, 41)])
 
 
 class ManyWorkers(unittest.TestCase):
@@ -32,9 +33,11 @@ class ManyWorkers(unittest.TestCase):
         calls = [algorithms.pagerank, lambda G: algorithms.pagerank(G, weighted=True), hits,
                  lambda G: algorithms.pagerank(G, personalization={0: 1}, dangling={1: 2, 3: 1}),
                  lambda G: algorithms.pagerank(G, G.T, damping=.5),
-                 lambda G: algorithms.katz(G, .01).values, lambda G: algorithms.eigenvector(algorithms.undirected(G), tolerance=1e-3).values]
+                 lambda G: algorithms.katz(G, .01).values,
+                 lambda G: algorithms.eigenvector(algorithms.undirected(G), tolerance=1e-3).values]
         with mock.patch.multiple(traversal, MANY_ENTRIES=1, MANY_AT_A_VERTEX=0):
-            for graph in graphs.tried([SOME_ALONE, SOME_END, graphs.UNDIRECTED[3], graphs.DIRECTED[-1]]):
+            for graph in graphs.tried([SOME_ALONE, SOME_END, graphs.UNDIRECTED[3],
+                                       graphs.DIRECTED[-1]]):
                 for number, call in enumerate(calls):
                     with self.subTest(graph=graph.name, call=number):
                         one, many = graph.matrix(self.one), graph.matrix(self.many)
@@ -49,7 +52,8 @@ class ManyWorkers(unittest.TestCase):
 
     def test_which_sessions_and_graphs_these_are(self):
         with mock.patch.multiple(traversal, MANY_ENTRIES=900):
-            for want, graph in ((True, self.many.full(30, 30)), (False, self.one.full(30, 30)), (False, self.many.full(29, 29)),
+            for want, graph in ((True, self.many.full(30, 30)), (False, self.one.full(30, 30)),
+                                (False, self.many.full(29, 29)),
                                 (False, self.many.identity(1000))):
                 with self.subTest(want=want, graph=graph):
                     self.assertEqual(traversal.is_shared(graph), want)

@@ -1,4 +1,5 @@
-"""Matrices whose vertices have different names: no job combines them by position. What is called alike is combined, and keeps its names."""
+"""Matrices whose vertices have different names: no job combines them by position. What is called
+alike is combined, and keeps its names."""
 import os
 import pickle
 import tempfile
@@ -68,7 +69,9 @@ OPERATIONS = {
 PREDICATES = {
     'isequal': lambda A, B: A.isequal(B),
     'isequal of columns': lambda A, B: A.reduce_rowwise().isequal(B.reduce_rowwise()),
-    'a transpose of others': lambda A, B: algorithms.bfs_levels(A, 0 if A.nodes is None else A.nodes[0], B.T, check=False).nvals,
+    'a transpose of others': lambda A, B: algorithms.bfs_levels(A, 0 if A.nodes is None
+                                                                else A.nodes[0], B.T,
+                                                                check=False).nvals,
     'a mask of pairs': lambda A, B: algorithms.common_neighbours(A, pairs=B).nvals,
 }
 
@@ -137,9 +140,11 @@ class Operations(Both):
                 self.assertEqual((result.row_nodes, result.column_nodes)[axis], names[:count])
 
     def test_without_names_beside_each_kind(self):
-        """Numbers, positions and constants agree with one another, and with names that are just 0 to n - 1."""
+        """Numbers, positions and constants agree with one another, and with names that are just 0
+        to n - 1."""
         for s in self.each():
-            kinds = [SECONDS[kind][0](s, None) for kind in ('numbers', 'numbers as names', 'positions', 'a constant')]
+            kinds = [SECONDS[kind][0](s, None) for kind in ('numbers', 'numbers as names',
+                                                            'positions', 'a constant')]
             for A in kinds:
                 for B in kinds:
                     for name, call in OPERATIONS.items():
@@ -152,14 +157,16 @@ class Operations(Both):
                 continue
             for name, call in OPERATIONS.items():
                 with self.subTest(operation=name, second=kind):
-                    said = [self.differ(lambda s=s: call(named(s, NAMES), make(s, None))) for s in self.sessions.values()]
+                    said = [self.differ(lambda s=s: call(named(s, NAMES), make(s, None)))
+                            for s in self.sessions.values()]
                     self.assertEqual(*said)
 
     def test_nothing_is_queued(self):
         """A refused operation has asked for no job."""
         s = self.one
         A, B = named(s, NAMES), named(s, ['Ann', 'Cid', 'Bob'])
-        for name in ('apply, under V', 'apply, under ~V', 'without', 'without V', 'update, under ~V', 'update, replaced', 'ewise_add', 'mxm'):
+        for name in ('apply, under V', 'apply, under ~V', 'without', 'without V',
+                     'update, under ~V', 'update, replaced', 'ewise_add', 'mxm'):
             with self.subTest(name):
                 before = s.jobs
                 self.differ(lambda: OPERATIONS[name](A, B))
@@ -172,29 +179,38 @@ class Words(Both):
     def test_three_names(self):
         for s in self.each():
             A, B = s.full(5, 5), s.full(5, 5)
-            A.nodes, B.nodes = ['Ann', 'Bob', 'Cid', 'Dee', 'Eve'], ['Ann', 'Cid', 'Bob', 'Eve', 'Dee']
-            said = self.differ(lambda: A.ewise_add(B), 'rows', "1: 'Bob' and 'Cid', 2: 'Cid' and 'Bob', 3: 'Dee' and 'Eve'", 'spmat.align(A, B)',
-                               'nodelist=')
+            A.nodes, B.nodes = ['Ann', 'Bob', 'Cid', 'Dee',
+                                'Eve'], ['Ann', 'Cid', 'Bob', 'Eve', 'Dee']
+            said = self.differ(lambda: A.ewise_add(B), 'rows',
+                               "1: 'Bob' and 'Cid', 2: 'Cid' and 'Bob', 3: 'Dee' and 'Eve'",
+                               'spmat.align(A, B)', 'nodelist=')
             self.assertNotIn('4: ', said)
 
     def test_rows_and_columns(self):
         for s in self.each():
-            A, B = (s.from_edgelist([(u, i, 1), (v, j, 1)], bipartite=True) for u, v, i, j in (('u', 'v', 'i', 'j'), ('u', 'v', 'j', 'i')))
-            self.differ(lambda: A.ewise_mult(B), 'the columns of the two matrices', "0: 'i' and 'j', 1: 'j' and 'i'")
-            self.differ(lambda: A.mxm(B.T), 'the columns of the first and the rows of the second', 'B[A.column_nodes, :]')
-            self.assertEqual(A.mxm(B.T[A.column_nodes, :], 'plus_pair').to_edgelist(), [('u', 'v', 1), ('v', 'u', 1)])
+            A, B = (s.from_edgelist([(u, i, 1), (v, j, 1)], bipartite=True)
+                    for u, v, i, j in (('u', 'v', 'i', 'j'), ('u', 'v', 'j', 'i')))
+            self.differ(lambda: A.ewise_mult(B), 'the columns of the two matrices',
+                        "0: 'i' and 'j', 1: 'j' and 'i'")
+            self.differ(lambda: A.mxm(B.T), 'the columns of the first and the rows of the second',
+                        'B[A.column_nodes, :]')
+            self.assertEqual(A.mxm(B.T[A.column_nodes, :], 'plus_pair').to_edgelist(),
+                             [('u', 'v', 1), ('v', 'u', 1)])
             self.differ(lambda: A.dup(mask=B.S), 'the columns of the result and of the mask')
 
     def test_positions_and_numbers(self):
         for s in self.each():
             A = named(s, NAMES)
-            self.differ(lambda: A.ewise_add(s.from_edgelist(EDGES)), "0: 'Ann' and 0, 1: 'Bob' and 1", 'spmat.align')
-            self.differ(lambda: A.mxv(s.from_dense([1, 2, 3])), "0: 'Ann' and position 0", 'v.nodes = G.nodes', 'nodes=G.nodes', 'from_coo')
+            self.differ(lambda: A.ewise_add(s.from_edgelist(EDGES)),
+                        "0: 'Ann' and 0, 1: 'Bob' and 1", 'spmat.align')
+            self.differ(lambda: A.mxv(s.from_dense([1, 2, 3])), "0: 'Ann' and position 0",
+                        'v.nodes = G.nodes', 'nodes=G.nodes', 'from_coo')
 
     def test_other_sizes_have_the_hint(self):
         for s in self.each():
             A, B = named(s, NAMES), s.from_edgelist([('x', 'y', 1)])
-            for call in (lambda: A.ewise_add(B), lambda: A.dup(mask=B.S), lambda: A.ewise_mult(s.from_edgelist([(0, 1)]))):
+            for call in (lambda: A.ewise_add(B), lambda: A.dup(mask=B.S),
+                         lambda: A.ewise_mult(s.from_edgelist([(0, 1)]))):
                 with self.assertRaises(spmat.DimensionMismatch) as said:
                     call()
                 self.assertIn('spmat.align(A, B)', str(said.exception))
@@ -217,11 +233,14 @@ class Months(Both):
         for s in self.each():
             jan = s.from_edgelist([('Ann', 'Bob', 100), ('Bob', 'Cid', 50)])
             feb = s.from_edgelist([('Cid', 'Ann', 7), ('Ann', 'Bob', 900)])
-            for call in (lambda: jan.ewise_add(feb), lambda: jan.dup(mask=feb.S), lambda: jan.without(feb), lambda: jan.update(feb),
-                         lambda: jan.isequal(feb), lambda: jan.mxv(feb.reduce_rowwise()), lambda: jan[:, 'Ann'].ewise_add(feb[:, 'Ann'])):
+            for call in (lambda: jan.ewise_add(feb), lambda: jan.dup(mask=feb.S),
+                         lambda: jan.without(feb), lambda: jan.update(feb),
+                         lambda: jan.isequal(feb), lambda: jan.mxv(feb.reduce_rowwise()),
+                         lambda: jan[:, 'Ann'].ewise_add(feb[:, 'Ann'])):
                 self.differ(call, "0: 'Ann' and 'Cid', 1: 'Bob' and 'Ann', 2: 'Cid' and 'Bob'")
             jan, feb = spmat.align(jan, feb)
-            self.assertEqual(jan.ewise_add(feb).to_edgelist(), [('Ann', 'Bob', 1000), ('Bob', 'Cid', 50), ('Cid', 'Ann', 7)])
+            self.assertEqual(jan.ewise_add(feb).to_edgelist(),
+                             [('Ann', 'Bob', 1000), ('Bob', 'Cid', 50), ('Cid', 'Ann', 7)])
             self.assertEqual(jan.dup(mask=feb.S).to_edgelist(), [('Ann', 'Bob', 100)])
             self.assertEqual(jan.without(feb).to_edgelist(), [('Bob', 'Cid', 50)])
             again = s.from_edgelist([('Cid', 'Ann', 7), ('Ann', 'Bob', 900)], nodelist=jan.nodes)
@@ -232,7 +251,8 @@ class Months(Both):
             users = s.from_edgelist([('u1', 'i1'), ('u2', 'i2')], bipartite=True)
             kinds = s.from_edgelist([('i2', 'Books'), ('i1', 'Music')], bipartite=True)
             self.differ(lambda: users.mxm(kinds, 'plus_pair'), "0: 'i1' and 'i2'")
-            self.assertEqual(users.mxm(kinds[users.column_nodes, :], 'plus_pair').to_edgelist(), [('u1', 'Music', 1), ('u2', 'Books', 1)])
+            self.assertEqual(users.mxm(kinds[users.column_nodes, :], 'plus_pair').to_edgelist(),
+                             [('u1', 'Music', 1), ('u2', 'Books', 1)])
 
     def test_numbers(self):
         for s in self.each():
@@ -260,8 +280,10 @@ class Labels(Both):
             self.assertEqual(algorithms.degrees(G)[[2, 3], 0].by_node(), {2: 1, 3: 1})
             self.assertEqual(algorithms.bfs_levels(G, 2)[[2, 3], 0].by_node(), {2: 0, 3: 1})
             self.assertEqual(G.T[[2, 3], :].row_nodes, [2, 3])
-            self.assertEqual(G[[0, 1], [0, 1]].ewise_add(s.from_edgelist([(0, 1, 1)])).to_edgelist(), [(0, 1, 6)])
-            self.differ(lambda: G[[2, 3], [2, 3]].ewise_add(s.from_edgelist([(0, 1, 1)])), '0: 2 and 0')
+            self.assertEqual(G[[0, 1], [0, 1]].ewise_add(
+                s.from_edgelist([(0, 1, 1)])).to_edgelist(), [(0, 1, 6)])
+            self.differ(lambda: G[[2, 3], [2, 3]].ewise_add(s.from_edgelist([(0, 1, 1)])),
+                        '0: 2 and 0')
 
     def test_parts_by_position(self):
         for s in self.each():
@@ -290,14 +312,17 @@ class Labels(Both):
             self.assertIsNone(before.nodes)
 
     def test_vectors(self):
-        """The one row of a row, and the one column of a column, aren't compared; a graph of one vertex is."""
+        """The one row of a row, and the one column of a column, aren't compared; a graph of one
+        vertex is."""
         for s in self.each():
             G = s.from_edgelist([('a', 'b', 1), ('b', 'a', 7), ('b', 'b', 2)])
             both = G['a', :].ewise_add(G['b', :])
             self.assertEqual((both.by_node(), both.row_nodes), ({'a': 7, 'b': 3}, None))
             self.assertEqual(G['a', :].ewise_add(G['a', :]).row_nodes, ['a'])
-            self.assertEqual(G[:, 'a'].mxm(G['b', :]).to_edgelist(), [('b', 'a', 49), ('b', 'b', 14)])
-            self.differ(lambda: s.from_edgelist([('a', 'a', 1)]).ewise_add(s.from_edgelist([('b', 'b', 1)])), "0: 'a' and 'b'")
+            self.assertEqual(G[:, 'a'].mxm(G['b', :]).to_edgelist(),
+                             [('b', 'a', 49), ('b', 'b', 14)])
+            self.differ(lambda: s.from_edgelist([('a', 'a', 1)]).ewise_add(
+                s.from_edgelist([('b', 'b', 1)])), "0: 'a' and 'b'")
 
     def test_constants(self):
         for s in self.each():
@@ -329,8 +354,10 @@ class Labels(Both):
     def test_loops(self):
         G, H = named(self.one, NAMES), named(self.one, ['Ann', 'Cid', 'Bob'])
         start = G['Ann', :]
-        self.differ(lambda: spmat.loop(lambda s: {'front': s.front.mxm(H, 'any_first')}, {'front': start}), "1: 'Bob' and 'Cid'")
-        self.differ(lambda: spmat.fixpoint(start, lambda d: d.ewise_add(d.mxm(H), 'max')), "1: 'Bob' and 'Cid'")
+        self.differ(lambda: spmat.loop(lambda s: {'front': s.front.mxm(H, 'any_first')},
+                                       {'front': start}), "1: 'Bob' and 'Cid'")
+        self.differ(lambda: spmat.fixpoint(start, lambda d: d.ewise_add(d.mxm(H), 'max')),
+                    "1: 'Bob' and 'Cid'")
         loop = spmat.loop(lambda s: {'front': s.front.mxm(G, 'any_first')}, {'front': start})
         loop.advance(2)
         self.assertEqual(loop.state.front.nodes, NAMES)
@@ -343,12 +370,15 @@ class Given(Both):
         for s in self.each():
             G = named(s, NAMES)
             self.assertEqual(G.mxv(s.from_dense([1, 2, 3], nodes=G.nodes)).nodes, NAMES)
-            self.assertEqual(G.mxv(s.from_coo([0, 2], [0, 0], 1, ncols=1, nodes=G.nodes)).nodes, NAMES)
+            self.assertEqual(G.mxv(s.from_coo([0, 2], [0, 0], 1, ncols=1, nodes=G.nodes)).nodes,
+                             NAMES)
             self.assertEqual(s.from_coo([0], [1], 1, 1, nodes=G.nodes).vxm(G).nodes, NAMES)
             self.assertEqual(s.from_triples([(0, 1, 4)], nodes=NAMES).ewise_add(G).nodes, NAMES)
             B = s.from_coo([0, 1], [2, 0], 1, nodes=(['u', 'v'], NAMES))
-            self.assertEqual((B.shape, B.row_nodes, B.mxm(G).column_nodes), ((2, 3), ['u', 'v'], NAMES))
-            self.assertEqual(s.from_coo([0, 1], [2, 0], 1, nodes=(None, NAMES)).mxm(G).row_nodes, None)
+            self.assertEqual((B.shape, B.row_nodes, B.mxm(G).column_nodes),
+                             ((2, 3), ['u', 'v'], NAMES))
+            self.assertEqual(s.from_coo([0, 1], [2, 0], 1, nodes=(None, NAMES)).mxm(G).row_nodes,
+                             None)
             v = s.from_dense([1, 2, 3])
             v.nodes = G.nodes
             self.assertEqual(G.mxv(v).nodes, NAMES)
@@ -359,12 +389,15 @@ class Given(Both):
         for s in self.each():
             G = s.from_triples([(0, 1, 4)], nodes=(('a', 1), ('b', 2)))
             self.assertEqual(G.nodes, [('a', 1), ('b', 2)])
-            self.differ(lambda: G.ewise_add(s.from_edgelist([(('b', 2), ('a', 1))])), "0: ('a', 1) and ('b', 2)")
+            self.differ(lambda: G.ewise_add(s.from_edgelist([(('b', 2), ('a', 1))])),
+                        "0: ('a', 1) and ('b', 2)")
 
     def test_wrong(self):
         for s in self.each():
-            for call in (lambda: s.from_triples(EDGES, 3, 3, nodes=['a', 'b']), lambda: s.from_triples(EDGES, 3, 3, nodes=['a', 'b', 'a']),
-                         lambda: s.from_coo([0], [1], 1, 2, 3, nodes=NAMES), lambda: s.from_coo([0], [1], 1, 2, 3, nodes=(NAMES, NAMES))):
+            for call in (lambda: s.from_triples(EDGES, 3, 3, nodes=['a', 'b']),
+                         lambda: s.from_triples(EDGES, 3, 3, nodes=['a', 'b', 'a']),
+                         lambda: s.from_coo([0], [1], 1, 2, 3, nodes=NAMES),
+                         lambda: s.from_coo([0], [1], 1, 2, 3, nodes=(NAMES, NAMES))):
                 with self.assertRaises(ValueError):
                     call()
 
@@ -377,10 +410,14 @@ class Align(Both):
             A = s.from_edgelist([('a', 'b', 1), ('b', 'c', 2)])
             B = s.from_edgelist([('c', 'b', 3), ('d', 'c', 4), ('b', 'd', 5)])
             one, two = spmat.align(A, B)
-            self.assertEqual((one.nodes, two.nodes, one.nodes is two.nodes), (['a', 'b', 'c', 'd'],) * 2 + (True,))
-            self.assertEqual(sorted(one.ewise_add(two).to_edgelist()), [('a', 'b', 1), ('b', 'c', 2), ('b', 'd', 5), ('c', 'b', 3), ('d', 'c', 4)])
+            self.assertEqual((one.nodes, two.nodes, one.nodes is two.nodes),
+                             (['a', 'b', 'c', 'd'],) * 2 + (True,))
+            self.assertEqual(sorted(one.ewise_add(two).to_edgelist()),
+                             [('a', 'b', 1), ('b', 'c', 2), ('b', 'd', 5), ('c', 'b', 3),
+                              ('d', 'c', 4)])
             one, two = spmat.align(A, B, how='inner')
-            self.assertEqual((one.nodes, one.to_edgelist(), two.to_edgelist()), (['b', 'c'], [('b', 'c', 2)], [('c', 'b', 3)]))
+            self.assertEqual((one.nodes, one.to_edgelist(), two.to_edgelist()),
+                             (['b', 'c'], [('b', 'c', 2)], [('c', 'b', 3)]))
             self.assertIs(one.row_nodes, two.column_nodes)
 
     def test_what_has_the_names_stays(self):
@@ -394,7 +431,8 @@ class Align(Both):
     def test_kinds_of_names(self):
         for s in self.each():
             numbers = s.from_edgelist([(0, 1), (1, 2)])
-            for other, names in ((s.from_edgelist([(7, 1)]), [0, 1, 2, 7]), (s.from_edgelist([('x', 1)]), [0, 1, 2, 'x']),
+            for other, names in ((s.from_edgelist([(7, 1)]), [0, 1, 2, 7]),
+                                 (s.from_edgelist([('x', 1)]), [0, 1, 2, 'x']),
                                  (s.from_edgelist([((1, 2), (3,))]), [0, 1, 2, (1, 2), (3,)])):
                 one, two = spmat.align(numbers, other)
                 self.assertEqual((one.nodes, two.nodes), (names, names))
@@ -402,17 +440,22 @@ class Align(Both):
                 self.assertEqual(two.to_edgelist(), other.to_edgelist())
             more = s.from_edgelist([(3, 0), (1, 2)])
             one, two = spmat.align(numbers, more)
-            self.assertEqual((one.shape, one.nodes, one[[2, 3], :].row_nodes), ((4, 4), None, [2, 3]))
+            self.assertEqual((one.shape, one.nodes, one[[2, 3], :].row_nodes),
+                             ((4, 4), None, [2, 3]))
 
     def test_two_kinds_and_vectors(self):
         for s in self.each():
-            A, B = s.from_edgelist([('u', 'i', 1), ('v', 'j', 2)], bipartite=True), s.from_edgelist([('w', 'j', 3), ('u', 'k', 4)], bipartite=True)
+            A, B = s.from_edgelist([('u', 'i', 1), ('v', 'j', 2)],
+                                   bipartite=True), s.from_edgelist([('w', 'j', 3), ('u', 'k', 4)],
+                                                                    bipartite=True)
             one, two = spmat.align(A, B)
-            self.assertEqual((one.row_nodes, one.column_nodes, one.shape), (['u', 'v', 'w'], ['i', 'j', 'k'], (3, 3)))
+            self.assertEqual((one.row_nodes, one.column_nodes, one.shape),
+                             (['u', 'v', 'w'], ['i', 'j', 'k'], (3, 3)))
             self.assertEqual(one.ewise_add(two).nvals, 4)
             G, column = named(s, NAMES), s.from_edgelist([('Cid', 'Dee', 9)]).reduce_rowwise()
             G, column = spmat.align(G, column)
-            self.assertEqual((G.nodes, column.shape, column.by_node()), ([*NAMES, 'Dee'], (4, 1), {'Cid': 9}))
+            self.assertEqual((G.nodes, column.shape, column.by_node()),
+                             ([*NAMES, 'Dee'], (4, 1), {'Cid': 9}))
             self.assertEqual(G.mxv(column).nodes, [*NAMES, 'Dee'])
             with self.assertRaisesRegex(ValueError, 'align graphs with graphs'):
                 spmat.align(G, A)
@@ -422,22 +465,26 @@ class Align(Both):
             A = s.from_edgelist([('a', 'b', 1.25)], directed=False, scale=100)
             B = s.from_edgelist([('b', 'c', 2.5)], directed=False, scale=100)
             one, two = spmat.align(A, B)
-            self.assertEqual((one.directed, two.directed, one.unit, two.unit, two['b', 'c']), (False, False, 100, 100, 2.5))
+            self.assertEqual((one.directed, two.directed, one.unit, two.unit, two['b', 'c']),
+                             (False, False, 100, 100, 2.5))
 
     def test_empty_and_single(self):
         for s in self.each():
             none, one = s.from_edgelist([]), s.from_edgelist([('a', 'a', 4)])
             self.assertEqual([G.nodes for G in spmat.align(none, one)], [['a'], ['a']])
-            self.assertEqual([G.shape for G in spmat.align(none, one, how='inner')], [(0, 0), (0, 0)])
+            self.assertEqual([G.shape for G in spmat.align(none, one, how='inner')],
+                             [(0, 0), (0, 0)])
             self.assertEqual(spmat.align(one), (one,))
             self.assertEqual(spmat.align(), ())
 
     def test_refused(self):
         for s in self.each():
             A = named(s, NAMES)
-            self.differ(lambda: spmat.align(A, s.from_triples(EDGES, 3, 3)), 'without names', 'v.nodes = G.nodes')
+            self.differ(lambda: spmat.align(A, s.from_triples(EDGES, 3, 3)), 'without names',
+                        'v.nodes = G.nodes')
             self.differ(lambda: spmat.align(A, s.identity(3)), 'without names')
-            for wrong in (lambda: spmat.align(A, A, how='left'), lambda: spmat.align([A, A]), lambda: spmat.align(A, 3)):
+            for wrong in (lambda: spmat.align(A, A, how='left'), lambda: spmat.align([A, A]),
+                          lambda: spmat.align(A, 3)):
                 with self.assertRaises((ValueError, TypeError)):
                     wrong()
 
@@ -449,16 +496,19 @@ class Algorithms(unittest.TestCase):
         """The matrices of an answer."""
         if hasattr(found, 'mxm'):
             return [found]
-        parts = found if isinstance(found, (list, tuple)) else [getattr(found, name, None) for name in ('values', 'labels', 'lengths', 'predecessors')]
-        return [one for part in parts if hasattr(part, 'mxm') or isinstance(part, (list, tuple)) or hasattr(part, 'values')
-                for one in self.matrices(part)] if parts else []
+        parts = (found if isinstance(found, (list, tuple))
+                 else [getattr(found, name, None)
+                       for name in ('values', 'labels', 'lengths', 'predecessors')])
+        return ([one for part in parts if hasattr(part, 'mxm') or isinstance(part, (list, tuple))
+                 or hasattr(part, 'values') for one in self.matrices(part)] if parts else [])
 
     def test_all(self):
         names, looked_at = ['Ann', 'Bob', 'Cid', 'Dee', 'Eve', 'Fay'], set()
         edges = [(0, 1, 3), (1, 2, 1), (2, 3, 4), (3, 4, 1), (4, 5, 5), (5, 0, 2), (1, 4, 6)]
         with spmat.Session() as s:
             for directed in (True, False):
-                G = s.from_edgelist([(names[i], names[j], value) for i, j, value in edges], directed=directed, nodelist=names)
+                G = s.from_edgelist([(names[i], names[j], value) for i, j, value in edges],
+                                    directed=directed, nodelist=names)
                 for name, calls in alike.ALGORITHMS.items():
                     for call in calls:
                         try:
@@ -470,13 +520,15 @@ class Algorithms(unittest.TestCase):
                                 looked_at.add(name)
                                 for axis, count in enumerate(matrix.shape):
                                     if count == len(names):
-                                        self.assertEqual((matrix.row_nodes, matrix.column_nodes)[axis], names)
+                                        self.assertEqual((matrix.row_nodes,
+                                                          matrix.column_nodes)[axis], names)
         self.assertIn('minimum_spanning_forest', looked_at)
         self.assertGreater(len(looked_at), 25)
 
     def test_forest(self):
         with spmat.Session() as s:
-            forest = algorithms.minimum_spanning_forest(s.from_edgelist([(1, 2, 5), (2, 3, 4), (3, 4, 1)], directed=False))
+            forest = algorithms.minimum_spanning_forest(
+                s.from_edgelist([(1, 2, 5), (2, 3, 4), (3, 4, 1)], directed=False))
             self.assertEqual(forest.select('triu').to_edgelist(), [(1, 2, 5), (2, 3, 4), (3, 4, 1)])
             self.assertIs(forest.directed, False)
 

@@ -31,9 +31,10 @@ class Names(unittest.TestCase):
     def test_results_have_them(self):
         for G in self.graphs():
             column = G.reduce_rowwise()
-            for result in (G.T, G.apply('plus', right=1), G.select('tril'), G.ewise_add(G.T), G.ewise_mult(G), G.mxm(G), column, G.dup(),
-                           G.apply('one', mask=~G.T.S), G.update(G.T, mask=G.T.S), G.mxv(column), G.without(G.T), column.diag(), G.diag(),
-                           G.reduce_columnwise(), G.mxm(G, mask=G.S)):
+            for result in (G.T, G.apply('plus', right=1), G.select('tril'), G.ewise_add(G.T),
+                           G.ewise_mult(G), G.mxm(G), column, G.dup(), G.apply('one', mask=~G.T.S),
+                           G.update(G.T, mask=G.T.S), G.mxv(column), G.without(G.T), column.diag(),
+                           G.diag(), G.reduce_columnwise(), G.mxm(G, mask=G.S)):
                 self.assertEqual(result.nodes, NAMES, result)
             self.assertEqual(column.by_node(), {'ann': 1, 'bob': 1, 'cid': 2})
             self.assertEqual(G.reduce_columnwise().by_node(), dict.fromkeys(NAMES, 1))
@@ -48,7 +49,8 @@ class Names(unittest.TestCase):
             B.notes = B.notes._replace(rows=Nodes(['x', 'y']), columns=Nodes(NAMES[:3]))
             self.assertEqual((B.row_nodes, B.column_nodes, B.nodes), (['x', 'y'], NAMES[:3], None))
             self.assertEqual((B.mxm(B.T).nodes, B.T.mxm(B).nodes), (['x', 'y'], NAMES[:3]))
-            self.assertEqual((B.reduce_rowwise().nodes, B.reduce_columnwise().nodes), (['x', 'y'], NAMES[:3]))
+            self.assertEqual((B.reduce_rowwise().nodes, B.reduce_columnwise().nodes),
+                             (['x', 'y'], NAMES[:3]))
             self.assertEqual(B.T.to_edgelist(), [('ann', 'x', 1), ('ann', 'y', 1), ('cid', 'y', 1)])
             with self.assertRaises(ValueError):
                 B.nodes = ['x', 'y']
@@ -90,16 +92,19 @@ class Names(unittest.TestCase):
         return str(said.exception)
 
     def test_directions(self):
-        """A result is known to be undirected where each entry that has a mirror keeps one of the same value."""
+        """A result is known to be undirected where each entry that has a mirror keeps one of the
+        same value."""
         for s in (self.s, self.blocks):
             G = s.from_coo([0, 1, 1, 2], [1, 0, 2, 1], [5, 5, 7, 7], 3, 3)
             self.assertIsNone(G.directed)
             G.notes = G.notes._replace(directed=False)
-            known = (G.T, G.apply('ainv'), G.apply('plus', right=3), G.apply('minus', left=3), G.select('valuege', 6), G.select('offdiag'),
-                     G.ewise_add(G, 'minus'), G.ewise_mult(G.apply('one'), 'first'), G.mxm(G, 'plus_times', mask=G.S), G.dup(mask=G.S),
-                     G.ewise_add(s.full(3, 3)))
-            unknown = (G.apply('rowindex'), G.select('tril'), G.select('offdiag', 1), G.mxm(G, 'plus_first'), G.mxm(G.apply('one')),
-                       G.reduce_rowwise(), G.apply(spmat.asm('index', 'mov64 r0, r2\nexit')))
+            known = (G.T, G.apply('ainv'), G.apply('plus', right=3), G.apply('minus', left=3),
+                     G.select('valuege', 6), G.select('offdiag'), G.ewise_add(G, 'minus'),
+                     G.ewise_mult(G.apply('one'), 'first'), G.mxm(G, 'plus_times', mask=G.S),
+                     G.dup(mask=G.S), G.ewise_add(s.full(3, 3)))
+            unknown = (G.apply('rowindex'), G.select('tril'), G.select('offdiag', 1),
+                       G.mxm(G, 'plus_first'), G.mxm(G.apply('one')), G.reduce_rowwise(),
+                       G.apply(spmat.asm('index', 'mov64 r0, r2\nexit')))
             for result in known:
                 self.assertIs(result.directed, False)
                 self.assertTrue(result.isequal(result.T))
@@ -111,14 +116,16 @@ class Names(unittest.TestCase):
         import networkx
         graph = networkx.Graph([('a', 'b'), ('b', 'c')])
         back = self.blocks.from_networkx(graph).to_networkx()
-        self.assertEqual((type(back), dict(back.adjacency())), (networkx.Graph, dict(graph.adjacency())))
+        self.assertEqual((type(back), dict(back.adjacency())),
+                         (networkx.Graph, dict(graph.adjacency())))
 
 
 class Brackets(unittest.TestCase):
     @classmethod
     def setUpClass(cls):
         cls.s = spmat.Session()
-        cls.G = cls.s.from_triples([(i, j, 10 * i + j) for i in range(4) for j in range(5) if (i + j) % 3])
+        cls.G = cls.s.from_triples([(i, j, 10 * i + j) for i in range(4) for j in range(5)
+                                    if (i + j) % 3])
         cls.want = cls.G.to_dict()
 
     @classmethod
@@ -131,12 +138,16 @@ class Brackets(unittest.TestCase):
                 self.assertEqual(self.G[i, j], self.want.get((i, j)))
 
     def test_parts(self):
-        for rows, columns in ((slice(None), 2), (1, slice(None)), ([2, 0], slice(None)), (slice(1, 3), [4, 0, 4]), (slice(None, None, 2),
-                              slice(-2, None)), ([], []), (range(2), [3]), (slice(None), slice(None))):
+        for rows, columns in ((slice(None), 2), (1, slice(None)), ([2, 0], slice(None)),
+                              (slice(1, 3), [4, 0, 4]), (slice(None, None, 2), slice(-2, None)),
+                              ([], []), (range(2), [3]), (slice(None), slice(None))):
             part = self.G[rows, columns]
-            i = [rows] if isinstance(rows, int) else list(range(4))[rows] if isinstance(rows, slice) else list(rows)
-            j = [columns] if isinstance(columns, int) else list(range(5))[columns] if isinstance(columns, slice) else list(columns)
-            want = {(a, b): self.want[x, y] for a, x in enumerate(i) for b, y in enumerate(j) if (x, y) in self.want}
+            i = ([rows] if isinstance(rows, int) else list(range(4))[rows]
+                 if isinstance(rows, slice) else list(rows))
+            j = ([columns] if isinstance(columns, int) else list(range(5))[columns]
+                 if isinstance(columns, slice) else list(columns))
+            want = {(a, b): self.want[x, y] for a, x in enumerate(i) for b, y in enumerate(j)
+                    if (x, y) in self.want}
             self.assertEqual((part.shape, part.to_dict()), ((len(i), len(j)), want))
 
     def test_names(self):
@@ -155,7 +166,8 @@ class Brackets(unittest.TestCase):
         self.assertEqual((self.s.jobs, self.s.runs), (before[0] + 3, before[1] + 3))
 
     def test_wrong(self):
-        for kind, at in ((TypeError, 1), (TypeError, (1, 2, 3)), (ValueError, (4, 0)), (ValueError, (0, 5)), (ValueError, ('x', 0)),
+        for kind, at in ((TypeError, 1), (TypeError, (1, 2, 3)), (ValueError, (4, 0)),
+                         (ValueError, (0, 5)), (ValueError, ('x', 0)),
                          (ValueError, ([0, 9], 0))):
             with self.assertRaises(kind):
                 self.G[at]
@@ -163,10 +175,15 @@ class Brackets(unittest.TestCase):
     def test_signs_say_what_to_write(self):
         """Each sign of Python's that isn't there names the method that is."""
         A = self.G
-        for call, words in ((lambda: A @ A, 'A.mxm(B)'), (lambda: A + A, 'A.ewise_add(B)'), (lambda: 3 * A, 'A.ewise_mult(B)'),
-                            (lambda: A - 1, 'minus'), (lambda: A / A, 'cdiv'), (lambda: A // 2, 'floordiv'), (lambda: A & A, 'land'),
-                            (lambda: A | A, 'lor'), (lambda: A < 3, 'A.select("<", 3)'), (lambda: A >= 3, 'A.select(">=", 3)'),
-                            (lambda: len(A), 'A.nvals'), (lambda: bool(A), 'A.nvals > 0'), (lambda: list(A), 'A.to_triples()'), (lambda: A <= 1, '<='), (lambda: A > 1, '>')):
+        for call, words in ((lambda: A @ A, 'A.mxm(B)'), (lambda: A + A, 'A.ewise_add(B)'),
+                            (lambda: 3 * A, 'A.ewise_mult(B)'),
+                            (lambda: A - 1, 'minus'), (lambda: A / A, 'cdiv'),
+                            (lambda: A // 2, 'floordiv'), (lambda: A & A, 'land'),
+                            (lambda: A | A, 'lor'), (lambda: A < 3, 'A.select("<", 3)'),
+                            (lambda: A >= 3, 'A.select(">=", 3)'),
+                            (lambda: len(A), 'A.nvals'), (lambda: bool(A), 'A.nvals > 0'),
+                            (lambda: list(A), 'A.to_triples()'), (lambda: A <= 1, '<='),
+                            (lambda: A > 1, '>')):
             with self.assertRaises(TypeError) as said:
                 call()
             self.assertIn(words, str(said.exception))

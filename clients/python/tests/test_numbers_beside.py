@@ -1,4 +1,5 @@
-"""Numbers beside a matrix: comparisons with any number, and errors whose advice is tried as it is written."""
+"""Numbers beside a matrix: comparisons with any number, and errors whose advice is tried as it is
+written."""
 import decimal
 import operator
 import re
@@ -9,11 +10,14 @@ import support
 import spmat
 from spmat import UnitsDiffer, blocks
 
-COMPARE = {'>': operator.gt, '>=': operator.ge, '<': operator.lt, '<=': operator.le, '==': operator.eq, '!=': operator.ne}
+COMPARE = {'>': operator.gt, '>=': operator.ge, '<': operator.lt, '<=': operator.le,
+           '==': operator.eq, '!=': operator.ne}
 NAMES = {'>': 'gt', '>=': 'ge', '<': 'lt', '<=': 'le', '==': 'eq', '!=': 'ne'}
 LEAST, MOST = -2 ** 63, 2 ** 63 - 1
-NUMBERS = (14.5, -14.5, 0.5, -0.5, 14, -15, 1e30, -1e30, float('inf'), -float('inf'), 2 ** 63, 2 ** 63 - 1, -2 ** 63, -2 ** 63 - 1,
-           Fraction(1, 3), Fraction(2 ** 64 - 1, 2), Fraction(-2 ** 64 - 1, 2), decimal.Decimal('13.999999999999999999'), 10 ** 400, decimal.Decimal('-Infinity'))
+NUMBERS = (14.5, -14.5, 0.5, -0.5, 14, -15, 1e30, -1e30, float('inf'), -float('inf'), 2 ** 63,
+           2 ** 63 - 1, -2 ** 63, -2 ** 63 - 1, Fraction(1, 3), Fraction(2 ** 64 - 1, 2),
+           Fraction(-2 ** 64 - 1, 2), decimal.Decimal('13.999999999999999999'), 10 ** 400,
+           decimal.Decimal('-Infinity'))
 STORED = (-15, -14, -1, 0, 1, 14, 15, LEAST, MOST)
 
 
@@ -28,7 +32,8 @@ class Comparisons(support.InSession):
                 want = [x for x in STORED if COMPARE[sign](Fraction(x) / unit, number)]
                 with self.subTest(unit=unit, sign=sign, number=number):
                     self.assertEqual([x for *_, x in A.select(sign, number).to_triples()], want)
-                    self.assertEqual([x for *_, x in A.select('value' + NAMES[sign], number).to_triples()], want)
+                    self.assertEqual([x for *_, x in A.select('value' + NAMES[sign],
+                                                              number).to_triples()], want)
 
     def test_apply(self):
         for unit in (1, 100):
@@ -38,13 +43,18 @@ class Comparisons(support.InSession):
                 for name in (NAMES[sign], *({'==': ('iseq',), '!=': ('isne',)}.get(sign, ()))):
                     with self.subTest(unit=unit, name=name, number=number):
                         right, left = A.apply(name, right=number), A.apply(name, left=number)
-                        self.assertEqual((right.unit, right.to_list()), (1, [int(COMPARE[sign](Fraction(x) / unit, number)) for x in STORED]))
-                        self.assertEqual(left.to_list(), [int(COMPARE[sign](number, Fraction(x) / unit)) for x in STORED])
+                        self.assertEqual((right.unit, right.to_list()),
+                                         (1, [int(COMPARE[sign](Fraction(x) / unit, number))
+                                              for x in STORED]))
+                        self.assertEqual(left.to_list(),
+                                         [int(COMPARE[sign](number, Fraction(x) / unit))
+                                          for x in STORED])
 
     def test_blocks_and_masks(self):
         with blocks.Sessions(2) as many:
             A = many.from_coo(range(9), [0] * 9, STORED)
-            self.assertEqual([x for *_, x in A.select('>', 14.5, mask=A.V).to_triples()], [15, MOST])
+            self.assertEqual([x for *_, x in A.select('>', 14.5, mask=A.V).to_triples()],
+                             [15, MOST])
             self.assertEqual(A.select('<', -1e40).nvals, 0)
 
     def test_what_is_no_number(self):
@@ -78,38 +88,51 @@ class Advice(support.InSession):
 
     def test_quotients_by_decimals(self):
         A = self.cents
-        for call, want in ((lambda: A.apply('minv'), [0.8, 2.0]), (lambda: A.apply('floordiv', left=3), [2.4, 6.0]),
-                           (lambda: A.apply('rdiv', right=0.75), [0.6, 1.5]), (lambda: A.apply('cdiv', left=-1), [-0.8, -2.0])):
+        for call, want in ((lambda: A.apply('minv'), [0.8, 2.0]),
+                           (lambda: A.apply('floordiv', left=3), [2.4, 6.0]),
+                           (lambda: A.apply('rdiv', right=0.75), [0.6, 1.5]),
+                           (lambda: A.apply('cdiv', left=-1), [-0.8, -2.0])):
             words = self.said(UnitsDiffer, call)
             self.assertNotIn('rescale', words)
             self.assertEqual(self.written(words, A, 'C'), want)
 
     def test_folds_of_other_units(self):
-        for call in (lambda: self.cents.reduce_rowwise('prod'), lambda: self.cents.ewise_add(self.cents, 'eq')):
-            self.assertIn('B = A.dup() and B.unit = 1 has the stored whole numbers, and A.rescale(1, exact=False)', self.said(UnitsDiffer, call))
-        self.assertEqual(self.cents.rescale(1, exact=False).reduce_rowwise('prod').by_node(), {'A': 1, 'B': 0})
+        for call in (lambda: self.cents.reduce_rowwise('prod'),
+                     lambda: self.cents.ewise_add(self.cents, 'eq')):
+            self.assertIn(
+                'B = A.dup() and B.unit = 1 has the stored whole numbers, and A.rescale(1, '
+                'exact=False)', self.said(UnitsDiffer, call))
+        self.assertEqual(self.cents.rescale(1, exact=False).reduce_rowwise('prod').by_node(),
+                         {'A': 1, 'B': 0})
 
     def test_fractions_beside_whole_numbers(self):
         A = self.whole
-        self.assertIn('right=1.19 is no whole number, as the values of this matrix are: A.rescale(100) holds it',
-                      self.said(ValueError, lambda: A.apply('plus', right=1.19)))
-        self.assertEqual([x for *_, x in A.rescale(100).apply('plus', right=1.19).to_edgelist()], [8.19, 10.19])
+        self.assertIn(
+            'right=1.19 is no whole number, as the values of this matrix are: A.rescale(100) '
+            'holds it', self.said(ValueError, lambda: A.apply('plus', right=1.19)))
+        self.assertEqual([x for *_, x in A.rescale(100).apply('plus', right=1.19).to_edgelist()],
+                         [8.19, 10.19])
         self.assertIn('left=0.5 ', self.said(ValueError, lambda: A.apply('minus', left=0.5)))
         words = self.said(ValueError, lambda: A.apply('times', right=1.19))
         self.assertIn('right= of "times"', words)
         self.assertEqual(self.written(words, A, 'B'), [8.33, 10.71])
-        for call, want in ((lambda: A.apply('floordiv', right=2.5), [2, 3]), (lambda: A.apply('rdiv', left=2.5), [2, 3])):
+        for call, want in ((lambda: A.apply('floordiv', right=2.5), [2, 3]),
+                           (lambda: A.apply('rdiv', left=2.5), [2, 3])):
             names = {'A': A}
             exec('B = ' + self.said(ValueError, call).partition('write ')[2], names)
             self.assertEqual([x for *_, x in names['B'].to_edgelist()], want)
-        for call in (lambda: A.apply('land', right=1.5), lambda: A.apply(lambda x, y: x + y * y, right=1.5), lambda: A.apply('rowindex', right=1.5)):
+        for call in (lambda: A.apply('land', right=1.5),
+                     lambda: A.apply(lambda x, y: x + y * y, right=1.5),
+                     lambda: A.apply('rowindex', right=1.5)):
             self.assertIn('right= ', self.said(ValueError, call))
-        self.assertIn('left= of "floordiv"', self.said(ValueError, lambda: A.apply('floordiv', left=22.5)))
+        self.assertIn('left= of "floordiv"',
+                      self.said(ValueError, lambda: A.apply('floordiv', left=22.5)))
 
     @support.needs('pandas')
     def test_statistics_that_no_fold_is(self):
         A = self.s.from_edgelist([('A', 'B', 7), ('A', 'C', 9), ('A', 'D', 20), ('B', 'C', 5)])
-        for name, method, want in (('median', 'median', {'A': 9.0, 'B': 5.0}), ('nunique', 'nunique', {'A': 3, 'B': 1}), ('var', 'var', 49.0),
+        for name, method, want in (('median', 'median', {'A': 9.0, 'B': 5.0}),
+                                   ('nunique', 'nunique', {'A': 3, 'B': 1}), ('var', 'var', 49.0),
                                    ('variance', 'var', 49.0), ('std', 'std', 7.0)):
             for call in (A.reduce_rowwise, A.reduce_columnwise, A.reduce_scalar):
                 words = self.said(ValueError, lambda call=call, name=name: call(name))

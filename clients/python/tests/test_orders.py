@@ -1,4 +1,5 @@
-"""Strong components, levels of graphs without cycles, sides, and shared neighbours, beside plain Python."""
+"""Strong components, levels of graphs without cycles, sides, and shared neighbours, beside plain
+Python."""
 import unittest
 from unittest import mock
 
@@ -13,15 +14,18 @@ class Orders(graphs.OnGraphs):
             reach = [set(graphs.levels(near, i)) for i in range(graph.count)]
             want = {(i, 0): min(j for j in reach[i] if i in reach[j]) for i in range(graph.count)}
             for transpose in (None, G.T if graph.directed else G):
-                self.assertEqual(algorithms.strongly_connected_components(G, transpose).to_dict(), want)
+                self.assertEqual(algorithms.strongly_connected_components(G, transpose).to_dict(),
+                                 want)
         self.each(graphs.ALL, look)
 
     def test_chain_of_components(self):
-        """Rings that lead to one another are found in few rounds, in whatever order their numbers are."""
+        """Rings that lead to one another are found in few rounds, in whatever order their numbers
+        are."""
         edges, count = [], 30
         for ring in range(count):
             a, b = 2 * (ring * 7 % count), 2 * (ring * 7 % count) + 1
-            edges += [(a, b), (b, a)] + ([(a, 2 * ((ring + 1) * 7 % count))] if ring + 1 < count else [])
+            edges += [(a, b), (b, a)] + ([(a, 2 * ((ring + 1) * 7 % count))] if ring + 1 < count
+                                         else [])
         G, told = self.session.from_triples([(*edge, 1) for edge in edges], 60, 60), []
         label = algorithms.strongly_connected_components(G, progress=lambda *now: told.append(now))
         self.assertEqual(label.to_list(), [k - k % 2 for k in range(60)])
@@ -41,25 +45,32 @@ class Orders(graphs.OnGraphs):
                 self.assertIsInstance(fault.exception, ValueError)
                 return
             level = algorithms.topological_levels(G).to_list()
-            self.assertEqual(level, [max((level[i] + 1 for i in before[j]), default=0) for j in range(graph.count)])
+            self.assertEqual(level,
+                             [max((level[i] + 1 for i in before[j]), default=0)
+                              for j in range(graph.count)])
         self.each(graphs.ALL, look)
-        lower = graphs.DIRECTED[4]._replace(name='lower', edges={pair: 1 for pair in graphs.DIRECTED[4].edges if pair[0] < pair[1]})
+        lower = graphs.DIRECTED[4]._replace(name='lower',
+                                            edges={pair: 1 for pair in graphs.DIRECTED[4].edges
+                                                   if pair[0] < pair[1]})
         self.each([lower], look)
 
     def test_longest_paths(self):
         """Of edges of all lengths: where those are below 0 a path begins behind them."""
         for shift in (0, -12):
-            edges = {pair: value + shift for pair, value in graphs.DIRECTED[4].edges.items() if pair[0] < pair[1]}
+            edges = {pair: value + shift for pair, value in graphs.DIRECTED[4].edges.items()
+                     if pair[0] < pair[1]}
             count, longest = graphs.DIRECTED[4].count, []
             for j in range(count):
-                longest.append(max([0] + [longest[i] + value for (i, k), value in edges.items() if k == j]))
+                longest.append(max([0] + [longest[i] + value for (i, k), value in edges.items()
+                                          if k == j]))
             W = graphs.DIRECTED[4]._replace(edges=edges).matrix(self.session)
             self.assertEqual(algorithms.longest_paths(W).to_list(), longest)
         with self.assertRaises(algorithms.CycleError):
             algorithms.longest_paths(self.session.from_triples([(0, 1, 5), (1, 0, -9)], 3, 3))
 
     def test_lengths_that_wrap(self):
-        """Up to 2^63 - 1 all lengths are told, beyond it is refused; an edge below 0 wraps nothing."""
+        """Up to 2^63 - 1 all lengths are told, beyond it is refused; an edge below 0 wraps
+        nothing."""
         for last, want in ((-5, (1 << 62) - 5), ((1 << 62) - 1, (1 << 63) - 1)):
             W = self.session.from_triples([(0, 1, 1 << 62), (1, 2, last)], 3, 3)
             self.assertEqual(algorithms.longest_paths(W).to_list(), [0, 1 << 62, want])
@@ -76,7 +87,8 @@ class Orders(graphs.OnGraphs):
         self.assertTrue(str(fault.exception).endswith('..'))
 
     def test_path(self):
-        """A level's cost follows its own edges: twice the path takes little more than twice the steps."""
+        """A level's cost follows its own edges: twice the path takes little more than twice the
+        steps."""
         spent = []
         for count in (100, 200):
             G = self.session.from_triples([(k, k + 1, 1) for k in range(count - 1)], count, count)
@@ -97,24 +109,31 @@ class Orders(graphs.OnGraphs):
                 i, j = [int(word) for word in str(fault.exception).split() if word.isdigit()]
                 self.assertTrue(j in both[i] and side[i] == side[j])
             else:
-                self.assertEqual(algorithms.bipartite_sides(G, GT).to_dict(), {(i, 0): one for i, one in side.items()})
+                self.assertEqual(algorithms.bipartite_sides(G, GT).to_dict(),
+                                 {(i, 0): one for i, one in side.items()})
         self.each(graphs.ALL, look)
 
     def test_shared_neighbours(self):
         def look(graph, near, G):
             GT = G.T if graph.directed else G
             out = [{k for k in js if k != i} for i, js in enumerate(near)]
-            shared = {(i, j): len(out[i] & out[j]) for i in range(graph.count) for j in range(graph.count)
+            shared = {(i, j): len(out[i] & out[j]) for i in range(graph.count)
+                      for j in range(graph.count)
                       if i != j and out[i] & out[j]}
             self.assertEqual(algorithms.common_neighbours(G, GT).to_dict(), shared)
             self.assertEqual(algorithms.jaccard(G, GT).to_dict(),
-                             {(i, j): 10 ** 9 * many // len(out[i] | out[j]) for (i, j), many in shared.items()})
-            some = self.session.from_triples([(i, j, 1) for i, j in list(shared)[::3]] + [(0, 0, 1)] * bool(graph.count), *G.shape)
+                             {(i, j): 10 ** 9 * many // len(out[i] | out[j])
+                              for (i, j), many in shared.items()})
+            some = self.session.from_triples([(i, j, 1) for i, j in list(shared)[::3]] + [(0, 0, 1)]
+                                             * bool(graph.count), *G.shape)
             self.assertEqual(algorithms.common_neighbours(G, GT, some).to_dict(),
-                             {pair: many for pair, many in shared.items() if pair in list(shared)[::3]})
+                             {pair: many for pair, many in shared.items()
+                              if pair in list(shared)[::3]})
             self.assertEqual(algorithms.jaccard(G, GT, some, 1000).to_dict(),
-                             {(i, j): 1000 * shared[i, j] // len(out[i] | out[j]) for i, j in list(shared)[::3]})
-            some = [pair for pair in ((0, 1), (1, 0), (2, 2), (0, 3), (graph.count - 1, 0)) if max(pair) < graph.count]
+                             {(i, j): 1000 * shared[i, j] // len(out[i] | out[j])
+                              for i, j in list(shared)[::3]})
+            some = [pair for pair in ((0, 1), (1, 0), (2, 2), (0, 3), (graph.count - 1, 0))
+                    if max(pair) < graph.count]
             firsts, seconds = [i for i, _ in some], [j for _, j in some]
             self.assertEqual(algorithms.shared_neighbours(G, firsts, seconds).to_list(0),
                              [len(near[i] & near[j]) for i, j in some])

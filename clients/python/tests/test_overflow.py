@@ -1,4 +1,5 @@
-"""Values that have a unit near 64 bits: what may wrap is refused or warned of, what fits is neither, and whole numbers cost nothing."""
+"""Values that have a unit near 64 bits: what may wrap is refused or warned of, what fits is
+neither, and whole numbers cost nothing."""
 import io
 import random
 import unittest
@@ -13,15 +14,18 @@ LEAST, MOST = -2 ** 63, 2 ** 63 - 1
 
 
 def made(session, stored, unit=100, shape=None):
-    """A column of stored numbers that are parts of a unit, or another matrix of them row by row, as they are read."""
+    """A column of stored numbers that are parts of a unit, or another matrix of them row by row, as
+    they are read."""
     rows, columns = shape or (len(stored), 1)
-    return session.from_coo([k // columns for k in range(len(stored))], [k % columns for k in range(len(stored))],
+    return session.from_coo([k // columns for k in range(len(stored))],
+                            [k % columns for k in range(len(stored))],
                             [Fraction(x, unit) for x in stored], rows, columns, scale=unit)
 
 
 class Case(support.InSession):
     def warned(self, call):
-        """The warnings of a call about 64 bits, and its result; None where it is refused by a ValueError that names 64 bits."""
+        """The warnings of a call about 64 bits, and its result; None where it is refused by a
+        ValueError that names 64 bits."""
         with warnings.catch_warnings(record=True) as said:
             warnings.simplefilter('always')
             try:
@@ -51,11 +55,13 @@ class Jobs(Case):
     def test_each_kind_of_job_warns(self):
         """Each of these wraps: the result has another value than it stands for."""
         A = made(self.s, [5 * 10 ** 18, 7, 5 * 10 ** 18, 5 * 10 ** 18], shape=(2, 2))
-        for call in (lambda: A.ewise_add(A), lambda: A.ewise_mult(A), lambda: A.mxm(A), lambda: A.mxm(A, 'min_plus'), lambda: A.power(2),
-                     lambda: A.reduce_rowwise(), lambda: A.reduce_columnwise(), lambda: A.reduce_rowwise('sum'),
+        for call in (lambda: A.ewise_add(A), lambda: A.ewise_mult(A), lambda: A.mxm(A),
+                     lambda: A.mxm(A, 'min_plus'), lambda: A.power(2), lambda: A.reduce_rowwise(),
+                     lambda: A.reduce_columnwise(), lambda: A.reduce_rowwise('sum'),
                      lambda: A.ewise_mult(A.apply('ainv'), 'minus'), lambda: A.update(A, 'plus'),
-                     lambda: A.ewise_add(A, mask=A.S), lambda: A.ewise_union(A, 'plus', 0, 0), lambda: A.kronecker(A),
-                     lambda: A.ewise_mult(A.apply('ainv'), 'absdiff'), lambda: A.ewise_add(A, mask=~self.s.identity(2).S)):
+                     lambda: A.ewise_add(A, mask=A.S), lambda: A.ewise_union(A, 'plus', 0, 0),
+                     lambda: A.kronecker(A), lambda: A.ewise_mult(A.apply('ainv'), 'absdiff'),
+                     lambda: A.ewise_add(A, mask=~self.s.identity(2).S)):
             self.assertIn('some results may be beyond 64 bits', self.may_wrap(call))
         for call in (A.reduce_scalar, lambda: A.reduce_rowwise('sum_of_squares')):
             self.assertTrue(self.warned(call)[0])
@@ -66,27 +72,38 @@ class Jobs(Case):
 
     def test_a_number_beside_is_refused(self):
         A = made(self.s, [5 * 10 ** 18, -3])
-        for call in (lambda: A.apply('times', right=2), lambda: A.apply('plus', right=Fraction(5 * 10 ** 18, 100)), lambda: A.apply('times', left=-2),
-                     lambda: A.apply('minus', left=Fraction(-5 * 10 ** 18, 100)), lambda: A.apply('lsh', right=1),
-                     lambda: made(self.s, [LEAST]).apply('abs'), lambda: made(self.s, [LEAST]).apply('ainv')):
+        for call in (lambda: A.apply('times', right=2),
+                     lambda: A.apply('plus', right=Fraction(5 * 10 ** 18, 100)),
+                     lambda: A.apply('times', left=-2),
+                     lambda: A.apply('minus', left=Fraction(-5 * 10 ** 18, 100)),
+                     lambda: A.apply('lsh', right=1), lambda: made(self.s, [LEAST]).apply('abs'),
+                     lambda: made(self.s, [LEAST]).apply('ainv')):
             self.assertIsNone(self.warned(call))
-        with self.assertRaisesRegex(ValueError, r'100000000000000000\.0 would be beyond 64 bits in parts of 1/100, .*write A\.rescale\(10, exact=False\)'):
+        with self.assertRaisesRegex(ValueError,
+                                    r'100000000000000000\.0 would be beyond 64 bits in parts of '
+                                    r'1/100, .*write A\.rescale\(10, exact=False\)'):
             A.apply('times', right=2)
-        self.assertEqual(self.fits(lambda: A.rescale(10, exact=False).apply('times', right=2)).to_list(), [10 ** 18, 0])
-        self.assertEqual(self.fits(lambda: A.apply('times', right=-1)).to_list(), [-5 * 10 ** 18, 3])
-        self.assertEqual(self.fits(lambda: A.apply('floordiv', right=2)).to_list(), [25 * 10 ** 17, -2])
+        self.assertEqual(self.fits(
+            lambda: A.rescale(10, exact=False).apply('times', right=2)).to_list(), [10 ** 18, 0])
+        self.assertEqual(self.fits(lambda: A.apply('times', right=-1)).to_list(),
+                         [-5 * 10 ** 18, 3])
+        self.assertEqual(self.fits(lambda: A.apply('floordiv', right=2)).to_list(),
+                         [25 * 10 ** 17, -2])
 
     def test_what_fits_is_exact(self):
         """At the ends of 64 bits, and where many terms could be more than these are."""
         half = 1 << 62
         A = made(self.s, [half - 1, -half])
         self.assertEqual(self.fits(lambda: A.ewise_add(A)).to_list(), [2 * half - 2, LEAST])
-        self.assertEqual(self.fits(lambda: A.apply('plus', right=Fraction(half, 100))).to_list(), [MOST, 0])
+        self.assertEqual(self.fits(lambda: A.apply('plus', right=Fraction(half, 100))).to_list(),
+                         [MOST, 0])
         sparse = self.s.from_coo([0, 1, 2], [0, 1, 2], [4e16, 4e16, 4e16], 100, 100, scale=100)
         self.assertEqual(self.fits(sparse.reduce_rowwise).to_list(0)[:4], [4 * 10 ** 18] * 3 + [0])
-        self.assertEqual(self.fits(sparse.reduce_columnwise).to_list(0)[:4], [4 * 10 ** 18] * 3 + [0])
+        self.assertEqual(self.fits(sparse.reduce_columnwise).to_list(0)[:4],
+                         [4 * 10 ** 18] * 3 + [0])
         ones = self.s.from_coo([0, 1, 2], [0, 1, 2], [1, 1, 1], 100, 100, scale=2)
-        self.assertEqual(self.fits(lambda: sparse.mxm(ones)).to_dict(), {(k, k): 8 * 10 ** 18 for k in range(3)})
+        self.assertEqual(self.fits(lambda: sparse.mxm(ones)).to_dict(),
+                         {(k, k): 8 * 10 ** 18 for k in range(3)})
         skewed = made(self.s, [8 * 10 ** 18] + [1] * 50, shape=(1, 51))
         self.assertEqual(self.fits(skewed.reduce_rowwise).to_list(), [8 * 10 ** 18 + 50])
 
@@ -96,7 +113,8 @@ class Jobs(Case):
         before = self.s.runs, self.s.jobs
         B = A.ewise_add(A).apply('times', right=3).select('>', 1).ewise_mult(A)
         C = A.mxm(A)
-        self.assertEqual((self.s.runs, self.s.jobs - before[1]), (before[0] + self.s.runs - before[0], 5))
+        self.assertEqual((self.s.runs, self.s.jobs - before[1]),
+                         (before[0] + self.s.runs - before[0], 5))
         self.assertLessEqual(self.s.runs - before[0], 3)      # those of jobs whose operands wait
         self.assertEqual((B.unit, C.unit), (10000, 10000))
 
@@ -117,8 +135,10 @@ class Jobs(Case):
 
     def test_what_has_no_unit_is_not_looked_at(self):
         A = made(self.s, [5 * 10 ** 18, 7])
-        for call in (lambda: A.ewise_mult(A, 'lt'), lambda: A.mxm(A.T, 'plus_pair'), lambda: A.apply(lambda x: x * x), lambda: A.reduce_rowwise('count'),
-                     lambda: A.ewise_add(A, 'min'), lambda: A.mxm(A.T, 'max_min'), lambda: A.select('>', 0), lambda: A.T, lambda: A.dup()):
+        for call in (lambda: A.ewise_mult(A, 'lt'), lambda: A.mxm(A.T, 'plus_pair'),
+                     lambda: A.apply(lambda x: x * x), lambda: A.reduce_rowwise('count'),
+                     lambda: A.ewise_add(A, 'min'), lambda: A.mxm(A.T, 'max_min'),
+                     lambda: A.select('>', 0), lambda: A.T, lambda: A.dup()):
             self.fits(call)
 
     def test_advice_has_room(self):
@@ -128,16 +148,21 @@ class Jobs(Case):
         B = A.rescale(100, exact=False)
         self.fits(lambda: B.ewise_mult(B.apply('ainv'), 'minus'))
         C = made(self.s, [5 * 10 ** 11, 7], 1000)
-        self.assertIn('write A.rescale(1, exact=False) and B.rescale(1, exact=False)', self.may_wrap(lambda: C.ewise_mult(C)))
+        self.assertIn('write A.rescale(1, exact=False) and B.rescale(1, exact=False)',
+                      self.may_wrap(lambda: C.ewise_mult(C)))
         self.fits(lambda: C.rescale(1, exact=False).ewise_mult(C.rescale(1, exact=False)))
 
     def test_units_beyond_64_bits(self):
         A = made(self.s, [10 ** 9], 10 ** 9)
-        with self.assertRaisesRegex(ValueError, r'1/1000000000\^3, of which 64 bits hold no 1: write A\.rescale\(1000000, exact=False\)\.power\(3\)'):
+        with self.assertRaisesRegex(ValueError,
+                                    r'1/1000000000\^3, of which 64 bits hold no 1: write '
+                                    r'A\.rescale\(1000000, exact=False\)\.power\(3\)'):
             A.power(3)
         self.assertEqual(A.rescale(10 ** 6, exact=False).power(3).to_edgelist(), [(0, 0, 1.0)])
         self.assertEqual(self.fits(lambda: A.power(3, 'min_plus')).to_edgelist(), [(0, 0, 3.0)])
-        with self.assertRaisesRegex(ValueError, r'64 bits hold no 1 .*write A\.rescale\(1000, exact=False\) and B\.rescale\(1000, exact=False\)'):
+        with self.assertRaisesRegex(ValueError,
+                                    r'64 bits hold no 1 .*write A\.rescale\(1000, exact=False\) '
+                                    r'and B\.rescale\(1000, exact=False\)'):
             A.ewise_mult(A).ewise_mult(A)
         self.assertIsNone(self.warned(lambda: A.mxm(A).mxm(A)))
 
@@ -145,11 +170,15 @@ class Jobs(Case):
         edges = [('A', 'B', 5e16), ('A', 'B', 5e16), ('B', 'A', 1)]
         with blocks.Sessions(2) as many:
             for session in (self.s, many):
-                with self.assertRaisesRegex(ValueError, 'row 0, column 1 add up to a number beyond 64 bits in parts of 1/100'):
+                with self.assertRaisesRegex(ValueError,
+                                            'row 0, column 1 add up to a number beyond 64 bits '
+                                            'in parts of 1/100'):
                     session.from_edgelist(edges, scale=100, dup_op='plus')
                 with self.assertRaisesRegex(ValueError, 'beyond 64 bits'):
                     session.from_coo([0, 0], [0, 0], [5e16, 5e16], scale=100, dup_op='plus')
-                self.assertEqual(session.from_edgelist(edges, scale=10, dup_op='plus').to_edgelist(), [('A', 'B', 1e17), ('B', 'A', 1.0)])
+                self.assertEqual(session.from_edgelist(edges, scale=10,
+                                                       dup_op='plus').to_edgelist(),
+                                 [('A', 'B', 1e17), ('B', 'A', 1.0)])
         market = b'%%MatrixMarket matrix coordinate real general\n1 1 2\n1 1 5e16\n1 1 5e16\n'
         with self.assertRaisesRegex(ValueError, 'beyond 64 bits'):
             self.s.mmread(io.BytesIO(market), scale=100, dup_op='plus')
@@ -157,10 +186,12 @@ class Jobs(Case):
     def test_blocks(self):
         with blocks.Sessions(2) as many:
             A = made(many, [5 * 10 ** 18, 7, 5 * 10 ** 18, 5 * 10 ** 18], shape=(2, 2))
-            for call in (lambda: A.ewise_add(A), lambda: A.mxm(A), lambda: A.reduce_columnwise(associative=True)):
+            for call in (lambda: A.ewise_add(A), lambda: A.mxm(A),
+                         lambda: A.reduce_columnwise(associative=True)):
                 self.assertIn('beyond 64 bits', self.may_wrap(call))
             B = made(many, [5, 7, 5, 5], shape=(2, 2))
-            self.assertEqual(self.fits(lambda: B.mxm(B)).to_dict(), {(0, 0): 60, (0, 1): 70, (1, 0): 50, (1, 1): 60})
+            self.assertEqual(self.fits(lambda: B.mxm(B)).to_dict(),
+                             {(0, 0): 60, (0, 1): 70, (1, 0): 50, (1, 1): 60})
 
     def test_prices_and_loops(self):
         A = self.s.from_coo([0, 0], [0, 1], [5, 7], 2, 2)
@@ -187,14 +218,21 @@ class Means(Case):
         with blocks.Sessions(2) as many:
             for session, unit in ((self.s, 1), (self.s, 100), (many, 1)):
                 for _ in range(6):
-                    stored = [chance.choice((MOST, LEAST, 2 ** 62, -2 ** 62, chance.randrange(LEAST, MOST), chance.randrange(-9, 9))) for _ in range(15)]
-                    A = session.from_coo([k // 5 for k in range(15)], [k % 5 for k in range(15)], stored)
+                    stored = [chance.choice((MOST, LEAST, 2 ** 62, -2 ** 62,
+                                             chance.randrange(LEAST, MOST),
+                                             chance.randrange(-9, 9))) for _ in range(15)]
+                    A = session.from_coo([k // 5 for k in range(15)], [k % 5 for k in range(15)],
+                                         stored)
                     A.unit = unit
-                    for found, rows in ((A.reduce_rowwise('mean'), [stored[5 * i:5 * i + 5] for i in range(3)]),
-                                        (A.reduce_columnwise('mean'), [stored[j::5] for j in range(5)])):
-                        apart = [abs(Fraction(x) / found.unit - Fraction(sum(row), len(row)) / unit) for x, row in zip(found.to_list(), rows)]
+                    for found, rows in ((A.reduce_rowwise('mean'),
+                                         [stored[5 * i:5 * i + 5] for i in range(3)]),
+                                        (A.reduce_columnwise('mean'),
+                                         [stored[j::5] for j in range(5)])):
+                        apart = [abs(Fraction(x) / found.unit - Fraction(sum(row), len(row)) / unit)
+                                 for x, row in zip(found.to_list(), rows)]
                         self.assertLessEqual(max(apart), Fraction(1, 2) / found.unit)
-                    self.assertEqual(A.reduce_scalar('mean'), float(Fraction(sum(stored), 15) / unit))
+                    self.assertEqual(A.reduce_scalar('mean'),
+                                     float(Fraction(sum(stored), 15) / unit))
 
 
 class Algorithms(Case):

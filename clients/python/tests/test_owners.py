@@ -1,4 +1,5 @@
-"""A name at the server has one owner: no matrix changes while somebody holds it, and names that a caller gives are those of one matrix."""
+"""A name at the server has one owner: no matrix changes while somebody holds it, and names that a
+caller gives are those of one matrix."""
 import gc
 import os
 import random
@@ -29,7 +30,8 @@ class Constants(unittest.TestCase):
     def test_the_state_is_the_callers_matrix(self):
         with spmat.Session() as s:
             K, X = s.from_triples([(0, 0, 7), (1, 1, 8)], 2, 2), s.from_triples([(0, 0, 1)], 2, 2)
-            loop = spmat.loop(lambda x: {'front': x.front.ewise_add(x.base, 'max'), 'base': K, 'same': x.base}, {'front': X, 'base': X, 'same': X})
+            loop = spmat.loop(lambda x: {'front': x.front.ewise_add(x.base, 'max'), 'base': K,
+                                         'same': x.base}, {'front': X, 'base': X, 'same': X})
             loop.advance(3)
             self.assertIs(loop.state.base, K)
             self.assertIs(loop.state.same, K)
@@ -42,21 +44,25 @@ class Constants(unittest.TestCase):
         """The loop's state holds it then."""
         with spmat.Session() as s:
             X = s.full(2, 2, 1)
-            loop = spmat.loop((lambda K: lambda x: {'a': x.a.ewise_add(x.b, 'max'), 'b': K})(s.full(2, 2, 7)), {'a': X, 'b': X})
+            loop = spmat.loop((lambda K: lambda x: {'a': x.a.ewise_add(x.b, 'max'),
+                                                    'b': K})(s.full(2, 2, 7)), {'a': X, 'b': X})
             loop.advance(2)
             state = loop.state
             del loop
             held = busy(s)
-            self.assertEqual((state.a.to_coo(arrays=False)[2], state.b.to_coo(arrays=False)[2], len(held)), ([7] * 4, [7] * 4, 24))
+            self.assertEqual((state.a.to_coo(arrays=False)[2], state.b.to_coo(arrays=False)[2],
+                              len(held)), ([7] * 4, [7] * 4, 24))
 
     def test_on_budgets(self):
         """Where some rounds go by trips and others by the step."""
         D = [(0, 0, 7), (1, 1, 8), (2, 2, 9)]
-        X, Y = [(0, 0, 1), (0, 1, 1), (0, 2, 1)], [(2, 0, 1), (2, 1, 1), (2, 2, 1), (1, 0, 1), (1, 2, 1)]
+        X, Y = [(0, 0, 1), (0, 1, 1), (0, 2, 1)], [(2, 0, 1), (2, 1, 1), (2, 2, 1), (1, 0, 1),
+                                                   (1, 2, 1)]
         for steps in range(20, 130, 5):
             with spmat.Session(steps=steps) as s:
                 K = s.from_triples(D, 3, 3)
-                loop = spmat.loop(lambda x: {'X': x.X.ewise_add(x.Y, 'any'), 'Y': K},          # pylint: disable=cell-var-from-loop
+                # pylint: disable-next=cell-var-from-loop
+                loop = spmat.loop(lambda x: {'X': x.X.ewise_add(x.Y, 'any'), 'Y': K},
                                   {'X': s.from_triples(X, 3, 3), 'Y': s.from_triples(Y, 3, 3)})
                 for rounds in (4, 1, 4):
                     try:
@@ -76,7 +82,8 @@ class Constants(unittest.TestCase):
         """A matrix of the state that is asked for amid a trip, and again behind it."""
         with spmat.Session() as s:
             X = s.full(1, 1, 1)
-            loop = spmat.loop(lambda x: {'x': x.x.apply('plus', right=1), 'two': x.two}, {'x': X, 'two': s.full(1, 1, 2)})
+            loop = spmat.loop(lambda x: {'x': x.x.apply('plus', right=1), 'two': x.two},
+                              {'x': X, 'two': s.full(1, 1, 2)})
             states = []
 
             def each(number, counts):
@@ -96,7 +103,9 @@ class Owners(support.InSession):
         first = names.ServerHandle(backend, (1, 1))
         self.assertNotEqual(first.key, names.ServerHandle(backend, (1, 1)).key)
         taken = names.ServerHandle(backend, (1, 1), wished='taken')
-        self.assertEqual(('taken', False), (taken.key, names.ServerHandle(backend, (1, 1), wished='taken').key == 'taken'))
+        self.assertEqual(('taken', False),
+                         (taken.key, names.ServerHandle(backend, (1, 1), wished='taken').key
+                          == 'taken'))
 
     def test_a_matrix_of_an_owner_goes(self):
         """The name is given back when the last one goes."""
@@ -105,7 +114,8 @@ class Owners(support.InSession):
         other, key = A.T, T.handle.key
         del T
         held = busy(self.s)
-        self.assertEqual((other.handle.key, other.to_triples(), len(held)), (key, [(0, 1, 6), (1, 0, 5)], 24))
+        self.assertEqual((other.handle.key, other.to_triples(), len(held)),
+                         (key, [(0, 1, 6), (1, 0, 5)], 24))
         back = other.T
         del A, held
         busy(self.s)
@@ -132,7 +142,8 @@ class Named(unittest.TestCase):
             mine = s.ones(3)
             mine.nodes = ['a', 'b', 'c']
             mine.name = 'mine'
-            self.assertEqual((s.ones(3).nodes, s.full(1, 3, 5).ewise_mult(s.ones(3)).by_node()), (None, {0: 5, 1: 5, 2: 5}))
+            self.assertEqual((s.ones(3).nodes, s.full(1, 3, 5).ewise_mult(s.ones(3)).by_node()),
+                             (None, {0: 5, 1: 5, 2: 5}))
             self.assertEqual(mine.by_node(), {'a': 1, 'b': 1, 'c': 1})
             one = s.ones(1)
             one.nodes = ['z']
@@ -142,7 +153,8 @@ class Named(unittest.TestCase):
     def test_ones_cost_one_upload(self):
         with spmat.Session() as s:
             held, before = s.ones(7), s.connection.commands
-            self.assertEqual((s.ones(7).shape, held.shape, s.connection.commands), ((1, 7), (1, 7), before))
+            self.assertEqual((s.ones(7).shape, held.shape, s.connection.commands),
+                             ((1, 7), (1, 7), before))
 
     def test_transposes(self):
         for s in self.each():
@@ -150,43 +162,52 @@ class Named(unittest.TestCase):
             T = G.T
             T.nodes = ['x', 'y', 'z']
             self.assertEqual((G.nodes, G.T.nodes, G.T.T.nodes, T.nodes, T.T.nodes),
-                             (['a', 'b', 'c'], ['a', 'b', 'c'], ['a', 'b', 'c'], ['x', 'y', 'z'], ['x', 'y', 'z']))
+                             (['a', 'b', 'c'], ['a', 'b', 'c'], ['a', 'b', 'c'], ['x', 'y', 'z'],
+                              ['x', 'y', 'z']))
             self.assertEqual(algorithms.degrees(G.T).by_node(), {'b': 1, 'c': 1})
             G.nodes = ['c', 'a', 'b']
-            self.assertEqual((G.T.to_edgelist(), T.to_edgelist()), ([('a', 'c', 3), ('b', 'a', 4)], [('y', 'x', 3), ('z', 'y', 4)]))
+            self.assertEqual((G.T.to_edgelist(), T.to_edgelist()),
+                             ([('a', 'c', 3), ('b', 'a', 4)], [('y', 'x', 3), ('z', 'y', 4)]))
 
     def test_a_transpose_is_made_once(self):
         with spmat.Session() as s:
             G = s.from_coo([0, 1], [1, 2], [5, 6], 3, 3)
             T, before = G.T, s.connection.commands
-            self.assertEqual((G.T.shape, T.T.shape, s.connection.commands), ((3, 3), (3, 3), before))
+            self.assertEqual((G.T.shape, T.T.shape, s.connection.commands),
+                             ((3, 3), (3, 3), before))
             self.assertIsNot(G.T, T)
             self.assertTrue(G.T.isequal(T))
-            self.assertEqual(algorithms.pagerank(G, GT=G.T).to_list(), algorithms.pagerank(G, GT=T).to_list())
+            self.assertEqual(algorithms.pagerank(G, GT=G.T).to_list(),
+                             algorithms.pagerank(G, GT=T).to_list())
 
     def test_what_algorithms_keep(self):
         """Columns, loops and facts that are kept with a graph."""
         for s in self.each():
             G = s.from_edgelist([('a', 'b', 3), ('b', 'a', 3), ('b', 'c', 4), ('c', 'b', 4)])
-            for kept in (lambda: utils.column(G, 1), lambda: utils.loops(G, 0),          # pylint: disable=cell-var-from-loop
-                         lambda: cached_properties.found(G, 'some', lambda: G.apply('one'))):      # pylint: disable=cell-var-from-loop
+            # pylint: disable=cell-var-from-loop
+            for kept in (lambda: utils.column(G, 1), lambda: utils.loops(G, 0),
+                         lambda: cached_properties.found(G, 'some', lambda: G.apply('one'))):
                 mine = kept()
                 mine.nodes = ['x', 'y', 'z']
                 self.assertEqual((kept().nodes, mine.nodes), (None, ['x', 'y', 'z']))
-                self.assertTrue(kept().isequal(cached_properties.alias(mine, mine.notes._replace(rows=None, columns=None))))
-            turned = cached_properties.transpose_of(s.from_edgelist([('a', 'b', 3), ('b', 'c', 4)]), None, True)
+                self.assertTrue(kept().isequal(
+                    cached_properties.alias(mine, mine.notes._replace(rows=None, columns=None))))
+            turned = cached_properties.transpose_of(s.from_edgelist([('a', 'b', 3), ('b', 'c', 4)]),
+                                                    None, True)
             self.assertEqual(turned.nodes, ['a', 'b', 'c'])
             for call in (algorithms.bfs_levels, algorithms.sssp):
                 found = call(G, 'a')
                 found.nodes = ['x', 'y', 'z']
                 self.assertEqual(call(G, 'a').nodes, ['a', 'b', 'c'])
-            for call in (algorithms.degrees, algorithms.connected_components, algorithms.pagerank, algorithms.clustering, algorithms.core_numbers):
+            for call in (algorithms.degrees, algorithms.connected_components, algorithms.pagerank,
+                         algorithms.clustering, algorithms.core_numbers):
                 found = call(G)
                 found.nodes = ['x', 'y', 'z']
                 self.assertEqual(call(G).nodes, ['a', 'b', 'c'], call.__name__)
 
     def test_what_a_graph_is_known_to_be(self):
-        """Facts are of entries: the transpose of a transpose has those that were found out before."""
+        """Facts are of entries: the transpose of a transpose has those that were found out
+        before."""
         with spmat.Session() as s:
             G = s.from_edgelist([('a', 'b', 3), ('b', 'c', 4)])
             self.assertFalse(cached_properties.is_both_ways(G))
@@ -201,12 +222,15 @@ class Named(unittest.TestCase):
             back = T.T
             ones = s.ones(2)
             ones.name = 'ones'
-            self.assertEqual({name: matrix.nodes for name, matrix in s.backend.names.named().items()}, {'G': ['a', 'b'], 'ones': None})
+            self.assertEqual({name: matrix.nodes
+                              for name, matrix in s.backend.names.named().items()},
+                             {'G': ['a', 'b'], 'ones': None})
             self.assertEqual((back.nodes, len(s.ones(2).to_list())), (['x', 'y'], 2))
 
 
 class Drawn:
-    """A step of random jobs on three matrices and two from outside: its results are made, or parts of the state, or from outside."""
+    """A step of random jobs on three matrices and two from outside: its results are made, or parts
+    of the state, or from outside."""
 
     NAMES = 'abc'
     OPS = ('max', 'min', 'plus', 'first', 'bxor')
@@ -215,19 +239,23 @@ class Drawn:
         draw = random.Random(seed)
         self.sides = draw.choice([(1, 1), (1, 4), (3, 3)])
         self.texts = [self.entries(draw) for _ in range(5)]
-        self.rounds = [[self.source(draw) for _ in self.NAMES] for _ in range(draw.choice([1, 1, 2, 3]))]
+        self.rounds = [[self.source(draw) for _ in self.NAMES]
+                       for _ in range(draw.choice([1, 1, 2, 3]))]
         self.lengths = [draw.randint(1, 6) for _ in range(4)]
         self.looks = [draw.random() < .5 for _ in range(4)]
         self.steps = draw.choice([None, None, draw.randint(60, 600)])
 
     def entries(self, draw):
-        places = [(i, j) for i in range(self.sides[0]) for j in range(self.sides[1]) if draw.random() < .7]
+        places = [(i, j) for i in range(self.sides[0]) for j in range(self.sides[1])
+                  if draw.random() < .7]
         return [(i, j, draw.randint(-9, 9)) for i, j in places]
 
     def source(self, draw):
         given = ('state', draw.choice(self.NAMES))
-        one, kind = draw.choice([('state', draw.choice(self.NAMES)), ('outside', draw.randrange(2))]), draw.random()
-        return one if kind < .4 else ('union', draw.choice(self.OPS), given, one) if kind < .7 else ('number', draw.choice(self.OPS), given)
+        one, kind = draw.choice([('state', draw.choice(self.NAMES)),
+                                 ('outside', draw.randrange(2))]), draw.random()
+        return (one if kind < .4 else ('union', draw.choice(self.OPS), given, one) if kind < .7
+                else ('number', draw.choice(self.OPS), given))
 
     def begin(self, session):
         """The matrices from outside and the state."""
@@ -245,12 +273,14 @@ class Drawn:
             return value(x, source[2], k).apply(source[1], right=k % 4)
 
         def step(x, k):
-            return {name: value(x, source, k) for name, source in zip(self.NAMES, self.rounds[k % len(self.rounds)])}
+            return {name: value(x, source, k)
+                    for name, source in zip(self.NAMES, self.rounds[k % len(self.rounds)])}
         return step
 
 
 class Aliasing(unittest.TestCase):
-    """Random loops beside rounds by hand, with names poisoned: each matrix that anybody holds stays what it was."""
+    """Random loops beside rounds by hand, with names poisoned: each matrix that anybody holds stays
+    what it was."""
 
     def compare(self, seed):
         drawn = Drawn(seed)
@@ -277,7 +307,8 @@ class Aliasing(unittest.TestCase):
             held += [(matrix, now[name].to_dict()) for name, matrix in loop.state.items()]
             del loop
             gc.collect()
-            self.assertEqual([matrix.to_dict() for matrix, _ in held], [want for _, want in held], seed)
+            self.assertEqual([matrix.to_dict() for matrix, _ in held], [want for _, want in held],
+                             seed)
             return s.backend.names._count
 
     def test_random_loops(self):
@@ -293,12 +324,15 @@ class Aliasing(unittest.TestCase):
                 outside, state = drawn.begin(s)
                 K, X = outside[0], state['a']
                 want = K.to_dict(), X.to_dict()
-                step = (lambda x: K, lambda x: x, lambda x: x.ewise_add(K, 'max'), lambda x: K.ewise_add(x, 'min'))[seed % 4]      # pylint: disable=cell-var-from-loop
+                # pylint: disable-next=cell-var-from-loop
+                step = (lambda x: K, lambda x: x, lambda x: x.ewise_add(K, 'max'),
+                        lambda x: K.ewise_add(x, 'min'))[seed % 4]
                 got = spmat.fixpoint(X, step)
                 here = got.to_dict()
                 self.assertTrue(step(got).isequal(got))
                 held = [s.full(*drawn.sides, 70 + k).apply('ainv').wait() for k in range(6)]
-                self.assertEqual((K.to_dict(), X.to_dict(), got.to_dict(), len(held)), (*want, here, 6), seed)
+                self.assertEqual((K.to_dict(), X.to_dict(), got.to_dict(), len(held)),
+                                 (*want, here, 6), seed)
 
 
 class Poisoned(unittest.TestCase):
@@ -306,11 +340,13 @@ class Poisoned(unittest.TestCase):
 
     def run_with(self, text):
         env = dict(os.environ, **{POISONED: '1', 'PYTHONPATH': support.CLIENT})
-        done = subprocess.run([sys.executable, '-c', text], env=env, stdout=subprocess.PIPE, stderr=subprocess.STDOUT, check=False, timeout=100)
+        done = subprocess.run([sys.executable, '-c', text], env=env, stdout=subprocess.PIPE,
+                              stderr=subprocess.STDOUT, check=False, timeout=100)
         return done.returncode, done.stdout.decode()
 
     def test_a_name_that_was_given_back(self):
-        """One that is read all the same is no matrix that was ever made; and no other gets the name."""
+        """One that is read all the same is no matrix that was ever made; and no other gets the
+        name."""
         status, said = self.run_with('''
 import spmat
 with spmat.Session() as s:
@@ -326,7 +362,8 @@ with spmat.Session() as s:
     D = B.apply('abs')
     print(D.to_list(), s.connection.command('show ' + key).body.split(b'\\n')[1].decode())
 ''')
-        self.assertEqual((status, said.split('\n')[:2]), (0, ['True 3 16777213 2', '[8, 8] 3 16777213 2']))
+        self.assertEqual((status, said.split('\n')[:2]),
+                         (0, ['True 3 16777213 2', '[8, 8] 3 16777213 2']))
 
     def test_off_as_a_rule(self):
         if not os.environ.get(POISONED):
@@ -334,7 +371,8 @@ with spmat.Session() as s:
                 A = s.full(2, 2, 7)
                 key = A.handle.key
                 del A
-                self.assertEqual((s.full(2, 2, 8).handle.key, s.backend.names.poisons), (key, False))
+                self.assertEqual((s.full(2, 2, 8).handle.key, s.backend.names.poisons),
+                                 (key, False))
 
 
 if __name__ == '__main__':

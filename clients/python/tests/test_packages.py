@@ -1,4 +1,5 @@
-"""What is installed: pyproject.toml names each folder of the package, and what it needs; Debian's packages need the same."""
+"""What is installed: pyproject.toml names each folder of the package, and what it needs; Debian's
+packages need the same."""
 import os
 import re
 import sys
@@ -14,7 +15,8 @@ import support
 
 def list_folders():
     """The packages as they lie in folders, with dots."""
-    held = [folder for folder, _, files in os.walk(os.path.join(support.CLIENT, 'spmat')) if '__init__.py' in files]
+    held = [folder for folder, _, files in os.walk(os.path.join(support.CLIENT, 'spmat'))
+            if '__init__.py' in files]
     return sorted(os.path.relpath(folder, support.CLIENT).replace(os.sep, '.') for folder in held)
 
 
@@ -26,13 +28,16 @@ def read_project():
 
 def list_packages():
     """The packages that pyproject.toml names."""
-    return sorted(re.findall(r'"([^"]+)"', re.search(r'^packages = \[(.*?)\]', read_project(), re.M | re.S).group(1)))
+    return sorted(re.findall(r'"([^"]+)"', re.search(r'^packages = \[(.*?)\]', read_project(),
+                                                     re.M | re.S).group(1)))
 
 
 def read_extras():
     """The extras of pyproject.toml, and what each wants, without versions."""
-    table = re.search(r'^\[project\.optional-dependencies\]\n(.*?)\n\n', read_project(), re.M | re.S).group(1)
-    return {name: [re.match(r'[\w-]+(\[[\w,-]+\])?', want).group() for want in re.findall(r'"([^"]+)"', wants)]
+    table = re.search(r'^\[project\.optional-dependencies\]\n(.*?)\n\n', read_project(),
+                      re.M | re.S).group(1)
+    return {name: [re.match(r'[\w-]+(\[[\w,-]+\])?', want).group()
+                   for want in re.findall(r'"([^"]+)"', wants)]
             for name, wants in re.findall(r'^(\w+) = \[(.*)\]$', table, re.M)}
 
 
@@ -52,20 +57,28 @@ class Packages(unittest.TestCase):
 
     def test_all_is_every_extra(self):
         found = read_extras()
-        self.assertEqual(found['all'], ['spmat[%s]' % ','.join(name for name in found if name not in ('all', 'arrays', 'graphs'))])
+        self.assertEqual(found['all'],
+                         ['spmat[%s]' % ','.join(name for name in found
+                                                 if name not in ('all', 'arrays', 'graphs'))])
 
     def test_names_of_1_0(self):
         found = read_extras()
-        self.assertEqual([found['arrays'], found['graphs']], [['spmat[scipy]'], ['spmat[networkx]']])
+        self.assertEqual([found['arrays'], found['graphs']],
+                         [['spmat[scipy]'], ['spmat[networkx]']])
         self.assertLessEqual({'pictures', 'dask'}, set(found))
 
-    @unittest.skipUnless(os.path.isdir(os.path.join(support.TOP, 'packaging')), 'an installed client has no packaging')
+    @unittest.skipUnless(os.path.isdir(os.path.join(support.TOP, 'packaging')),
+                         'an installed client has no packaging')
     def test_debian_recommends_the_same(self):
-        with open(os.path.join(support.TOP, 'packaging', 'debian', 'control'), encoding='utf-8') as file:
+        with open(os.path.join(support.TOP, 'packaging', 'debian', 'control'),
+                  encoding='utf-8') as file:
             fields = file.read().split('Package: python3-spmat\n')[1].split('Description:')[0]
         self.assertRegex(fields, r'(?m)^Depends: .*\bpython3-numpy$')
-        recommended = set(re.findall(r'[\w-]+', re.search(r'^Recommends: (.*?)^\w', fields, re.M | re.S).group(1)))
-        self.assertLessEqual({extra.debian for extra in extras.EXTRAS.values() if extra.debian}, recommended)
+        recommended = set(re.findall(r'[\w-]+',
+                                     re.search(r'^Recommends: (.*?)^\w', fields,
+                                               re.M | re.S).group(1)))
+        self.assertLessEqual({extra.debian for extra in extras.EXTRAS.values() if extra.debian},
+                             recommended)
 
 
 class Missing(unittest.TestCase):
@@ -77,8 +90,10 @@ class Missing(unittest.TestCase):
         self.addCleanup(extras.EXTRAS.pop, 'no_such_module')
         with self.assertRaises(ImportError) as raised:
             extras.import_extra('no_such_module.part', 'a picture')
-        self.assertEqual(str(raised.exception), 'a picture needs no_such_module (extra files): pip install no-such-project, or on Debian '
-                                                "apt install python3-none (No module named 'no_such_module')")
+        self.assertEqual(str(raised.exception),
+                         'a picture needs no_such_module (extra files): pip install '
+                         'no-such-project, or on Debian '
+                         "apt install python3-none (No module named 'no_such_module')")
         self.assertEqual(raised.exception.name, 'no_such_module')
 
     def test_parquet_without_an_engine(self):
@@ -86,9 +101,13 @@ class Missing(unittest.TestCase):
         with spmat.Session() as s, tempfile.TemporaryDirectory() as folder:
             G, path = s.from_edgelist([('a', 'b', 1)]), os.path.join(folder, 'x.parquet')
             hidden = {name: None for name in ('pyarrow', 'fastparquet')}
-            with mock.patch.dict(sys.modules, hidden), mock.patch('importlib.util.find_spec', lambda name: None):
-                for call in (lambda: G.to_parquet(path), lambda: G.reduce_rowwise().to_parquet(path)):
-                    with self.assertRaisesRegex(ImportError, r'^to_parquet needs pyarrow \(extra parquet\): pip install pyarrow \(') as raised:
+            with mock.patch.dict(sys.modules, hidden), \
+                    mock.patch('importlib.util.find_spec', lambda name: None):
+                for call in (lambda: G.to_parquet(path),
+                             lambda: G.reduce_rowwise().to_parquet(path)):
+                    with self.assertRaisesRegex(ImportError,
+                                                r'^to_parquet needs pyarrow \(extra parquet\): '
+                                                r'pip install pyarrow \(') as raised:
                         call()
                     self.assertNotIn('\n', str(raised.exception))
             self.assertEqual(os.listdir(folder), [])
@@ -96,13 +115,17 @@ class Missing(unittest.TestCase):
     def test_results_for_packages_that_are_missing(self):
         with spmat.Session() as s:
             G = s.from_edgelist([('a', 'b', 1)])
-            for module, call in (('pandas', G.to_pandas), ('pandas', G.to_pandas_edgelist), ('networkx', G.to_networkx), ('scipy.sparse', G.to_scipy_sparse)):
+            for module, call in (('pandas', G.to_pandas), ('pandas', G.to_pandas_edgelist),
+                                 ('networkx', G.to_networkx), ('scipy.sparse', G.to_scipy_sparse)):
                 with self.subTest(module=module), mock.patch.dict(sys.modules, {module: None}):
-                    with self.assertRaisesRegex(ImportError, r'^to_\w+ needs %s \(extra \w+\): pip install' % module.partition('.')[0]):
+                    with self.assertRaisesRegex(ImportError,
+                                                r'^to_\w+ needs %s \(extra \w+\): pip install'
+                                                % module.partition('.')[0]):
                         call()
 
     def test_without_a_package_of_debian(self):
-        self.assertEqual(extras.describe_missing('pyarrow', 'parquet'), 'parquet needs pyarrow (extra parquet): pip install pyarrow')
+        self.assertEqual(extras.describe_missing('pyarrow', 'parquet'),
+                         'parquet needs pyarrow (extra parquet): pip install pyarrow')
 
 
 if __name__ == '__main__':

@@ -1,4 +1,5 @@
-"""The first lines of the READMEs, the client's and the repository's: what they print is what is said."""
+"""The first lines of the READMEs, the client's and the repository's: what they print is what is
+said."""
 import contextlib
 import io
 import os
@@ -26,7 +27,8 @@ class Page(unittest.TestCase):
     def blocks(self, folder=os.path.join('clients', 'python')):
         with open(os.path.join(support.TOP, folder, 'README.md'), encoding='utf-8') as file:
             page = file.read()
-        return [re.sub('^    ', '', block, flags=re.M) for block in re.findall(r'(?:^    .*\n)+', page, re.M)]
+        return [re.sub('^    ', '', block, flags=re.M)
+                for block in re.findall(r'(?:^    .*\n)+', page, re.M)]
 
     def printed(self, lines):
         said = io.StringIO()
@@ -42,7 +44,8 @@ class Page(unittest.TestCase):
 
     def test_what_it_prints(self):
         blocks = self.blocks()
-        pairs = [(lines, said) for lines, said in zip(blocks, blocks[1:]) if lines.startswith('import') and 'print(' in lines]
+        pairs = [(lines, said) for lines, said in zip(blocks, blocks[1:])
+                 if lines.startswith('import') and 'print(' in lines]
         self.assertGreaterEqual(len(pairs), 2)
         for lines, said in pairs:
             if not lines.startswith('import networkx') or has_backends():
@@ -50,12 +53,16 @@ class Page(unittest.TestCase):
         self.assertLessEqual(pairs[0][0].count('\n'), 10)
 
     def test_first_command(self):
-        """What a newcomer runs first, by the plain server: within ten seconds on a machine that does nothing else."""
+        """What a newcomer runs first, by the plain server: within ten seconds on a machine that
+        does nothing else."""
         blocks = self.blocks('.')
-        command, said = next(pair for pair in zip(blocks, blocks[1:]) if pair[0].startswith('PYTHONPATH='))
+        command, said = next(pair for pair in zip(blocks, blocks[1:])
+                             if pair[0].startswith('PYTHONPATH='))
         begun = time.process_time() + sum(os.times()[2:4])
-        path = os.pathsep.join([os.path.dirname(sys.executable), os.environ['PATH']])      # this Python is the one that has numpy
-        done = subprocess.run(['sh', '-c', command], cwd=support.TOP, env={**os.environ, 'PATH': path}, stdout=subprocess.PIPE, check=True,
+        # this Python is the one that has numpy
+        path = os.pathsep.join([os.path.dirname(sys.executable), os.environ['PATH']])
+        done = subprocess.run(['sh', '-c', command], cwd=support.TOP,
+                              env={**os.environ, 'PATH': path}, stdout=subprocess.PIPE, check=True,
                               timeout=100)
         self.assertEqual(done.stdout.decode(), said)
         self.assertLess(time.process_time() + sum(os.times()[2:4]) - begun, 10)
@@ -67,10 +74,12 @@ class Page(unittest.TestCase):
 
     def test_refusal(self):
         blocks = self.blocks()
-        lines, said = next(pair for pair in zip(blocks, blocks[1:]) if pair[1].startswith('spmat.errors'))
+        lines, said = next(pair for pair in zip(blocks, blocks[1:])
+                           if pair[1].startswith('spmat.errors'))
         with self.assertRaises(spmat.OperatorRefused) as fault:
             self.printed(lines)
-        self.assertEqual('spmat.errors.OperatorRefused: %s' % fault.exception, ' '.join(said.split()))
+        self.assertEqual('spmat.errors.OperatorRefused: %s' % fault.exception,
+                         ' '.join(said.split()))
 
 
 if __name__ == '__main__':

@@ -15,24 +15,30 @@ class Digits(unittest.TestCase):
     def test_numbers(self):
         """Every length and both signs, in texts that are read at once, and by parts."""
         random_ = random.Random(3)
-        ends = [0, 9, 10, 99999999, 100000000, 10 ** 16 - 1, 10 ** 16, 10 ** 17 + 1, 2 ** 63 - 1, -2 ** 63, -1, -10 ** 8, -99999999]
+        ends = [0, 9, 10, 99999999, 100000000, 10 ** 16 - 1, 10 ** 16, 10 ** 17 + 1, 2 ** 63 - 1,
+                -2 ** 63, -1, -10 ** 8, -99999999]
         for many in (0, 1, 5, 2000, 9000, 60000):
-            made = [(random_.randrange(1, 1 << random_.randrange(1, 25)), random_.randrange(1, 1 << 24),
-                     random_.choice(ends) if k % 7 == 0 else random_.randrange(-1 << random_.randrange(1, 63), 1 << 40)) for k in range(many)]
+            made = [(random_.randrange(1, 1 << random_.randrange(1, 25)),
+                     random_.randrange(1, 1 << 24), random_.choice(ends) if k % 7 == 0
+                     else random_.randrange(-1 << random_.randrange(1, 63), 1 << 40))
+                    for k in range(many)]
             text = b''.join(b'%d %d %d\n' % line for line in made)
             for wanted in ((0, 1, 2), (1, 2), (2,), (1,), (0,)):
                 got = parse_integers.fields(text, wanted)
-                self.assertEqual([one.tolist() for one in got], [[line[field] for line in made] for field in wanted])
+                self.assertEqual([one.tolist() for one in got],
+                                 [[line[field] for line in made] for field in wanted])
 
     def test_short_chunks(self):
         text = b''.join(b'%d %d %d\n' % (k, 7 * k, -k) for k in range(1, 4000))
-        with mock.patch.object(parse_integers, 'CHUNK', 64), mock.patch.object(parse_integers, 'SHORT', 0):
+        with mock.patch.object(parse_integers, 'CHUNK', 64), \
+                mock.patch.object(parse_integers, 'SHORT', 0):
             rows, columns, values = parse_integers.fields(text, (0, 1, 2))
         self.assertEqual((rows.sum(), columns.sum(), values.sum()), (7998000, 55986000, -7998000))
 
 
 class Loading(InSession):
-    """Texts that are shorter: without values where each is 1, and with one triangle where the caller says that the other is alike."""
+    """Texts that are shorter: without values where each is 1, and with one triangle where the
+    caller says that the other is alike."""
 
     def kinds(self):
         return list, numpy.array
@@ -40,13 +46,21 @@ class Loading(InSession):
     def test_ones(self):
         for kind in self.kinds():
             rows, columns = kind([0, 3, 1]), kind([4, 0, 1])
-            for values, bare in ((1, True), (kind([1, 1, 1]), True), (kind([1, 2, 1]), False), (kind([-1, 1, 1]), False)):
+            for values, bare in ((1, True), (kind([1, 1, 1]), True), (kind([1, 2, 1]), False),
+                                 (kind([-1, 1, 1]), False)):
                 A = self.s.from_coo(rows, columns, values, 5, 5)
                 want = [1, 1, 1] if bare else list(values)
-                self.assertEqual(A.to_dict(), {(int(i), int(j)): int(v) for i, j, v in zip(rows, columns, want)})
-            self.assertIn(b'pattern', matrix_text.write(matrix_text.Triples(rows, columns, kind([1, 1, 1]), 5, 5), ones=True))
-            self.assertNotIn(b'pattern', matrix_text.write(matrix_text.Triples(rows, columns, kind([1, 1, 1]), 5, 5)))
-            self.assertNotIn(b'pattern', matrix_text.write(matrix_text.Triples(rows, columns, kind([1, 1, 0]), 5, 5), ones=True))
+                self.assertEqual(A.to_dict(),
+                                 {(int(i), int(j)): int(v) for i, j, v in zip(rows, columns, want)})
+            self.assertIn(b'pattern',
+                          matrix_text.write(matrix_text.Triples(rows, columns, kind([1, 1, 1]), 5,
+                                                                5), ones=True))
+            self.assertNotIn(b'pattern',
+                             matrix_text.write(matrix_text.Triples(rows, columns, kind([1, 1, 1]),
+                                                                   5, 5)))
+            self.assertNotIn(b'pattern',
+                             matrix_text.write(matrix_text.Triples(rows, columns, kind([1, 1, 0]),
+                                                                   5, 5), ones=True))
 
     def test_symmetric(self):
         want = {(0, 1): 5, (1, 0): 5, (3, 2): -6, (2, 3): -6, (4, 4): 7}
@@ -58,10 +72,13 @@ class Loading(InSession):
             with self.assertRaises(spmat.TextRefused) as said:
                 self.s.from_coo(kind([0, 3, 1]), kind([1, 2, 0]), kind([5, -6, 7]), symmetric=True)
             self.assertIn('row 1, column 0 is given as entry 0 and as entry 2', str(said.exception))
-        with self.assertRaisesRegex(ValueError, 'symmetric=True is of a square matrix, not of 2 rows and 3 columns'):
+        with self.assertRaisesRegex(ValueError,
+                                    'symmetric=True is of a square matrix, not of 2 rows and 3 '
+                                    'columns'):
             self.s.from_coo([0], [1], 1, 2, 3, symmetric=True)
         with blocks.Sessions(2) as many:
-            self.assertEqual(many.from_coo([0, 3, 4], [1, 2, 4], [5, -6, 7], symmetric=True).to_dict(), want)
+            self.assertEqual(many.from_coo([0, 3, 4], [1, 2, 4], [5, -6, 7],
+                                           symmetric=True).to_dict(), want)
 
 
 if __name__ == '__main__':

@@ -1,4 +1,5 @@
-"""Prices beforehand: no less than what is spent, and nothing is done for them; what is said where a budget is too small."""
+"""Prices beforehand: no less than what is spent, and nothing is done for them; what is said where a
+budget is too small."""
 import pickle
 import threading
 import unittest
@@ -11,12 +12,17 @@ from spmat import algorithms
 
 class Prices(graphs.OnGraphs):
     def test_bounds(self):
-        """What is spent is no more than the price, in as many jobs; a price takes no step and queues no job."""
+        """What is spent is no more than the price, in as many jobs; a price takes no step and
+        queues no job."""
         def calls(G):
             half = G.select('tril')
-            return (lambda: algorithms.degrees(G), lambda: G.mxm(G).select('triu'), lambda: half.mxm(half, 'plus_pair', mask=half.S),
-                    lambda: G.apply('one').ewise_add(G.select('>=', 5), 'plus').reduce_rowwise('max'), lambda: half.ewise_mult(G, 'min'),
-                    lambda: algorithms.triangle_count(G, check=False), lambda: algorithms.triangles(G, check=False),
+            return (lambda: algorithms.degrees(G), lambda: G.mxm(G).select('triu'),
+                    lambda: half.mxm(half, 'plus_pair', mask=half.S),
+                    lambda: G.apply('one').ewise_add(G.select('>=', 5),
+                                                     'plus').reduce_rowwise('max'),
+                    lambda: half.ewise_mult(G, 'min'),
+                    lambda: algorithms.triangle_count(G, check=False),
+                    lambda: algorithms.triangles(G, check=False),
                     lambda: algorithms.clustering(G, check=False))
 
         def look(_, __, G):
@@ -34,7 +40,8 @@ class Prices(graphs.OnGraphs):
         self.each(graphs.UNDIRECTED, look)
 
     def test_checks(self):
-        """What an algorithm asks of a graph is counted where it isn't known, and nothing is taken for known afterwards."""
+        """What an algorithm asks of a graph is counted where it isn't known, and nothing is taken
+        for known afterwards."""
         G = graphs.UNDIRECTED[3].matrix(self.s)
         priced = spmat.price(lambda: algorithms.triangle_count(G))
         self.assertNotIn('both ways', G.kept)
@@ -49,7 +56,8 @@ class Prices(graphs.OnGraphs):
         priced = spmat.price(lambda: algorithms.bfs_levels(G, 0))
         self.assertFalse(priced.complete)
         self.assertGreater(priced.most, priced.least)
-        self.assertEqual(repr(spmat.price(lambda: G.apply('one'))), '<Price: at least 312, at most 312 steps in 1 job>')
+        self.assertEqual(repr(spmat.price(lambda: G.apply('one'))),
+                         '<Price: at least 312, at most 312 steps in 1 job>')
         self.assertEqual(spmat.price(lambda: G.apply('one')).jobs, [('apply', 2 * G.nvals)])
         with self.assertRaises(ZeroDivisionError):
             spmat.price(lambda: 1 // 0)
@@ -68,7 +76,8 @@ class Prices(graphs.OnGraphs):
 
 class Budgets(unittest.TestCase):
     def test_too_small(self):
-        """The refusal says which algorithm, what it wants, what is left, and what to do, which then works."""
+        """The refusal says which algorithm, what it wants, what is left, and what to do, which then
+        works."""
         graph = graphs.UNDIRECTED[3]
         with spmat.Session(steps=2800) as session, spmat.Session() as other:
             G = graph.matrix(session)
@@ -77,15 +86,19 @@ class Budgets(unittest.TestCase):
                 algorithms.triangle_count(G)
             fault = caught.exception
             self.assertEqual(fault.algorithm, 'triangle_count')
-            self.assertIn('triangle_count wants a job of up to %s steps, and %d are left' % (format(fault.price, ','), fault.left), str(fault))
+            self.assertIn('triangle_count wants a job of up to %s steps, and %d are left'
+                          % (format(fault.price, ','), fault.left), str(fault))
             self.assertIn('adopt', str(fault))
             self.assertEqual(str(pickle.loads(pickle.dumps(fault))), str(fault))
             moved = other.adopt(G)
             self.assertEqual((moved.to_triples(), moved.nodes), (G.to_triples(), G.nodes))
-            self.assertEqual(algorithms.triangle_count(moved), sum(graphs.triangles(graph.near())) // 3)
+            self.assertEqual(algorithms.triangle_count(moved),
+                             sum(graphs.triangles(graph.near())) // 3)
 
     def test_without_algorithm(self):
-        with spmat.Session(steps=3) as session, self.assertRaisesRegex(spmat.BudgetExceeded, 'the price is 18, and 3 are left') as caught:
+        with spmat.Session(steps=3) as session, \
+                self.assertRaisesRegex(spmat.BudgetExceeded,
+                                       'the price is 18, and 3 are left') as caught:
             session.full(3, 3).apply('one').wait()
         self.assertEqual(caught.exception.algorithm, '')
 
@@ -98,7 +111,8 @@ class Budgets(unittest.TestCase):
         """What is said to do about a tolerance that can't be kept is enough."""
         with spmat.Session() as session:
             W = session.from_triples([(0, 1, 1 << 40), (1, 0, 1 << 40)], 2, 2)
-            with self.assertRaisesRegex(ValueError, 'give a tolerance of ([0-9.e-]+) or more') as caught:
+            with self.assertRaisesRegex(ValueError,
+                                        'give a tolerance of ([0-9.e-]+) or more') as caught:
                 algorithms.pagerank(W, weighted=True, tolerance=1e-9)
             least = float(str(caught.exception).split('give a tolerance of ')[1].split()[0])
             self.assertNotIn('decimals', str(caught.exception))

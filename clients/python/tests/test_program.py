@@ -29,7 +29,8 @@ class Order(unittest.TestCase):
 
     def words(self, given=None, own=None, **variables):
         environment = {'PATH': os.path.dirname(shutil.which('sh')), **variables}
-        with mock.patch.dict(os.environ, environment, clear=True), mock.patch.object(server_program, 'carried', lambda: own):
+        with mock.patch.dict(os.environ, environment, clear=True), \
+                mock.patch.object(server_program, 'carried', lambda: own):
             return server_program.program_words(given)
 
     def test_each_comes_before_those_behind_it(self):
@@ -40,7 +41,8 @@ class Order(unittest.TestCase):
         self.assertEqual(self.words(None, None, PATH=self.folder), [found])
 
     def test_a_folder(self):
-        """A folder is no program, but one of the name of a program on the PATH stands in nobody's way."""
+        """A folder is no program, but one of the name of a program on the PATH stands in nobody's
+        way."""
         os.mkdir(os.path.join(self.folder, 'here'))
         os.mkdir(os.path.join(self.folder, 'here', 'own'))
         self.addCleanup(os.chdir, os.getcwd())
@@ -77,13 +79,16 @@ class Carried(unittest.TestCase):
 
     def ran(self, text):
         environment = {'PYTHONPATH': self.folder, 'PATH': os.path.dirname(shutil.which('sh'))}
-        return subprocess.run([sys.executable, '-c', text, 'run', '--steps', '5'], cwd=self.folder, env=environment,
-                              stdout=subprocess.PIPE, stderr=subprocess.PIPE, text=True, check=False, timeout=100)
+        return subprocess.run([sys.executable, '-c', text, 'run', '--steps', '5'], cwd=self.folder,
+                              env=environment, stdout=subprocess.PIPE, stderr=subprocess.PIPE,
+                              text=True, check=False, timeout=100)
 
     def test_it_is_found(self):
         os.chmod(self.own, 0o755)
         said = self.ran('from spmat._client.server_program import program_words as w; print(w())')
-        self.assertEqual(said.stdout.strip(), str([os.path.realpath(self.own)]).replace(os.path.realpath(self.folder), self.folder))
+        self.assertEqual(said.stdout.strip(),
+                         str([os.path.realpath(self.own)]).replace(os.path.realpath(self.folder),
+                                                                   self.folder))
 
     def test_the_command_becomes_it(self):
         os.chmod(self.own, 0o755)
@@ -93,7 +98,8 @@ class Carried(unittest.TestCase):
     def test_what_cannot_be_started_is_none(self):
         os.chmod(self.own, 0o644)
         said = self.ran('from spmat._client.server_program import main; main()')
-        self.assertEqual((said.returncode, said.stderr), (1, 'spmat: this package carries no program\n'))
+        self.assertEqual((said.returncode, said.stderr),
+                         (1, 'spmat: this package carries no program\n'))
 
     def test_none_at_all(self):
         """What to do is told; in a checkout also where the plain server is, and it starts."""
@@ -101,8 +107,10 @@ class Carried(unittest.TestCase):
         open_one = 'import spmat; spmat.Session()'
         said = self.ran(open_one).stderr
         self.assertIn('set the variable SPMAT, or put it on the PATH\n', said)
-        environment = {'PYTHONPATH': os.path.join(support.TOP, 'clients', 'python'), 'PATH': os.path.dirname(shutil.which('sh'))}
-        said = subprocess.run([sys.executable, '-c', open_one], env=environment, stderr=subprocess.PIPE, text=True, timeout=100).stderr
+        environment = {'PYTHONPATH': os.path.join(support.TOP, 'clients', 'python'),
+                       'PATH': os.path.dirname(shutil.which('sh'))}
+        said = subprocess.run([sys.executable, '-c', open_one], env=environment,
+                              stderr=subprocess.PIPE, text=True, timeout=100).stderr
         plain = re.search(r'the plain server of this checkout does: SPMAT=(.*)', said).group(1)
         with spmat.Session(program=[sys.executable, plain]) as s:
             self.assertEqual(s.full(2, 2).nvals, 4)

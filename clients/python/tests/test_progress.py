@@ -48,7 +48,9 @@ class Bars(unittest.TestCase):
 class WithoutTqdm(unittest.TestCase):
     def test_what_is_said(self):
         with mock.patch.dict(sys.modules, {'tqdm': None, 'tqdm.auto': None}):
-            with self.assertRaisesRegex(ImportError, r'a progress bar needs tqdm \(extra cli\): pip install tqdm'):
+            with self.assertRaisesRegex(ImportError,
+                                        r'a progress bar needs tqdm \(extra cli\): pip install '
+                                        r'tqdm'):
                 Bar()
 
 

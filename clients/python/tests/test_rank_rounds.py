@@ -1,4 +1,5 @@
-"""Rounds of PageRank: shares without a division, rounds that extrapolate, and how far ranks are from those that linear equations have."""
+"""Rounds of PageRank: shares without a division, rounds that extrapolate, and how far ranks are
+from those that linear equations have."""
 import math
 import random
 import unittest
@@ -15,8 +16,10 @@ from spmat.algorithms import rank_rounds
 from spmat.algorithms.rank_rounds import BITS, SHARE_OF_ALL, SHARE_ROUNDING, Damping, damping_of
 
 SIDE = 14
-GRID = graphs.undirected('grid', SIDE * SIDE, [(SIDE * r + c, SIDE * r + c + step) for r in range(SIDE) for c in range(SIDE) for step in (1, SIDE)
-                                               if (c if step == 1 else r) < SIDE - 1 and (r + 3 * c) % 19])
+GRID = graphs.undirected('grid', SIDE * SIDE,
+                         [(SIDE * r + c, SIDE * r + c + step) for r in range(SIDE)
+                          for c in range(SIDE) for step in (1, SIDE) if (c if step == 1 else r)
+                          < SIDE - 1 and (r + 3 * c) % 19])
 DAMPINGS = (.85, .5, .6, .95, .99, .001, .8512, .999999)
 
 
@@ -35,11 +38,13 @@ def true_ranks(graph, damping, given=None, weighted=False):
 
 class Ranks(support.InSession):
     def look(self, graph, damping=.85, given=None, weighted=False, **named):
-        """The ranks, which are as near as they say, and as that is asked for; the number of rounds."""
+        """The ranks, which are as near as they say, and as that is asked for; the number of
+        rounds."""
         told = []
         personalization = None if given is None else dict(enumerate(given))
-        found = algorithms.pagerank(graph.matrix(self.s), damping=damping, personalization=personalization, weighted=weighted, scale=1 << 52,
-                                    progress=lambda *now: told.append(now), **named)
+        found = algorithms.pagerank(graph.matrix(self.s), damping=damping,
+                                    personalization=personalization, weighted=weighted,
+                                    scale=1 << 52, progress=lambda *now: told.append(now), **named)
         apart = abs(found.to_dense(float) - true_ranks(graph, damping, given, weighted)).sum()
         self.assertLessEqual(apart, found.error + 1e-14, (graph.name, damping))
         self.assertLessEqual(found.error, found.tolerance)
@@ -66,19 +71,23 @@ class Ranks(support.InSession):
         self.assertGreaterEqual(self.look(GRID, .001, tolerance=.5), 2)
 
     def test_edges_of_no_weight(self):
-        """A vertex to which nothing comes has an edge of weight 0: with weights it has none. Neither answer goes by what was found for the
-        other one."""
-        graph = graphs.Graph('no weight', 5, {(0, 1): 0, (1, 2): 3, (2, 1): 1, (2, 3): 2, (3, 2): 4, (3, 4): 1, (4, 3): 1}, True)
+        """A vertex to which nothing comes has an edge of weight 0: with weights it has none.
+        Neither answer goes by what was found for the other one."""
+        graph = graphs.Graph('no weight', 5, {(0, 1): 0, (1, 2): 3, (2, 1): 1, (2, 3): 2, (3, 2): 4,
+                                              (3, 4): 1, (4, 3): 1}, True)
         for order in ((False, True), (True, False)):
             G = graph.matrix(self.s)
             for weighted in order:
                 found = algorithms.pagerank(G, weighted=weighted)
-                self.assertLess(abs(found.to_dense(float) - true_ranks(graph, .85, weighted=weighted)).sum(), found.error, order)
+                self.assertLess(abs(found.to_dense(float)
+                                    - true_ranks(graph, .85, weighted=weighted)).sum(), found.error,
+                                order)
 
     def test_what_is_given_anew(self):
         chance = random.Random(5)
         for graph in (GRID, graphs.UNDIRECTED[3], graphs.DIRECTED[3]):
-            for given in ([1] + [0] * (graph.count - 1), [chance.randrange(1, 9) for _ in range(graph.count)]):
+            for given in ([1] + [0] * (graph.count - 1),
+                          [chance.randrange(1, 9) for _ in range(graph.count)]):
                 self.look(graph, given=given)
                 self.look(graph, given=given, weighted=True)
 
@@ -89,13 +98,16 @@ class Ranks(support.InSession):
         algorithms.minimum_spanning_forest(W)
         found = algorithms.pagerank(W, weighted=True)
         self.assertLess(found.rounds, plain - 10)
-        self.assertLess(abs(found.to_dense(float) - true_ranks(GRID, .85, weighted=True)).sum(), found.error)
+        self.assertLess(abs(found.to_dense(float) - true_ranks(GRID, .85, weighted=True)).sum(),
+                        found.error)
 
     def test_what_is_expected_and_does_not_come(self):
-        """Rounds that extrapolate by far too much go away from the ranks. Then those before them count, and plain ones follow."""
+        """Rounds that extrapolate by far too much go away from the ranks. Then those before them
+        count, and plain ones follow."""
         plain = rank_rounds.Damping.weight
         for weight in (3.0, .9):
-            with mock.patch.object(rank_rounds.Damping, 'weight', property(lambda self, weight=weight: weight)):
+            with mock.patch.object(rank_rounds.Damping, 'weight',
+                                   property(lambda self, weight=weight: weight)):
                 rounds = self.look(GRID)
             self.assertLessEqual(rounds, 70 + 2 * rank_rounds.MOST_AHEAD, weight)
         self.assertIs(rank_rounds.Damping.weight, plain)
@@ -108,20 +120,26 @@ class Ranks(support.InSession):
             algorithms.pagerank(GRID.matrix(session), tolerance=1e-9)
             spent = session.budget().spent - before
         for share in (.3, .5, .7, .9):
-            with warnings.catch_warnings(), spmat.Session(int(share * spent), program=support.program()) as session, self.assertRaises(spmat.BudgetExceeded) as caught:
+            with warnings.catch_warnings(), \
+                    spmat.Session(int(share * spent), program=support.program()) as session, \
+                    self.assertRaises(spmat.BudgetExceeded) as caught:
                 warnings.simplefilter('ignore', spmat.BudgetWarning)
                 algorithms.pagerank(GRID.matrix(session), tolerance=1e-9)
             partial = caught.exception.partial
-            self.assertLessEqual(abs(partial.to_dense(float).ravel() - whole.to_dense(float)).sum(), partial.error + 1e-9, share)
+            self.assertLessEqual(abs(partial.to_dense(float).ravel() - whole.to_dense(float)).sum(),
+                                 partial.error + 1e-9, share)
 
 
 class Shares(support.InSession):
     def test_a_share_is_a_product_with_a_reciprocal(self):
         """Rounded down, by no more than is said, on numbers of all sizes up to the largest."""
         chance = random.Random(1)
-        pairs = [(0, 1), (1, (1 << BITS) - 1), ((1 << 63) - 1, (1 << BITS) - 1), ((1 << 63) - 1, 1), ((1 << 31) - 1, 1 << 31)]
-        pairs += [(chance.getrandbits(chance.randint(1, 63)), chance.getrandbits(chance.randint(1, BITS))) for _ in range(500)]
-        rank, reciprocal = (self.s.from_coo(range(len(pairs)), [0] * len(pairs), list(column), len(pairs), 1) for column in zip(*pairs))
+        pairs = [(0, 1), (1, (1 << BITS) - 1), ((1 << 63) - 1, (1 << BITS) - 1), ((1 << 63) - 1, 1),
+                 ((1 << 31) - 1, 1 << 31)]
+        pairs += [(chance.getrandbits(chance.randint(1, 63)),
+                   chance.getrandbits(chance.randint(1, BITS))) for _ in range(500)]
+        rank, reciprocal = (self.s.from_coo(range(len(pairs)), [0] * len(pairs), list(column),
+                                            len(pairs), 1) for column in zip(*pairs))
         for (x, r), got in zip(pairs, rank.ewise_mult(reciprocal, SHARE_OF_ALL).to_list()):
             short = (x * r >> BITS) - got
             self.assertTrue(0 <= short <= 3, (x, r, got))
@@ -134,10 +152,12 @@ class Shares(support.InSession):
             out, x = chance.randint(1, 1 << chance.randint(1, 61)), chance.getrandbits(63)
             reciprocal = (parts.parts << BITS) // parts.whole // out
             least = (x * reciprocal >> BITS) - 3               # as the test above holds
-            self.assertLess(x * parts.parts / (parts.whole * out) - least, SHARE_ROUNDING + 1e-6 * x / out)
+            self.assertLess(x * parts.parts / (parts.whole * out) - least,
+                            SHARE_ROUNDING + 1e-6 * x / out)
 
     def test_nothing_wraps(self):
-        """Flows and what is given anew stay below 2^63, were all extrapolations before a look to go one way."""
+        """Flows and what is given anew stay below 2^63, were all extrapolations before a look to go
+        one way."""
         for damping in DAMPINGS:
             parts = damping_of(damping)
             for extrapolates in (False, True):
@@ -149,7 +169,8 @@ class Shares(support.InSession):
                 self.assertGreaterEqual((flow + 1 / parts.value) * 2.0 ** bits, 2.0 ** 61)
 
     def test_the_weight_of_an_extrapolation(self):
-        """That of Chebyshev's polynomials in the long run, and the rate at which distances shrink then."""
+        """That of Chebyshev's polynomials in the long run, and the rate at which distances shrink
+        then."""
         parts = Damping(850, 1000)
         omega = 1.0
         for _ in range(60):

@@ -10,21 +10,26 @@ from spmat import top_k
 
 class Ranking(support.InSession):
     def holds(self, matrix, entries):
-        """The greatest of some numbers of entries, of equals the first; nothing but few entries are read for it."""
+        """The greatest of some numbers of entries, of equals the first; nothing but few entries are
+        read for it."""
         for k in (2, 40):
             want = sorted(entries, key=lambda entry: -entry[-1])[:k]
             with mock.patch.object(top_k, 'FEW', 16):
                 few = top_k.greatest(matrix, k)
-                self.assertEqual(matrix.top(k), [(entry[0], entry[2]) if matrix.ncols == 1 else (entry[1], entry[2]) if matrix.nrows == 1
-                                                 else entry for entry in want])
+                self.assertEqual(matrix.top(k),
+                                 [(entry[0], entry[2]) if matrix.ncols == 1
+                                  else (entry[1], entry[2]) if matrix.nrows == 1 else entry
+                                  for entry in want])
             self.assertLessEqual(few.nvals, max(16, 4 * k) if k else matrix.nvals)
 
     def test_values(self):
-        """Values that differ, that are all one, that are few and far apart, or reach to both ends of a word; matrices, columns and rows."""
+        """Values that differ, that are all one, that are few and far apart, or reach to both ends
+        of a word; matrices, columns and rows."""
         chance = random.Random(3)
         for values in (range(1000), [5], [-1 << 63, (1 << 63) - 1, 0]):
             for rows, columns in ((40, 30), (400, 1), (1, 400), (2, 700)):
-                places = sorted({(chance.randrange(rows), chance.randrange(columns)) for _ in range(500)})
+                places = sorted({(chance.randrange(rows), chance.randrange(columns))
+                                 for _ in range(500)})
                 entries = [(i, j, chance.choice(values)) for i, j in places]
                 self.holds(self.s.from_triples(entries, rows, columns), entries)
 

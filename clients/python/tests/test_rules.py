@@ -1,4 +1,5 @@
-"""The rules that a first version of a client gets wrong, each with a test that fails where it is broken."""
+"""The rules that a first version of a client gets wrong, each with a test that fails where it is
+broken."""
 import gc
 import os
 import signal
@@ -10,11 +11,13 @@ import spmat
 from spmat._client import connection, transport
 from spmat.backends import names
 
-USED_AGAIN = unittest.skipIf(os.environ.get(names.POISONED), 'no name is used again, and each is overwritten')
+USED_AGAIN = unittest.skipIf(os.environ.get(names.POISONED),
+                             'no name is used again, and each is overwritten')
 
 
 class Versions(unittest.TestCase):
-    """A job takes the versions that its names have when it is submitted, so what waits is run before it is used."""
+    """A job takes the versions that its names have when it is submitted, so what waits is run
+    before it is used."""
 
     def test_operand_that_waits(self):
         with spmat.Session() as s:
@@ -22,7 +25,8 @@ class Versions(unittest.TestCase):
             B = A.apply('ainv')
             self.assertEqual((s.runs, B.waits), (0, True))
             C = B.ewise_add(A, 'minus')
-            self.assertEqual((s.runs, C.waits), (1, True))                 # the run stands before C's job, and goes with it
+            # the run stands before C's job, and goes with it
+            self.assertEqual((s.runs, C.waits), (1, True))
             self.assertEqual(C.to_dict(), {(0, 0): -2, (1, 1): -4})
             self.assertEqual((s.runs, B.waits, B.nvals), (2, False, 2))
 
@@ -48,12 +52,14 @@ class Versions(unittest.TestCase):
 
 @USED_AGAIN
 class UsedAgain(unittest.TestCase):
-    """Names of matrices that nobody holds are used again, but not while a job waits that will bind them."""
+    """Names of matrices that nobody holds are used again, but not while a job waits that will bind
+    them."""
 
     def test_not_while_a_job_waits(self):
         with spmat.Session() as s:
             A = s.from_triples([(0, 0, 1), (1, 1, 2)])
-            key = A.apply('ainv').handle.key                      # nobody holds it, and its job waits
+            # nobody holds it, and its job waits
+            key = A.apply('ainv').handle.key
             gc.collect()
             B = s.from_triples([(0, 1, 5)], 2, 2)
             self.assertNotEqual(B.handle.key, key)
@@ -73,7 +79,8 @@ class UsedAgain(unittest.TestCase):
                 with self.assertRaises(spmat.BudgetExceeded):
                     s.full(30, 1).apply(dear)
             held = [A] + [s.from_triples([(0, 0, k)]) for k in range(8)]
-            self.assertLess(max(int(matrix.handle.key[1:]) for matrix in held), 120)          # those of the commands that go together
+            # those of the commands that go together
+            self.assertLess(max(int(matrix.handle.key[1:]) for matrix in held), 120)
 
     def test_collecting_sends_nothing(self):
         with spmat.Session() as s:
@@ -86,19 +93,24 @@ class UsedAgain(unittest.TestCase):
     def test_wished_names(self):
         with spmat.Session() as s:
             A = s.from_triples([(0, 0, 1)], name='A')
-            B = s.from_triples([(0, 0, 2)], name='A')      # one name for two: the server has two all the same
+            # one name for two: the server has two all the same
+            B = s.from_triples([(0, 0, 2)], name='A')
             self.assertEqual((A.name, B.name, A.handle.key), ('A', 'A', 'A'))
             self.assertEqual((A.to_dict(), B.to_dict()), ({(0, 0): 1}, {(0, 0): 2}))
-            self.assertEqual(s.from_triples([(0, 0, 3)], name='no name at all, and far too long for one').nvals, 1)
+            self.assertEqual(s.from_triples([(0, 0, 3)],
+                                            name='no name at all, and far too long for one').nvals,
+                             1)
 
 
 @USED_AGAIN
 class Overwritten(unittest.TestCase):
-    """No command forgets a matrix: what nobody holds and is large is overwritten before the next command."""
+    """No command forgets a matrix: what nobody holds and is large is overwritten before the next
+    command."""
 
     def sizes(self, s):
         """How many rows each name stands for, told by the server itself."""
-        return {key: s.connection.command('show ' + key).body.split(b'\n')[1] for key in ('_1', '_2', '_3')}
+        return {key: s.connection.command('show ' + key).body.split(b'\n')[1]
+                for key in ('_1', '_2', '_3')}
 
     def test_large_ones(self):
         n = names.SMALL + 1
@@ -132,38 +144,46 @@ class Overwritten(unittest.TestCase):
 
 
 class FullQueue(unittest.TestCase):
-    """At 64 waiting jobs the queue runs; where the budget is too small it runs too, and the job is sent once more."""
+    """At 64 waiting jobs the queue runs; where the budget is too small it runs too, and the job is
+    sent once more."""
 
     def test_many_jobs(self):
         with spmat.Session() as s:
             A = s.from_triples([(0, 0, 1)])
             out = [A.apply('plus', right=k) for k in range(150)]
             self.assertEqual((s.runs, s.jobs), (2, 150))
-            self.assertEqual([matrix.to_triples()[0][2] for matrix in out], [1 + k for k in range(150)])
+            self.assertEqual([matrix.to_triples()[0][2] for matrix in out],
+                             [1 + k for k in range(150)])
             self.assertEqual(s.runs, 3)
 
     def test_budget_comes_back(self):
         with spmat.Session(steps=31) as s:
             A = s.from_triples([(0, 0, 5), (0, 1, 7), (1, 1, 1)])
-            B, C = A.apply('abs'), A.apply('abs')          # at most 12 steps each, and 9 each are taken
-            D = A.apply('abs')                             # 12 of 31 - 24 are not left, but of 31 - 18
+            # at most 12 steps each, and 9 each are taken
+            B, C = A.apply('abs'), A.apply('abs')
+            # 12 of 31 - 24 are not left, but of 31 - 18
+            D = A.apply('abs')
             self.assertEqual((s.runs, D.price, D.nvals, s.budget().spent), (1, 12, 3, 27))
             with self.assertRaises(spmat.BudgetExceeded) as said:
                 A.apply('abs')
-            self.assertEqual((said.exception.price, said.exception.left, B.steps, C.steps), (12, 4, 9, 9))
+            self.assertEqual((said.exception.price, said.exception.left, B.steps, C.steps),
+                             (12, 4, 9, 9))
 
     def test_budget_exceeded(self):
         with spmat.Session(steps=30) as s:
             A = s.from_triples([(0, 0, 5), (0, 1, 7), (1, 1, 1)])
             kept = [A.select('valuegt', 100), A.apply('abs'), A.apply('one')]
             with self.assertRaises(spmat.BudgetExceeded) as said:
-                A.apply('identity')                        # the queue runs and gives 3 back, but 6 are wanted
-            self.assertEqual((said.exception.price, said.exception.left, s.runs, len(kept)), (6, 3, 1, 3))
+                # the queue runs and gives 3 back, but 6 are wanted
+                A.apply('identity')
+            self.assertEqual((said.exception.price, said.exception.left, s.runs, len(kept)),
+                             (6, 3, 1, 3))
             self.assertEqual(kept[1].nvals, 3)
 
 
 class InStep(unittest.TestCase):
-    """One command, one reply. A body that is refused by its length ends the session while it is still written."""
+    """One command, one reply. A body that is refused by its length ends the session while it is
+    still written."""
 
     def test_length_refused(self):
         s = spmat.Session()
@@ -193,13 +213,15 @@ class InStep(unittest.TestCase):
     def test_large_texts_both_ways(self):
         """More than pipes hold, into the server and out of it."""
         with spmat.Session() as s:
-            text = (support.BANNER + '60000 1 60000\n' + ''.join('%d 1 %d\n' % (k + 1, k) for k in range(60000))).encode()
+            text = (support.BANNER + '60000 1 60000\n'
+                    + ''.join('%d 1 %d\n' % (k + 1, k) for k in range(60000))).encode()
             A, B = s.from_text(text), s.from_text(text)
             self.assertEqual((A.to_text(), B.to_text()), (text, text))
 
 
 class RefusedRun(unittest.TestCase):
-    """A refused run has emptied the queue: each result of it raises from then on, with that refusal as its cause."""
+    """A refused run has emptied the queue: each result of it raises from then on, with that refusal
+    as its cause."""
 
     def test_results_raise(self):
         plausible = support.Plausible()
@@ -212,7 +234,8 @@ class RefusedRun(unittest.TestCase):
             with self.assertRaises(spmat.OutOfMemory) as said:
                 B.wait()
             self.assertEqual((said.exception.spent, said.exception.rule), (7, 'memory'))
-            for use in (B.to_text, lambda: C.nvals, lambda: C.apply('abs'), lambda: A.apply('abs', mask=B.S)):
+            for use in (B.to_text, lambda: C.nvals, lambda: C.apply('abs'),
+                        lambda: A.apply('abs', mask=B.S)):
                 with self.assertRaises(spmat.NotMade) as said:
                     use()
                 self.assertIsInstance(said.exception.__cause__, spmat.OutOfMemory)
@@ -228,9 +251,11 @@ class RefusedRun(unittest.TestCase):
                 A.wait()
             self.assertEqual(said.exception.spent, 3)
 
-    @unittest.skipIf(os.environ.get('SPMAT_CHECKED'), 'run-time checks reserve more addresses than any limit leaves')
+    @unittest.skipIf(os.environ.get('SPMAT_CHECKED'),
+                     'run-time checks reserve more addresses than any limit leaves')
     def test_little_memory(self):
-        """The real program under a limit on its memory: the run is refused, and the session goes on."""
+        """The real program under a limit on its memory: the run is refused, and the session goes
+        on."""
         program = ['bash', '-c', 'ulimit -v 150000; exec "$0" "$@"', os.environ['SPMAT']]
         with spmat.Session(program=program) as s:
             A, B = s.full(1000, 1), s.full(1, 1000)
@@ -246,8 +271,9 @@ class RefusedRun(unittest.TestCase):
 
 
 class Interrupted(unittest.TestCase):
-    """Ctrl-C while a reply is awaited leaves the session as it is, and closing it then ends it at once. Whatever else comes between a
-    command and the whole of its reply ends the session, and the child is killed."""
+    """Ctrl-C while a reply is awaited leaves the session as it is, and closing it then ends it at
+    once. Whatever else comes between a command and the whole of its reply ends the session, and the
+    child is killed."""
 
     def busy_session(self):
         s = spmat.Session()
@@ -269,10 +295,12 @@ class Interrupted(unittest.TestCase):
             with self.assertRaises(KeyboardInterrupt):
                 s.run()
             self.assertTrue(s.connection.owes)
-            self.assertIsNone(process.poll())                                      # the batch goes on
+            # the batch goes on
+            self.assertIsNone(process.poll())
             s.close()
             self.assertEqual(process.returncode, -signal.SIGKILL)
-            self.assertLess(time.monotonic() - stopped[0], transport.SECONDS_TO_QUIT)   # it wasn't waited for
+            # it wasn't waited for
+            self.assertLess(time.monotonic() - stopped[0], transport.SECONDS_TO_QUIT)
             with self.assertRaises(spmat.Closed) as said:
                 s.budget()
             self.assertIn('while a reply was awaited', str(said.exception))
@@ -308,7 +336,8 @@ class Interrupted(unittest.TestCase):
 
 
 class Operators(unittest.TestCase):
-    """Operators belong to no session: kind and text are the key, and a session uploads each once."""
+    """Operators belong to no session: kind and text are the key, and a session uploads each
+    once."""
 
     def test_uploaded_once(self):
         with spmat.Session() as s, spmat.Session() as t:
@@ -316,7 +345,8 @@ class Operators(unittest.TestCase):
             for matrix, want in ((A, 9), (B, 16)):
                 session = matrix.session
                 before = session.connection.commands
-                ops = [spmat.asm('unary', 'mov64 r0, r1\nmul64 r0, r1\nexit', name) for name in ('square', 'other', None)]
+                ops = [spmat.asm('unary', 'mov64 r0, r1\nmul64 r0, r1\nexit', name)
+                       for name in ('square', 'other', None)]
                 out = [matrix.apply(op) for op in ops]
                 self.assertEqual([m.to_list() for m in out], [[want]] * 3)
                 self.assertEqual(session.connection.commands - before, 1 + 3 + 1 + 3)
@@ -332,7 +362,8 @@ class Operators(unittest.TestCase):
     def test_one_name_for_two(self):
         with spmat.Session() as s:
             A = s.from_triples([(0, 0, 3)])
-            f, g = spmat.asm('unary', 'mov64 r0, 1\nexit', 'f'), spmat.asm('unary', 'mov64 r0, 2\nexit', 'f')
+            f, g = spmat.asm('unary', 'mov64 r0, 1\nexit',
+                             'f'), spmat.asm('unary', 'mov64 r0, 2\nexit', 'f')
             self.assertEqual([A.apply(op).to_list() for op in (f, g, f)], [[1], [2], [1]])
 
 

@@ -10,22 +10,27 @@ from spmat import algorithms
 class Seeds(support.InSession):
     def setUp(self):
         edges = [(i, (i * k) % 41) for i in range(1, 41) for k in (2, 3, 7) if i != (i * k) % 41]
-        self.G = algorithms.undirected(self.s.from_edgelist(edges, nodelist=range(41), dup_op='first'))
+        self.G = algorithms.undirected(self.s.from_edgelist(edges, nodelist=range(41),
+                                                            dup_op='first'))
 
     def calls(self, seed):
-        return (algorithms.louvain(self.G, seed=seed).labels.to_list(), algorithms.maximal_independent_set(self.G, seed).to_list())
+        return (algorithms.louvain(self.G, seed=seed).labels.to_list(),
+                algorithms.maximal_independent_set(self.G, seed).to_list())
 
     def test_the_same_seed_draws_the_same(self):
         self.assertEqual(self.calls(7), self.calls(7))
         self.assertEqual(self.calls(random.Random(7)), self.calls(random.Random(7)))
-        self.assertEqual(algorithms.maximal_independent_set(self.G, 7).to_list(), algorithms.maximal_independent_set(self.G, random.Random(7)).to_list())
+        self.assertEqual(algorithms.maximal_independent_set(self.G, 7).to_list(),
+                         algorithms.maximal_independent_set(self.G, random.Random(7)).to_list())
 
     def test_a_generator_goes_on(self):
         chance = random.Random(3)
-        self.assertGreater(len({tuple(algorithms.maximal_independent_set(self.G, chance).to_list()) for _ in range(6)}), 1)
+        self.assertGreater(len({tuple(algorithms.maximal_independent_set(self.G, chance).to_list())
+                                for _ in range(6)}), 1)
 
     def test_none_draws_anew(self):
-        self.assertGreater(len({tuple(algorithms.maximal_independent_set(self.G, None).to_list()) for _ in range(8)}), 1)
+        self.assertGreater(len({tuple(algorithms.maximal_independent_set(self.G, None).to_list())
+                                for _ in range(8)}), 1)
 
     @unittest.skipIf(importlib.util.find_spec('numpy') is None, 'no numpy')
     def test_numpy(self):

@@ -26,8 +26,9 @@ class Watch(unittest.TestCase):
     def test_a_test_that_hangs_is_named(self):
         folder = os.path.dirname(os.path.abspath(__file__))
         path = os.pathsep.join([folder, os.path.join(support.TOP, 'clients', 'python')])
-        done = subprocess.run([sys.executable, '-c', HANGS], env=dict(os.environ, PYTHONPATH=path), stdout=subprocess.PIPE,
-                              stderr=subprocess.STDOUT, text=True, timeout=100)
+        done = subprocess.run([sys.executable, '-c', HANGS], env=dict(os.environ, PYTHONPATH=path),
+                              stdout=subprocess.PIPE, stderr=subprocess.STDOUT, text=True,
+                              timeout=100)
         self.assertEqual(done.returncode, 1)
         self.assertIn('in test_that_waits_for_ever', done.stdout)
         self.assertNotIn('in test_short', done.stdout)

@@ -1,5 +1,5 @@
-"""Sessions over TCP: a budget for all, `no busy`, closed sockets. Over a relay to the program, and over `spmat serve` where it
-has that."""
+"""Sessions over TCP: a budget for all, `no busy`, closed sockets. Over a relay to the program, and
+over `spmat serve` where it has that."""
 import os
 import socket
 import subprocess
@@ -20,14 +20,16 @@ class Served:
         with socket.socket() as free:
             free.bind(('127.0.0.1', 0))
             self.port = free.getsockname()[1]
-        self._process = subprocess.Popen([os.environ['SPMAT'], 'serve', '--port', str(self.port)] + self._words,
-                                         stdout=subprocess.PIPE, stderr=subprocess.PIPE)
+        self._process = subprocess.Popen([os.environ['SPMAT'], 'serve', '--port', str(self.port)]
+                                         + self._words, stdout=subprocess.PIPE,
+                                         stderr=subprocess.PIPE)
         line = self._process.stdout.readline()
         if line != b'listening %d\n' % self.port:
             self._end(terminate=line != b'')               # without a word it ends by itself
             if self._process.returncode == 2:
                 raise unittest.SkipTest('the program has no `serve`')
-            raise AssertionError('`serve` wrote %r and ended with status %d' % (line, self._process.returncode))
+            raise AssertionError('`serve` wrote %r and ended with status %d'
+                                 % (line, self._process.returncode))
         return self
 
     def __exit__(self, *_):
@@ -45,9 +47,11 @@ class Serving(unittest.TestCase):
     def test_one_budget(self):
         """Over TCP the budget is one for all sessions."""
         with Served() as server:
-            with spmat.Session.connect(port=server.port) as s, spmat.Session.connect(port=server.port) as t:
+            with spmat.Session.connect(port=server.port) as s, \
+                    spmat.Session.connect(port=server.port) as t:
                 A, B = s.from_triples([(0, 0, 1)]), t.from_triples([(0, 0, 2)])
-                self.assertEqual(A.apply('ainv').to_triples() + B.apply('ainv').to_triples(), [(0, 0, -1), (0, 0, -2)])
+                self.assertEqual(A.apply('ainv').to_triples() + B.apply('ainv').to_triples(),
+                                 [(0, 0, -1), (0, 0, -2)])
                 self.assertEqual((s.budget(), t.budget()), ((994, 0, 6), (994, 0, 6)))
                 waits = A.apply('abs')
                 self.assertEqual(t.budget().reserved, waits.price)
@@ -56,7 +60,8 @@ class Serving(unittest.TestCase):
 
     def test_a_budget_that_others_hold(self):
         with Served(steps=10) as server:
-            with spmat.Session.connect(port=server.port) as s, spmat.Session.connect(port=server.port) as t:
+            with spmat.Session.connect(port=server.port) as s, \
+                    spmat.Session.connect(port=server.port) as t:
                 A, B = s.full(2, 1), t.full(2, 1)
                 held = A.apply('abs')                      # at most 8 of 10
                 with self.assertRaises(spmat.BudgetExceeded) as said:
@@ -95,7 +100,8 @@ class Relayed(unittest.TestCase):
                 for _ in range(3):
                     with self.assertRaises(spmat.Busy) as said:
                         spmat.Session.connect(port=server.port)
-                    self.assertEqual((said.exception.rule, said.exception.command), ('busy', 'budget'))
+                    self.assertEqual((said.exception.rule, said.exception.command),
+                                     ('busy', 'budget'))
                 self.assertEqual(s.budget().left, 1000)
 
     def test_seat_is_free(self):

@@ -1,4 +1,5 @@
-"""Units of times: days, seconds and the like differ as any units do, and dates and lengths of time stand beside them as numbers."""
+"""Units of times: days, seconds and the like differ as any units do, and dates and lengths of time
+stand beside them as numbers."""
 import copy
 import datetime
 import io
@@ -19,7 +20,8 @@ SIZES = {'D': 86400 * 10 ** 9, 's': 10 ** 9, 'ms': 10 ** 6, 'us': 10 ** 3, 'ns':
 
 def by_name(session, unit):
     """Departures of two trains, in a unit."""
-    return session.from_edgelist([('A', 'B', '2024-05-31T10:15'), ('B', 'C', '2024-05-31T11:00')], unit=unit)
+    return session.from_edgelist([('A', 'B', '2024-05-31T10:15'), ('B', 'C', '2024-05-31T11:00')],
+                                 unit=unit)
 
 
 class Times(support.InSession):
@@ -27,20 +29,25 @@ class Times(support.InSession):
         self.seconds, self.days = by_name(self.s, 's'), by_name(self.s, 'D')
 
     def test_seconds_and_days_do_not_meet(self):
-        for call in (lambda a, b: a.ewise_add(b, 'min'), lambda a, b: a.ewise_mult(b, 'lt'), lambda a, b: a.ewise_mult(b, 'minus'),
-                     lambda a, b: a.mxm(b, 'min_plus'), lambda a, b: a.update(b, mask=b.S), lambda a, b: a.update(b, 'max'),
-                     lambda a, b: a.isequal(b), lambda a, b: a.isclose(b), lambda a, b: a.ewise_add(b, lambda x, y: x + y),
-                     lambda a, b: a.ewise_mult(b, 'floordiv'), lambda a, b: a.ewise_union(b, 'max', 0, 0),
+        for call in (lambda a, b: a.ewise_add(b, 'min'), lambda a, b: a.ewise_mult(b, 'lt'),
+                     lambda a, b: a.ewise_mult(b, 'minus'), lambda a, b: a.mxm(b, 'min_plus'),
+                     lambda a, b: a.update(b, mask=b.S), lambda a, b: a.update(b, 'max'),
+                     lambda a, b: a.isequal(b), lambda a, b: a.isclose(b),
+                     lambda a, b: a.ewise_add(b, lambda x, y: x + y),
+                     lambda a, b: a.ewise_mult(b, 'floordiv'),
+                     lambda a, b: a.ewise_union(b, 'max', 0, 0),
                      lambda a, b: algorithms.sssp(a, 'A', b.T)):
             with self.assertRaises(UnitsDiffer) as said:
                 call(self.seconds, self.days)
             self.assertIn("a unit of s, and B of D; write B.rescale('s')", str(said.exception))
         with self.assertRaisesRegex(UnitsDiffer, r"write A\.rescale\('s'\)"):
             self.days.ewise_add(self.seconds, 'min')
-        self.assertEqual(self.seconds.ewise_mult(self.days.rescale('s'), 'minus').to_edgelist(), [('A', 'B', 36900), ('B', 'C', 39600)])
+        self.assertEqual(self.seconds.ewise_mult(self.days.rescale('s'), 'minus').to_edgelist(),
+                         [('A', 'B', 36900), ('B', 'C', 39600)])
 
     def test_loops_keep_a_unit(self):
-        loop = spmat.loop(lambda x: {'far': x.far.ewise_add(x.far.mxm(self.seconds, 'min_plus'), 'min')}, {'far': self.seconds})
+        loop = spmat.loop(lambda x: {'far': x.far.ewise_add(x.far.mxm(self.seconds, 'min_plus'),
+                                                            'min')}, {'far': self.seconds})
         loop.advance(2)
         self.assertEqual(repr(loop.state.far.unit), "'s'")
 
@@ -54,13 +61,17 @@ class Times(support.InSession):
             self.assertEqual(str(both.unit), finer)
 
     def test_rescale(self):
-        with self.assertRaisesRegex(ValueError, '2 of 2 values would lose digits as times in D, .*exact=False cuts them down'):
+        with self.assertRaisesRegex(ValueError, '2 of 2 values would lose digits as times in D, '
+                                    '.*exact=False cuts them down'):
             self.seconds.rescale('D')
         self.assertEqual(self.seconds.rescale('D', exact=False).to_dict(), self.days.to_dict())
-        before = self.s.from_edgelist([('A', 'B', '1969-12-31T23:00')], unit='s').rescale('D', exact=False)
+        before = self.s.from_edgelist([('A', 'B', '1969-12-31T23:00')],
+                                      unit='s').rescale('D', exact=False)
         self.assertEqual(before.to_edgelist(), [('A', 'B', -1)])        # cut down, as reading does
-        self.assertEqual((self.seconds.rescale(1).unit, self.seconds.rescale(1).to_dict()), (1, self.seconds.to_dict()))
-        self.assertEqual(self.seconds.rescale(1000).to_edgelist(), [(a, b, float(x)) for a, b, x in self.seconds.to_edgelist()])
+        self.assertEqual((self.seconds.rescale(1).unit, self.seconds.rescale(1).to_dict()),
+                         (1, self.seconds.to_dict()))
+        self.assertEqual(self.seconds.rescale(1000).to_edgelist(),
+                         [(a, b, float(x)) for a, b, x in self.seconds.to_edgelist()])
         self.assertIs(self.seconds.rescale('s'), self.seconds)
         plain = self.s.identity(2)
         with self.assertRaisesRegex(ValueError, 'no times yet.* A.unit = \'s\''):
@@ -75,26 +86,34 @@ class Times(support.InSession):
     def test_times_and_numbers(self):
         """Numbers without a unit go with times of any; decimals don't."""
         waits = self.s.from_edgelist([('A', 'B', 60), ('B', 'C', 120)])
-        self.assertEqual((str(self.seconds.ewise_mult(waits, 'plus').unit), str(waits.ewise_add(self.seconds, 'plus').unit)), ('s', 's'))
+        self.assertEqual((str(self.seconds.ewise_mult(waits, 'plus').unit),
+                          str(waits.ewise_add(self.seconds, 'plus').unit)), ('s', 's'))
         cents = self.s.from_edgelist([('A', 'B', 1.25), ('B', 'C', 0.5)], scale=100)
-        with self.assertRaisesRegex(UnitsDiffer, r'a unit of s, and B of 100; write A\.rescale\(100\)'):
+        with self.assertRaisesRegex(UnitsDiffer,
+                                    r'a unit of s, and B of 100; write A\.rescale\(100\)'):
             self.seconds.ewise_mult(cents, 'min')
-        self.assertEqual(self.seconds.rescale(100).ewise_mult(cents, 'min').to_edgelist(), cents.to_edgelist())
+        self.assertEqual(self.seconds.rescale(100).ewise_mult(cents, 'min').to_edgelist(),
+                         cents.to_edgelist())
         self.assertEqual(self.seconds.ewise_mult(cents).unit, 100)
-        for call in (lambda A: A.apply('times', right=2), lambda A: A.apply('floordiv', right=60), lambda A: A.apply('minv'), lambda A: A.apply('one'),
-                     lambda A: A.ewise_mult(A), lambda A: A.ewise_mult(A, 'eq'), lambda A: A.reduce_rowwise('lor'), lambda A: A.apply(lambda x: x + 1)):
+        for call in (lambda A: A.apply('times', right=2), lambda A: A.apply('floordiv', right=60),
+                     lambda A: A.apply('minv'), lambda A: A.apply('one'), lambda A: A.ewise_mult(A),
+                     lambda A: A.ewise_mult(A, 'eq'), lambda A: A.reduce_rowwise('lor'),
+                     lambda A: A.apply(lambda x: x + 1)):
             self.assertEqual(call(self.seconds).unit, 1)
 
     def test_what_keeps_a_unit(self):
         A = self.seconds
-        for made in (A.T, A.dup(), A['A', :], A[['A', 'B'], :], A.diag(), A.reduce_rowwise('max'), A.reduce_columnwise('min'), self.s.adopt(A),
-                     A.select('>', 0), A.apply('plus', right=5), algorithms.sssp(A, 'A'), A.apply('ainv'), A.without(self.s.identity(3)),
-                     spmat.concat([[A, A]]), A.mxm(A, 'min_plus'), pickle.loads(pickle.dumps(A.unit)) and A, copy.deepcopy(A.unit) and A):
+        for made in (A.T, A.dup(), A['A', :], A[['A', 'B'], :], A.diag(), A.reduce_rowwise('max'),
+                     A.reduce_columnwise('min'), self.s.adopt(A), A.select('>', 0),
+                     A.apply('plus', right=5), algorithms.sssp(A, 'A'), A.apply('ainv'),
+                     A.without(self.s.identity(3)), spmat.concat([[A, A]]), A.mxm(A, 'min_plus'),
+                     pickle.loads(pickle.dumps(A.unit)) and A, copy.deepcopy(A.unit) and A):
             self.assertEqual((str(made.unit), made.unit), ('s', A.unit), made)
         B = self.s.identity(2)
         B.unit = A.unit
         self.assertEqual(B.unit, A.unit)
-        self.assertEqual(algorithms.sssp(A, 'A', cutoff=datetime.timedelta(days=20000)).by_node(), {'A': 0, 'B': 1717150500})
+        self.assertEqual(algorithms.sssp(A, 'A', cutoff=datetime.timedelta(days=20000)).by_node(),
+                         {'A': 0, 'B': 1717150500})
         self.assertEqual(pickle.loads(pickle.dumps(A.unit)), A.unit)
 
     def test_values_are_shown_as_they_are_stored(self):
@@ -102,7 +121,8 @@ class Times(support.InSession):
         A = A.apply('plus', right=1)
         want = [('A', 'B', 1717150500 * 10 ** 9 + 1), ('B', 'C', 1717153200 * 10 ** 9 + 1)]
         self.assertEqual(A.to_edgelist(), want)
-        self.assertEqual((A['A', 'B'], A.reduce_scalar('max'), A.top(1)), (want[0][2], want[1][2], [want[1]]))
+        self.assertEqual((A['A', 'B'], A.reduce_scalar('max'), A.top(1)),
+                         (want[0][2], want[1][2], [want[1]]))
         self.assertEqual(A.to_csv(header=False), ''.join('%s,%s,%d\n' % edge for edge in want))
         self.assertIn(str(want[0][2]), A._repr_html_())
         self.assertIn('unit ns', repr(A))
@@ -114,9 +134,16 @@ class Times(support.InSession):
         A = self.seconds
         self.assertEqual(str(A.to_pandas_edgelist()['weight'].dtype), 'int64')
         self.assertEqual(str(A.reduce_rowwise('max').to_pandas().dtype), 'int64')
-        self.assertEqual(A.select('==', pandas.Timestamp('2024-05-31 13:00', tz='Europe/Berlin')).to_edgelist(), [('B', 'C', 1717153200)])
-        self.assertEqual(A.apply('plus', right=pandas.Timedelta('1h')).to_edgelist()[0][2], 1717150500 + 3600)
-        self.assertEqual(by_name(self.s, 'ns').apply('plus', right=pandas.Timedelta(1, 'ns')).to_edgelist()[0][2], 1717150500 * 10 ** 9 + 1)
+        self.assertEqual(A.select('==',
+                                  pandas.Timestamp('2024-05-31 13:00',
+                                                   tz='Europe/Berlin')).to_edgelist(),
+                         [('B', 'C', 1717153200)])
+        self.assertEqual(A.apply('plus', right=pandas.Timedelta('1h')).to_edgelist()[0][2],
+                         1717150500 + 3600)
+        self.assertEqual(by_name(self.s, 'ns').apply('plus',
+                                                     right=pandas.Timedelta(
+                                                         1, 'ns')).to_edgelist()[0][2],
+                         1717150500 * 10 ** 9 + 1)
         with self.assertRaisesRegex(ValueError, 'expected a time, not NaT'):
             A.select('>', pandas.NaT)
 
@@ -133,9 +160,13 @@ class Times(support.InSession):
         text = b'from,to,departs\nA,B,2024-05-31 10:15\nB,C,2024-05-31 11:00\n'
         with blocks.Sessions(2) as many:
             for session in (self.s, many):
-                for made in (session.read_graph(io.BytesIO(text), unit='s'), session.read_edgelist(io.BytesIO(text), unit='s'), by_name(session, 's')):
-                    self.assertEqual((str(made.unit), made.to_edgelist()), ('s', self.seconds.to_edgelist()))
-                self.assertEqual(session.read_graph(io.BytesIO(text), unit='s', values=False).unit, 1)
+                for made in (session.read_graph(io.BytesIO(text), unit='s'),
+                             session.read_edgelist(io.BytesIO(text), unit='s'),
+                             by_name(session, 's')):
+                    self.assertEqual((str(made.unit), made.to_edgelist()),
+                                     ('s', self.seconds.to_edgelist()))
+                self.assertEqual(session.read_graph(io.BytesIO(text), unit='s', values=False).unit,
+                                 1)
 
     def test_units_by_name(self):
         self.assertNotEqual(as_unit('s'), as_unit('D'))
@@ -152,7 +183,9 @@ class Beside(support.InSession):
 
     def test_dates(self):
         zone = datetime.timezone(datetime.timedelta(hours=2))
-        moments = (datetime.datetime(2024, 5, 31, 11), datetime.datetime(2024, 5, 31, 13, tzinfo=zone), numpy.datetime64('2024-05-31T11:00'),
+        moments = (datetime.datetime(2024, 5, 31, 11),
+                   datetime.datetime(2024, 5, 31, 13, tzinfo=zone),
+                   numpy.datetime64('2024-05-31T11:00'),
                    numpy.datetime64('2024-05-31T11:00:00.000000000'))
         for unit in ('s', 'ms', 'us', 'ns'):
             A = by_name(self.s, unit)
@@ -161,19 +194,27 @@ class Beside(support.InSession):
                 self.assertEqual([edge[0] for edge in A.select('<', moment).to_edgelist()], ['A'])
                 self.assertEqual([edge[0] for edge in A.select('==', moment).to_edgelist()], ['B'])
                 self.assertEqual([x for *_, x in A.apply('gt', right=moment).to_edgelist()], [0, 0])
-                self.assertEqual([x for *_, x in A.apply('max', right=moment).to_edgelist()], [A['B', 'C']] * 2)
+                self.assertEqual([x for *_, x in A.apply('max', right=moment).to_edgelist()],
+                                 [A['B', 'C']] * 2)
         days = by_name(self.s, 'D')
         self.assertEqual(days.select('==', datetime.date(2024, 5, 31)).nvals, 2)
-        self.assertEqual([days.select(sign, moments[0]).nvals for sign in ('<', '<=', '==', '!=', '>=', '>')], [2, 2, 0, 2, 0, 0])
-        with self.assertRaisesRegex(ValueError, r"right=2024-05-31 11:00:00 is no whole number in times in D, .*A\.rescale\('s'\) holds it"):
+        self.assertEqual([days.select(sign, moments[0]).nvals
+                          for sign in ('<', '<=', '==', '!=', '>=', '>')], [2, 2, 0, 2, 0, 0])
+        with self.assertRaisesRegex(ValueError,
+                                    r"right=2024-05-31 11:00:00 is no whole number in times in "
+                                    r"D, .*A\.rescale\('s'\) holds it"):
             days.apply('max', right=moments[0])
 
     def test_lengths(self):
         rides = by_name(self.s, 's').apply('minus', right=datetime.datetime(2024, 5, 31))
-        for length in (datetime.timedelta(hours=10.5), numpy.timedelta64(630, 'm'), numpy.timedelta64(37800, 's')):
+        for length in (datetime.timedelta(hours=10.5), numpy.timedelta64(630, 'm'),
+                       numpy.timedelta64(37800, 's')):
             self.assertEqual(rides.select('>', length).to_edgelist(), [('B', 'C', 39600)])
-            self.assertEqual(rides.apply('plus', right=length).to_edgelist(), [('A', 'B', 74700), ('B', 'C', 77400)])
-        self.assertEqual(by_name(self.s, 'D').apply('plus', right=numpy.timedelta64(2, 'W')).to_edgelist()[0][2], 19874 + 14)
+            self.assertEqual(rides.apply('plus', right=length).to_edgelist(),
+                             [('A', 'B', 74700), ('B', 'C', 77400)])
+        self.assertEqual(by_name(self.s, 'D').apply('plus',
+                                                    right=numpy.timedelta64(
+                                                        2, 'W')).to_edgelist()[0][2], 19874 + 14)
         with self.assertRaisesRegex(ValueError, 'no length that is always the same'):
             rides.select('>', numpy.timedelta64(1, 'M'))
         for gap in (numpy.datetime64('NaT'), numpy.timedelta64('NaT')):
@@ -183,9 +224,14 @@ class Beside(support.InSession):
     def test_matrices_without_times(self):
         cents = self.s.from_edgelist([('A', 'B', 1.25)], scale=100)
         for A, words in ((self.s.identity(2), 'numbers'), (cents, 'parts of 1/100')):
-            for moment in (datetime.datetime(2024, 5, 31), datetime.date(2024, 5, 31), numpy.datetime64('2024-05-31'), datetime.timedelta(1), numpy.timedelta64(1, 'h')):
-                for call in (lambda A=A, moment=moment: A.select('>', moment), lambda A=A, moment=moment: A.apply('plus', right=moment)):
-                    with self.assertRaisesRegex(TypeError, 'is a time, and the values of this matrix are %s: A.unit = "s" ' % words):
+            for moment in (datetime.datetime(2024, 5, 31), datetime.date(2024, 5, 31),
+                           numpy.datetime64('2024-05-31'), datetime.timedelta(1),
+                           numpy.timedelta64(1, 'h')):
+                for call in (lambda A=A, moment=moment: A.select('>', moment),
+                             lambda A=A, moment=moment: A.apply('plus', right=moment)):
+                    with self.assertRaisesRegex(TypeError,
+                                                'is a time, and the values of this matrix are '
+                                                '%s: A.unit = "s" ' % words):
                         call()
         stamps = self.s.from_edgelist([('A', 'B', 1717150500)])
         stamps.unit = 's'

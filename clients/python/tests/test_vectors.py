@@ -13,7 +13,8 @@ def text_of(places, count, column):
     values = [(-7 * i) % 1000 - 500 for i in places]
     size, line = ((count, 1), '%d 1 %d\n') if column else ((1, count), '1 %d %d\n')
     head = matrix_text.BANNER.decode() + '%d %d %d\n' % (*size, len(places))
-    return (head + ''.join(line % (i + 1, value) for i, value in zip(places, values))).encode(), values
+    return (head + ''.join(line % (i + 1, value)
+                           for i, value in zip(places, values))).encode(), values
 
 
 class Vectors(unittest.TestCase):
@@ -29,12 +30,16 @@ class Vectors(unittest.TestCase):
                         self.assertEqual((list(got.at), list(got.values)), (places, values))
                         bare = traversal.read_vector(text, 0 if column else 1, values=False)
                         self.assertEqual((list(bare.at), list(bare.values)), (places, []))
-                        self.assertEqual(list(traversal.read_values(mock.Mock(to_text=lambda text=text: text))), values)
+                        self.assertEqual(list(
+                            traversal.read_values(mock.Mock(to_text=lambda text=text: text))),
+                                         values)
 
     def test_places_of_a_full_vector_are_not_read(self):
         for column in (False, True):
             text = text_of(list(range(MANY)), MANY, column)[0]
-            with self.subTest(column=column), mock.patch.object(parse_integers, 'fields', wraps=parse_integers.fields) as fields:
+            with self.subTest(column=column), \
+                    mock.patch.object(parse_integers, 'fields',
+                                      wraps=parse_integers.fields) as fields:
                 traversal.read_vector(text, 0 if column else 1)
                 self.assertEqual(fields.call_args.args[1], (2,))
 

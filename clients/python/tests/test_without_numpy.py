@@ -15,11 +15,13 @@ import spmat
 
 class WithoutNumpy(unittest.TestCase):
     def test_the_error_says_what_to_type(self):
-        done = subprocess.run([sys.executable, '-c', HIDDEN], env={'PYTHONPATH': support.CLIENT}, stderr=subprocess.PIPE, text=True,
-                              check=False, timeout=100)
+        done = subprocess.run([sys.executable, '-c', HIDDEN], env={'PYTHONPATH': support.CLIENT},
+                              stderr=subprocess.PIPE, text=True, check=False, timeout=100)
         self.assertEqual(done.returncode, 1)
-        self.assertRegex(done.stderr, r'(?m)^ImportError: spmat needs numpy \(1\.22 or newer\), and \S+ has none\. To have it: pip install numpy; or on '
-                                      r'Debian apt install python3-numpy')
+        self.assertRegex(done.stderr,
+                         r'(?m)^ImportError: spmat needs numpy \(1\.22 or newer\), and \S+ has '
+                         r'none\. To have it: pip install numpy; or on Debian apt install '
+                         r'python3-numpy')
 
 
 if __name__ == '__main__':

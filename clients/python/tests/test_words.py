@@ -1,4 +1,5 @@
-"""What is said of a mistake, before anything is sent: names that no operator has, indices, settings, things of other packages."""
+"""What is said of a mistake, before anything is sent: names that no operator has, indices,
+settings, things of other packages."""
 import unittest
 
 import support  # noqa: F401 (finds the program)
@@ -16,17 +17,20 @@ class Words(unittest.TestCase):
 
     def test_names_of_operators(self):
         for kind, name, words in (
-                ('unary', 'plus',
-                 "no ready unary operator is called 'plus', but a binary one is: bind an operand by right= or left="),
-                ('binary', 'abs', "no ready binary operator is called 'abs', but a unary one is"),
-                ('binary', 'nonzero', "no ready binary operator is called 'nonzero', but a unary and an index one is"),
-                ('unary', 'tril', "no ready unary operator is called 'tril', but an index one is"),
-                ('binary', 'tims', "no ready binary operator is called 'tims'; near it: times"),
-                ('binary', 'qqqq', "no ready binary operator is called 'qqqq'")):
+            ('unary', 'plus',
+             "no ready unary operator is called 'plus', but a binary one is: bind an operand by "
+             "right= or left="),
+            ('binary', 'abs', "no ready binary operator is called 'abs', but a unary one is"),
+            ('binary', 'nonzero',
+             "no ready binary operator is called 'nonzero', but a unary and an index one is"),
+            ('unary', 'tril', "no ready unary operator is called 'tril', but an index one is"),
+            ('binary', 'tims', "no ready binary operator is called 'tims'; near it: times"),
+            ('binary', 'qqqq', "no ready binary operator is called 'qqqq'")):
             self.assertEqual(self.said(ValueError, operators.find, kind, name), words)
 
     def test_hexadecimal(self):
-        self.assertIn('two hexadecimal digits a byte', self.said(ValueError, spmat.code, 'unary', '9x'))
+        self.assertIn('two hexadecimal digits a byte',
+                      self.said(ValueError, spmat.code, 'unary', '9x'))
         self.assertIn('a kind is unary', self.said(ValueError, spmat.code, 'Unary', '95'))
 
     def test_operators_in_few_words(self):
@@ -36,27 +40,34 @@ class Words(unittest.TestCase):
     def test_settings(self):
         self.assertEqual(checked_settings(1e9, 2.0), (1000000000, 2))
         self.assertIn('number of steps', self.said(ValueError, checked_settings, 1.5, 1))
-        self.assertIn("number of workers is a whole number, not '2'", self.said(TypeError, checked_settings, 1, '2'))
+        self.assertIn("number of workers is a whole number, not '2'",
+                      self.said(TypeError, checked_settings, 1, '2'))
         self.assertIn('steps are 0 to', self.said(ValueError, checked_settings, float(1 << 63), 1))
 
     def test_indices_below_zero(self):
         with spmat.Session() as s:
-            self.assertEqual(self.said(ValueError, s.from_coo, [3, -1], [0, 0]), 'row -1 is below 0 (entry 1)')
-            self.assertEqual(self.said(ValueError, s.from_coo, [0], [-2], 1, 3, 3), 'column -2 is below 0 (entry 0)')
+            self.assertEqual(self.said(ValueError, s.from_coo, [3, -1], [0, 0]),
+                             'row -1 is below 0 (entry 1)')
+            self.assertEqual(self.said(ValueError, s.from_coo, [0], [-2], 1, 3, 3),
+                             'column -2 is below 0 (entry 0)')
 
     @support.needs('numpy')
     def test_arrays_of_indices_below_zero(self):
         import numpy
         with spmat.Session() as s:
-            self.assertEqual(self.said(ValueError, s.from_coo, numpy.array([-1]), numpy.array([0])), 'row -1 is below 0 (entry 0)')
+            self.assertEqual(self.said(ValueError, s.from_coo, numpy.array([-1]), numpy.array([0])),
+                             'row -1 is below 0 (entry 0)')
 
     def test_things_of_other_packages(self):
         with spmat.Session() as s:
             self.assertIn('from_dense', self.said(TypeError, s.from_scipy_sparse, [[1]]))
-            self.assertIn('expected a graph of networkx, got int', self.said(TypeError, s.from_networkx, 5))
-            self.assertIn('a matrix of a session', self.said(TypeError, spmat.algorithms.bfs_levels, [[1]], 0))
+            self.assertIn('expected a graph of networkx, got int',
+                          self.said(TypeError, s.from_networkx, 5))
+            self.assertIn('a matrix of a session',
+                          self.said(TypeError, spmat.algorithms.bfs_levels, [[1]], 0))
             for call in (s.dis, s.types):
-                self.assertIn("expected an operator, such as spmat.binary.plus, got 'plus'", self.said(TypeError, call, 'plus'))
+                self.assertIn("expected an operator, such as spmat.binary.plus, got 'plus'",
+                              self.said(TypeError, call, 'plus'))
 
 
 if __name__ == '__main__':

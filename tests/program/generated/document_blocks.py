@@ -1,9 +1,11 @@
-"""Runs the code blocks of a page as a reader would paste them, and compares what each prints with the block that stands below it.
+"""Runs the code blocks of a page as a reader would paste them, and compares what each prints with
+the block that stands below it.
 
-A block is indented by four spaces. Behind a line that ends in `prints` it is what the block before it prints, and behind one that
-ends in `ends with` the last that it says on standard error, however that is cut into lines; else its first word says what it is:
-Python (`import`, `from`) or shell. Each runs by itself, at a place that looks like the top of the repository, and
-those of a page in one folder, so that files stay.
+A block is indented by four spaces. Behind a line that ends in `prints` it is what the block before
+it prints, and behind one that ends in `ends with` the last that it says on standard error, however
+that is cut into lines; else its first word says what it is: Python (`import`, `from`) or shell.
+Each runs by itself, at a place that looks like the top of the repository, and those of a page in
+one folder, so that files stay.
 """
 import os
 import re
@@ -17,12 +19,14 @@ from tests.lib.runs import Wrong, difference
 
 PYTHON = ('import', 'from')
 SHELL = ('send()', 'export', 'python3', 'printf', 'PATH', 'cd', 'tools/', 'tests/', 'bench/', '{')
-# Blocks that run elsewhere: the gate runs the package's tests itself, and these run what wants Dask or networkx.
+# Blocks that run elsewhere: the gate runs the package's tests itself, and these run what wants Dask
+# or networkx.
 ELSEWHERE = ('python3 -m pytest', 'from distributed', 'import networkx')
 
 
 class Block(NamedTuple):
-    """A block of a page, the line at which it begins, and what it prints, or ends with where it fails, if that is said."""
+    """A block of a page, the line at which it begins, and what it prints, or ends with where it
+    fails, if that is said."""
     line: int
     text: str
     printed: Optional[str] = None
@@ -38,11 +42,13 @@ class Block(NamedTuple):
             return [sys.executable, '-c', self.text]
         if first.startswith(SHELL):
             return ['sh', '-c', self.text]
-        raise Wrong('line %d: a block that is neither Python, nor shell, nor what one prints: %.40r' % (self.line, self.text))
+        raise Wrong('line %d: a block that is neither Python, nor shell, nor what one prints: %.40r'
+                    % (self.line, self.text))
 
 
 def runs(page: str) -> List[Block]:
-    """The blocks of a page, as a reader of the page sees them: indented lines that only blank ones part are one block."""
+    """The blocks of a page, as a reader of the page sees them: indented lines that only blank ones
+    part are one block."""
     with open(os.path.join(TOP, page), encoding='utf-8') as file:
         lines = file.read().split('\n')
     found: List[Block] = []
@@ -70,7 +76,8 @@ def runs(page: str) -> List[Block]:
 
 
 def check_page(page: str, program: str) -> None:
-    """Runs each block of a page. Wrong where one fails, or prints other than the page says; where it says nothing, all is right."""
+    """Runs each block of a page. Wrong where one fails, or prints other than the page says; where
+    it says nothing, all is right."""
     blocks = runs(page)
     if not any(block.printed for block in blocks):
         raise Wrong('%s has no block that prints' % page)
@@ -79,18 +86,25 @@ def check_page(page: str, program: str) -> None:
         os.symlink(program, os.path.join(folder, 'crates', 'spmat', 'out', 'spmat'))
         for name in ('clients', 'docs'):
             os.symlink(os.path.join(TOP, name), os.path.join(folder, name))
-        environment = {**os.environ, 'SPMAT': program, 'PYTHONPATH': os.pathsep.join(filter(None, [CLIENT, os.environ.get('PYTHONPATH')]))}
+        environment = {**os.environ, 'SPMAT': program,
+                       'PYTHONPATH': os.pathsep.join(filter(None,
+                                                            [CLIENT,
+                                                             os.environ.get('PYTHONPATH')]))}
         for block in blocks:
             words = block.words()
             if words is None:
                 continue
-            done = subprocess.run(words, cwd=folder, env=environment, stdout=subprocess.PIPE, stderr=subprocess.PIPE,
-                                  timeout=FOR_A_SESSION)
+            done = subprocess.run(words, cwd=folder, env=environment, stdout=subprocess.PIPE,
+                                  stderr=subprocess.PIPE, timeout=FOR_A_SESSION)
             last = done.stderr.decode('utf-8', 'replace').strip().split('\n')[-1]
-            if bool(done.returncode) != (block.last is not None) or (block.last is not None and block.last.split() != last.split()):
-                raise Wrong('%s, line %d: status %d: %s' % (page, block.line, done.returncode, last))
+            if bool(done.returncode) != (block.last is not None) or (block.last is not None
+                                                                     and block.last.split()
+                                                                     != last.split()):
+                raise Wrong('%s, line %d: status %d: %s' % (page, block.line, done.returncode,
+                                                            last))
             if block.printed is not None and done.stdout != block.printed.encode():
-                raise Wrong('%s, line %d: %s' % (page, block.line, difference(block.printed.encode(), done.stdout)))
+                raise Wrong('%s, line %d: %s' % (page, block.line,
+                                                 difference(block.printed.encode(), done.stdout)))
 
 
 def page_case(page: str):

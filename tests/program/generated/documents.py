@@ -1,10 +1,12 @@
-"""Cases that hold the documents to the program: examples, shell functions, and each reply that the tables of rules in
-docs/protocol.md and docs/bpf.md show; and every code block of docs/examples.md, docs/scaling.md and the Python client's README."""
+"""Cases that hold the documents to the program: examples, shell functions, and each reply that the
+tables of rules in docs/protocol.md and docs/bpf.md show; and every code block of docs/examples.md,
+docs/scaling.md and the Python client's README."""
 import os
 import re
 import subprocess
 import tempfile
-from tests.lib.commands import BANNER, assembly_command, matrix_command, matrix_text, operator_command, run_words, show_reply
+from tests.lib.commands import (BANNER, assembly_command, matrix_command, matrix_text,
+                                operator_command, run_words, show_reply)
 from tests.lib.paths import TOP
 from tests.lib.patience import FOR_A_SESSION
 from tests.lib.runs import Wrong, difference, run_session
@@ -31,7 +33,8 @@ def code_block(begins, page=PROTOCOL):
 
 
 def tables(begins, page):
-    """The rows of each table of a page whose head begins with these words, as dictionaries from its heads to the cells."""
+    """The rows of each table of a page whose head begins with these words, as dictionaries from its
+    heads to the cells."""
     found, lines = [], lines_of(page)
     for number, line in enumerate(lines):
         if line.startswith('| ' + begins):
@@ -64,7 +67,8 @@ def expect_reply(program, command, reply):
 
 
 def protocol_example(program):
-    run_session(program, run_words(100), code_block('matrix A 62').encode(), code_block('ok matrix 1 1 1').encode())
+    run_session(program, run_words(100), code_block('matrix A 62').encode(),
+                code_block('ok matrix 1 1 1').encode())
 
 
 def protocol_operators(program):
@@ -72,19 +76,22 @@ def protocol_operators(program):
     asm, code = code_block('asm inc unary 30').split('op ')
     replies = 'ok op 3 3\n' + code_block('ok dis 3') + code_block('ok types 3')
     for upload in (asm, 'op ' + code):
-        run_session(program, run_words(), (upload + 'dis inc\ntypes inc\n').encode(), replies.encode())
+        run_session(program, run_words(), (upload + 'dis inc\ntypes inc\n').encode(),
+                    replies.encode())
 
 
 def run_shell(script, folder, program):
     os.symlink(program, os.path.join(folder, 'spmat'))
     path = {**os.environ, 'PATH': folder + os.pathsep + os.environ['PATH']}
-    return subprocess.run(['sh', '-c', script], cwd=folder, env=path, stdout=subprocess.PIPE, timeout=FOR_A_SESSION).stdout
+    return subprocess.run(['sh', '-c', script], cwd=folder, env=path, stdout=subprocess.PIPE,
+                          timeout=FOR_A_SESSION).stdout
 
 
 def protocol_client(program):
     """The shell client gets the replies of the example, less the one to `quit`."""
     with tempfile.TemporaryDirectory(prefix='spmat-client-') as folder:
-        said = run_shell(code_block('send()') + code_block("printf '%%%%MatrixMarket"), folder, program)
+        said = run_shell(code_block('send()') + code_block("printf '%%%%MatrixMarket"), folder,
+                         program)
     want = code_block('ok matrix 1 1 1').encode().replace(b'ok quit\n', b'')
     if said != want:
         raise Wrong(difference(want, said))
@@ -93,14 +100,17 @@ def protocol_client(program):
 def dependent_jobs(program):
     """A job doesn't see the result of one that waits: it is refused, or uses what stood there."""
     jobs = code_block('product T plus times A A').encode()
-    ready = b''.join(assembly_command(name, text_of(['mov64 r0, r1', word + '64 r0, r2', 'exit']), 'binary')
+    ready = b''.join(assembly_command(name, text_of(['mov64 r0, r1', word + '64 r0, r2', 'exit']),
+                                      'binary')
                      for name, word in (('plus', 'add'), ('times', 'mul')))
     one, ten, both, square = (matrix_text(1, 1, [(1, 1, value)]) for value in (3, 10, 13, 9))
     begin, begun = ready + matrix_command('A', one), b'ok op 3 3\nok op 3 3\nok matrix 1 1 1\n'
-    run_session(program, run_words(), begin + jobs, begun + b'ok queued 1 6\nno S4\nok run 1 3\nT 1 1 1 3\n')
+    run_session(program, run_words(), begin + jobs,
+                begun + b'ok queued 1 6\nno S4\nok run 1 3\nT 1 1 1 3\n')
     run_session(program, run_words(), begin + matrix_command('T', ten) + jobs + b'show T\nshow D\n',
-                begun + b'ok matrix 1 1 1\nok queued 1 6\nok queued 2 3\nok run 2 6\nT 1 1 1 3\nD 1 1 1 3\n'
-                + show_reply(square) + show_reply(both))
+                begun
+                + b'ok matrix 1 1 1\nok queued 1 6\nok queued 2 3\nok run 2 6\nT 1 1 1 3\nD 1 1 '
+                b'1 3\n' + show_reply(square) + show_reply(both))
 
 
 def length_too_small(program):
@@ -113,20 +123,24 @@ def length_too_small(program):
 def byte_order_mark(program):
     """A byte-order mark is refused, and what the page says takes it away."""
     text = b'\xef\xbb\xbf' + matrix_text(1, 1, [(1, 1, 5)])
-    rest = subprocess.run(['sh', '-c', 'tail -c +4'], input=text, stdout=subprocess.PIPE, timeout=FOR_A_SESSION).stdout
-    run_session(program, run_words(), matrix_command('A', text) + matrix_command('A', rest), b'no M1 1\nok matrix 1 1 1\n')
+    rest = subprocess.run(['sh', '-c', 'tail -c +4'], input=text, stdout=subprocess.PIPE,
+                          timeout=FOR_A_SESSION).stdout
+    run_session(program, run_words(), matrix_command('A', text) + matrix_command('A', rest),
+                b'no M1 1\nok matrix 1 1 1\n')
 
 
 def slots_of_lines(program):
     """The shell function that counts slots agrees with `types`."""
-    text = text_of(['; a comment', 'mov64 r0, r1 # another', '', 'wide r2, 5', 'add64 r0, r2', 'exit'])
+    text = text_of(['; a comment', 'mov64 r0, r1 # another', '', 'wide r2, 5', 'add64 r0, r2',
+                    'exit'])
     with tempfile.TemporaryDirectory(prefix='spmat-slots-') as folder:
         with open(os.path.join(folder, 'a.asm'), 'wb') as file:
             file.write(text)
         counted = run_shell(code_block('slots()', BPF) + 'slots a.asm', folder, program)
-    done = subprocess.run([program] + run_words(), input=assembly_command('a', text) + b'types a\n', stdout=subprocess.PIPE,
-                          timeout=FOR_A_SESSION)
-    want, got = ([line.split()[0] for line in lines if line] for lines in (done.stdout.split(b'\n')[2:], counted.split(b'\n')))
+    done = subprocess.run([program] + run_words(), input=assembly_command('a', text) + b'types a\n',
+                          stdout=subprocess.PIPE, timeout=FOR_A_SESSION)
+    want, got = ([line.split()[0] for line in lines if line]
+                 for lines in (done.stdout.split(b'\n')[2:], counted.split(b'\n')))
     if want != got or len(got) != 4:
         raise Wrong('slots %r, counted %r' % (want, got))
 
@@ -142,23 +156,27 @@ def matrix_rules(program):
 
 
 FILTERED = [
-    ('whole', 'coordinate real general', ['% made by hand', '2 2 3', '1 1 3.0', '1 2 -4e+00', '2 2 12345678901'],
+    ('whole', 'coordinate real general', ['% made by hand', '2 2 3', '1 1 3.0', '1 2 -4e+00',
+                                          '2 2 12345678901'],
      (2, 2, [(1, 1, 3), (1, 2, -4), (2, 2, 12345678901)])),
-    ('from_array', 'array integer general', ['2 3', '1', '2', '3', '-9223372036854775808', '', '5', '+6'],
+    ('from_array', 'array integer general', ['2 3', '1', '2', '3', '-9223372036854775808', '', '5',
+                                             '+6'],
      (2, 3, [(1, 1, 1), (1, 2, 3), (1, 3, 5), (2, 1, 2), (2, 2, -9223372036854775808), (2, 3, 6)])),
     ('from_skew', 'coordinate integer skew-symmetric', ['3 3 3', '2 1 5', '3 1 -7', '3 2 +9'],
      (3, 3, [(1, 2, -5), (1, 3, 7), (2, 1, 5), (2, 3, -9), (3, 1, -7), (3, 2, 9)])),
-    ('add_up', 'coordinate integer symmetric', ['3 3 4', '2 1 5', '1 2 5000000000', '3 3 1', '% more', '1 1 2'],
+    ('add_up', 'coordinate integer symmetric', ['3 3 4', '2 1 5', '1 2 5000000000', '3 3 1',
+                                                '% more', '1 1 2'],
      (3, 3, [(1, 1, 2), (1, 2, 5000000005), (2, 1, 5000000005), (3, 3, 1)])),
-    ('add_up', 'coordinate integer general', ['2 2 3', '2 1 5', '1 2 4', '2 1 -7'], (2, 2, [(1, 2, 4), (2, 1, -2)])),
-]
+    ('add_up', 'coordinate integer general', ['2 2 3', '2 1 5', '1 2 4', '2 1 -7'],
+     (2, 2, [(1, 2, 4), (2, 1, -2)])),]
 
 
 def matrix_filters(program):
     """Each shell function for a file that is refused makes a text of it that is read."""
     for name, kind, lines, matrix in FILTERED:
         refused = text_of(['%%MatrixMarket matrix ' + kind] + lines)
-        done = subprocess.run(['sh', '-c', code_block('whole()') + name], input=refused, stdout=subprocess.PIPE, timeout=FOR_A_SESSION)
+        done = subprocess.run(['sh', '-c', code_block('whole()') + name], input=refused,
+                              stdout=subprocess.PIPE, timeout=FOR_A_SESSION)
         reply = 'ok matrix %d %d %d\n' % (matrix[0], matrix[1], len(matrix[2]))
         run_session(program, run_words(), matrix_command('A', done.stdout) + b'show A\n',
                     reply.encode() + show_reply(matrix_text(*matrix)))
@@ -183,9 +201,11 @@ def code_rules(program):
 def verifier_rules(program):
     """Each smallest program is refused, and what was mended is accepted."""
     for row in tables('Rule | What is wrong', BPF)[0]:
-        expect_reply(program, assembly_command('a', text_of(quoted(row['The smallest program']))), quoted(row['Reply'])[0])
+        expect_reply(program, assembly_command('a', text_of(quoted(row['The smallest program']))),
+                     quoted(row['Reply'])[0])
         mended = quoted(row['Mended'])
-        expect_reply(program, assembly_command('a', text_of(mended)), 'ok op %d %d' % (len(mended), len(mended)))
+        expect_reply(program, assembly_command('a', text_of(mended)),
+                     'ok op %d %d' % (len(mended), len(mended)))
 
 
 def worked_operators(program):
@@ -194,7 +214,8 @@ def worked_operators(program):
         lines = [quoted(row['Assembly'])[0] for row in rows]
         code = ' '.join(quoted(row['Code'])[0] for row in rows).encode()
         reply = 'ok op %d %d\nok dis %d\n' % ((len(lines),) * 3)
-        run_session(program, run_words(), operator_command('a', code) + b'dis a\n', reply.encode() + text_of(lines))
+        run_session(program, run_words(), operator_command('a', code) + b'dis a\n',
+                    reply.encode() + text_of(lines))
 
 
 DOCUMENT_CASES = {

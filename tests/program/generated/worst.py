@@ -1,7 +1,9 @@
-"""What costs a server most for what a client sends, with bounds on memory and processor time. `bench/costs` finds such sessions."""
+"""What costs a server most for what a client sends, with bounds on memory and processor time.
+`bench/costs` finds such sessions."""
 from typing import Callable, Dict
 
-from tests.lib.commands import INCREMENT, assembly_command, matrix_command, matrix_text, operator_command
+from tests.lib.commands import (INCREMENT, assembly_command, matrix_command, matrix_text,
+                                operator_command)
 from tests.lib.costs import Cost, cost_of
 from tests.lib.limits import MEGABYTE, MOST_SIDE, MOST_WORKERS
 from tests.lib.runs import Wrong, expect
@@ -11,7 +13,8 @@ ROW_BYTES = 13
 # the program itself, and the stacks of so many threads
 BESIDE = 24 * MEGABYTE
 
-OPERATORS = b''.join([operator_command('inc', INCREMENT), assembly_command('plus', b'mov64 r0, r1\nadd64 r0, r2\nexit\n', 'binary'),
+OPERATORS = b''.join([operator_command('inc', INCREMENT),
+                      assembly_command('plus', b'mov64 r0, r1\nadd64 r0, r2\nexit\n', 'binary'),
                       assembly_command('all', b'mov64 r0, 1\nexit\n', 'index')])
 
 
@@ -28,8 +31,9 @@ def within(what: str, cost: Cost, seconds: float, peak: int) -> None:
 
 
 def product_of_one_term(program: str) -> None:
-    """300 bytes, a price of 6 and one multiplication, into rows of 16,777,216 columns: at most half a second, and 40 MB more with
-    64 workers than with one, which holds no row of the result's width."""
+    """300 bytes, a price of 6 and one multiplication, into rows of 16,777,216 columns: at most half
+    a second, and 40 MB more with 64 workers than with one, which holds no row of the result's
+    width."""
     operands = matrix('A', 16384, 1, (16384, 1, 1)) + matrix('G', 1, MOST_SIDE, (1, MOST_SIDE, 1))
     session = operands + OPERATORS + b'product R plus plus A G\nrun\n'
     one = cost_of(program, session)
@@ -38,21 +42,26 @@ def product_of_one_term(program: str) -> None:
 
 
 def products_of_few_terms(program: str) -> None:
-    """Products whose rows have few terms beside the columns, of many rows and under a mask, on 64 workers."""
+    """Products whose rows have few terms beside the columns, of many rows and under a mask, on 64
+    workers."""
     rows = 65536
     places = [(row, 1, 1) for row in range(1, rows + 1, 97)]
-    session = matrix('A', rows, 1, *places) + matrix('G', 1, MOST_SIDE, (1, 1, 1), (1, MOST_SIDE, 1)) + OPERATORS
+    session = matrix('A', rows, 1, *places) + matrix('G', 1, MOST_SIDE, (1, 1, 1),
+                                                     (1, MOST_SIDE, 1)) + OPERATORS
     session += matrix('M', rows, MOST_SIDE, *[(row, MOST_SIDE, 1) for row, _, _ in places])
     session += b'product R plus plus A G\nproduct S plus plus A G mask M\nrun\n'
     within('two products', cost_of(program, session, MOST_WORKERS), 1, BESIDE + 64 * MEGABYTE)
 
 
 def jobs_over_empty_rows(program: str) -> None:
-    """Each form over 1,048,576 rows with one entry, 64 jobs in a batch: so many bytes a row for the matrix and each result."""
+    """Each form over 1,048,576 rows with one entry, 64 jobs in a batch: so many bytes a row for the
+    matrix and each result."""
     rows = 1 << 20
-    for job in (b'apply B%d inc A', b'select B%d all A 0', b'union B%d plus A A', b'both B%d plus A A mask A',
-                b'reduce B%d plus A'):
-        session = matrix('A', rows, 1, (1, 1, 1)) + OPERATORS + b''.join(job % number + b'\n' for number in range(64)) + b'run\n'
+    for job in (b'apply B%d inc A', b'select B%d all A 0', b'union B%d plus A A',
+                b'both B%d plus A A mask A', b'reduce B%d plus A'):
+        session = matrix('A', rows, 1,
+                         (1, 1, 1)) + OPERATORS + b''.join(job % number + b'\n'
+                                                           for number in range(64)) + b'run\n'
         within(job.decode(), cost_of(program, session, 2), 20, 65 * rows * ROW_BYTES + BESIDE)
 
 

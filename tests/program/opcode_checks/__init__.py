@@ -14,5 +14,6 @@
     folds.py        folds of short and long rows
     sizes.py        code and text as long as they may be
 
-What is written down stands in its module. The other values are those of the plain server's machine (reference).
+What is written down stands in its module. The other values are those of the plain server's machine
+(reference).
 """

@@ -19,8 +19,8 @@ class Exchange(NamedTuple):
 
 
 class Session(NamedTuple):
-    """Exchanges one after the other. The expected replies are `literal` where they are written down, and then the plain server is
-    held to them too."""
+    """Exchanges one after the other. The expected replies are `literal` where they are written
+    down, and then the plain server is held to them too."""
 
     topic: str
     exchanges: List[Exchange]
@@ -36,7 +36,8 @@ class Session(NamedTuple):
 
 
 class Answer(NamedTuple):
-    """What a server wrote on standard output, what it said on standard error, and its exit status."""
+    """What a server wrote on standard output, what it said on standard error, and its exit
+    status."""
 
     out: bytes
     told: bytes
@@ -44,10 +45,12 @@ class Answer(NamedTuple):
 
 
 def answer_of(program: str, session: Session) -> Answer:
-    """What a program makes of a session. One that doesn't end has no exit status, and so is wrong."""
+    """What a program makes of a session. One that doesn't end has no exit status, and so is
+    wrong."""
     try:
-        done = subprocess.run([program] + run_words(), input=session.data, stdout=subprocess.PIPE, stderr=subprocess.PIPE,
-                              timeout=FOR_A_SESSION, preexec_fn=bounded, check=False)
+        done = subprocess.run([program] + run_words(), input=session.data, stdout=subprocess.PIPE,
+                              stderr=subprocess.PIPE, timeout=FOR_A_SESSION, preexec_fn=bounded,
+                              check=False)
     except subprocess.TimeoutExpired as late:
         return Answer(late.stdout or b'', b'not ended after %d seconds' % FOR_A_SESSION, -1)
     return Answer(done.stdout, done.stderr, done.returncode)
@@ -94,13 +97,16 @@ def differences(session: Session, out: bytes) -> List[Tuple[Exchange, str]]:
 
 
 def told_of(who: str, session: Session, answer: Answer) -> List[str]:
-    """A line for each difference between what a server answered and what it must answer; none where all is well."""
+    """A line for each difference between what a server answered and what it must answer; none where
+    all is well."""
     if answer.out == session.wanted and not answer.status and not answer.told:
         return []
-    lines = ['%s, %s, %s: %s' % (who, session.topic, each.what, line) for each, line in differences(session, answer.out)]
+    lines = ['%s, %s, %s: %s' % (who, session.topic, each.what, line)
+             for each, line in differences(session, answer.out)]
     if answer.status or answer.told or not lines:
-        lines.insert(0, '%s, %s: status %d, %d bytes of %d, %.200r' % (who, session.topic, answer.status, len(answer.out),
-                                                                     len(session.wanted), answer.told))
+        lines.insert(0, '%s, %s: status %d, %d bytes of %d, %.200r'
+                     % (who, session.topic, answer.status, len(answer.out), len(session.wanted),
+                        answer.told))
     return lines
 
 

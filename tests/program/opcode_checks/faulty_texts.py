@@ -1,4 +1,5 @@
-"""Assembly text that is refused, with the rule and the line that are written down, and what is accepted beside it."""
+"""Assembly text that is refused, with the rule and the line that are written down, and what is
+accepted beside it."""
 from typing import Iterator, List, Tuple
 
 from reference.assembly import assemble, disassemble
@@ -80,16 +81,20 @@ A6 mov64 r1, 214748364
 
 # Ways to write one line.
 WAYS = ['add64 r0,1', '  \t add64 \t r0  ,   +1  ; a comment; another',
-        'add64 r0, 0000000000000000000000000000000000000000000000001# a comment', '\r\n \n; no\r\nadd64 r0, 1\r\n\n']
+        'add64 r0, 0000000000000000000000000000000000000000000000001# a comment',
+        '\r\n \n; no\r\nadd64 r0, 1\r\n\n']
 
-# What a line of 1,020 blanks comes to with each of these behind them, where a program begins with the line.
-ENDS: List[Tuple[str, str]] = [('exit', 'V11 0'), ('exit\r\n', 'V11 0'), ('exit;', 'A1 1'), ('exit\r', 'A1 1')]
+# What a line of 1,020 blanks comes to with each of these behind them, where a program begins with
+# the line.
+ENDS: List[Tuple[str, str]] = [('exit', 'V11 0'), ('exit\r\n', 'V11 0'), ('exit;', 'A1 1'),
+                               ('exit\r', 'A1 1')]
 
 # Texts with no instruction, with the line that is named.
 EMPTY: List[Tuple[str, int]] = [('', 1), ('\n', 2), ('; no', 2), ('\n\r\n\t\n# no', 5)]
 
 # What a text of 4,094 slots comes to with each of these behind them.
-NEARLY: List[Tuple[str, str]] = [('exit\nexit\n', 'ok op 4096 4096'), ('wide r0, 1\n', 'no V10 4094'),
+NEARLY: List[Tuple[str, str]] = [('exit\nexit\n', 'ok op 4096 4096'),
+                                 ('wide r0, 1\n', 'no V10 4094'),
                                  ('exit\n\nwide r0, 1\nx', 'no A6 4097')]
 
 # Text of which each prefix is assembled or refused.
@@ -128,11 +133,13 @@ def texts() -> Iterator[Exchange]:
         yield refused(repr(text), text, 'A6 %d' % line)
     head = 'mov64 r0, r1\n' + 'exit\n' * 4093
     for end, reply in NEARLY:
-        yield Exchange('4,094 slots and %r' % end, assembly_command('f', (head + end).encode()), reply.encode() + b'\n')
+        yield Exchange('4,094 slots and %r' % end, assembly_command('f', (head + end).encode()),
+                       reply.encode() + b'\n')
 
 
 def longest() -> Exchange:
-    """A text of 262,144 bytes and 4,032 slots, of which no path leads to the last but the first line's."""
+    """A text of 262,144 bytes and 4,032 slots, of which no path leads to the last but the first
+    line's."""
     line = 'add64 r0, -2147483648 ; and a comment to the end of the line.../\n'
     front = 'mov64 r0, r1 ; and a comment to the end of the line............/\n'
     text = front + line * 4030 + 'exit' + ' ' * (262144 - 4031 * len(line) - len('exit\n')) + '\n'
@@ -148,7 +155,8 @@ def outcome(text: bytes) -> bytes:
     except Refusal as refusal:
         return b'%s\nno S4\n' % str(refusal).encode()
     written = disassemble(operator.program)
-    return b'ok op %d %d\nok dis %d\n%s\n' % (operator.program.slots, operator.length, len(written), '\n'.join(written).encode())
+    return b'ok op %d %d\nok dis %d\n%s\n' % (operator.program.slots, operator.length, len(written),
+                                              '\n'.join(written).encode())
 
 
 def prefixes() -> Iterator[Exchange]:
@@ -156,9 +164,11 @@ def prefixes() -> Iterator[Exchange]:
     text = PREFIXED.encode()
     for length in range(len(text) + 1):
         name = 'p%d' % length
-        yield Exchange('the first %d bytes' % length, assembly_command(name, text[:length]) + b'dis %s\n' % name.encode(),
+        yield Exchange('the first %d bytes' % length,
+                       assembly_command(name, text[:length]) + b'dis %s\n' % name.encode(),
                        outcome(text[:length]))
 
 
 def sessions() -> List[Session]:
-    return [Session('refused text', [*lines(), *texts(), longest()], literal=True), Session('prefixes of text', list(prefixes()))]
+    return [Session('refused text', [*lines(), *texts(), longest()], literal=True),
+            Session('prefixes of text', list(prefixes()))]

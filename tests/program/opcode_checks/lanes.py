@@ -1,7 +1,8 @@
 """Operands laid out as matrices, so that calls are made alone and up to 64 at once.
 
-The program makes the calls of a job in the order of its entries, up to 64 at once, and begins anew with each chunk of 256 rows. So each
-group of operands stands in the first row of a chunk of its own: a group of one is called alone, one of 64 in one go, one of 130 in three.
+The program makes the calls of a job in the order of its entries, up to 64 at once, and begins anew
+with each chunk of 256 rows. So each group of operands stands in the first row of a chunk of its
+own: a group of one is called alone, one of 64 in one go, one of 130 in three.
 """
 from itertools import islice
 from typing import Iterable, Iterator, List, NamedTuple, Sequence, Tuple
@@ -24,8 +25,8 @@ def signed(word: int) -> int:
     return word - WORD if word >> 63 else word
 
 # Words that test signs, halves and bytes.
-WORDS = [0, 1, WORD - 1, 0x80000000, 0xffffffff80000000, (1 << 63) - 1, 1 << 63, 2, 63, 0x100000007, 0x0102030405060708,
-         0xf1e2d3c4b5a69788]
+WORDS = [0, 1, WORD - 1, 0x80000000, 0xffffffff80000000, (1 << 63) - 1, 1 << 63, 2, 63, 0x100000007,
+         0x0102030405060708, 0xf1e2d3c4b5a69788]
 
 
 class Laid(NamedTuple):
@@ -53,14 +54,16 @@ class Laid(NamedTuple):
 
     def text(self, values: Sequence[int]) -> bytes:
         """The canonical text of a matrix with a value at each place."""
-        head = '%%%%MatrixMarket matrix coordinate integer general\n%d %d %d\n' % (self.rows, self.columns, self.entries)
+        head = '%%%%MatrixMarket matrix coordinate integer general\n%d %d %d\n' % (
+            self.rows, self.columns, self.entries)
         lines = ['%d %d %d\n' % (row + 1, column + 1, signed(value))
                  for (row, column, _), value in zip(self.places(), values)]
         return (head + ''.join(lines)).encode()
 
     def uploads(self) -> Exchange:
         pairs = [pair for _, _, pair in self.places()]
-        command = b''.join(matrix_command(name, self.text([pair[side] for pair in pairs])) for side, name in enumerate('XY'))
+        command = b''.join(matrix_command(name, self.text([pair[side] for pair in pairs]))
+                           for side, name in enumerate('XY'))
         reply = b'ok matrix %d %d %d\n' % (self.rows, self.columns, self.entries)
         return Exchange('operands', command, 2 * reply)
 
@@ -73,15 +76,18 @@ class Laid(NamedTuple):
         return [(x, row, column, THUNK) for row, column, (x, _) in self.places()]
 
     def outcome(self, values: Sequence[int], length: int, steps: int) -> bytes:
-        """The replies to the job R of an operator of this length at all places, to `run` and to `show R`."""
+        """The replies to the job R of an operator of this length at all places, to `run` and to
+        `show R`."""
         reply = b'ok queued 1 %d\nok run 1 %d\n' % (self.entries * length, steps)
         reply += b'R %d %d %d %d\n' % (self.rows, self.columns, self.entries, steps)
         return reply + show_reply(self.text(values))
 
     def exchange(self, what: str, slots: Sequence[str], kind: str) -> Exchange:
-        """An operator is uploaded and called on all operands; what it gives and costs is what the machine says."""
+        """An operator is uploaded and called on all operands; what it gives and costs is what the
+        machine says."""
         values, steps = Machine(slots).calls(self.operands(kind))
-        job = {'unary': b'apply R f X', 'binary': b'both R f X Y', 'index': b'apply R f X %d' % THUNK}[kind]
+        job = {'unary': b'apply R f X', 'binary': b'both R f X Y',
+               'index': b'apply R f X %d' % THUNK}[kind]
         reply = uploaded(slots) + self.outcome(values, count_of(slots), steps)
         return Exchange(what, upload('f', slots, kind) + job + b'\nrun\nshow R\n', reply)
 
@@ -97,7 +103,8 @@ def all_pairs(words: Sequence[int]) -> List[Tuple[int, int]]:
 
 
 def laid_out(words: Sequence[int], counts: Sequence[int] = COUNTS) -> Laid:
-    """All pairs of words in one group; then in each count a group of pairs that differ, and one of pairs that are alike."""
+    """All pairs of words in one group; then in each count a group of pairs that differ, and one of
+    pairs that are alike."""
     groups = [all_pairs(words)]
     for count in counts:
         groups.append([pair_of(words, 7 * lane + count) for lane in range(count)])
@@ -105,8 +112,10 @@ def laid_out(words: Sequence[int], counts: Sequence[int] = COUNTS) -> Laid:
     return Laid(groups)
 
 
-def sessions_of(topic: str, laid: Laid, programs: Iterable[Tuple[str, Sequence[str], str]]) -> Iterator[Session]:
-    """Sessions in which programs, each behind what it is about and before its kind, are called on all operands."""
+def sessions_of(topic: str, laid: Laid,
+                programs: Iterable[Tuple[str, Sequence[str], str]]) -> Iterator[Session]:
+    """Sessions in which programs, each behind what it is about and before its kind, are called on
+    all operands."""
     waiting = iter(programs)
     while True:
         exchanges = [laid.exchange(*each) for each in islice(waiting, PROGRAMS_A_SESSION)]

@@ -1,4 +1,5 @@
-"""Code from slots, each written as the sixteen hexadecimal digits of its eight bytes, and the commands that upload it."""
+"""Code from slots, each written as the sixteen hexadecimal digits of its eight bytes, and the
+commands that upload it."""
 from typing import Dict, Iterable, List, Sequence, Tuple
 
 from reference.instructions import Program, decode
@@ -13,7 +14,8 @@ MOVE = 'bf10000000000000'       # mov64 r0, r1
 ZERO = 'b700000000000000'       # mov64 r0, 0
 
 
-def slot(opcode: int, destination: int = 0, source: int = 0, offset: int = 0, immediate: int = 0) -> str:
+def slot(opcode: int, destination: int = 0, source: int = 0, offset: int = 0,
+         immediate: int = 0) -> str:
     """The digits of a slot."""
     return instruction(opcode, destination, source, offset, immediate).decode()
 

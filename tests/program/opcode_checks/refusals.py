@@ -1,4 +1,5 @@
-"""Code that is refused, with the rule and the slot that are written down, and neighbours that are accepted."""
+"""Code that is refused, with the rule and the slot that are written down, and neighbours that are
+accepted."""
 from typing import Iterator, List, Optional, Tuple
 
 from reference.instructions import BY_OPCODE, OUTSIDE_PROFILE
@@ -49,13 +50,16 @@ c4 c5 c6 c7 cc cd ce cf
 d4 d5 d6 d7 dc dd de
 """)
 
-# Programs, each behind its name, with the kind and what is found before any path is looked at: the rule and the slot, or nothing.
+# Programs, each behind its name, with the kind and what is found before any path is looked at: the
+# rule and the slot, or nothing.
 SLOT_FAULTS: List[Tuple[str, List[str], str, Optional[str]]] = [
     ('back', [ZERO, '0500ffff00000000', EXIT], 'unary', 'V7 1'),
     ('before the program', [ZERO, '1500f0ff00000000', EXIT], 'unary', 'V7 1'),
     ('to the next slot', [ZERO, '0500000000000000', EXIT], 'unary', None),
-    ('into a wide load', ['0500010000000000', '1800000001000000', '0000000000000000', EXIT], 'unary', 'V8 0'),
-    ('over a wide load', [ZERO, '0500020000000000', '1800000001000000', '0000000000000000', EXIT], 'unary', None),
+    ('into a wide load', ['0500010000000000', '1800000001000000', '0000000000000000', EXIT],
+     'unary', 'V8 0'),
+    ('over a wide load', [ZERO, '0500020000000000', '1800000001000000', '0000000000000000', EXIT],
+     'unary', None),
     ('past the end', [ZERO, '1500010000000000', EXIT], 'unary', 'V8 1'),
     ('R10 written', ['b70a000000000000', EXIT], 'unary', 'V9 0'),
     ('a store through R10', [ZERO, '7b0af8ff00000000', EXIT], 'unary', None),
@@ -64,34 +68,39 @@ SLOT_FAULTS: List[Tuple[str, List[str], str, Optional[str]]] = [
     ('the whole slot pass before the typing', ['bf50000000000000', ZERO], 'unary', 'V10 1'),
     ('a jump back in the last slot', [ZERO, '1500feff00000000'], 'unary', 'V7 1'),
     ('a jump out of the last slot', [ZERO, '1500000000000000'], 'unary', 'V8 1'),
-    ('R10 written in the last slot', ['b70a000000000000'], 'unary', 'V9 0'),
-]
+    ('R10 written in the last slot', ['b70a000000000000'], 'unary', 'V9 0'),]
 
 # Programs with what is found on a path.
 PATH_FAULTS: List[Tuple[str, List[str], str, Optional[str]]] = [
     ('unset on one way', ['1501010000000000', ZERO, EXIT], 'unary', 'V11 2'),
-    ('unset on a way that no operand takes', [ZERO, '5500010000000000', EXIT, 'bf20000000000000', EXIT], 'unary', 'V11 3'),
+    ('unset on a way that no operand takes', [ZERO, '5500010000000000', EXIT, 'bf20000000000000',
+                                              EXIT], 'unary', 'V11 3'),
     ('R2 of a unary operator', ['bf20000000000000', EXIT], 'unary', 'V11 0'),
     ('R2 of a binary operator', ['bf20000000000000', EXIT], 'binary', None),
     ('R4 of a binary operator', ['bf40000000000000', EXIT], 'binary', 'V11 0'),
     ('R4 of an index operator', ['bf40000000000000', EXIT], 'index', None),
-    ('a place or a number', ['1501020000000000', 'bfa3000000000000', '0500010000000000', 'bf23000000000000', 'bf30000000000000', EXIT],
-     'binary', 'V12 4'),
-    ('two places', ['bfa2000000000000', '1501010000000000', '07020000f8ffffff', '7920000000000000', EXIT], 'unary', 'V12 3'),
-    ('two places, not read', ['bfa2000000000000', '1501010000000000', '07020000f8ffffff', ZERO, EXIT], 'unary', None),
+    ('a place or a number', ['1501020000000000', 'bfa3000000000000', '0500010000000000',
+                             'bf23000000000000', 'bf30000000000000', EXIT], 'binary', 'V12 4'),
+    ('two places', ['bfa2000000000000', '1501010000000000', '07020000f8ffffff', '7920000000000000',
+                    EXIT], 'unary', 'V12 3'),
+    ('two places, not read', ['bfa2000000000000', '1501010000000000', '07020000f8ffffff', ZERO,
+                              EXIT], 'unary', None),
     ('a place as the value', ['bfa0000000000000', EXIT], 'unary', 'V13 1'),
-    ('a place copied and moved', ['bfa2000000000000', '07020000f8ffffff', '7b12000000000000', '79a0f8ff00000000', EXIT], 'unary', None),
+    ('a place copied and moved', ['bfa2000000000000', '07020000f8ffffff', '7b12000000000000',
+                                  '79a0f8ff00000000', EXIT], 'unary', None),
     ('a number as a base', ['7910000000000000', EXIT], 'unary', 'V14 0'),
-    ('a place above the top', ['bfa1000000000000', '0701000001000000', ZERO, EXIT], 'unary', 'V15 1'),
+    ('a place above the top', ['bfa1000000000000', '0701000001000000', ZERO, EXIT], 'unary',
+     'V15 1'),
     ('the end of an access above the top', ['7b1af9ff00000000', ZERO, EXIT], 'unary', 'V15 0'),
     ('the lowest bytes', ['7b1a00fe00000000', '79a000fe00000000', EXIT], 'unary', None),
     ('below the stack, though not stored either', ['71a0fffd00000000', EXIT], 'unary', 'V15 0'),
-    ('stored on one way', ['1501010000000000', '7b1af8ff00000000', '79a0f8ff00000000', EXIT], 'unary', 'V16 2'),
-    ('stored on both ways', ['1501020000000000', '7b1af8ff00000000', '0500010000000000', '7a0af8ff00000000', '79a0f8ff00000000', EXIT],
-     'unary', None),
+    ('stored on one way', ['1501010000000000', '7b1af8ff00000000', '79a0f8ff00000000', EXIT],
+     'unary', 'V16 2'),
+    ('stored on both ways', ['1501020000000000', '7b1af8ff00000000', '0500010000000000',
+                             '7a0af8ff00000000', '79a0f8ff00000000', EXIT], 'unary', None),
     ('half stored', ['631afcff00000000', '79a0f8ff00000000', EXIT], 'unary', 'V16 1'),
-    ('stored by halves', ['631afcff00000000', '631af8ff00000000', '79a0f8ff00000000', EXIT], 'unary', None),
-]
+    ('stored by halves', ['631afcff00000000', '631af8ff00000000', '79a0f8ff00000000', EXIT],
+     'unary', None),]
 
 # Instructions that break two rules, with the one that is named: R3 is mixed, R5 unset, R1 a number.
 LOWEST: List[Tuple[str, str, str]] = [
@@ -105,7 +114,8 @@ LOWEST: List[Tuple[str, str, str]] = [
     ('a place stored below the stack', '7baafffd00000000', 'V13'),
 ]
 
-# Instructions in slot 0 that break a rule, alone or with others, with the one that is named: R1 is a number, R5 unset.
+# Instructions in slot 0 that break a rule, alone or with others, with the one that is named: R1 is
+# a number, R5 unset.
 FIRST: List[Tuple[str, str, str]] = [
     ('R10 from an unset register', 'bf5a000000000000', 'V9'),
     ('a place stored through a number', '7ba1000000000000', 'V13'),
@@ -124,14 +134,17 @@ FIRST: List[Tuple[str, str, str]] = [
 ]
 
 # Code whose length breaks a rule, in hexadecimal digits, with the slot that is named.
-LENGTHS: List[Tuple[str, str, int]] = [('no slot', '', 0), ('a byte too few', MOVE + '07000000010000', 1),
+LENGTHS: List[Tuple[str, str, int]] = [('no slot', '', 0),
+                                       ('a byte too few', MOVE + '07000000010000', 1),
                                        ('a byte', '95', 0), ('a byte too many', EXIT + '00', 1),
-                                       ('4,097 slots', EXIT * 4097, 4096), ('4,096 slots and a byte', EXIT * 4096 + '95', 4096)]
+                                       ('4,097 slots', EXIT * 4097, 4096),
+                                       ('4,096 slots and a byte', EXIT * 4096 + '95', 4096)]
 
 
 def verdict(what: str, slots: List[str], kind: str, fault: Optional[str]) -> Exchange:
     """Code is refused by a rule and a slot, or accepted."""
-    return Exchange(what, upload('f', slots, kind), uploaded(slots) if fault is None else b'no %s\n' % fault.encode())
+    return Exchange(what, upload('f', slots, kind), uploaded(slots) if fault is None
+                    else b'no %s\n' % fault.encode())
 
 
 def code_faults() -> Iterator[Exchange]:
@@ -144,7 +157,8 @@ def code_faults() -> Iterator[Exchange]:
 
 
 def opcodes() -> Iterator[Exchange]:
-    """Each byte as an opcode whose register fields are 11: a known one is refused for these or as unused, and none is accepted."""
+    """Each byte as an opcode whose register fields are 11: a known one is refused for these or as
+    unused, and none is accepted."""
     for opcode in range(256):
         digits = slot(opcode, 11, 11)
         if opcode in LEFT_OUT or opcode == 0x18:

@@ -15,7 +15,8 @@ STORES = [slot(0x7a, 10, 0, place) for place in (-8, -16, -24, -512)]
 
 
 def long_with_jump(skipped: int) -> List[str]:
-    """An operator of 4,096 slots: a test at slot 1 that jumps over so many slots where x is y, and additions of 1."""
+    """An operator of 4,096 slots: a test at slot 1 that jumps over so many slots where x is y, and
+    additions of 1."""
     return [MOVE, slot(0x1d, 1, 2, skipped), *[slot(0x07, immediate=1)] * 4093, EXIT]
 
 
@@ -37,7 +38,8 @@ def long_calls() -> Iterator[Exchange]:
 
 def all_sizes() -> Iterator[Exchange]:
     """Code of each multiple of eight slots, and of the sizes around powers of two."""
-    sizes = {*range(8, MOST_SLOTS + 1, 8), *(1 << power for power in range(1, 13)), *((1 << power) - 1 for power in range(2, 13))}
+    sizes = {*range(8, MOST_SLOTS + 1, 8), *(1 << power for power in range(1, 13)),
+             *((1 << power) - 1 for power in range(2, 13))}
     for size in sorted(sizes):
         code = [MOVE, *[slot(0x07, immediate=1)] * (size - 2), EXIT]
         yield Exchange('%d slots' % size, upload('f', code, 'unary'), uploaded(code))
@@ -50,6 +52,8 @@ def all_sizes() -> Iterator[Exchange]:
 def sessions() -> Iterator[Session]:
     yield Session('sizes', list(long_calls()), literal=True)
     yield Session('code of all sizes', list(all_sizes()))
-    laid = Laid([all_pairs([0, (1 << 64) - 1]), [(0, 0)], [(0, 5)], [(5, 6)] * 16 + [(5, 5)] * 16 + [(6, 5)] * 32])
-    yield from sessions_of('long operators', laid, ((('over %d slots' % skipped), long_with_jump(skipped), 'binary')
-                                                   for skipped in (256, 4093)))
+    laid = Laid([all_pairs([0, (1 << 64) - 1]), [(0, 0)], [(0, 5)],
+                 [(5, 6)] * 16 + [(5, 5)] * 16 + [(6, 5)] * 32])
+    yield from sessions_of('long operators', laid,
+                           ((('over %d slots' % skipped), long_with_jump(skipped), 'binary')
+                            for skipped in (256, 4093)))

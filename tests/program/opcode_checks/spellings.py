@@ -1,8 +1,8 @@
 """Each opcode with the least and the greatest of its fields, as code and as text.
 
-The instruction stands in a slot to which no path leads: `mov64 r0, r1`, a jump over it, the instruction, `exit`. So all that it may be is
-accepted, but for jumps back (V7) or out of the code (V8) and writes to R10 (V9). What `dis` makes of the code is assembled, and
-disassembled again.
+The instruction stands in a slot to which no path leads: `mov64 r0, r1`, a jump over it, the
+instruction, `exit`. So all that it may be is accepted, but for jumps back (V7) or out of the code
+(V8) and writes to R10 (V9). What `dis` makes of the code is assembled, and disassembled again.
 """
 import struct
 from itertools import product
@@ -55,12 +55,14 @@ EXITS = 7
 # What is refused of these lines where seven `exit` stand behind them, and why.
 REFUSED = {'ja32 65536': 'V8 2', 'jset32 r1, 2, 32767': 'V8 2', 'jsle32 r1, r2, -1': 'V7 2'}
 
-LEAST_AND_GREATEST = {'dst': [0, 10], 'src': [0, 10], 'offset': [-(1 << 15), (1 << 15) - 1], 'imm': [-(1 << 31), (1 << 31) - 1]}
+LEAST_AND_GREATEST = {'dst': [0, 10], 'src': [0, 10], 'offset': [-(1 << 15), (1 << 15) - 1],
+                      'imm': [-(1 << 31), (1 << 31) - 1]}
 WIDE_VALUES = [-(1 << 63), (1 << 63) - 1, 4294967297]
 
 
 def both_ways(what: str, slots: List[str], lines: List[str]) -> Exchange:
-    """Code that is accepted, the text that is written of it, and that text assembled and written again."""
+    """Code that is accepted, the text that is written of it, and that text assembled and written
+    again."""
     text = ''.join(line + '\n' for line in lines).encode()
     command = upload('f', slots, 'unary') + b'dis f\n' + assembly_command('g', text) + b'dis g\n'
     return Exchange(what, command, 2 * (uploaded(slots) + b'ok dis %d\n' % len(lines) + text))
@@ -69,7 +71,8 @@ def both_ways(what: str, slots: List[str], lines: List[str]) -> Exchange:
 def refused(what: str, slots: List[str], lines: List[str], fault: str) -> Exchange:
     """Code that is refused, and so is its text."""
     text = ''.join(line + '\n' for line in lines).encode()
-    return Exchange(what, upload('f', slots, 'unary') + assembly_command('g', text), 2 * (b'no %s\n' % fault.encode()))
+    return Exchange(what, upload('f', slots, 'unary') + assembly_command('g', text),
+                    2 * (b'no %s\n' % fault.encode()))
 
 
 def written_down() -> Iterator[Exchange]:
@@ -77,14 +80,17 @@ def written_down() -> Iterator[Exchange]:
         code, _, line = row.partition(' ')
         slots = [MOVE, slot(0x05, offset=1), code] + [EXIT] * EXITS
         lines = ['mov64 r0, r1', 'ja 1', line] + ['exit'] * EXITS
-        yield refused(line, slots, lines, REFUSED[line]) if line in REFUSED else both_ways(line, slots, lines)
-    yield both_ways('wide r0, 4294967297', ['1800000001000000', '0000000001000000', EXIT], ['wide r0, 4294967297', 'exit'])
+        yield (refused(line, slots, lines, REFUSED[line]) if line in REFUSED
+               else both_ways(line, slots, lines))
+    yield both_ways('wide r0, 4294967297', ['1800000001000000', '0000000001000000', EXIT],
+                    ['wide r0, 4294967297', 'exit'])
 
 
 def fields_of(spelling: Spelling) -> Iterator[Tuple[int, int, int, int]]:
-    """All of the least and the greatest destination, source, offset and imm of an instruction, and jumps to the next slot."""
-    choices = [LEAST_AND_GREATEST[field] if field in spelling.fields else [getattr(spelling, field, 0)]
-               for field in ('dst', 'src', 'offset', 'imm')]
+    """All of the least and the greatest destination, source, offset and imm of an instruction, and
+    jumps to the next slot."""
+    choices = [LEAST_AND_GREATEST[field] if field in spelling.fields
+               else [getattr(spelling, field, 0)] for field in ('dst', 'src', 'offset', 'imm')]
     if spelling.group == 'wide':
         choices[3] = WIDE_VALUES
     if spelling.group == 'jump':
@@ -121,9 +127,11 @@ def longest_jumps() -> Iterator[Exchange]:
     for spelling in SPELLINGS:
         if spelling.group == 'jump':
             offset, imm = (0, furthest) if spelling.mnemonic == 'ja32' else (furthest, 0)
-            slots = [MOVE, slot(spelling.opcode, 1 if 'dst' in spelling.fields else 0, 1 if 'src' in spelling.fields else 0, offset, imm)]
+            slots = [MOVE, slot(spelling.opcode, 1 if 'dst' in spelling.fields else 0,
+                                1 if 'src' in spelling.fields else 0, offset, imm)]
             line = disassemble(decode(bytes.fromhex(''.join(slots))))[1]
-            yield both_ways(line, slots + [EXIT] * (MOST_SLOTS - 2), ['mov64 r0, r1', line] + ['exit'] * (MOST_SLOTS - 2))
+            yield both_ways(line, slots + [EXIT] * (MOST_SLOTS - 2),
+                            ['mov64 r0, r1', line] + ['exit'] * (MOST_SLOTS - 2))
 
 
 def sessions() -> Iterator[Session]:

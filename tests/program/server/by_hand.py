@@ -1,4 +1,5 @@
-"""Tests of `spmat serve` that are run by hand: very many sessions, and servers under limits of the system."""
+"""Tests of `spmat serve` that are run by hand: very many sessions, and servers under limits of the
+system."""
 import resource
 import time
 from typing import Callable, Dict, List
@@ -21,13 +22,15 @@ FEW_DESCRIPTORS = 9
 def whole_session(client: Client) -> None:
     """Each kind of command, with a batch."""
     text, mapped = matrix_text(1, 1, [(1, 1, 41)]), matrix_text(1, 1, [(1, 1, 42)])
-    client.send(matrix_command('A', text) + operator_command('inc', INCREMENT) + b'apply B inc A\nrun\nshow B\nquit\n')
-    expect('replies', b'ok matrix 1 1 1\nok op 3 3\nok queued 1 3\nok run 1 3\nB 1 1 1 3\n' + show_reply(mapped) + b'ok quit\n',
-           client.rest())
+    client.send(matrix_command('A', text) + operator_command('inc', INCREMENT)
+                + b'apply B inc A\nrun\nshow B\nquit\n')
+    expect('replies', b'ok matrix 1 1 1\nok op 3 3\nok queued 1 3\nok run 1 3\nB 1 1 1 3\n'
+           + show_reply(mapped) + b'ok quit\n', client.rest())
 
 
 def many_sessions(program: str, count: int = MANY_SESSIONS) -> None:
-    """Sessions one after another, each with a batch: resident memory doesn't grow, nor do threads and descriptors."""
+    """Sessions one after another, each with a batch: resident memory doesn't grow, nor do threads
+    and descriptors."""
     with Server(program) as server:
         began, resident = time.monotonic(), 0
         for number in range(count):
@@ -36,14 +39,16 @@ def many_sessions(program: str, count: int = MANY_SESSIONS) -> None:
             if (number + 1) % (count // 10) == 0:
                 resident = resident or server.status('VmRSS')
                 print('    %d sessions, %.0f s, %d kB resident, %d threads, %d descriptors' % (
-                    number + 1, time.monotonic() - began, server.status('VmRSS') >> 10, server.threads(), server.descriptors()),
-                    flush=True)
+                    number + 1, time.monotonic() - began, server.status('VmRSS') >> 10,
+                    server.threads(), server.descriptors()), flush=True)
         grown = server.status('VmRSS') - resident
         if grown > FLAT:
-            raise Wrong('resident memory grew by %d kB from %d to %d sessions' % (grown >> 10, count // 10, count))
+            raise Wrong('resident memory grew by %d kB from %d to %d sessions'
+                        % (grown >> 10, count // 10, count))
         with server.client() as client:
             expect('spent', 3 * count, client.budget()[2])
-        until('threads and descriptors given back', lambda: (server.threads(), server.descriptors()) == server.at_rest)
+        until('threads and descriptors given back',
+              lambda: (server.threads(), server.descriptors()) == server.at_rest)
 
 
 def asked(server: Server) -> bytes:
@@ -67,7 +72,8 @@ def seated_or_turned_away(server: Server, count: int) -> List[Client]:
 
 
 def little_address_space(program: str) -> None:
-    """Where no thread can be started a client reads `no busy`; those that have a seat go on, and later ones get theirs."""
+    """Where no thread can be started a client reads `no busy`; those that have a seat go on, and
+    later ones get theirs."""
     with Server(program, limits={resource.RLIMIT_AS: ADDRESS_SPACE}) as server:
         for _ in range(3):
             seated = seated_or_turned_away(server, MOST_SESSIONS)
@@ -80,13 +86,16 @@ def little_address_space(program: str) -> None:
                 expect('the end', b'', client.rest())
                 client.close()
             for _ in range(3 * MOST_SESSIONS):
-                until('an answer', lambda: asked(server) == b'ok budget %d 0 0\nok quit\n' % server.steps)
+                until('an answer', lambda: asked(server) == b'ok budget %d 0 0\nok quit\n'
+                      % server.steps)
         server.look_at_rest()
 
 
 def refused_threads_are_no_sessions(program: str) -> None:
-    """A client that was turned away since no thread could be started is none of the sessions after which the server ends."""
-    with Server(program, sessions=MOST_SESSIONS, limits={resource.RLIMIT_AS: ADDRESS_SPACE}) as server:
+    """A client that was turned away since no thread could be started is none of the sessions after
+    which the server ends."""
+    with Server(program, sessions=MOST_SESSIONS,
+                limits={resource.RLIMIT_AS: ADDRESS_SPACE}) as server:
         seated = seated_or_turned_away(server, MOST_SESSIONS)
         first = len(seated)
         for client in seated:
@@ -99,7 +108,8 @@ def refused_threads_are_no_sessions(program: str) -> None:
 
 
 def few_descriptors(program: str) -> None:
-    """Where no connection can be accepted the server says so, once the sessions that run have ended."""
+    """Where no connection can be accepted the server says so, once the sessions that run have
+    ended."""
     with Server(program, limits={resource.RLIMIT_NOFILE: FEW_DESCRIPTORS}) as server:
         clients = [server.client() for _ in range(FEW_DESCRIPTORS)]
         answered = []
@@ -107,14 +117,17 @@ def few_descriptors(program: str) -> None:
             client.send(b'budget\n')
             if not client.says_nothing(0.5):
                 answered.append(client)
-        print('    %d of %d clients have a session with %d descriptors' % (len(answered), len(clients), FEW_DESCRIPTORS))
+        print('    %d of %d clients have a session with %d descriptors'
+              % (len(answered), len(clients), FEW_DESCRIPTORS))
         for client in answered:
             expect('whether it runs', True, server.runs())
             expect('reply', b'ok budget %d 0 0\n' % server.steps, client.replies.reply())
             client.expect(b'budget\n', b'ok budget %d 0 0\n' % server.steps)
             client.expect(b'quit\n', b'ok quit\n')
             client.close()
-        server.expect_end(1, b"spmat: network failed\nspmat: because accepting a connection failed: Too many open files (os error 24)\n")
+        server.expect_end(
+            1, b"spmat: network failed\nspmat: because accepting a connection failed: Too many "
+            b"open files (os error 24)\n")
         for client in clients:
             client.close()
 
@@ -123,7 +136,8 @@ def limits(program: str) -> None:
     for part in (little_address_space, refused_threads_are_no_sessions, few_descriptors):
         began = time.monotonic()
         part(program)
-        print('    %s, %.1f s' % (part.__name__.replace('_', '-'), time.monotonic() - began), flush=True)
+        print('    %s, %.1f s' % (part.__name__.replace('_', '-'), time.monotonic() - began),
+              flush=True)
 
 
 BY_HAND: Dict[str, Callable[..., None]] = {MANY: many_sessions, '--limits': limits}

@@ -1,5 +1,5 @@
-"""Clients that do harm, by mistake or on purpose. After each the server answers a new client, has as many threads and descriptors
-as before, and nothing reserved."""
+"""Clients that do harm, by mistake or on purpose. After each the server answers a new client, has
+as many threads and descriptors as before, and nothing reserved."""
 import time
 from concurrent.futures import ThreadPoolExecutor
 from typing import Callable, Dict, List
@@ -9,7 +9,8 @@ from tests.lib.limits import MEGABYTE, MOST_MATRIX_BYTES, MOST_SESSIONS
 from tests.lib.runs import Wrong, difference, expect
 from tests.program.server.server import BUSY, Client, Server, until
 
-# some 2 MB of text, more than the buffers of a connection take where a client has little room, so that the server waits to write it
+# some 2 MB of text, more than the buffers of a connection take where a client has little room, so
+# that the server waits to write it
 LARGE_SIDE = 1 << 17
 LITTLE_ROOM = 4096
 IDLE_SECONDS, LITTLE_TIME = 1.0, 0.2
@@ -30,7 +31,8 @@ def leave(clients: List[Client]) -> None:
 
 
 def silent(server: Server) -> None:
-    """Sixteen that connect and say nothing: no processor time is spent on them, and a seventeenth is told that there is no seat."""
+    """Sixteen that connect and say nothing: no processor time is spent on them, and a seventeenth
+    is told that there is no seat."""
     clients = [server.client() for _ in range(MOST_SESSIONS)]
     until('a thread for each', lambda: server.threads() == server.at_rest[0] + MOST_SESSIONS)
     before = server.processor_seconds()
@@ -57,7 +59,8 @@ def slow(server: Server) -> None:
 
 
 def half_closed(server: Server) -> None:
-    """Whoever sends all and closes that side gets all replies, of which most are still to be written by then."""
+    """Whoever sends all and closes that side gets all replies, of which most are still to be
+    written by then."""
     text = large_matrix()
     reply = show_reply(text)
     with server.client() as client:
@@ -82,7 +85,8 @@ def reset_amid_a_reply(server: Server) -> None:
     """With a reply half read, and with nothing of it read."""
     for read in (100000, 1, 0):
         client = server.client(LITTLE_ROOM)
-        client.expect(matrix_command('A', large_matrix()), b'ok matrix %d 1 %d\n' % (LARGE_SIDE, LARGE_SIDE))
+        client.expect(matrix_command('A', large_matrix()),
+                      b'ok matrix %d 1 %d\n' % (LARGE_SIDE, LARGE_SIDE))
         client.send(b'show A\n')
         client.replies.taken(read)
         time.sleep(LITTLE_TIME)
@@ -98,7 +102,8 @@ def closed_with_replies_unread(server: Server) -> None:
 
 
 def body_announced_and_not_sent(server: Server) -> None:
-    """Sixteen bodies of the greatest length of which nothing comes take no room; where the input ends, the reply is `no S5`."""
+    """Sixteen bodies of the greatest length of which nothing comes take no room; where the input
+    ends, the reply is `no S5`."""
     with server.seated():
         before = server.status('VmHWM')
     # the seat of the session above may be given back only now
@@ -128,7 +133,8 @@ def body_that_is_refused(server: Server) -> None:
 
 
 def flood_of_a_full_house(server: Server) -> None:
-    """While sixteen have seats, 400 clients by 40 at once all read `no busy` and their end, and the sixteen are answered."""
+    """While sixteen have seats, 400 clients by 40 at once all read `no busy` and their end, and the
+    sixteen are answered."""
     clients = full_house(server)
 
     def turned_away(number: int) -> bytes:
@@ -161,7 +167,8 @@ def full_house_that_resets(server: Server) -> None:
 
 
 def reads_nothing(server: Server) -> None:
-    """Sessions whose replies nobody reads wait without processor time, and others are answered; all of them end by a reset."""
+    """Sessions whose replies nobody reads wait without processor time, and others are answered; all
+    of them end by a reset."""
     clients = [server.client(LITTLE_ROOM) for _ in range(MOST_SESSIONS - 1)]
     for client in clients:
         client.socket.setblocking(False)
@@ -169,7 +176,8 @@ def reads_nothing(server: Server) -> None:
     def nothing_more_goes() -> bool:
         return not any([pushed(client, b'budget\n' * 1000) for client in clients])
 
-    until('the commands of all fill their connections', lambda: nothing_more_goes() and settled(server))
+    until('the commands of all fill their connections', lambda: nothing_more_goes()
+          and settled(server))
     before = server.processor_seconds()
     time.sleep(IDLE_SECONDS)
     spent = server.processor_seconds() - before
@@ -198,7 +206,8 @@ def settled(server: Server) -> bool:
 
 
 def stopped_amid_sessions(server: Server) -> None:
-    """A process that is stopped and goes on while it waits for input, for a body, and to write, ends none of its sessions."""
+    """A process that is stopped and goes on while it waits for input, for a body, and to write,
+    ends none of its sessions."""
     text = large_matrix()
     with server.seated() as waiting, server.client() as amid, server.client(LITTLE_ROOM) as unread:
         amid.send(b'matrix A %d\n' % len(text) + text[:1000])
@@ -215,7 +224,8 @@ def stopped_amid_sessions(server: Server) -> None:
 
 
 def on_a_server(harm: Callable[[Server], None]) -> Callable[[str], None]:
-    """A case: harm is done to a server with a batch's worth of steps, which then has to be as it was."""
+    """A case: harm is done to a server with a batch's worth of steps, which then has to be as it
+    was."""
     def case(program: str) -> None:
         with Server(program, 1 << 40, 2) as server:
             harm(server)
@@ -225,10 +235,14 @@ def on_a_server(harm: Callable[[Server], None]) -> Callable[[str], None]:
 
 HOSTILE_CASES: Dict[str, Callable[[str], None]] = {
     'hostile: ' + name: on_a_server(harm) for name, harm in [
-        ('silent', silent), ('slow', slow), ('half-closed', half_closed), ('reset-amid-a-body', reset_amid_a_body),
-        ('reset-amid-a-reply', reset_amid_a_reply), ('closed-with-replies-unread', closed_with_replies_unread),
-        ('body-announced-and-not-sent', body_announced_and_not_sent), ('body-that-is-refused', body_that_is_refused),
-        ('flood-of-a-full-house', flood_of_a_full_house), ('connected-and-reset', connected_and_reset),
+        ('silent', silent), ('slow', slow), ('half-closed', half_closed),
+        ('reset-amid-a-body', reset_amid_a_body),
+        ('reset-amid-a-reply', reset_amid_a_reply),
+        ('closed-with-replies-unread', closed_with_replies_unread),
+        ('body-announced-and-not-sent', body_announced_and_not_sent),
+        ('body-that-is-refused', body_that_is_refused),
+        ('flood-of-a-full-house', flood_of_a_full_house),
+        ('connected-and-reset', connected_and_reset),
         ('full-house-that-resets', full_house_that_resets), ('reads-nothing', reads_nothing),
         ('stopped-amid-sessions', stopped_amid_sessions)]
 }

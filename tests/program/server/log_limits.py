@@ -1,4 +1,5 @@
-"""What a log says of its server, how many lines each kind of event may have in a second, and how sessions that run stand."""
+"""What a log says of its server, how many lines each kind of event may have in a second, and how
+sessions that run stand."""
 import re
 import subprocess
 import time
@@ -9,12 +10,14 @@ from tests.lib.patience import FOR_A_REPLY
 from tests.lib.ports import free_port
 from tests.lib.runs import Wrong, expect
 from tests.program.server.hostile import LITTLE_ROOM, full_house
-from tests.program.server.logs import REFUSED, SERVER, START, TIME, Logging, entries_of, port_of, quick_sessions, untold_in, version
+from tests.program.server.logs import (REFUSED, SERVER, START, TIME, Logging, entries_of, port_of,
+                                       quick_sessions, untold_in, version)
 from tests.program.server.server import BUSY, Client, serve_words, until
 from tests.program.server.sessions import PRODUCT, UPLOADED, UPLOADS
 
-RUNS = re.compile(TIME + r'runs client=127\.0\.0\.1:(\d+) seconds=\d+\.\d{3} state=(\w+) jobs=(\d+) reserved=(\d+) steps=(\d+) '
-                  r'in=(\d+) out=(\d+)')
+RUNS = re.compile(TIME
+                  + r'runs client=127\.0\.0\.1:(\d+) seconds=\d+\.\d{3} state=(\w+) jobs=(\d+) '
+                  r'reserved=(\d+) steps=(\d+) in=(\d+) out=(\d+)')
 # how many lines of a kind a second may have
 MANY, FEW = 100, 10
 
@@ -35,7 +38,8 @@ def last_of(server: Logging) -> Dict[str, str]:
 
 
 def server_starts_and_ends(program: str) -> None:
-    """The first line has the version, the budget and the settings; the last why the server ended, what it served, and what is left."""
+    """The first line has the version, the budget and the settings; the last why the server ended,
+    what it served, and what is left."""
     with Logging(program, steps=100, sessions=2, idle=60, session_steps=50) as server:
         with server.client() as client:
             for command in UPLOADS:
@@ -47,9 +51,11 @@ def server_starts_and_ends(program: str) -> None:
             client.expect(b'quit\n', b'ok quit\n')
         quick_sessions(server.port, 1)
         last = last_of(server)
-        expect('the first line', {'version': version(), 'steps': '100', 'workers': '1', 'sessions': '2', 'idle': '60', 'session_steps': '50',
+        expect('the first line', {'version': version(), 'steps': '100', 'workers': '1',
+                                  'sessions': '2', 'idle': '60', 'session_steps': '50',
                                   'session_reserve': 'none'}, fields_of(server.lines[0]))
-        expect('the last line', {'end': 'sessions', 'sessions': '2', 'turned_away': '0', 'refused': '1', 'steps': '9', 'left': '91',
+        expect('the last line', {'end': 'sessions', 'sessions': '2', 'turned_away': '0',
+                                 'refused': '1', 'steps': '9', 'left': '91',
                                  'untold': '0', 'untold_steps': '0'}, last)
 
 
@@ -60,7 +66,8 @@ def few(lines: List[str], most: int, seconds: float) -> None:
 
 
 def many_turned_away(program: str) -> None:
-    """Of clients that are turned away ten a second have lines; the others are counted, in the next such line or in the last of all."""
+    """Of clients that are turned away ten a second have lines; the others are counted, in the next
+    such line or in the last of all."""
     many = 500
     with Logging(program, sessions=17) as server:
         clients = full_house(server)
@@ -72,18 +79,21 @@ def many_turned_away(program: str) -> None:
         for client in clients:
             client.expect(b'quit\n', b'ok quit\n')
             client.close()
-        until('a seat', lambda: any(entry.end == 'quit' for entry in entries_of(list(server.lines))))
+        until('a seat',
+              lambda: any(entry.end == 'quit' for entry in entries_of(list(server.lines))))
         with server.seated() as client:
             client.expect(b'quit\n', b'ok quit\n')
         last = last_of(server)
         away = [line for line in server.lines if ' end=no-busy ' in line]
         few(away, FEW, seconds)
-        expect('all that are counted', last['turned_away'], str(len(away) + sum(map(untold_in, away)) + int(last['untold'])))
+        expect('all that are counted', last['turned_away'],
+               str(len(away) + sum(map(untold_in, away)) + int(last['untold'])))
         expect('whether all are', True, int(last['turned_away']) >= many)
 
 
 def many_sessions(program: str) -> None:
-    """Of sessions that start, and of those that end, a hundred a second have lines; the others are counted, with their steps."""
+    """Of sessions that start, and of those that end, a hundred a second have lines; the others are
+    counted, with their steps."""
     many = 600
     with Logging(program, sessions=many) as server:
         began = time.monotonic()
@@ -98,15 +108,20 @@ def many_sessions(program: str) -> None:
         few(starts, MANY, seconds)
         few(ends, MANY, seconds)
         expect('all sessions', str(many), last['sessions'])
-        expect('all that are counted', 2 * many, len(starts) + len(ends) + sum(map(untold_in, server.lines)))
+        expect('all that are counted', 2 * many,
+               len(starts) + len(ends) + sum(map(untold_in, server.lines)))
         if seconds < 4 and len(starts) == many:
             raise Wrong('%d starts have lines in %.1f seconds' % (many, seconds))
 
 
 def refused_by_each_rule(program: str) -> None:
-    """A refusal of any kind has its line, with the rule by which it was refused; a name that reads like one has none."""
-    refused = [(b'foo\n', 'S1'), (b'drop\n', 'S1'), (matrix_command('A', b'%%MatrixMarket matrix coordinate real general\n1 1 0\n'), 'M2'),
-               (assembly_command('f', b'mov64 r9\n', 'unary'), 'A'), (assembly_command('f', b'ja -1\n', 'unary'), 'V'),
+    """A refusal of any kind has its line, with the rule by which it was refused; a name that reads
+    like one has none."""
+    refused = [(b'foo\n', 'S1'), (b'drop\n', 'S1'),
+               (matrix_command('A', b'%%MatrixMarket matrix coordinate real general\n1 1 0\n'),
+                'M2'),
+               (assembly_command('f', b'mov64 r9\n', 'unary'), 'A'),
+               (assembly_command('f', b'ja -1\n', 'unary'), 'V'),
                (b'apply B g A\n', 'S4'), (b'show !\n', 'S3')]
     with Logging(program) as server, server.client() as client:
         client.expect(matrix_command('no', matrix_text(1, 1, [(1, 1, 41)])), b'ok matrix 1 1 1\n')
@@ -119,13 +134,16 @@ def refused_by_each_rule(program: str) -> None:
         client.expect(b'quit\n', b'ok quit\n')
         expect('refused', len(refused), server.entry(client).refused)
         rules = [match.group(2) for match in map(REFUSED.fullmatch, list(server.lines)) if match]
-        expect('the rules', True, len(rules) == len(refused) and all(told.startswith(rule) for told, (_, rule) in zip(rules, refused)))
+        expect('the rules', True, len(rules) == len(refused)
+               and all(told.startswith(rule) for told, (_, rule) in zip(rules, refused)))
 
 
 def told_every_second(program: str) -> None:
-    """With `--log-every 1` a line a second and session tells how it stands: what it is at, its jobs, what it has reserved and spent, and
-    what came and went. One that holds a job waits, one is amid a body, and one has run its job."""
-    child = subprocess.Popen([program] + serve_words(free_port(), 100, sessions=3) + ['--log-every', '1'], stdin=subprocess.DEVNULL,
+    """With `--log-every 1` a line a second and session tells how it stands: what it is at, its
+    jobs, what it has reserved and spent, and what came and went. One that holds a job waits, one is
+    amid a body, and one has run its job."""
+    child = subprocess.Popen([program] + serve_words(free_port(), 100, sessions=3)
+                             + ['--log-every', '1'], stdin=subprocess.DEVNULL,
                              stdout=subprocess.PIPE, stderr=subprocess.PIPE)
     port = port_of(child)
     with Client(port) as one, Client(port) as other, Client(port) as third:
@@ -144,9 +162,12 @@ def told_every_second(program: str) -> None:
         third.rest()
     lines = child.communicate(timeout=60)[1].decode().splitlines()
     told = [match.groups() for match in map(RUNS.fullmatch, lines) if match]
-    received, sent = sum(map(len, UPLOADS)) + len(PRODUCT), sum(map(len, UPLOADED)) + len(b'ok queued 1 12\n')
-    wanted = [('waiting', '0', '0', '9', str(received + 4), str(sent + len(b'ok run 1 9\nC 1 1 1 9\n'))),
-              ('waiting', '1', '12', '0', str(received), str(sent)), ('reading', '1', '12', '0', str(received + 22), str(sent))]
+    received, sent = sum(map(len, UPLOADS)) + len(PRODUCT), sum(map(len, UPLOADED)) + len(
+        b'ok queued 1 12\n')
+    wanted = [('waiting', '0', '0', '9', str(received + 4),
+               str(sent + len(b'ok run 1 9\nC 1 1 1 9\n'))),
+              ('waiting', '1', '12', '0', str(received), str(sent)),
+              ('reading', '1', '12', '0', str(received + 22), str(sent))]
     for name, numbers in zip(names, wanted):
         last = [groups[1:] for groups in told if groups[0] == name][1:]
         expect('what is told of a session', {numbers}, set(last))
@@ -154,15 +175,18 @@ def told_every_second(program: str) -> None:
 
 
 def told_while_it_runs(program: str) -> None:
-    """A session that runs a long batch is told as running, with its jobs; one whose client takes no reply as writing."""
+    """A session that runs a long batch is told as running, with its jobs; one whose client takes no
+    reply as writing."""
     rows = 1 << 16
     slow = b'mov64 r0, r1\n' + b'add64 r0, 1\n' * 4000 + b'exit\n'
     text = matrix_text(rows, 1, [(row, 1, 1) for row in range(1, rows + 1)])
-    with Logging(program, log_every=1) as server, server.client() as one, server.client(LITTLE_ROOM) as other:
+    with Logging(program, log_every=1) as server, server.client() as one, \
+            server.client(LITTLE_ROOM) as other:
         def is_told(client: Client, *words: str) -> None:
             start = (str(client.socket.getsockname()[1]),) + words
-            until('%r is told' % (start,), lambda: any(told and told.groups()[:len(start)] == start
-                                                       for told in map(RUNS.fullmatch, list(server.lines))), 4 * FOR_A_REPLY)
+            until('%r is told' % (start,),
+                  lambda: any(told and told.groups()[:len(start)] == start
+                              for told in map(RUNS.fullmatch, list(server.lines))), 4 * FOR_A_REPLY)
         for client in (one, other):
             client.reply(matrix_command('A', text))
         one.reply(assembly_command('f', slow, 'unary'))

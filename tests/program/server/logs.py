@@ -1,5 +1,5 @@
-"""What a server tells of its sessions on standard error, with --log: a line for each that starts or ends, for each client turned away, and
-for refusals."""
+"""What a server tells of its sessions on standard error, with --log: a line for each that starts or
+ends, for each client turned away, and for refusals."""
 import fcntl
 import json
 import os
@@ -22,10 +22,12 @@ from tests.program.server.server import BUSY, Client, Server, serve_words, until
 from tests.program.server.sessions import PRODUCT, UPLOADED, UPLOADS
 
 TIME = r'spmat: time=\d{4}-\d\d-\d\dT\d\d:\d\d:\d\d\.\d{3}Z '
-LINE = re.compile(TIME + r'session client=127\.0\.0\.1:(\d+) end=([a-z-]+|refused-S\d) seconds=(\d+\.\d{3}) in=(\d+) out=(\d+) '
-                  r'commands=(\d+) steps=(\d+) refused=(\d+) untold=(\d+) untold_steps=(\d+)')
+LINE = re.compile(TIME + r'session client=127\.0\.0\.1:(\d+) end=([a-z-]+|refused-S\d) '
+                  r'seconds=(\d+\.\d{3}) in=(\d+) out=(\d+) commands=(\d+) steps=(\d+) '
+                  r'refused=(\d+) untold=(\d+) untold_steps=(\d+)')
 START = re.compile(TIME + r'start client=127\.0\.0\.1:(\d+) untold=(\d+)')
-REFUSED = re.compile(TIME + r'refused client=127\.0\.0\.1:(\d+) rule=([AJMSV]\d+|memory|thread)(?: price=(\d+) left=(\d+))? untold=(\d+)')
+REFUSED = re.compile(TIME + r'refused client=127\.0\.0\.1:(\d+) rule=([AJMSV]\d+|memory|thread)(?: '
+                     r'price=(\d+) left=(\d+))? untold=(\d+)')
 SERVER = re.compile(TIME + r'server-(start|end) address=127\.0\.0\.1:(\d+)((?: [a-z_]+=\S+)+)')
 DROPPED = re.compile(r'spmat: (\d+) lines of the log were dropped')
 # how many lines wait for standard error at most
@@ -57,7 +59,8 @@ def entry_of(line: str) -> Entry:
 
 def entries_of(lines: List[str]) -> List[Entry]:
     """What the log tells of ends, in order."""
-    return [entry_of(line) for line in lines if not any(form.fullmatch(line) for form in (START, REFUSED, SERVER))]
+    return [entry_of(line) for line in lines
+            if not any(form.fullmatch(line) for form in (START, REFUSED, SERVER))]
 
 
 class Logging(Server):
@@ -87,16 +90,20 @@ class Logging(Server):
         return until('a line of the log for %d' % port, found)
 
 
-def expect_entry(server: Logging, client: Client, end: str, received: int, sent: int, commands: int, steps: int = 0,
-                 refused: int = 0) -> None:
+def expect_entry(server: Logging, client: Client, end: str, received: int, sent: int, commands: int,
+                 steps: int = 0, refused: int = 0) -> None:
     entry = server.entry(client)
-    expect('the line of the log', (end, received, sent, commands, steps, refused), tuple(entry[1:2] + entry[3:8]))
+    expect('the line of the log', (end, received, sent, commands, steps, refused),
+           tuple(entry[1:2] + entry[3:8]))
 
 
 def each_end_has_its_line(program: str) -> None:
-    """How it ended, what came and went, how many commands were taken and what was spent: of each end that a client can bring about."""
-    refused = [(b'matrix\n', b'no S2\n', 'refused-S2'), (b'matrix A 9\nxx', b'no S5\n', 'refused-S5'),
-               (b'x' * 1025 + b'\n', b'no S6\n', 'refused-S6'), (b'matrix A 268435457\n', b'no S7\n', 'refused-S7')]
+    """How it ended, what came and went, how many commands were taken and what was spent: of each
+    end that a client can bring about."""
+    refused = [(b'matrix\n', b'no S2\n', 'refused-S2'),
+               (b'matrix A 9\nxx', b'no S5\n', 'refused-S5'),
+               (b'x' * 1025 + b'\n', b'no S6\n', 'refused-S6'),
+               (b'matrix A 268435457\n', b'no S7\n', 'refused-S7')]
     with Logging(program, steps=MOST_STEPS) as server:
         with server.client() as client:
             client.expect(b'quit\n', b'ok quit\n')
@@ -114,8 +121,10 @@ def each_end_has_its_line(program: str) -> None:
                 entry = server.entry(client)
                 expect('the line of the log', (end, len(reply), 1, 0, 1),
                        (entry.end, entry.sent, entry.commands, entry.steps, entry.refused))
-                # what came behind the refusal is read away when the connection is closed, and is no part of the session
-                expect('whether all that was read is counted', True, 0 < entry.received <= len(data))
+                # what came behind the refusal is read away when the connection is closed, and is no
+                # part of the session
+                expect('whether all that was read is counted', True,
+                       0 < entry.received <= len(data))
         with server.client() as client:
             for command, reply in zip(UPLOADS, UPLOADED):
                 client.expect(command, reply)
@@ -123,19 +132,22 @@ def each_end_has_its_line(program: str) -> None:
             client.expect(b'run\n', b'ok run 1 9\nC 1 1 1 9\n')
             client.expect(PRODUCT, b'ok queued 1 12\n')
             client.expect(b'quit\n', b'ok quit\n')
-            sent = b''.join(UPLOADED) + 2 * b'ok queued 1 12\n' + b'ok run 1 9\nC 1 1 1 9\nok quit\n'
+            sent = b''.join(
+                UPLOADED) + 2 * b'ok queued 1 12\n' + b'ok run 1 9\nC 1 1 1 9\nok quit\n'
             received = b''.join(UPLOADS) + 2 * PRODUCT + b'run\nquit\n'
             expect_entry(server, client, 'quit', len(received), len(sent), 8, 9)
 
 
 def time_and_busy(program: str) -> None:
-    """A session of half a second takes as long in the log; one that waits too long is told as idle; who is turned away, as that."""
+    """A session of half a second takes as long in the log; one that waits too long is told as idle;
+    who is turned away, as that."""
     with Logging(program, idle=2) as server:
         with server.client() as client:
             time.sleep(0.5)
             client.expect(b'quit\n', b'ok quit\n')
             entry = server.entry(client)
-            expect('whether %.3f s are half a second' % entry.seconds, True, 0.45 <= entry.seconds < 1.9)
+            expect('whether %.3f s are half a second' % entry.seconds, True,
+                   0.45 <= entry.seconds < 1.9)
         clients = full_house(server)
         with server.client() as another:
             expect('the seventeenth', BUSY, another.rest())
@@ -147,7 +159,8 @@ def time_and_busy(program: str) -> None:
 
 
 def broken_off(program: str) -> None:
-    """A client that resets its connection: amid a body the read has failed, amid a reply the write."""
+    """A client that resets its connection: amid a body the read has failed, amid a reply the
+    write."""
     text = large_matrix()
     with Logging(program) as server:
         client = server.client()
@@ -156,7 +169,8 @@ def broken_off(program: str) -> None:
         time.sleep(0.2)
         port = client.socket.getsockname()[1]
         client.reset()
-        end = until('a line', lambda: [e for e in entries_of(list(server.lines)) if e.port == port])[0]
+        end = until('a line',
+                    lambda: [e for e in entries_of(list(server.lines)) if e.port == port])[0]
         expect('end and commands', ('read-failed', 1), (end.end, end.commands))
         client = server.client(LITTLE_ROOM)
         client.reply(matrix_command('A', text))
@@ -166,13 +180,15 @@ def broken_off(program: str) -> None:
         time.sleep(0.5)
         port = client.socket.getsockname()[1]
         client.reset()
-        end = until('a line', lambda: [e for e in entries_of(list(server.lines)) if e.port == port])[0]
-        expect('end, and whether a command was cut short', ('write-failed', True), (end.end, 2 <= end.commands < 9))
+        end = until('a line',
+                    lambda: [e for e in entries_of(list(server.lines)) if e.port == port])[0]
+        expect('end, and whether a command was cut short', ('write-failed', True),
+               (end.end, 2 <= end.commands < 9))
 
 
 def sixteen_end_at_once(program: str) -> None:
-    """Sixteen sessions that end at one moment leave sixteen whole lines, one for each; twenty times, in four seconds at least, as
-    a second has only a hundred such lines."""
+    """Sixteen sessions that end at one moment leave sixteen whole lines, one for each; twenty
+    times, in four seconds at least, as a second has only a hundred such lines."""
     with Logging(program) as server:
         for turn in range(20):
             time.sleep(0.2)
@@ -190,7 +206,8 @@ def sixteen_end_at_once(program: str) -> None:
 
 
 def quick_sessions(port: int, count: int, pause: float = 0) -> None:
-    """So many sessions one after another, of which each has its reply, and so many seconds before each."""
+    """So many sessions one after another, of which each has its reply, and so many seconds before
+    each."""
     for _ in range(count):
         time.sleep(pause)
         with Client(port) as client:
@@ -209,8 +226,9 @@ def start_with(program: str, error: int, sessions: int) -> 'subprocess.Popen[byt
     def prepared() -> None:
         if error < 0:
             os.close(2)
-    child = subprocess.Popen([program] + serve_words(free_port(), sessions=sessions, log=True), stdin=subprocess.DEVNULL,
-                             stdout=subprocess.PIPE, stderr=None if error < 0 else error, preexec_fn=prepared)
+    child = subprocess.Popen([program] + serve_words(free_port(), sessions=sessions, log=True),
+                             stdin=subprocess.DEVNULL, stdout=subprocess.PIPE,
+                             stderr=None if error < 0 else error, preexec_fn=prepared)
     return child
 
 
@@ -222,8 +240,9 @@ def port_of(child: 'subprocess.Popen[bytes]') -> int:
 
 
 def nobody_reads_the_log(program: str) -> None:
-    """Where nobody takes the lines, each session is served all the same. Those that fit no more are counted: once they are read,
-    lines, dropped ones and those beyond a second's hundred of a kind are two for each session. At 80 a second most have lines."""
+    """Where nobody takes the lines, each session is served all the same. Those that fit no more are
+    counted: once they are read, lines, dropped ones and those beyond a second's hundred of a kind
+    are two for each session. At 80 a second most have lines."""
     sessions = QUEUE // 2 + 200
     reads, writes = os.pipe()
     fcntl.fcntl(writes, fcntl.F_SETPIPE_SZ, 4096)
@@ -239,14 +258,17 @@ def nobody_reads_the_log(program: str) -> None:
         child.stdout.close()
     dropped = [int(told.group(1)) for told in map(DROPPED.fullmatch, lines) if told]
     kept = [line for line in lines if not DROPPED.fullmatch(line) and not SERVER.fullmatch(line)]
-    expect('whether each is a line', True, all(START.fullmatch(line) or entry_of(line) for line in kept))
-    expect('lines, dropped ones and untold ones', 2 * sessions, len(kept) + sum(dropped) + sum(map(untold_in, lines)))
+    expect('whether each is a line', True,
+           all(START.fullmatch(line) or entry_of(line) for line in kept))
+    expect('lines, dropped ones and untold ones', 2 * sessions,
+           len(kept) + sum(dropped) + sum(map(untold_in, lines)))
     if not dropped or len(kept) < QUEUE:
         raise Wrong('%d lines, %r dropped' % (len(kept), dropped))
 
 
 def log_that_is_closed(program: str) -> None:
-    """Where standard error is closed, or a pipe that nobody holds, each session is served, and the status is 0."""
+    """Where standard error is closed, or a pipe that nobody holds, each session is served, and the
+    status is 0."""
     for closed in (True, False):
         reads, writes = os.pipe()
         child = start_with(program, -1 if closed else writes, 20)
@@ -270,12 +292,15 @@ def silent_without_the_flag(program: str) -> None:
 
 
 def starts_and_refusals(program: str) -> None:
-    """A line when a session starts, and one for each refusal, of steps with its price and what is left, but at most ten in a second:
-    the others are counted, in the next such line and in that of the end."""
+    """A line when a session starts, and one for each refusal, of steps with its price and what is
+    left, but at most ten in a second: the others are counted, in the next such line and in that of
+    the end."""
     many = 300
     with Logging(program, steps=12) as server, server.client() as client:
         port = client.socket.getsockname()[1]
-        until('the start', lambda: any(told and int(told.group(1)) == port for told in map(START.fullmatch, list(server.lines))))
+        until('the start',
+              lambda: any(told and int(told.group(1)) == port
+                          for told in map(START.fullmatch, list(server.lines))))
         for command, reply in zip(UPLOADS, UPLOADED):
             client.expect(command, reply)
         client.expect(PRODUCT, b'ok queued 1 12\n')
@@ -289,24 +314,28 @@ def starts_and_refusals(program: str) -> None:
         client.expect(b'quit\n', b'ok quit\n')
         expect('refused', many + 2, server.entry(client).refused)
         told = [match.groups() for match in map(REFUSED.fullmatch, list(server.lines)) if match]
-        expect('what refusals tell', {(str(port), 'S1', None, None), (str(port), 'S8', '12', '0')}, {groups[:4] for groups in told})
-        expect('refusals that are told or counted', many + 2, len(told) + sum(int(groups[4]) for groups in told))
+        expect('what refusals tell', {(str(port), 'S1', None, None), (str(port), 'S8', '12', '0')},
+               {groups[:4] for groups in told})
+        expect('refusals that are told or counted', many + 2,
+               len(told) + sum(int(groups[4]) for groups in told))
         if len(told) > 60:
             raise Wrong('%d lines of refusals' % len(told))
 
 
 def memory_that_is_refused(program: str) -> None:
-    """A command that is refused memory has a line; names that read like a refusal have none. A program with run-time checks wants all
-    addresses for itself, so it is not tried there."""
+    """A command that is refused memory has a line; names that read like a refusal have none. A
+    program with run-time checks wants all addresses for itself, so it is not tried there."""
     if os.environ.get(CHECKED):
         return
-    with Logging(program, limits={resource.RLIMIT_AS: 1 << 30}) as server, server.client() as client:
+    with Logging(program, limits={resource.RLIMIT_AS: 1 << 30}) as server, \
+            server.client() as client:
         client.expect(matrix_command('no', matrix_text(1, 1, [(1, 1, 41)])), b'ok matrix 1 1 1\n')
         client.expect(assembly_command('memory', b'mov64 r0, r1\nexit\n', 'unary'), b'ok op 2 2\n')
         client.expect(b'apply no memory no\n', b'ok queued 1 2\n')
         client.expect(b'run\n', b'ok run 1 2\nno 1 1 1 2\n')
         client.reply(b'show no\n')
-        replies = [client.reply(matrix_command('A%d' % turn, large_matrix_of_rows())) for turn in range(12)]
+        replies = [client.reply(matrix_command('A%d' % turn, large_matrix_of_rows()))
+                   for turn in range(12)]
         refused = replies.count(b'no memory\n')
         expect('whether some are refused and some are taken', True, 0 < refused < 12)
         client.expect(b'quit\n', b'ok quit\n')
@@ -322,7 +351,8 @@ def large_matrix_of_rows() -> bytes:
 
 def log_in_json(program: str) -> None:
     """With `--log-format json` each line is an object, with the same numbers."""
-    child = subprocess.Popen([program] + serve_words(free_port(), 12, sessions=1) + ['--log-format', 'json'], stdin=subprocess.DEVNULL,
+    child = subprocess.Popen([program] + serve_words(free_port(), 12, sessions=1)
+                             + ['--log-format', 'json'], stdin=subprocess.DEVNULL,
                              stdout=subprocess.PIPE, stderr=subprocess.PIPE)
     with Client(port_of(child)) as client:
         name = '%s:%d' % client.socket.getsockname()
@@ -334,21 +364,28 @@ def log_in_json(program: str) -> None:
     objects = [json.loads(line) for line in child.communicate(timeout=60)[1].splitlines()]
     for told in objects:
         if told['event'].startswith('server-'):
-            expect('the address of the server', True, bool(re.fullmatch(r'127\.0\.0\.1:\d+', told.pop('address'))))
+            expect('the address of the server', True,
+                   bool(re.fullmatch(r'127\.0\.0\.1:\d+', told.pop('address'))))
             told['client'] = name
-        expect('time', True, bool(re.fullmatch(r'\d{4}-\d\d-\d\dT\d\d:\d\d:\d\d\.\d{3}Z', told.pop('time'))))
+        expect('time', True,
+               bool(re.fullmatch(r'\d{4}-\d\d-\d\dT\d\d:\d\d:\d\d\.\d{3}Z', told.pop('time'))))
         expect('client', name, told.pop('client'))
     seconds = objects[3].pop('seconds')
     expect('whether a session has seconds', True, isinstance(seconds, float) and 0 <= seconds < 60)
     received = sum(map(len, UPLOADS)) + 2 * len(PRODUCT) + 5
     sent = sum(map(len, UPLOADED)) + len(b'ok queued 1 12\nno S8 12 0\nok quit\n')
-    expect('the log', [{'event': 'server-start', 'version': version(), 'steps': 12, 'workers': 1, 'sessions': 1, 'idle': None,
-                        'session_steps': None, 'session_reserve': None},
-                       {'event': 'start', 'untold': 0}, {'event': 'refused', 'rule': 'S8', 'price': 12, 'left': 0, 'untold': 0},
-                       {'event': 'session', 'end': 'quit', 'in': received, 'out': sent, 'commands': 7, 'steps': 0, 'refused': 1,
-                        'untold': 0, 'untold_steps': 0},
-                       {'event': 'server-end', 'end': 'sessions', 'sessions': 1, 'turned_away': 0, 'refused': 1, 'steps': 0, 'left': 12,
-                        'untold': 0, 'untold_steps': 0}], objects)
+    expect('the log',
+           [{'event': 'server-start', 'version': version(), 'steps': 12, 'workers': 1,
+             'sessions': 1, 'idle': None,
+             'session_steps': None, 'session_reserve': None},
+            {'event': 'start', 'untold': 0}, {'event': 'refused', 'rule': 'S8', 'price': 12,
+                                              'left': 0, 'untold': 0},
+            {'event': 'session', 'end': 'quit', 'in': received, 'out': sent, 'commands': 7,
+             'steps': 0, 'refused': 1,
+             'untold': 0, 'untold_steps': 0},
+            {'event': 'server-end', 'end': 'sessions', 'sessions': 1, 'turned_away': 0,
+             'refused': 1, 'steps': 0, 'left': 12,
+             'untold': 0, 'untold_steps': 0}], objects)
 
 
 def version() -> str:

@@ -1,4 +1,5 @@
-"""The program that serves: its words, its endings, the port that it listens on, and the time that it gives to silent clients."""
+"""The program that serves: its words, its endings, the port that it listens on, and the time that
+it gives to silent clients."""
 import signal
 import socket
 import subprocess
@@ -11,9 +12,12 @@ from tests.lib.patience import FOR_A_REPLY
 from tests.lib.runs import Wrong, expect
 from tests.program.server.hostile import LITTLE_ROOM, large_matrix
 from tests.program.server.server import LOOPBACK, Server, free_port, serve_words, until
-from tests.program.server.sessions import LONG_PRICE, LONG_SECONDS, PRODUCT, UPLOADS, long_uploads, queue_long_jobs, ran_long_jobs
+from tests.program.server.sessions import (LONG_PRICE, LONG_SECONDS, PRODUCT, UPLOADS, long_uploads,
+                                           queue_long_jobs, ran_long_jobs)
 
-NETWORK_FAILED = b"spmat: network failed\nspmat: because listening on 127.0.0.1:%d failed: the address is in use\n"
+NETWORK_FAILED = (
+    b"spmat: network failed\nspmat: because listening on 127.0.0.1:%d failed: the address is in "
+    b"use\n")
 MOST_NUMBER = 1000000
 
 
@@ -31,25 +35,28 @@ def without(option: str) -> List[str]:
 
 
 REFUSED_WORDS = [
-    ['serve'], ['serve', '--help'], serve_words(1) + ['--port', '2'], serve_words(1) + ['more'], serve_words(1) + ['--seats', '3'],
-    serve_words(1) + ['--sessions'], serve_words(1) + ['--idle'],
-    without('--port'), without('--steps'), without('--workers'),
-    changed('--port', '0'), changed('--port', '65536'), changed('--port', '-1'), changed('--port', 'http'),
-    changed('--steps', str(MOST_STEPS + 1)), changed('--steps', '1e6'), changed('--workers', '0'), changed('--workers', '65'),
-    changed('--sessions', '0'), changed('--sessions', str(MOST_NUMBER + 1)), changed('--idle', '0'),
+    ['serve'], ['serve', '--help'], serve_words(1) + ['--port', '2'], serve_words(1) + ['more'],
+    serve_words(1) + ['--seats', '3'], serve_words(1) + ['--sessions'], serve_words(1) + ['--idle'],
+    without('--port'), without('--steps'), without('--workers'), changed('--port', '0'),
+    changed('--port', '65536'), changed('--port', '-1'), changed('--port', 'http'),
+    changed('--steps', str(MOST_STEPS + 1)), changed('--steps', '1e6'), changed('--workers', '0'),
+    changed('--workers', '65'), changed('--sessions', '0'),
+    changed('--sessions', str(MOST_NUMBER + 1)), changed('--idle', '0'),
     changed('--idle', str(MOST_NUMBER + 1)), changed('--idle', '0.5'),
-    serve_words(1, session_steps=0), serve_words(1, session_steps=MOST_STEPS + 1), serve_words(1, session_reserve=0),
-    serve_words(1) + ['--session-reserve', 'all'], serve_words(1) + ['--log-format', 'xml'], serve_words(1) + ['--log-every', '0'],
+    serve_words(1, session_steps=0), serve_words(1, session_steps=MOST_STEPS + 1),
+    serve_words(1, session_reserve=0), serve_words(1) + ['--session-reserve', 'all'],
+    serve_words(1) + ['--log-format', 'xml'], serve_words(1) + ['--log-every', '0'],
     ['run', '--steps', '1', '--workers', '1', '--session-steps', '1'],
-    serve_words(1, log=True) + ['--log'], serve_words(1) + ['--log=yes'], serve_words(1) + ['--version'],
-]
+    serve_words(1, log=True) + ['--log'], serve_words(1) + ['--log=yes'],
+    serve_words(1) + ['--version'],]
 
 
 def words_refused(program: str) -> None:
-    """A number out of its range, an option that is missing, unknown or given twice: status 2 with a text, and no `listening`."""
+    """A number out of its range, an option that is missing, unknown or given twice: status 2 with a
+    text, and no `listening`."""
     for words in REFUSED_WORDS:
-        done = subprocess.run([program] + words, stdin=subprocess.DEVNULL, stdout=subprocess.PIPE, stderr=subprocess.PIPE,
-                              timeout=FOR_A_REPLY)
+        done = subprocess.run([program] + words, stdin=subprocess.DEVNULL, stdout=subprocess.PIPE,
+                              stderr=subprocess.PIPE, timeout=FOR_A_REPLY)
         expect('status of %r' % words, 2, done.returncode)
         expect('standard output of %r' % words, b'', done.stdout)
         if not done.stderr:
@@ -58,7 +65,8 @@ def words_refused(program: str) -> None:
 
 def words_at_their_limits(program: str) -> None:
     """The least and the greatest number of each option are taken."""
-    for steps, workers, sessions, idle in ((MOST_STEPS, 64, MOST_NUMBER, MOST_NUMBER), (0, 1, 1, 1)):
+    for steps, workers, sessions, idle in ((MOST_STEPS, 64, MOST_NUMBER, MOST_NUMBER),
+                                           (0, 1, 1, 1)):
         with Server(program, steps, workers, sessions, idle) as server, server.client() as client:
             expect('budget', [steps, 0, 0], client.budget())
 
@@ -69,17 +77,20 @@ def port_in_use(program: str) -> None:
         taken.bind((LOOPBACK, 0))
         taken.listen(1)
         port = taken.getsockname()[1]
-        done = subprocess.run([program] + serve_words(port), stdin=subprocess.DEVNULL, stdout=subprocess.PIPE,
-                              stderr=subprocess.PIPE, timeout=FOR_A_REPLY)
-    expect('status, output and error', (1, b'', NETWORK_FAILED % port), (done.returncode, done.stdout, done.stderr))
+        done = subprocess.run([program] + serve_words(port), stdin=subprocess.DEVNULL,
+                              stdout=subprocess.PIPE, stderr=subprocess.PIPE, timeout=FOR_A_REPLY)
+    expect('status, output and error', (1, b'', NETWORK_FAILED % port),
+           (done.returncode, done.stdout, done.stderr))
 
 
 def listening_is_not_written(program: str) -> None:
     """Where the line `listening P` can't be written the program ends."""
     with open('/dev/full', 'wb') as full:
-        done = subprocess.run([program] + serve_words(free_port()), stdin=subprocess.DEVNULL, stdout=full, stderr=subprocess.PIPE,
-                              timeout=FOR_A_REPLY)
-    expect('status and error', (1, b'spmat: write failed\nspmat: because No space left on device (os error 28)\n'), (done.returncode, done.stderr))
+        done = subprocess.run([program] + serve_words(free_port()), stdin=subprocess.DEVNULL,
+                              stdout=full, stderr=subprocess.PIPE, timeout=FOR_A_REPLY)
+    expect('status and error',
+           (1, b'spmat: write failed\nspmat: because No space left on device (os error 28)\n'),
+           (done.returncode, done.stderr))
 
 
 def loopback_alone(program: str) -> None:
@@ -106,7 +117,8 @@ def ends_after_its_sessions(program: str) -> None:
 
 
 def ends_when_running_sessions_have_ended(program: str) -> None:
-    """With two sessions of which the first stays, the end waits for it, and a third client has no session."""
+    """With two sessions of which the first stays, the end waits for it, and a third client has no
+    session."""
     with Server(program, sessions=2) as server, server.seated() as first:
         with server.seated() as second:
             second.expect(b'quit\n', b'ok quit\n')
@@ -128,7 +140,8 @@ def ends_when_running_sessions_have_ended(program: str) -> None:
 
 
 def turned_away_is_not_counted(program: str) -> None:
-    """Connections that got `no busy` are no sessions: seventeen sessions are served beside ten of them."""
+    """Connections that got `no busy` are no sessions: seventeen sessions are served beside ten of
+    them."""
     with Server(program, sessions=MOST_SESSIONS + 1) as server:
         clients = [server.seated() for _ in range(MOST_SESSIONS)]
         for _ in range(10):
@@ -169,7 +182,8 @@ def ends_by_a_signal(program: str) -> None:
 
 
 def idle_ends_a_silent_session(program: str) -> None:
-    """With `--idle 1` silent sessions end, amid a body too; what they reserved is there again, and their seats."""
+    """With `--idle 1` silent sessions end, amid a body too; what they reserved is there again, and
+    their seats."""
     with Server(program, 12, idle=1) as server:
         silent = [server.seated() for _ in range(MOST_SESSIONS - 1)]
         began = time.monotonic()
@@ -191,7 +205,8 @@ def idle_ends_a_silent_session(program: str) -> None:
 
 
 def idle_spares_those_who_send(program: str) -> None:
-    """With `--idle 1` a client that sends a byte each half second, for longer than that, has its reply."""
+    """With `--idle 1` a client that sends a byte each half second, for longer than that, has its
+    reply."""
     with Server(program, idle=1) as server, server.client() as client:
         for byte in b'quit\n':
             client.send(bytes([byte]))
@@ -221,11 +236,13 @@ def idle_spares_a_long_batch(program: str) -> None:
 
 
 def idle_ends_whoever_takes_nothing(program: str) -> None:
-    """With `--idle 3` a client that takes nothing of its replies loses its seat. One that takes them now and then has them all,
-    though its session has ended by then where it sent nothing more."""
+    """With `--idle 3` a client that takes nothing of its replies loses its seat. One that takes
+    them now and then has them all, though its session has ended by then where it sent nothing
+    more."""
     text = large_matrix()
     times = 8
-    with Server(program, idle=3) as server, server.client(LITTLE_ROOM) as deaf, server.client() as slow:
+    with Server(program, idle=3) as server, server.client(LITTLE_ROOM) as deaf, \
+            server.client() as slow:
         for client in (deaf, slow):
             client.send(matrix_command('A', text) + b'show A\n' * times)
             client.replies.line()
@@ -239,8 +256,8 @@ def idle_ends_whoever_takes_nothing(program: str) -> None:
 
 
 def idle_spares_a_stopped_process(program: str) -> None:
-    """With `--idle 2` a process that is stopped and goes on ends no session for it: neither within the time, nor where input came
-    while it was stopped for longer."""
+    """With `--idle 2` a process that is stopped and goes on ends no session for it: neither within
+    the time, nor where input came while it was stopped for longer."""
     with Server(program, idle=2) as server, server.client() as client, server.client() as other:
         for each in (client, other):
             each.budget()

@@ -1,4 +1,5 @@
-"""A server of the built program on a port of the loopback, what it takes of the system, and its clients."""
+"""A server of the built program on a port of the loopback, what it takes of the system, and its
+clients."""
 import os
 import resource
 import select
@@ -22,9 +23,11 @@ PORTS_TRIED = 5
 Held = TypeVar('Held')
 
 
-def serve_words(port: int, steps: int = MOST_STEPS, workers: int = 1, sessions: Optional[int] = None,
-                idle: Optional[int] = None, log: bool = False, **shares: int) -> List[str]:
-    """The words of the command line that serve sessions over TCP; `shares` are `session_steps` and `session_reserve`."""
+def serve_words(port: int, steps: int = MOST_STEPS, workers: int = 1,
+                sessions: Optional[int] = None, idle: Optional[int] = None, log: bool = False,
+                **shares: int) -> List[str]:
+    """The words of the command line that serve sessions over TCP; `shares` are `session_steps` and
+    `session_reserve`."""
     words = ['serve', '--port', str(port), '--steps', str(steps), '--workers', str(workers)]
     words += [] if sessions is None else ['--sessions', str(sessions)]
     words += [] if idle is None else ['--idle', str(idle)]
@@ -51,10 +54,12 @@ def given_back(budget: List[int]) -> Optional[List[int]]:
 
 
 class Server:
-    """A server that was started and said that it listens; it is killed where the block ends, if it didn't end before."""
+    """A server that was started and said that it listens; it is killed where the block ends, if it
+    didn't end before."""
 
-    def __init__(self, program: str, steps: int = MOST_STEPS, workers: int = 1, sessions: Optional[int] = None,
-                 idle: Optional[int] = None, log: bool = False, limits: Optional[Dict[int, int]] = None, **shares: int) -> None:
+    def __init__(self, program: str, steps: int = MOST_STEPS, workers: int = 1,
+                 sessions: Optional[int] = None, idle: Optional[int] = None, log: bool = False,
+                 limits: Optional[Dict[int, int]] = None, **shares: int) -> None:
         self.program, self.steps, self.limits = program, steps, limits or {}
         for _ in range(PORTS_TRIED):
             self.port = free_port()
@@ -66,7 +71,8 @@ class Server:
             self.child.wait(FOR_A_REPLY)
         if line != b'listening %d\n' % self.port:
             self.close()
-            raise Wrong('expected listening %d, got %.60r and %.60r' % (self.port, line, self.child.stderr.read()))
+            raise Wrong('expected listening %d, got %.60r and %.60r'
+                        % (self.port, line, self.child.stderr.read()))
         self.at_rest = (self.threads(), self.descriptors())
 
     def start(self, words: List[str]) -> None:
@@ -75,8 +81,9 @@ class Server:
                 resource.setrlimit(what, (most, most))
             # a shell lets what it starts in the background ignore it
             signal.signal(signal.SIGINT, signal.SIG_DFL)
-        self.child = subprocess.Popen([self.program] + words, stdin=subprocess.DEVNULL, stdout=subprocess.PIPE,
-                                      stderr=subprocess.PIPE, bufsize=0, preexec_fn=prepared)
+        self.child = subprocess.Popen([self.program] + words, stdin=subprocess.DEVNULL,
+                                      stdout=subprocess.PIPE, stderr=subprocess.PIPE, bufsize=0,
+                                      preexec_fn=prepared)
 
     def line_of_output(self) -> bytes:
         line = b''
@@ -139,11 +146,13 @@ class Server:
         return (int(fields[11]) + int(fields[12])) / os.sysconf('SC_CLK_TCK')
 
     def client(self, room: int = 0) -> 'Client':
-        """A client that has connected. Where room is given, the system takes in little more than so many bytes for it."""
+        """A client that has connected. Where room is given, the system takes in little more than so
+        many bytes for it."""
         return Client(self.port, room)
 
     def seated(self) -> 'Client':
-        """A client that has a seat, which its reply to `budget` shows. One that gets `no busy` tries again."""
+        """A client that has a seat, which its reply to `budget` shows. One that gets `no busy`
+        tries again."""
         def try_once() -> Optional['Client']:
             client = self.client()
             if client.reply(b'budget\n') != BUSY:
@@ -153,16 +162,20 @@ class Server:
         return until('a seat', try_once)
 
     def look_at_rest(self) -> None:
-        """A new client is answered, nothing stays reserved, and threads and descriptors are where they were at the start."""
+        """A new client is answered, nothing stays reserved, and threads and descriptors are where
+        they were at the start."""
         if not self.runs():
-            raise Wrong('the server ended, status %d, %.100r' % (self.child.wait(), self.child.stderr.read()))
+            raise Wrong('the server ended, status %d, %.100r'
+                        % (self.child.wait(), self.child.stderr.read()))
         with self.seated() as client:
-            # a client that closes its end doesn't wait for its session to end, so what it reserved may be given back later
+            # a client that closes its end doesn't wait for its session to end, so what it reserved
+            # may be given back later
             left, _, spent = until('reservations given back', lambda: given_back(client.budget()))
             expect('left and spent', self.steps, left + spent)
             expect('quit', b'ok quit\n', client.reply(b'quit\n'))
             expect('the end', b'', client.rest())
-        until('threads and descriptors %r given back, %r at rest' % ((self.threads(), self.descriptors()), self.at_rest),
+        until('threads and descriptors %r given back, %r at rest'
+              % ((self.threads(), self.descriptors()), self.at_rest),
               lambda: (self.threads(), self.descriptors()) == self.at_rest)
 
 
@@ -205,7 +218,8 @@ class Client:
         self.socket.shutdown(socket.SHUT_WR)
 
     def reply(self, command: bytes) -> bytes:
-        """The whole reply to a command. A server that is full may have closed the connection before it came."""
+        """The whole reply to a command. A server that is full may have closed the connection before
+        it came."""
         try:
             self.send(command)
         except OSError:
@@ -235,13 +249,15 @@ class Client:
         return not self.replies.has_more and not select.select([self.socket], [], [], seconds)[0]
 
     def converse(self, data: bytes) -> bytes:
-        """Sends all that there is, takes in replies meanwhile, sends no more, and answers all that came until the end. Where the
-        server ends the session before all is sent, the rest is not sent."""
+        """Sends all that there is, takes in replies meanwhile, sends no more, and answers all that
+        came until the end. Where the server ends the session before all is sent, the rest is not
+        sent."""
         self.socket.setblocking(False)
         unsent: Optional[memoryview] = memoryview(data)
         pieces, end = [], time.monotonic() + FOR_A_REPLY
         while True:
-            ready, free, _ = select.select([self.socket], [] if unsent is None else [self.socket], [], 1)
+            ready, free, _ = select.select([self.socket], [] if unsent is None else [self.socket],
+                                           [], 1)
             if free:
                 unsent = self.sent_some(unsent)
             if ready:

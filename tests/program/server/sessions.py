@@ -1,11 +1,13 @@
-"""Sessions over TCP that do as they should: the sessions of tests/cases/, a purse that several share, and seats."""
+"""Sessions over TCP that do as they should: the sessions of tests/cases/, a purse that several
+share, and seats."""
 import functools
 import re
 from concurrent.futures import ThreadPoolExecutor
 from typing import Callable, Dict, List, NamedTuple, Optional, Tuple
 
-from tests.lib.commands import (EXIT, INCREMENT, RESULT_IS_OPERAND, add, assembly_command, case_file, case_folders, matrix_command,
-                                matrix_text, operator_command, run_words, show_reply)
+from tests.lib.commands import (EXIT, INCREMENT, RESULT_IS_OPERAND, add, assembly_command,
+                                case_file, case_folders, matrix_command, matrix_text,
+                                operator_command, run_words, show_reply)
 from tests.lib.limits import MOST_SESSIONS, MOST_STEPS
 from tests.lib.runs import Wrong, difference, expect
 from tests.program.generated.long_sessions import LONG_SESSIONS
@@ -13,7 +15,8 @@ from tests.program.server.server import BUSY, Client, Server, until
 
 CLIENTS_AT_ONCE = 4
 ENDED_BY_ITS_SESSION = (b'0', b'3')
-# a job of 2 ** 29 steps, which takes some tenths of a second, and far longer where the machine is busy
+# a job of 2 ** 29 steps, which takes some tenths of a second, and far longer where the machine is
+# busy
 LONG_ROWS, LONG_SLOTS = 1 << 17, 4096
 LONG_PRICE = LONG_ROWS * LONG_SLOTS
 LONG_SECONDS = 300.0
@@ -27,7 +30,8 @@ PRODUCT = b'product C sub mul A B\n'
 
 
 class Session(NamedTuple):
-    """A session of tests/cases/, or one that is made: what it is given, its replies, and the settings that it runs with."""
+    """A session of tests/cases/, or one that is made: what it is given, its replies, and the
+    settings that it runs with."""
     name: str
     given: bytes
     wanted: bytes
@@ -37,16 +41,20 @@ class Session(NamedTuple):
     @property
     def shows_its_budget(self) -> bool:
         """Whether it would have other replies where others spend the same budget."""
-        return self.steps != MOST_STEPS or re.search(rb'^(ok budget|no S8) ', self.wanted, re.M) is not None
+        return (self.steps != MOST_STEPS or re.search(rb'^(ok budget|no S8) ', self.wanted,
+                                                      re.M) is not None)
 
 
 def folder_session(name: str) -> Optional[Session]:
-    """A case of tests/cases/; none where it isn't a session, or not one that standard input alone gives."""
+    """A case of tests/cases/; none where it isn't a session, or not one that standard input alone
+    gives."""
     words = (case_file(name, 'args') or '\n'.join(run_words()).encode()).decode().split()
     settings = dict(zip(words[1::2], words[2::2]))
-    if words[:1] != ['run'] or (case_file(name, 'status') or b'0').strip() not in ENDED_BY_ITS_SESSION:
+    if words[:1] != ['run'] or (case_file(name, 'status')
+                                or b'0').strip() not in ENDED_BY_ITS_SESSION:
         return None
-    return Session(name, case_file(name, 'in') or b'', case_file(name, 'out') or b'', int(settings['--steps']), int(settings['--workers']))
+    return Session(name, case_file(name, 'in') or b'', case_file(name, 'out') or b'',
+                   int(settings['--steps']), int(settings['--workers']))
 
 
 def all_sessions() -> List[Session]:
@@ -70,8 +78,9 @@ def alone(program: str, session: Session) -> None:
 
 
 def sessions_of_the_cases(program: str) -> None:
-    """Every session, four clients at a time, gets the bytes that `run` gives: at one server for each number of workers, or, where it
-    shows what is left of the budget, at a server of its own."""
+    """Every session, four clients at a time, gets the bytes that `run` gives: at one server for
+    each number of workers, or, where it shows what is left of the budget, at a server of its
+    own."""
     sessions = all_sessions()
     shared: Dict[int, List[Session]] = {}
     for session in sessions:
@@ -82,13 +91,16 @@ def sessions_of_the_cases(program: str) -> None:
             with Server(program, workers=workers) as server:
                 list(clients.map(functools.partial(converse, server), together))
                 server.look_at_rest()
-        list(clients.map(functools.partial(alone, program), [session for session in sessions if session.shows_its_budget]))
+        list(clients.map(functools.partial(alone, program),
+                         [session for session in sessions if session.shows_its_budget]))
     if len(sessions) < 250 or sum(map(len, shared.values())) < 200:
-        raise Wrong('only %d sessions, %r of them at one server' % (len(sessions), {w: len(n) for w, n in shared.items()}))
+        raise Wrong('only %d sessions, %r of them at one server'
+                    % (len(sessions), {w: len(n) for w, n in shared.items()}))
 
 
 def purse_of_twelve(program: str) -> None:
-    """What one session reserves the other's `budget` shows, and is not there for the other's job, until the first runs."""
+    """What one session reserves the other's `budget` shows, and is not there for the other's job,
+    until the first runs."""
     with Server(program, 12) as server, server.client() as one, server.client() as other:
         for client in (one, other):
             for command, reply in zip(UPLOADS, UPLOADED):
@@ -108,17 +120,18 @@ def purse_of_twelve(program: str) -> None:
 ENDINGS: List[Tuple[str, Callable[[Client], object]]] = [
     ('quit', lambda client: client.expect(b'quit\n', b'ok quit\n')),
     ('no more input', Client.send_no_more),
-    ('the end amid a body', lambda client: (client.send(b'matrix A 10\n12345'), client.send_no_more())),
+    ('the end amid a body', lambda client: (client.send(b'matrix A 10\n12345'),
+                                            client.send_no_more())),
     ('a refusal that ends it', lambda client: client.expect(b'op f unary x\n', b'no S2\n')),
     ('a line too long', lambda client: client.expect(b'x' * 1026, b'no S6\n')),
     ('closed', Client.close),
     ('reset', Client.reset),
-    ('reset amid a body', lambda client: (client.send(b'matrix A 10\n12345'), client.reset())),
-]
+    ('reset amid a body', lambda client: (client.send(b'matrix A 10\n12345'), client.reset())),]
 
 
 def reservations_end_with_their_session(program: str) -> None:
-    """However a session with a queued job ends, its price is there for the others again, with nothing spent."""
+    """However a session with a queued job ends, its price is there for the others again, with
+    nothing spent."""
     with Server(program, 12) as server, server.client() as other:
         for what, end in ENDINGS:
             client = server.client()
@@ -134,7 +147,8 @@ def reservations_end_with_their_session(program: str) -> None:
 
 
 def sums_session(server: Server, number: int, spent: List[int]) -> None:
-    """One of many sessions: each reply to `budget` adds up to the allowance and counts what this session has reserved."""
+    """One of many sessions: each reply to `budget` adds up to the allowance and counts what this
+    session has reserved."""
     entries = number % 40 + 1
     price = entries * 3
     with server.seated() as client:
@@ -155,7 +169,8 @@ def sums_session(server: Server, number: int, spent: List[int]) -> None:
             look(0)
         client.expect(b'apply B inc A\n', b'ok queued 1 %d\n' % price)
         look(price)
-        # a third each quit, stop sending, and go without a word; what is queued is settled with nothing
+        # a third each quit, stop sending, and go without a word; what is queued is settled with
+        # nothing
         if number % 3 == 0:
             client.expect(b'quit\n', b'ok quit\n')
         elif number % 3 == 1:
@@ -164,7 +179,8 @@ def sums_session(server: Server, number: int, spent: List[int]) -> None:
 
 
 def sums_over_two_hundred_sessions(program: str) -> None:
-    """200 clients at once for 16 seats; those that get `no busy` try again. At the end what they ran for is spent, and no more."""
+    """200 clients at once for 16 seats; those that get `no busy` try again. At the end what they
+    ran for is spent, and no more."""
     count = 200
     spent = [0] * count
     with Server(program, 1 << 20, 2) as server:
@@ -177,7 +193,8 @@ def sums_over_two_hundred_sessions(program: str) -> None:
 
 
 def sixteen_and_a_seventeenth(program: str) -> None:
-    """Sixteen sessions that each got a reply; the seventeenth reads `no busy` and the end, whether it sent something or not."""
+    """Sixteen sessions that each got a reply; the seventeenth reads `no busy` and the end, whether
+    it sent something or not."""
     with Server(program) as server:
         seated = [server.client() for _ in range(MOST_SESSIONS)]
         for client in seated:
@@ -194,7 +211,8 @@ def sixteen_and_a_seventeenth(program: str) -> None:
 
 
 def a_seat_that_is_free_at_once(program: str) -> None:
-    """In a full house, 200 times: one quits and reads its end, and whoever connects then has a seat, never `no busy`."""
+    """In a full house, 200 times: one quits and reads its end, and whoever connects then has a
+    seat, never `no busy`."""
     with Server(program) as server:
         seated = [server.seated() for _ in range(MOST_SESSIONS)]
         for turn in range(200):
@@ -229,7 +247,8 @@ def ran_long_jobs(count: int) -> bytes:
 
 
 def batches_on_as_many_workers_as_asked(program: str) -> None:
-    """While a session runs a long batch it has a thread for each worker; meanwhile others are answered, and come and go."""
+    """While a session runs a long batch it has a thread for each worker; meanwhile others are
+    answered, and come and go."""
     jobs = 4
     with Server(program, workers=3) as server, server.client() as client, server.client() as other:
         for command, reply in long_uploads():
@@ -238,9 +257,11 @@ def batches_on_as_many_workers_as_asked(program: str) -> None:
         other.budget()
         client.socket.settimeout(LONG_SECONDS)
         client.send(b'run\n')
-        until('threads of an acceptor, two sessions and two workers more', lambda: server.threads() == server.at_rest[0] + 4)
+        until('threads of an acceptor, two sessions and two workers more',
+              lambda: server.threads() == server.at_rest[0] + 4)
         for _ in range(20):
-            expect('budget beside a batch', [MOST_STEPS - jobs * LONG_PRICE, jobs * LONG_PRICE, 0], other.budget())
+            expect('budget beside a batch', [MOST_STEPS - jobs * LONG_PRICE, jobs * LONG_PRICE, 0],
+                   other.budget())
             with server.seated() as third:
                 third.expect(b'quit\n', b'ok quit\n')
         if not client.says_nothing(0):
@@ -252,7 +273,8 @@ def batches_on_as_many_workers_as_asked(program: str) -> None:
 
 
 def sessions_keep_to_themselves(program: str) -> None:
-    """The same name stands for each session's own matrix, and a full queue of one is not another's."""
+    """The same name stands for each session's own matrix, and a full queue of one is not
+    another's."""
     with Server(program) as server:
         clients = [server.client() for _ in range(MOST_SESSIONS)]
         texts = [matrix_text(1, 1, [(1, 1, number)]) for number in range(MOST_SESSIONS)]

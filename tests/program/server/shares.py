@@ -1,4 +1,5 @@
-"""What one session may take of the budget that all share: `--session-steps` and `--session-reserve`."""
+"""What one session may take of the budget that all share: `--session-steps` and
+`--session-reserve`."""
 from typing import Callable, Dict
 
 from tests.lib.runs import expect
@@ -9,7 +10,8 @@ RAN = b'ok run 1 9\nC 1 1 1 9\n'
 
 
 def uploaded(server: Server) -> Client:
-    """A client whose session has what PRODUCT wants. That job has a price of 12 steps and takes 9."""
+    """A client whose session has what PRODUCT wants. That job has a price of 12 steps and takes
+    9."""
     client = server.client()
     for command, reply in zip(UPLOADS, UPLOADED):
         client.expect(command, reply)
@@ -21,8 +23,8 @@ def queued(client: Client, place: int) -> None:
 
 
 def spends_its_share(program: str) -> None:
-    """With `--session-steps 30` a session spends and reserves 30 steps at most, and is told what it may still take. Others have shares
-    of their own, and a new session has a new one."""
+    """With `--session-steps 30` a session spends and reserves 30 steps at most, and is told what it
+    may still take. Others have shares of their own, and a new session has a new one."""
     with Server(program, 1000, session_steps=30) as server:
         with uploaded(server) as one, uploaded(server) as other:
             queued(one, 1)
@@ -47,7 +49,8 @@ def spends_its_share(program: str) -> None:
 
 
 def reserves_its_share(program: str) -> None:
-    """With `--session-reserve 24` a session reserves 24 steps at most at once, and spends as much as there is."""
+    """With `--session-reserve 24` a session reserves 24 steps at most at once, and spends as much
+    as there is."""
     with Server(program, 100, session_reserve=24) as server:
         with uploaded(server) as client:
             for _ in range(5):
@@ -81,7 +84,8 @@ def told_the_lesser(program: str) -> None:
 
 
 def three_that_queue_leave_the_rest(program: str) -> None:
-    """Three sessions that fill their queues and never run hold no more than their shares, and a fourth works on."""
+    """Three sessions that fill their queues and never run hold no more than their shares, and a
+    fourth works on."""
     with Server(program, 1000, session_reserve=100) as server:
         silent = [uploaded(server) for _ in range(3)]
         for client in silent:

@@ -1,4 +1,5 @@
-"""What is sent to a server: a command with what is done with its reply or its loss, and batches of commands whose replies are read as one."""
+"""What is sent to a server: a command with what is done with its reply or its loss, and batches of
+commands whose replies are read as one."""
 from __future__ import annotations
 
 from typing import Any, Callable, List, Mapping, Optional, Union
@@ -10,7 +11,8 @@ from .reply_checks import NOTHING, Limits, check_first_line
 
 MOST_WAITING = 200                                 # commands, whose replies fit into a pipe
 MOST_BYTES = 1 << 22                               # of commands that wait
-MOST_REPLIES = 1 << 28                             # bytes of the replies to a batch, unless it says fewer
+# bytes of the replies to a batch, unless it says fewer
+MOST_REPLIES = 1 << 28
 
 Answer = Union[Reply, Refused]
 
@@ -20,16 +22,21 @@ def _ignore(_: object) -> None:
 
 
 class Command:
-    """A command: its line, without the length of its body; the body, where it has one; and what gives the line at a place of it. `done` gets
-    its reply, and `lost` the reason where there is none: its refusal, or the end of the session. Of one that `matters` a refusal makes
-    everything behind it doubtful. `jobs` is how many jobs it runs. `within` has the limits of the reply's numbers that the client knows,
-    and `check` raises ProtocolError of a reply that says anything else that it can't. `answer` is there once it was answered."""
+    """A command: its line, without the length of its body; the body, where it has one; and what
+    gives the line at a place of it. `done` gets its reply, and `lost` the reason where there is
+    none: its refusal, or the end of the session. Of one that `matters` a refusal makes everything
+    behind it doubtful. `jobs` is how many jobs it runs. `within` has the limits of the reply's
+    numbers that the client knows, and `check` raises ProtocolError of a reply that says anything
+    else that it can't. `answer` is there once it was answered."""
 
-    __slots__ = ('line', 'body', 'near', 'done', 'lost', 'matters', 'jobs', 'within', 'check', 'answer')
+    __slots__ = ('line', 'body', 'near', 'done', 'lost', 'matters', 'jobs', 'within', 'check',
+                 'answer')
 
-    def __init__(self, line: str, body: Optional[bytes] = None, near: Optional[Near] = None, *, done: Callable[[Reply], Any] = _ignore,
-                 lost: Callable[[BaseException], Any] = _ignore, matters: bool = False, jobs: int = 0,
-                 within: Mapping[str, Limits] = NOTHING, check: Callable[[Reply], Any] = _ignore) -> None:
+    def __init__(self, line: str, body: Optional[bytes] = None, near: Optional[Near] = None, *,
+                 done: Callable[[Reply], Any] = _ignore,
+                 lost: Callable[[BaseException], Any] = _ignore, matters: bool = False,
+                 jobs: int = 0, within: Mapping[str, Limits] = NOTHING,
+                 check: Callable[[Reply], Any] = _ignore) -> None:
         words = line.split(None, 1)
         if '\n' in line or not words:
             raise ValueError('a command is one line with words')
@@ -46,7 +53,8 @@ class Command:
         return self.line.split(None, 1)[0] == 'run'
 
     def read(self, incoming: Incoming) -> Union[Reply, str]:
-        """The next reply, or the line of a refusal. ProtocolError where it doesn't answer this command."""
+        """The next reply, or the line of a refusal. ProtocolError where it doesn't answer this
+        command."""
         raw = incoming.next(lambda words: check_first_line(words, self.line, self.within))
         reply = raw.reply()
         if reply is None:
@@ -84,8 +92,8 @@ class Outgoing:
 
 
 class CommandBatch:
-    """Commands whose replies are read as one; the last is `budget`. `replies` has them, once they are there; `most` is how many bytes they
-    can have."""
+    """Commands whose replies are read as one; the last is `budget`. `replies` has them, once they
+    are there; `most` is how many bytes they can have."""
 
     runs = True                                    # the server may take as long as its jobs do
 

@@ -1,14 +1,16 @@
 """Commands of a session with their whole replies.
 
-A `Connection` sends commands and reads their replies before it sends more, so neither side waits for the other with full pipes. What can
-hardly be refused waits to be sent with the next command, so that a loop of jobs and runs takes one trip for many. Where something is
-refused all the same, what was sent behind it may have used names that stand for older matrices: all of that is lost, and says so when it
-is looked at.
+A `Connection` sends commands and reads their replies before it sends more, so neither side waits
+for the other with full pipes. What can hardly be refused waits to be sent with the next command, so
+that a loop of jobs and runs takes one trip for many. Where something is refused all the same, what
+was sent behind it may have used names that stand for older matrices: all of that is lost, and says
+so when it is looked at.
 
-A command that Ctrl-C interrupts is simply still pending: its reply is read before more is sent, and then it is done. Whatever else comes
-between a command and the whole of its reply (a timeout, a fault of a callback, a second Ctrl-C while commands are being sent) ends the
-session, since commands and replies would be out of step from then on; a child that was started here is then killed, as nothing cancels a
-batch.
+A command that Ctrl-C interrupts is simply still pending: its reply is read before more is sent, and
+then it is done. Whatever else comes between a command and the whole of its reply (a timeout, a
+fault of a callback, a second Ctrl-C while commands are being sent) ends the session, since commands
+and replies would be out of step from then on; a child that was started here is then killed, as
+nothing cancels a batch.
 """
 from __future__ import annotations
 
@@ -32,13 +34,15 @@ from .sigint import Guard
 from .transport import Address, Channel, Child, Socket, Timeouts
 
 ENDS = ('S5', 'S6', 'S7', 'busy', *OF_GATEWAY)
-SECONDS = 60.0                                     # for a command to a server and its whole reply, where its jobs don't run
+# for a command to a server and its whole reply, where its jobs don't run
+SECONDS = 60.0
 
 Progress = Callable[[str, int, int], None]
 
 
 def checked_settings(steps: float, workers: float) -> Tuple[int, int]:
-    """The settings as whole numbers (1e9 is one). TypeError or ValueError where the program would refuse its words."""
+    """The settings as whole numbers (1e9 is one). TypeError or ValueError where the program would
+    refuse its words."""
     many, threads = whole(steps, 'number of steps'), whole(workers, 'number of workers')
     if not 0 <= many <= MOST_STEPS:
         raise ValueError('steps are 0 to %d (2^62)' % MOST_STEPS)
@@ -48,7 +52,8 @@ def checked_settings(steps: float, workers: float) -> Tuple[int, int]:
 
 
 class Connection:
-    """One session's commands and replies, in step. `command` takes turns among threads: one waits until another has its reply."""
+    """One session's commands and replies, in step. `command` takes turns among threads: one waits
+    until another has its reply."""
 
     def __init__(self, channel: Channel, progress: Optional[Progress] = None) -> None:
         self.lock = threading.RLock()
@@ -56,24 +61,30 @@ class Connection:
         self.commands, self.sent = 0, 0
         self.guard = Guard()
         self._channel = channel
-        self.incoming = Incoming(self._fill, self._fault, lambda done, of: self.tell('received', done, of))
-        self.refused: Optional[Refused] = None     # the first refusal of the last exchange that mattered
+        self.incoming = Incoming(self._fill, self._fault,
+                                 lambda done, of: self.tell('received', done, of))
+        # the first refusal of the last exchange that mattered
+        self.refused: Optional[Refused] = None
         self._waiting = Outgoing()
-        self._pending: Deque[Union[Command, CommandBatch]] = collections.deque()      # sent, and not answered
+        # sent, and not answered
+        self._pending: Deque[Union[Command, CommandBatch]] = collections.deque()
         self._owner = os.getpid()
         self._ended: Optional[str] = None
         self._amid = False
         self._last = weakref.finalize(self, channel.close, True)
 
     @classmethod
-    def to_child(cls, steps: float = MOST_STEPS, workers: int = 1, program: Optional[Program] = None,
+    def to_child(cls, steps: float = MOST_STEPS, workers: int = 1,
+                 program: Optional[Program] = None,
                  progress: Optional[Progress] = None) -> Connection:
         """Starts `spmat run --steps STEPS --workers WORKERS`."""
         steps, workers = checked_settings(steps, workers)
-        return cls(Child(program_words(program) + ['run', '--steps', str(steps), '--workers', str(workers)]), progress)
+        return cls(Child(program_words(program) + ['run', '--steps', str(steps), '--workers',
+                                                   str(workers)]), progress)
 
     @classmethod
-    def to_server(cls, address: Address, timeouts: Timeouts = Timeouts(SECONDS, None), progress: Optional[Progress] = None) -> Connection:
+    def to_server(cls, address: Address, timeouts: Timeouts = Timeouts(SECONDS, None),
+                  progress: Optional[Progress] = None) -> Connection:
         """Connects to a server."""
         return cls(Socket(address, timeouts), progress)
 
@@ -84,7 +95,8 @@ class Connection:
 
     @property
     def process(self) -> Optional[int]:
-        """The number of the process that was started for this session, and of its group; None of a server's session."""
+        """The number of the process that was started for this session, and of its group; None of a
+        server's session."""
         return self._channel.process.pid if isinstance(self._channel, Child) else None
 
     @property
@@ -93,32 +105,37 @@ class Connection:
         return self._amid
 
     def usable(self) -> bool:
-        """Whether a command can be sent, as far as can be seen without sending one: the session goes on, in this process, and the
-        program that was started for it has not ended."""
+        """Whether a command can be sent, as far as can be seen without sending one: the session
+        goes on, in this process, and the program that was started for it has not ended."""
         if self._ended is not None or os.getpid() != self._owner:
             return False
         return not isinstance(self._channel, Child) or self._channel.process.poll() is None
 
     def check_open(self) -> None:
-        """Raises Closed where the session has ended, and in a process that was forked off the session's."""
+        """Raises Closed where the session has ended, and in a process that was forked off the
+        session's."""
         if self._ended is None and not self._last.alive:
-            self._ended = 'the interpreter ends'   # which closed the channel before whoever asks now
+            # which closed the channel before whoever asks now
+            self._ended = 'the interpreter ends'
         if self._ended is not None:
             raise Closed('the session has ended: ' + self._ended)
         if os.getpid() != self._owner:
-            raise SpmatError('a session belongs to the process that opened it: open another one here')
+            raise SpmatError(
+                'a session belongs to the process that opened it: open another one here')
 
     def command(self, line: str, body: Optional[bytes] = None, near: Optional[Near] = None,
                 within: Mapping[str, Limits] = NOTHING) -> Reply:
-        """Sends a command, with the length of its body where it has one, and reads the whole reply. Raises Refused for `no ..` and
-        Closed where the session has ended. `near` gives the line that stands at a place of the body, for the refusal's words, and `within`
-        the limits of the reply's numbers that the client knows."""
+        """Sends a command, with the length of its body where it has one, and reads the whole reply.
+        Raises Refused for `no ..` and Closed where the session has ended. `near` gives the line
+        that stands at a place of the body, for the refusal's words, and `within` the limits of the
+        reply's numbers that the client knows."""
         reply = self.exchange(Command(line, body, near, within=within))
         assert reply is not None
         return reply
 
     def put(self, command: Command) -> None:
-        """One command more that waits to be sent with the next. Its reply has to be short, as none is read before all is sent."""
+        """One command more that waits to be sent with the next. Its reply has to be short, as none
+        is read before all is sent."""
         self._waiting.put(command)
 
     @property
@@ -132,9 +149,9 @@ class Connection:
         return self._waiting.is_full
 
     def exchange(self, last: Optional[Command] = None) -> Optional[Reply]:
-        """Sends what waits and one command more in one go, and reads the reply of each; that of the last. Raises what the last is refused
-        by, and Closed where the session ends before all are answered. KeyboardInterrupt while replies are awaited leaves what isn't
-        answered pending."""
+        """Sends what waits and one command more in one go, and reads the reply of each; that of the
+        last. Raises what the last is refused by, and Closed where the session ends before all are
+        answered. KeyboardInterrupt while replies are awaited leaves what isn't answered pending."""
         with self.lock, self.guard:
             if last is None and not self._waiting.commands and not self._pending:
                 return None
@@ -163,8 +180,9 @@ class Connection:
             return answer
 
     def post(self, batch: CommandBatch) -> None:
-        """Sends commands whose replies nobody waits for: `collect` takes them, or whoever sends next. Replies of any length may come;
-        two such at a time, of half a pipe's bytes each, never make both sides wait."""
+        """Sends commands whose replies nobody waits for: `collect` takes them, or whoever sends
+        next. Replies of any length may come; two such at a time, of half a pipe's bytes each, never
+        make both sides wait."""
         with self.lock, self.guard:
             self._enter()
             try:
@@ -179,7 +197,8 @@ class Connection:
                 self._amid = False
 
     def collect(self, batch: CommandBatch) -> bytes:
-        """The replies to commands that were posted. KeyboardInterrupt leaves them pending. Closed where they never come."""
+        """The replies to commands that were posted. KeyboardInterrupt leaves them pending. Closed
+        where they never come."""
         with self.lock, self.guard:
             while batch.replies is None:
                 self._enter()
@@ -190,10 +209,13 @@ class Connection:
             return batch.replies
 
     def _enter(self) -> None:
-        """A command begins. Raises Closed where the session has ended, and SpmatError amid another command."""
+        """A command begins. Raises Closed where the session has ended, and SpmatError amid another
+        command."""
         self.check_open()
         if self._amid:
-            raise SpmatError('a session can not be used from within its own command, such as by a progress callback')
+            raise SpmatError(
+                'a session can not be used from within its own command, such as by a progress '
+                'callback')
         self._amid = True
 
     @property
@@ -211,7 +233,8 @@ class Connection:
         return self.incoming.received
 
     def settle(self) -> None:
-        """Waits for the replies of commands that were interrupted or posted, where any are pending."""
+        """Waits for the replies of commands that were interrupted or posted, where any are
+        pending."""
         with self.lock, self.guard:
             self._enter()
             try:
@@ -225,7 +248,8 @@ class Connection:
             self._read_first()
 
     def _read_first(self) -> None:
-        """The same of what is pending first. KeyboardInterrupt leaves it so; what else comes ends the session."""
+        """The same of what is pending first. KeyboardInterrupt leaves it so; what else comes ends
+        the session."""
         first = self._pending[0]
         self._channel.deadline.begin(first.runs)
         try:
@@ -240,7 +264,8 @@ class Connection:
         self._pending.popleft()
         try:
             self._note(first, reply)
-        except BaseException:                      # of a signal's handler, say: what stands behind it isn't noted
+        except BaseException:
+            # of a signal's handler, say: what stands behind it isn't noted
             self.end('an exception came while its replies were noted', kill=True)
             raise
 
@@ -274,17 +299,21 @@ class Connection:
         return self._channel.fault(self.incoming.received > 0)
 
     def end(self, why: str, kill: bool = False, cause: Optional[BaseException] = None) -> None:
-        """Marks the session as ended, and closes its channel. What is pending is lost, by this cause."""
+        """Marks the session as ended, and closes its channel. What is pending is lost, by this
+        cause."""
         with self.lock:
             if self._ended is None:
                 self._ended = why
                 self._last.detach()
                 self._channel.close(kill)
                 while self._pending:
-                    self._pending.popleft().lost(cause or SpmatError('the session ended before it was answered'))
+                    self._pending.popleft().lost(cause
+                                                 or SpmatError(
+                                                     'the session ended before it was answered'))
 
     def quit(self) -> None:
-        """Ends the session in good order, or at once where a reply is owed; nothing where it has ended already."""
+        """Ends the session in good order, or at once where a reply is owed; nothing where it has
+        ended already."""
         with self.lock:
             self._waiting.taken()                  # which isn't sent any more
             if self._pending:
@@ -294,7 +323,8 @@ class Connection:
                     self.command('quit')
                 except SpmatError:
                     pass
-            self.end('it was closed')              # nothing where the interpreter has closed the channel already
+            # nothing where the interpreter has closed the channel already
+            self.end('it was closed')
 
     def _send_all(self, commands: Sequence[Command]) -> None:
         """Sends commands, which are pending then. What comes meanwhile ends the session."""
@@ -313,7 +343,8 @@ class Connection:
             small: List[bytes] = []
             for command in commands:
                 line, body = command.line, command.body
-                small.append(line.encode() + b'\n' if body is None else b'%s %d\n' % (line.encode(), len(body)))
+                small.append(line.encode() + b'\n' if body is None
+                             else b'%s %d\n' % (line.encode(), len(body)))
                 if body is not None and len(body) < PIECE:
                     small += [body, b'\n']
                 elif body is not None:
@@ -324,7 +355,8 @@ class Connection:
         except socket.timeout:
             raise
         except OSError:
-            pass                                   # the server has ended the session: its last reply says why
+            # the server has ended the session: its last reply says why
+            pass
 
     def _send_text(self, text: bytes) -> None:
         try:
@@ -352,21 +384,23 @@ class Connection:
     def _refused(self, reply: str, command: Command) -> Refused:
         refused = refusal_of(reply, command.line, command.near)
         words = command.line.split()
-        if refused.rule in ENDS or (refused.rule == 'S2' and len(words) != WORDS_WITH_BODY.get(words[0], len(words))):
+        if refused.rule in ENDS or (refused.rule == 'S2'
+                                    and len(words) != WORDS_WITH_BODY.get(words[0], len(words))):
             self.end('it was answered `%s`' % reply, cause=refused)
         return refused
 
 
 class Turn:
-    """The turn of one thread, in a `with`, in which commands are made and what they do is noted. What comes between a command and the
-    note of it ends the session; Ctrl-C is put off until the note is made, or the reply is awaited. Closed where the session has ended."""
+    """The turn of one thread, in a `with`, in which commands are made and what they do is noted.
+    What comes between a command and the note of it ends the session; Ctrl-C is put off until the
+    note is made, or the reply is awaited. Closed where the session has ended."""
 
     def __init__(self, connection: Connection) -> None:
         self._connection = connection
 
     def __enter__(self) -> None:
         connection = self._connection
-        connection.lock.acquire()                  # pylint: disable=consider-using-with  # __exit__ releases it
+        connection.lock.acquire()  # pylint: disable=consider-using-with  # __exit__ releases it
         try:
             connection.guard.__enter__()           # pylint: disable=unnecessary-dunder-call
             try:
@@ -378,7 +412,8 @@ class Turn:
             connection.lock.release()
             raise
 
-    def __exit__(self, kind: Optional[Type[BaseException]], fault: Optional[BaseException], trace: Any) -> None:
+    def __exit__(self, kind: Optional[Type[BaseException]], fault: Optional[BaseException],
+                 trace: Any) -> None:
         connection = self._connection
         try:
             if kind is not None and not issubclass(kind, Exception) and not connection.owes:
@@ -395,5 +430,7 @@ def _words_of(fault: BaseException) -> str:
     if isinstance(fault, Closed):
         return str(fault)
     if isinstance(fault, KeyboardInterrupt):
-        return 'Ctrl-C came twice, or before a command was sent whole: what the session held is lost'
-    return 'amid a command came %s%s' % (type(fault).__name__, ' (%s)' % fault if str(fault) else '')
+        return (
+            'Ctrl-C came twice, or before a command was sent whole: what the session held is lost')
+    return 'amid a command came %s%s' % (type(fault).__name__,
+                                         ' (%s)' % fault if str(fault) else '')

@@ -1,6 +1,7 @@
 """The commands of the protocol, and the forms of job among them. Source: docs/protocol.md.
 
-What connections, refusals, bounds of prices and session scripts know of a command or a form they have from here.
+What connections, refusals, bounds of prices and session scripts know of a command or a form they
+have from here.
 """
 from __future__ import annotations
 
@@ -9,7 +10,8 @@ from typing import Dict, NamedTuple, Optional, Sequence, Tuple
 
 
 class Places(enum.Enum):
-    """Where the result of a job has entries; under a mask only where the mask has some too. The bounds of what a job takes follow from it."""
+    """Where the result of a job has entries; under a mask only where the mask has some too. The
+    bounds of what a job takes follow from it."""
     ALL = 'where all operands have one'
     CHOSEN = 'where all operands have one, if the operator says so'
     ANY = 'where any operand has one'
@@ -18,8 +20,9 @@ class Places(enum.Enum):
 
 
 class Form(NamedTuple):
-    """A form of job. `operators`, `operands` and `thunk` are what stands behind OUT in its command, in words; its operators are of one of
-    these `kinds`. Its results have entries at `places`, and `method` is that of matrices which queues such a job."""
+    """A form of job. `operators`, `operands` and `thunk` are what stands behind OUT in its command,
+    in words; its operators are of one of these `kinds`. Its results have entries at `places`, and
+    `method` is that of matrices which queues such a job."""
     operators: str
     operands: str
     kinds: Tuple[str, ...]
@@ -35,18 +38,20 @@ class Form(NamedTuple):
     @property
     def words(self) -> str:
         """What stands behind the name of the form."""
-        return ' '.join(filter(None, ('OUT', self.operators, self.operands, self.thunk, '[mask M]')))
+        return ' '.join(filter(None, ('OUT', self.operators, self.operands, self.thunk,
+                                      '[mask M]')))
 
 
 class Behind(enum.Enum):
-    """What comes behind the first line of an `ok` reply: as many of these as its third word says."""
+    """What comes behind the first line of an `ok` reply: as many of these as its third word
+    says."""
     LINES = 'lines'
     BYTES = 'bytes'
 
 
 class Syntax(NamedTuple):
-    """How a command is written behind its name, how its reply is written behind `ok`, and what the reply brings. LEN is the length of a
-    body, which comes behind the line."""
+    """How a command is written behind its name, how its reply is written behind `ok`, and what the
+    reply brings. LEN is the length of a body, which comes behind the line."""
     words: str = ''
     reply: str = ''
     brings: Optional[Behind] = None
@@ -77,10 +82,12 @@ COMMANDS: Dict[str, Syntax] = {
     'budget': Syntax('', 'budget LEFT RESERVED SPENT'),
     'quit': Syntax('', 'quit'),
 }
-WORDS_WITH_BODY = {name: len(syntax.words.split()) for name, syntax in COMMANDS.items() if syntax.has_body}
+WORDS_WITH_BODY = {name: len(syntax.words.split()) for name, syntax in COMMANDS.items()
+                   if syntax.has_body}
 """The commands that have a body, with how many words stand before its length."""
 
 
 def brought(words: Sequence[str]) -> Optional[Behind]:
     """What comes behind a reply's first line, by its words; None where nothing does."""
-    return COMMANDS[words[1]].brings if len(words) > 1 and words[0] == 'ok' and words[1] in COMMANDS else None
+    return (COMMANDS[words[1]].brings if len(words) > 1 and words[0] == 'ok'
+            and words[1] in COMMANDS else None)

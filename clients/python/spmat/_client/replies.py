@@ -1,7 +1,7 @@
 """Replies out of a stream of bytes: each whole, or none of it.
 
-Bytes that came stay here until a reply is there whole. So whatever comes while one is awaited (Ctrl-C), the next call goes on where this
-one was.
+Bytes that came stay here until a reply is there whole. So whatever comes while one is awaited
+(Ctrl-C), the next call goes on where this one was.
 """
 from __future__ import annotations
 
@@ -15,25 +15,29 @@ LONGEST_LINE = 1 << 16
 
 
 class Reply(NamedTuple):
-    """An `ok` reply: the words behind `ok`, and the lines or the bytes that it brings: those of `run`, `dis` and `types`, and of `show`."""
+    """An `ok` reply: the words behind `ok`, and the lines or the bytes that it brings: those of
+    `run`, `dis` and `types`, and of `show`."""
     words: List[str]
     lines: List[str]
     body: bytes
 
 
 class Incoming:
-    """What has come and was not taken. `fill` appends what comes next, and answers whether anything did; `fault` says why nothing
-    does; `tell(done, of)` is called as a long reply comes."""
+    """What has come and was not taken. `fill` appends what comes next, and answers whether anything
+    did; `fault` says why nothing does; `tell(done, of)` is called as a long reply comes."""
 
-    def __init__(self, fill: Callable[[bytearray], bool], fault: Callable[[], str], tell: Callable[[int, int], None]) -> None:
+    def __init__(self, fill: Callable[[bytearray], bool], fault: Callable[[], str],
+                 tell: Callable[[int, int], None]) -> None:
         self._bytes = bytearray()
         self._fill, self._fault, self._tell = fill, fault, tell
-        self._lines_seen, self._looked = 0, 0      # of a reply with lines: how many ended before the place that was looked at
+        # of a reply with lines: how many ended before the place that was looked at
+        self._lines_seen, self._looked = 0, 0
         self.received = 0
 
     def next(self, check: Callable[[List[str]], None]) -> 'Raw':
-        """The next reply, once it is there whole. Closed where it can't come any more. `check` looks at the words of its first line before
-        more is awaited, and raises where they answer nothing."""
+        """The next reply, once it is there whole. Closed where it can't come any more. `check`
+        looks at the words of its first line before more is awaited, and raises where they answer
+        nothing."""
         first = self._first_line()
         check(first.words)
         brings = brought(first.words)
@@ -45,11 +49,13 @@ class Incoming:
         return self._taken(first, self._lines_until(first.end, size))
 
     def through(self, mark: bytes, most: int) -> bytes:
-        """All that comes up to the end of the line with a mark, which stands in no other reply, once it is there. ProtocolError where that
-        is more than `most` bytes."""
+        """All that comes up to the end of the line with a mark, which stands in no other reply,
+        once it is there. ProtocolError where that is more than `most` bytes."""
         while True:
             if len(self._bytes) > most:
-                raise ProtocolError('the replies to a loop have more than %d bytes, the most that its commands can be answered with' % most)
+                raise ProtocolError(
+                    'the replies to a loop have more than %d bytes, the most that its commands '
+                    'can be answered with' % most)
             at = self._bytes.find(mark, self._looked)
             end = self._bytes.find(b'\n', at) if at >= 0 else -1
             if end >= 0:
@@ -66,14 +72,16 @@ class Incoming:
             if end >= 0:
                 return _First(self._bytes[:end].decode('ascii', 'replace').split(), end + 1)
             if len(self._bytes) >= LONGEST_LINE:
-                raise ProtocolError('the reply is none of spmat: `%s`' % self._bytes[:200].decode('ascii', 'replace'))
+                raise ProtocolError('the reply is none of spmat: `%s`'
+                                    % self._bytes[:200].decode('ascii', 'replace'))
             self._more()
 
     def _bytes_until(self, end: int, size: int) -> int:
         while len(self._bytes) < end:
             before = len(self._bytes)
             self._more()
-            if size >= PIECE and (before // PIECE != len(self._bytes) // PIECE or len(self._bytes) >= end):
+            if size >= PIECE and (before // PIECE != len(self._bytes) // PIECE
+                                  or len(self._bytes) >= end):
                 self._tell(min(size, size - (end - len(self._bytes))), size)
         return end
 
@@ -82,7 +90,9 @@ class Incoming:
         while self._lines_seen < count:
             end = self._bytes.find(b'\n', self._looked)
             if end < 0 and len(self._bytes) - self._looked >= LONGEST_LINE:
-                raise ProtocolError('a line of a reply is none of spmat: `%s`' % self._bytes[self._looked:self._looked + 200].decode('ascii', 'replace'))
+                raise ProtocolError('a line of a reply is none of spmat: `%s`'
+                                    % self._bytes[self._looked:self._looked + 200].decode(
+                                        'ascii', 'replace'))
             if end < 0:
                 self._more()
             else:

@@ -1,7 +1,9 @@
-"""Whether a reply answers its command. A server, or what stands between, may say anything: a reply is looked at before it is believed.
+"""Whether a reply answers its command. A server, or what stands between, may say anything: a reply
+is looked at before it is believed.
 
-Each reply has the words that docs/protocol.md gives for its command, with numbers within the limits of the protocol, and within what the
-client knows of what it asked. The first reply that has not ends the session, since commands and replies are out of step from then on.
+Each reply has the words that docs/protocol.md gives for its command, with numbers within the limits
+of the protocol, and within what the client knows of what it asked. The first reply that has not
+ends the session, since commands and replies are out of step from then on.
 """
 from __future__ import annotations
 
@@ -15,28 +17,38 @@ from ..limits import MOST_PRICE, MOST_SIDE, MOST_SLOTS, MOST_STEPS, QUEUE
 from .protocol import COMMANDS
 
 LONGEST_NUMBER = 20                                # digits: 2^64 - 1 has as many
-LOOKED_AT_WHOLE = 1 << 13                          # bytes of a text whose entries are looked at here: whoever reads a longer one looks at them
-LONGEST_HEAD = 80                                  # of a matrix text: its first line has 47 bytes, the second up to 27
-LONGEST_ENTRY = 8 + 1 + 8 + 1 + 20 + 1             # two indices, a value with its sign, two blanks and LF
-_ALL_ENTRIES = re.compile(rb'(?:\d{1,8} \d{1,8} -?\d{1,18}\n)*')   # values that have 64 bits for sure
+# bytes of a text whose entries are looked at here: whoever reads a longer one looks at them
+LOOKED_AT_WHOLE = 1 << 13
+# of a matrix text: its first line has 47 bytes, the second up to 27
+LONGEST_HEAD = 80
+# two indices, a value with its sign, two blanks and LF
+LONGEST_ENTRY = 8 + 1 + 8 + 1 + 20 + 1
+# values that have 64 bits for sure
+_ALL_ENTRIES = re.compile(rb'(?:\d{1,8} \d{1,8} -?\d{1,18}\n)*')
 _ENTRY = re.compile(rb'(\d{1,8}) (\d{1,8}) (-?\d{1,19})')
 BANNER = b'%%MatrixMarket matrix coordinate integer general\n'
 BANNER_LETTERS = BANNER.translate(None, b'0123456789- \n')
-_REFUSAL = re.compile(r'no (?:(?:[ASVMJ]\d{1,2}|busy|memory|thread|stuck)(?: [A-Z]?\d{1,20}){0,3}|(?:%s)(?: [\x20-\x7e]{0,200})?)' % '|'.join(OF_GATEWAY))
+_REFUSAL = re.compile(
+    r'no (?:(?:[ASVMJ]\d{1,2}|busy|memory|thread|stuck)(?: [A-Z]?\d{1,20}){0,3}|(?:%s)(?: '
+    r'[\x20-\x7e]{0,200})?)' % '|'.join(OF_GATEWAY))
 
 Limits = Tuple[int, int]
 """The least and the greatest that a number may be."""
 
 LIMITS: Dict[str, Limits] = {
-    'ROWS': (0, MOST_SIDE), 'COLUMNS': (0, MOST_SIDE), 'ENTRIES': (0, MOST_SIDE), 'SLOTS': (1, MOST_SLOTS), 'INSTRUCTIONS': (1, MOST_SLOTS),
-    'LINES': (0, MOST_SLOTS), 'POSITION': (1, QUEUE), 'PRICE': (0, MOST_PRICE), 'JOBS': (0, QUEUE), 'STEPS': (0, MOST_STEPS),
-    'BYTES': (0, LONGEST_HEAD + MOST_SIDE * LONGEST_ENTRY), 'LEFT': (0, MOST_STEPS), 'RESERVED': (0, MOST_STEPS), 'SPENT': (0, MOST_STEPS),
+    'ROWS': (0, MOST_SIDE), 'COLUMNS': (0, MOST_SIDE), 'ENTRIES': (0, MOST_SIDE),
+    'SLOTS': (1, MOST_SLOTS), 'INSTRUCTIONS': (1, MOST_SLOTS),
+    'LINES': (0, MOST_SLOTS), 'POSITION': (1, QUEUE), 'PRICE': (0, MOST_PRICE), 'JOBS': (0, QUEUE),
+    'STEPS': (0, MOST_STEPS),
+    'BYTES': (0, LONGEST_HEAD + MOST_SIDE * LONGEST_ENTRY), 'LEFT': (0, MOST_STEPS),
+    'RESERVED': (0, MOST_STEPS), 'SPENT': (0, MOST_STEPS),
 }
 NOTHING: Mapping[str, Limits] = MappingProxyType({})
 
 
 class ReplyForm(NamedTuple):
-    """How the reply to a command is written: its first word behind `ok`, and the names of the numbers behind that."""
+    """How the reply to a command is written: its first word behind `ok`, and the names of the
+    numbers behind that."""
     word: str
     numbers: Tuple[str, ...]
 
@@ -51,21 +63,25 @@ for _name, _syntax in COMMANDS.items():
     REPLIES[_name] = ReplyForm(_word, tuple(_numbers))
 
 
-def check_first_line(words: Sequence[str], command: str, within: Mapping[str, Limits] = NOTHING) -> None:
+def check_first_line(words: Sequence[str], command: str,
+                     within: Mapping[str, Limits] = NOTHING) -> None:
     """Raises ProtocolError where the first line of a reply doesn't answer a command.
 
     Parameters
     ----------
     words : the words of the line.
     command : the line of the command.
-    within : limits of numbers of the reply by their names, where the client knows narrower ones than the protocol's.
+    within : limits of numbers of the reply by their names, where the client knows narrower ones
+    than the protocol's.
     """
     if words[:1] != ['ok']:
         if not _REFUSAL.fullmatch(' '.join(words)):
-            raise ProtocolError('the reply to `%.80s` is none of spmat: `%.200s`' % (command, ' '.join(words)))
+            raise ProtocolError('the reply to `%.80s` is none of spmat: `%.200s`'
+                                % (command, ' '.join(words)))
         return
     form = REPLIES[command.split(None, 1)[0]] if command.split(None, 1)[0] in REPLIES else None
-    if form is None:                               # a command of a session script, which only a refusal can answer
+    if form is None:
+        # a command of a session script, which only a refusal can answer
         raise_fault(command, 'a refusal, since there is no such command', words)
     if len(words) != 2 + len(form.numbers) or words[1] != form.word:
         raise_fault(command, '`%s`' % str(form), words)
@@ -74,7 +90,8 @@ def check_first_line(words: Sequence[str], command: str, within: Mapping[str, Li
 
 
 def check_number(name: str, word: str, limits: Limits, command: str, words: Sequence[str]) -> int:
-    """The number that a word of a reply is. ProtocolError where it is none, or isn't within its limits."""
+    """The number that a word of a reply is. ProtocolError where it is none, or isn't within its
+    limits."""
     if not word.isdigit() or len(word) > LONGEST_NUMBER or not limits[0] <= int(word) <= limits[1]:
         asked = '%d to %d' % (limits[0], limits[1]) if limits[0] != limits[1] else '%d' % limits[0]
         raise_fault(command, '%s of %s' % (name, asked), words)
@@ -82,16 +99,18 @@ def check_number(name: str, word: str, limits: Limits, command: str, words: Sequ
 
 
 class ExpectedJob(NamedTuple):
-    """What the line of a job in the reply to `run` has to say: the name of its result, its shape, and the most entries and steps."""
+    """What the line of a job in the reply to `run` has to say: the name of its result, its shape,
+    and the most entries and steps."""
     name: str
     shape: Tuple[int, int]
     entries: int
     steps: int
 
 
-def check_run(words: Sequence[str], lines: Sequence[str], jobs: Sequence[ExpectedJob]) -> List[Tuple[int, int]]:
-    """The entries and the steps of each job of a run. ProtocolError where the lines of its reply aren't those of these jobs, or where their
-    steps don't add up to what was spent."""
+def check_run(words: Sequence[str], lines: Sequence[str],
+              jobs: Sequence[ExpectedJob]) -> List[Tuple[int, int]]:
+    """The entries and the steps of each job of a run. ProtocolError where the lines of its reply
+    aren't those of these jobs, or where their steps don't add up to what was spent."""
     if len(lines) != len(jobs):
         raise_fault('run', '%d lines, one for each job' % len(jobs), ['%d lines' % len(lines)])
     found: List[Tuple[int, int]] = []
@@ -100,26 +119,31 @@ def check_run(words: Sequence[str], lines: Sequence[str], jobs: Sequence[Expecte
         start = [job.name, *map(str, job.shape)]
         if len(said) != 5 or said[:3] != start:
             raise_fault('run', '`%s ENTRIES STEPS`' % ' '.join(start), said)
-        found.append((check_number('ENTRIES', said[3], (0, job.entries), 'run', said), check_number('STEPS', said[4], (0, job.steps), 'run', said)))
+        found.append((check_number('ENTRIES', said[3], (0, job.entries), 'run', said),
+                      check_number('STEPS', said[4], (0, job.steps), 'run', said)))
     if sum(steps for _, steps in found) != int(words[-1]):
-        raise_fault('run', 'STEPS of %d, the sum of its lines' % sum(steps for _, steps in found), ['ok', *words])
+        raise_fault('run', 'STEPS of %d, the sum of its lines' % sum(steps for _, steps in found),
+                    ['ok', *words])
     return found
 
 
 def sizes_of_text(text: bytes) -> Mapping[str, Limits]:
-    """What the reply to `matrix` can say of a Matrix Market text that the server takes: its size line, and up to twice as many entries
-    where it is symmetric. Nothing of a text without a size line."""
+    """What the reply to `matrix` can say of a Matrix Market text that the server takes: its size
+    line, and up to twice as many entries where it is symmetric. Nothing of a text without a size
+    line."""
     first = at = text.find(b'\n') + 1
     while 0 < at < len(text):
         end = text.find(b'\n', at)
         end = len(text) if end < 0 else end
         line = text[at:end].strip()
         if line and not line.startswith(b'%'):
-            sizes = [int(word) for word in line.split() if word.isdigit() and len(word) < LONGEST_NUMBER]
+            sizes = [int(word) for word in line.split() if word.isdigit()
+                     and len(word) < LONGEST_NUMBER]
             if len(sizes) != 3:
                 return NOTHING
             most = 2 * sizes[2] if b'symmetric' in text[:first].lower() else sizes[2]
-            return {'ROWS': (sizes[0], sizes[0]), 'COLUMNS': (sizes[1], sizes[1]), 'ENTRIES': (sizes[2], most)}
+            return {'ROWS': (sizes[0], sizes[0]), 'COLUMNS': (sizes[1], sizes[1]),
+                    'ENTRIES': (sizes[2], most)}
         at = end + 1
     return NOTHING
 
@@ -130,31 +154,41 @@ def longest_text(entries: int) -> int:
 
 
 def check_text(command: str, text: bytes, shape: Tuple[int, int], entries: Optional[int]) -> None:
-    """ProtocolError where a text isn't that of a matrix of this shape: its head, its number of lines, and its characters are looked at.
-    `entries` is how many it has, where that is known."""
+    """ProtocolError where a text isn't that of a matrix of this shape: its head, its number of
+    lines, and its characters are looked at. `entries` is how many it has, where that is known."""
     head = re.compile(rb'%s(\d{1,8}) (\d{1,8}) (\d{1,8})\n' % re.escape(BANNER)).match(text)
     if head is None:
-        raise_fault(command, 'a text that begins with `%s` and three sizes' % BANNER.decode().strip(), [text[:100].decode('ascii', 'replace')])
+        raise_fault(command,
+                    'a text that begins with `%s` and three sizes' % BANNER.decode().strip(),
+                    [text[:100].decode('ascii', 'replace')])
     rows, columns, count = map(int, head.groups())
     if (rows, columns) != shape or (entries is not None and count != entries):
-        raise_fault(command, 'a text of %d rows and %d columns%s' % (*shape, '' if entries is None else ' with %d entries' % entries),
+        raise_fault(command,
+                    'a text of %d rows and %d columns%s'
+                    % (*shape, '' if entries is None else ' with %d entries' % entries),
                     ['%d %d %d' % (rows, columns, count)])
-    if text.count(b'\n') != count + 2 or not text.endswith(b'\n') or text.translate(None, b'0123456789- \n') != BANNER_LETTERS:
-        raise_fault(command, 'a text with %d lines of three numbers' % count, ['%d lines' % (text.count(b'\n') - 2)])
+    if text.count(b'\n') != count + 2 or not text.endswith(b'\n') or text.translate(
+        None, b'0123456789- \n') != BANNER_LETTERS:
+        raise_fault(command, 'a text with %d lines of three numbers' % count,
+                    ['%d lines' % (text.count(b'\n') - 2)])
     if len(text) <= LOOKED_AT_WHOLE:
         _check_entries(command, text[head.end():], shape)
 
 
 def _check_entries(command: str, lines: bytes, shape: Tuple[int, int]) -> None:
-    """ProtocolError where an entry lies outside of a shape, doesn't follow the one before, or has a value beyond 64 bits."""
+    """ProtocolError where an entry lies outside of a shape, doesn't follow the one before, or has a
+    value beyond 64 bits."""
     if _ALL_ENTRIES.fullmatch(lines) is not None and _are_ascending(lines, shape):
         return
     before = (0, 0)
     for line in lines.splitlines():
         found = _ENTRY.fullmatch(line)
         row, column, value = map(int, found.groups()) if found is not None else (0, 0, 0)
-        if found is None or not (1 <= row <= shape[0] and 1 <= column <= shape[1] and before < (row, column) and -1 << 63 <= value < 1 << 63):
-            raise_fault(command, 'the entries of %d rows and %d columns, in order, with values of 64 bits' % shape, [line.decode('ascii', 'replace')])
+        if found is None or not (1 <= row <= shape[0] and 1 <= column <= shape[1]
+                                 and before < (row, column) and -1 << 63 <= value < 1 << 63):
+            raise_fault(command,
+                        'the entries of %d rows and %d columns, in order, with values of 64 bits'
+                        % shape, [line.decode('ascii', 'replace')])
         before = row, column
 
 
@@ -163,11 +197,13 @@ def _are_ascending(lines: bytes, shape: Tuple[int, int]) -> bool:
     rows, columns = parse_integers.fields(lines, (0, 1))
     if not len(rows):
         return True
-    inside = rows[0] >= 1 and rows[-1] <= shape[0] and columns.min() >= 1 and columns.max() <= shape[1]
+    inside = (rows[0] >= 1 and rows[-1] <= shape[0] and columns.min() >= 1
+              and columns.max() <= shape[1])
     places = rows * (shape[1] + 1) + columns
     return bool(inside and (places[1:] > places[:-1]).all())
 
 
 def raise_fault(command: str, expected: str, words: Sequence[str]) -> NoReturn:
     """Raises ProtocolError of a reply that doesn't answer a command."""
-    raise ProtocolError('the reply does not answer the command `%.80s`: expected %s, got `%.200s`' % (command, expected, ' '.join(words)))
+    raise ProtocolError('the reply does not answer the command `%.80s`: expected %s, got `%.200s`'
+                        % (command, expected, ' '.join(words)))

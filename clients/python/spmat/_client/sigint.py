@@ -1,8 +1,10 @@
-"""Ctrl-C amid a command: held back while something would be lost by it, and let through while a reply is awaited.
+"""Ctrl-C amid a command: held back while something would be lost by it, and let through while a
+reply is awaited.
 
-A session stays in step as long as each command is sent whole and each reply read whole. So what Python does on SIGINT, which is to raise
-KeyboardInterrupt wherever it is, is put off until the command stands and nothing of its reply is in hands. A second Ctrl-C is not put
-off. Only the main thread gets signals, so only there anything is done.
+A session stays in step as long as each command is sent whole and each reply read whole. So what
+Python does on SIGINT, which is to raise KeyboardInterrupt wherever it is, is put off until the
+command stands and nothing of its reply is in hands. A second Ctrl-C is not put off. Only the main
+thread gets signals, so only there anything is done.
 """
 from __future__ import annotations
 
@@ -11,7 +13,8 @@ import threading
 from signal import SIGINT
 from typing import Any, Callable, Iterator, Optional
 
-try:                                               # the same without enums, which would take a third of what a job costs here
+try:
+    # the same without enums, which would take a third of what a job costs here
     import _signal as signal  # type: ignore[import]
 except ImportError:
     import signal
@@ -20,7 +23,8 @@ Handler = Callable[[int, Any], Any]
 
 
 class Guard:
-    """Puts Ctrl-C off within a `with`; within `waiting()` it comes at once. One that was put off is raised at the end of the `with`."""
+    """Puts Ctrl-C off within a `with`; within `waiting()` it comes at once. One that was put off is
+    raised at the end of the `with`."""
 
     def __init__(self) -> None:
         self._depth = 0

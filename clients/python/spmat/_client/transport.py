@@ -20,9 +20,11 @@ if TYPE_CHECKING:
     import ssl
 
 SECONDS_TO_QUIT = 5.0
-TIMED_OUT = 'timed out: the command and its whole reply took longer than timeout= (or run_timeout=) says'
+TIMED_OUT = (
+    'timed out: the command and its whole reply took longer than timeout= (or run_timeout=) says')
 GATEWAY_PORT = 7173
-# Waits until its input ends, which is when nobody holds the other end any more, and then ends a process.
+# Waits until its input ends, which is when nobody holds the other end any more, and then ends a
+# process.
 WATCHER = 'read -r _; kill -9 "$0"'
 
 
@@ -34,7 +36,8 @@ def _readable(file: int, seconds: Optional[float] = None) -> bool:
 
 
 class Timeouts(NamedTuple):
-    """How many seconds a command and its whole reply may take, and one that runs jobs; None without end."""
+    """How many seconds a command and its whole reply may take, and one that runs jobs; None without
+    end."""
     command: Optional[float] = None
     run: Optional[float] = None
 
@@ -47,7 +50,8 @@ class Deadline:
         self._until: Optional[float] = None        # by the monotonic clock
 
     def begin(self, runs: bool) -> None:
-        """A command begins, or its reply is awaited; `runs` where the server may take as long as its jobs do."""
+        """A command begins, or its reply is awaited; `runs` where the server may take as long as
+        its jobs do."""
         seconds = self._timeouts.run if runs else self._timeouts.command
         self._until = None if seconds is None else time.monotonic() + seconds
 
@@ -62,23 +66,26 @@ class Deadline:
 
 
 class Watcher:
-    """Ends a process when this one ends, however it does: where it is killed amid a batch, nothing else would end the other before the
-    batch does. A shell waits for the end of a pipe that this process holds. (A signal upon the parent's death, Linux' PR_SET_PDEATHSIG,
-    comes when the thread ends that started the child.) Where there is no shell nobody watches."""
+    """Ends a process when this one ends, however it does: where it is killed amid a batch, nothing
+    else would end the other before the batch does. A shell waits for the end of a pipe that this
+    process holds. (A signal upon the parent's death, Linux' PR_SET_PDEATHSIG, comes when the thread
+    ends that started the child.) Where there is no shell nobody watches."""
 
     def __init__(self, process: int) -> None:
         self._shell: Optional['subprocess.Popen[bytes]'] = None
         reading, self._held = os.pipe()
         try:
-            self._shell = subprocess.Popen(['/bin/sh', '-c', WATCHER, str(process)], stdin=reading, stdout=subprocess.DEVNULL,
-                                           stderr=subprocess.DEVNULL, start_new_session=True)
+            self._shell = subprocess.Popen(['/bin/sh', '-c', WATCHER, str(process)], stdin=reading,
+                                           stdout=subprocess.DEVNULL, stderr=subprocess.DEVNULL,
+                                           start_new_session=True)
         except OSError:
             pass
         finally:
             os.close(reading)
 
     def stop(self) -> None:
-        """Watches no more. Before the process that is watched has been waited for, as its number may be another's then."""
+        """Watches no more. Before the process that is watched has been waited for, as its number
+        may be another's then."""
         if self._shell is not None:
             self._shell.kill()
             self._shell.wait()
@@ -87,14 +94,16 @@ class Watcher:
 
 
 class Child:
-    """The bytes of a process `spmat run`. It has a process group of its own, so a Ctrl-C at a terminal doesn't reach it."""
+    """The bytes of a process `spmat run`. It has a process group of its own, so a Ctrl-C at a
+    terminal doesn't reach it."""
 
     def __init__(self, words: Sequence[str]) -> None:
         self.deadline = Deadline(Timeouts())
         self._owner = os.getpid()
         self._said = tempfile.TemporaryFile()
         try:
-            self.process = subprocess.Popen(list(words), stdin=subprocess.PIPE, stdout=subprocess.PIPE, stderr=self._said,
+            self.process = subprocess.Popen(list(words), stdin=subprocess.PIPE,
+                                            stdout=subprocess.PIPE, stderr=self._said,
                                             bufsize=PIECE, start_new_session=True)
         except BaseException:
             self._said.close()
@@ -104,7 +113,8 @@ class Child:
         self._watcher = Watcher(self.process.pid)
 
     def wait(self) -> None:
-        """Waits until `receive` has something. socket.timeout where that takes longer than the deadline says."""
+        """Waits until `receive` has something. socket.timeout where that takes longer than the
+        deadline says."""
         if not _readable(self._output, self.deadline.left()):
             raise socket.timeout(TIMED_OUT)
 
@@ -150,8 +160,8 @@ class Child:
 
 
 class Address(NamedTuple):
-    """Where a server listens: a host and a port, with what speaks TLS where something in front of the server does; or a socket
-    file, where the host has a slash, which has neither."""
+    """Where a server listens: a host and a port, with what speaks TLS where something in front of
+    the server does; or a socket file, where the host has a slash, which has neither."""
     host: str
     port: int
     tls: Optional[ssl.SSLContext] = None
@@ -160,12 +170,14 @@ class Address(NamedTuple):
     @classmethod
     def of_gateway(cls, url: str, token: Optional[str] = None, ca: Optional[str] = None,
                    tls: Optional[ssl.SSLContext] = None) -> Address:
-        """The address `spmat://USER@HOST:PORT` of a gateway, which speaks TLS, with the line that logs in there.
+        """The address `spmat://USER@HOST:PORT` of a gateway, which speaks TLS, with the line that
+        logs in there.
 
         Parameters
         ----------
         token
-            The user's token (default: the variable SPMAT_TOKEN). An address without a user wants none: `tls` has a certificate.
+            The user's token (default: the variable SPMAT_TOKEN). An address without a user wants
+            none: `tls` has a certificate.
         ca
             A file with who signs the gateway's certificate (default: those whom the system trusts).
 
@@ -176,14 +188,18 @@ class Address(NamedTuple):
         """
         import ssl as speaker
         parts = urllib.parse.urlsplit(url)
-        if parts.scheme != 'spmat' or not parts.hostname or parts.path not in ('', '/') or parts.password:
-            raise ValueError('a gateway is spmat://USER@HOST:PORT, such as spmat://anna@localhost:7173, with the token in token= '
-                             'or in the variable SPMAT_TOKEN; not %r' % url)
+        if parts.scheme != 'spmat' or not parts.hostname or parts.path not in (
+            '', '/') or parts.password:
+            raise ValueError(
+                'a gateway is spmat://USER@HOST:PORT, such as spmat://anna@localhost:7173, with '
+                'the token in token= or in the variable SPMAT_TOKEN; not %r' % url)
         login = 'login %s %s\n' % (parts.username, token or os.environ.get('SPMAT_TOKEN', ''))
         if len(login.split()) != 3 if parts.username else not tls:
-            raise ValueError('a gateway wants a token of the user (token=, or the variable SPMAT_TOKEN), without blanks; or no user, and '
-                             'a certificate in tls=')
-        return cls(parts.hostname, parts.port or GATEWAY_PORT, tls or speaker.create_default_context(cafile=ca),
+            raise ValueError(
+                'a gateway wants a token of the user (token=, or the variable SPMAT_TOKEN), '
+                'without blanks; or no user, and a certificate in tls=')
+        return cls(parts.hostname, parts.port or GATEWAY_PORT,
+                   tls or speaker.create_default_context(cafile=ca),
                    login.encode() if parts.username else b'')
 
     def __str__(self) -> str:
@@ -193,10 +209,12 @@ class Address(NamedTuple):
         return '/' in self.host and '://' not in self.host
 
     def connected(self, timeout: Optional[float]) -> socket.socket:
-        """A connection. ValueError where this is no address, OSError where nobody listens there, or lets nobody in."""
+        """A connection. ValueError where this is no address, OSError where nobody listens there, or
+        lets nobody in."""
         if self.is_file():
             if self.tls is not None:
-                raise ValueError('tls= is for a host and a port, and %s is a socket file' % self.host)
+                raise ValueError('tls= is for a host and a port, and %s is a socket file'
+                                 % self.host)
             return self._to_file(timeout)
         if not 1 <= self.port <= 65535:
             raise ValueError('a port is 1 to 65535, not %d' % self.port)
@@ -241,14 +259,16 @@ class Socket:
             self._socket.sendall(address.login)
 
     def wait(self) -> None:
-        """Waits until `receive` has something. socket.timeout where that takes longer than the deadline says."""
+        """Waits until `receive` has something. socket.timeout where that takes longer than the
+        deadline says."""
         if getattr(self._socket, 'pending', int)():
             return                                 # TLS has taken it in already
         if not _readable(self._socket.fileno(), self.deadline.left()):
             raise socket.timeout(TIMED_OUT)
 
     def receive(self) -> bytes:
-        """What came; nothing at the end. socket.timeout where a piece of TLS doesn't come whole in time."""
+        """What came; nothing at the end. socket.timeout where a piece of TLS doesn't come whole in
+        time."""
         self._socket.settimeout(self.deadline.left())
         return self._socket.recv(PIECE)
 
@@ -260,16 +280,19 @@ class Socket:
     def fault(self, answered: bool) -> str:
         """Why there is no reply, as far as a client can know."""
         if answered:
-            return ('the server closed the connection: it has ended, or it ended this session (--idle, or a limit of what stands in '
-                    'front)')
+            return ('the server closed the connection: it has ended, or it ended this session '
+                    '(--idle, or a limit of what stands in front)')
         if self._has_tls:
-            return ('TLS was refused: the other side closed the connection before a first answer. It wants a certificate that it '
-                    'knows (tls= with load_cert_chain), or has no place left')
-        return ('the server closed the connection before a first answer: it has no place left, ended at its start, or what stands '
-                'in front refused this client (where it speaks TLS, give tls=)')
+            return ('TLS was refused: the other side closed the connection before a first answer. '
+                    'It wants a certificate that it knows (tls= with load_cert_chain), or has no '
+                    'place left')
+        return ('the server closed the connection before a first answer: it has no place left, '
+                'ended at its start, or what stands in front refused this client (where it speaks '
+                'TLS, give tls=)')
 
     def close(self, kill: bool = False) -> None:
-        """Closes the connection; unless `kill`, once the server has: it gives the session's seat to others before."""
+        """Closes the connection; unless `kill`, once the server has: it gives the session's seat to
+        others before."""
         if not kill:
             try:
                 self._socket.settimeout(SECONDS_TO_QUIT)

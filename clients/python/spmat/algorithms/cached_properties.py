@@ -108,7 +108,8 @@ def is_transpose(graph: Matrix, other: Matrix, values: bool = False) -> bool:
     return bool(own.reduce_scalar('plus') == theirs.reduce_scalar('plus'))
 
 
-def transpose_of(graph: Matrix, given: Optional[Matrix], check: bool, values: bool = False) -> Matrix:
+def transpose_of(graph: Matrix, given: Optional[Matrix], check: bool,
+                 values: bool = False) -> Matrix:
     """The transpose: the one that is given (a ValueError where it isn't), the graph itself where
     each edge leads both ways, else one that is made, and kept while the graph is held."""
     if given is not None:

@@ -46,7 +46,8 @@ mov64 r0, r1
 exit
 '''))
 # whether x is less than the thunk, and not the least number
-NEARER = asm('index', 'sub64 r1, 1\nsub64 r4, 1\nmov64 r0, 1\njslt64 r1, r4, 1\nmov64 r0, 0\nexit\n')
+NEARER = asm('index',
+             'sub64 r1, 1\nsub64 r4, 1\nmov64 r0, 1\njslt64 r1, r4, 1\nmov64 r0, 0\nexit\n')
 BY_JOBS = 8                    # a front is large where its edges are an eighth of the vertices
 # a band is as wide as so many edges of the greatest length, by degree
 WIDE = 8

@@ -117,7 +117,8 @@ def mark_rows(like: Matrix, at: List[Place], value: int) -> Matrix:
 
 def column(like: Matrix, value: int) -> Matrix:
     """A column of one value, with a row for each vertex of a graph. It is kept with the graph."""
-    made: Matrix = found(like, 'column of %d' % value, lambda: like.session.full(like.nrows, 1, value))
+    made: Matrix = found(like, 'column of %d' % value,
+                         lambda: like.session.full(like.nrows, 1, value))
     return made
 
 
@@ -129,7 +130,8 @@ def nothing(like: Matrix) -> Matrix:
 
 def loops(like: Matrix, value: int) -> Matrix:
     """A loop of one value at each vertex: a diagonal matrix. It is kept with the graph."""
-    made: Matrix = found(like, 'loops of %d' % value, lambda: like.session.identity(like.nrows, value))
+    made: Matrix = found(like, 'loops of %d' % value,
+                         lambda: like.session.identity(like.nrows, value))
     return made
 
 

@@ -1,8 +1,10 @@
-"""Jobs that are only foreseen: what each comes to at the least and at the most. Nothing is queued, and nothing is spent.
+"""Jobs that are only foreseen: what each comes to at the least and at the most. Nothing is queued,
+and nothing is spent.
 
-While a call is priced, the sessions of its thread hand their jobs to an `EstimateBackend` in place of their own, so that nobody else
-has to know. It gives handles that stand for results. What a result would tell is `Unread`: it may be handed on, but whoever decides
-something by it ends what can be foreseen (`Unforeseen`).
+While a call is priced, the sessions of its thread hand their jobs to an `EstimateBackend` in place
+of their own, so that nobody else has to know. It gives handles that stand for results. What a
+result would tell is `Unread`: it may be handed on, but whoever decides something by it ends what
+can be foreseen (`Unforeseen`).
 """
 from __future__ import annotations
 
@@ -24,13 +26,15 @@ from .unread import Unforeseen, Unread, reading
 if TYPE_CHECKING:
     from ..pricing.call_price import Price
 
-_READS = ('by_node get isclose isequal mmwrite reduce_scalar sets to_coo to_csc to_csr to_csv to_dense to_dict to_dicts to_edgelist to_list '
-          'to_networkx to_pandas to_pandas_edgelist to_parquet to_scipy_sparse to_text to_triples top write_edgelist __getitem__')
+_READS = ('by_node get isclose isequal mmwrite reduce_scalar sets to_coo to_csc to_csr to_csv '
+          'to_dense to_dict to_dicts to_edgelist to_list to_networkx to_pandas to_pandas_edgelist '
+          'to_parquet to_scipy_sparse to_text to_triples top write_edgelist __getitem__')
 
 
 class EstimateHandle(Handle):
-    """What stands for the result of a job that is only foreseen. Its entries stand where `within` has some, if that is known, and at
-    all of these places where `whole` is set; there are `least` at the least."""
+    """What stands for the result of a job that is only foreseen. Its entries stand where `within`
+    has some, if that is known, and at all of these places where `whole` is set; there are `least`
+    at the least."""
 
     key = 'foreseen'
 
@@ -39,7 +43,8 @@ class EstimateHandle(Handle):
         self.least = least
         self.within: Optional[Handle] = None
         self.whole = False
-        self.turned: Optional[Handle] = None       # the matrix whose transpose it is, if one is known
+        # the matrix whose transpose it is, if one is known
+        self.turned: Optional[Handle] = None
 
     @property
     def waits(self) -> bool:
@@ -48,7 +53,8 @@ class EstimateHandle(Handle):
 
 
 class EstimateMatrix(Matrix):
-    """The result of a job that is only foreseen. A method that reads it gives what is `Unread`, which may be the last that is wanted."""
+    """The result of a job that is only foreseen. A method that reads it gives what is `Unread`,
+    which may be the last that is wanted."""
 
 
 for _name in _READS.split():
@@ -56,7 +62,8 @@ for _name in _READS.split():
 
 
 class EstimateBackend(Backend):
-    """What takes the jobs of a session while a call is priced. What the price doesn't change, such as operators, is the session's own."""
+    """What takes the jobs of a session while a call is priced. What the price doesn't change, such
+    as operators, is the session's own."""
 
     is_estimate = True
     matrix_type = EstimateMatrix
@@ -80,7 +87,8 @@ class EstimateBackend(Backend):
     def put(self, entries: Triples) -> Handle:
         if self.in_one_place:
             return self.own.put(entries)
-        return EstimateHandle(self, (entries.nrows, entries.ncols), len(entries.rows), len(entries.rows))
+        return EstimateHandle(self, (entries.nrows, entries.ncols), len(entries.rows),
+                              len(entries.rows))
 
     def put_text(self, text: bytes, name: Optional[str] = None) -> Handle:
         if self.price.sends:
@@ -89,7 +97,8 @@ class EstimateBackend(Backend):
             nrows, ncols, nvals, _ = matrix_text.head_of(text)
         except ValueError:
             raise Unforeseen() from None
-        return EstimateHandle(self, (nrows, ncols), nvals, 2 * nvals if b'symmetric' in text[:100] else nvals)
+        return EstimateHandle(self, (nrows, ncols), nvals, 2 * nvals if b'symmetric' in text[:100]
+                              else nvals)
 
     def read_text(self, handle: Handle) -> bytes:
         return self._readable(handle).read_text(handle)
@@ -98,10 +107,13 @@ class EstimateBackend(Backend):
         return self._readable(handle).read(handle)
 
     def _readable(self, handle: Handle) -> Backend:
-        """What has the entries of a matrix. Unforeseen where it is a result that isn't made, as a price makes no job run, and where the
-        entries would have to come from the server and may not."""
+        """What has the entries of a matrix. Unforeseen where it is a result that isn't made, as a
+        price makes no job run, and where the entries would have to come from the server and may
+        not."""
         handle.check_made()
-        if isinstance(handle, EstimateHandle) or handle.waits or not (self.price.sends or handle.is_deferred):
+        if isinstance(handle,
+                      EstimateHandle) or handle.waits or not (self.price.sends
+                                                              or handle.is_deferred):
             raise Unforeseen()
         return self.own
 
@@ -136,7 +148,8 @@ class EstimateBackend(Backend):
         return Run()
 
     def find_fact(self, matrix: Any, name: str, find: Callable[[], Any]) -> Any:
-        return matrix.kept[name] if name in matrix.kept else self.price.find_fact(matrix, name, find)
+        return (matrix.kept[name] if name in matrix.kept
+                else self.price.find_fact(matrix, name, find))
 
     def granting(self, facts: Dict[str, Any]) -> Any:
         return self.price.granting(facts)
@@ -145,7 +158,8 @@ class EstimateBackend(Backend):
 # -- what a job comes to
 
 class Size(NamedTuple):
-    """An operator's instructions: of all, by which a price is reckoned, and of its shortest way, which each call takes at the least."""
+    """An operator's instructions: of all, by which a price is reckoned, and of its shortest way,
+    which each call takes at the least."""
     length: int
     shortest: int
 
@@ -159,9 +173,11 @@ class Least(NamedTuple):
 
 @functools.lru_cache(4096)
 def size_of(op: Operator) -> Size:
-    """An operator's size, by the client. Unforeseen where it is none: who uses it hears why from the server."""
+    """An operator's size, by the client. Unforeseen where it is none: who uses it hears why from
+    the server."""
     try:
-        steps = dataflow.steps_of_text(op.text) if op.text is not None else dataflow.steps_of_code(op.code or b'')
+        steps = (dataflow.steps_of_text(op.text) if op.text is not None
+                 else dataflow.steps_of_code(op.code or b''))
         least: Dict[int, int] = {}
         for step in reversed(steps):
             least[step.slot] = 1 + min((least[slot] for slot in step.next), default=0)
@@ -185,7 +201,8 @@ def root(handle: Handle) -> Handle:
 def stand_for_result(backend: EstimateBackend, job: Job, least: Least, most: int) -> EstimateHandle:
     """What stands for a job's result."""
     made, places = EstimateHandle(backend, job.shape, least.entries, most), FORMS[job.form].places
-    if places in (Places.ALL, Places.ANY) and len({id(root(handle).facts) for handle in _matrices(job)}) == 1:
+    if places in (Places.ALL,
+                  Places.ANY) and len({id(root(handle).facts) for handle in _matrices(job)}) == 1:
         made.within, made.whole = job.operands[0], True
     elif job.mask is not None or places in (Places.ALL, Places.CHOSEN):
         made.within = job.mask if job.mask is not None else job.operands[0]
@@ -197,8 +214,8 @@ def _matrices(job: Job) -> Sequence[Handle]:
 
 
 def most_taken(job: Job, sizes: Sequence[Size], reads: bool) -> Most:
-    """The most that a job takes. A product that is too large for one job is taken to be made by halves of the rows, their halves, and so
-    on: each time all entries are selected twice."""
+    """The most that a job takes. A product that is too large for one job is taken to be made by
+    halves of the rows, their halves, and so on: each time all entries are selected twice."""
     length = sum(size.length for size in sizes)
     most = most_of(job, length)
     if job.form != 'product':
@@ -216,7 +233,8 @@ def most_halvings(terms: int, length: int, rows: int) -> int:
 
 
 def most_terms(first: Handle, second: Handle) -> int:
-    """The most terms of a product: of matrices that are there their number, of others the most that what they stand within has."""
+    """The most terms of a product: of matrices that are there their number, of others the most that
+    what they stand within has."""
     a, b = _countable(first), _countable(second)
     if a is None or b is None:
         return min(first.most * second.shape[1], first.shape[0] * second.most)
@@ -224,7 +242,8 @@ def most_terms(first: Handle, second: Handle) -> int:
 
 
 def _countable(handle: Optional[Handle]) -> Optional[Handle]:
-    """The matrix that is there, or the transpose of one, in which another has its entries; of blocks none is counted."""
+    """The matrix that is there, or the transpose of one, in which another has its entries; of
+    blocks none is counted."""
     while isinstance(handle, EstimateHandle) and handle.turned is None:
         handle = handle.within
     if isinstance(handle, EstimateHandle):
@@ -233,7 +252,8 @@ def _countable(handle: Optional[Handle]) -> Optional[Handle]:
 
 
 def counted(handle: Handle) -> Tuple[Any, Any]:
-    """The entries of each row and column of a matrix that is there, or of the transpose of one; kept with it."""
+    """The entries of each row and column of a matrix that is there, or of the transpose of one;
+    kept with it."""
     if isinstance(handle, EstimateHandle):
         inner = _countable(handle.turned)
         assert inner is not None
@@ -250,24 +270,28 @@ def counted(handle: Handle) -> Tuple[Any, Any]:
 
 
 def least_taken(job: Job, sizes: Sequence[Size], price: 'Price') -> Least:
-    """The least that a job takes. Its price has to be left, and of the jobs before it what they take."""
+    """The least that a job takes. Its price has to be left, and of the jobs before it what they
+    take."""
     places = FORMS[job.form].places
     if places is Places.TERMS:
         return _least_product(job, sizes, price)
     size, first, mask = sizes[0], job.operands[0], job.mask
     if places is Places.ROWS:
         rows = -(-least_entries(first) // max(1, first.shape[1]))
-        calls = 0 if mask is not None else max(0, least_entries(first) - min(first.shape[0], first.most))
+        calls = (0 if mask is not None
+                 else max(0, least_entries(first) - min(first.shape[0], first.most)))
         return Least(calls * size.length, calls * size.shortest, rows if mask is None else 0)
     calls = _least_overlap(_matrices(job))
-    entries = calls if places is not Places.CHOSEN else 0 if mask is not None else _least_chosen(job.operators[0], first)
+    entries = (calls if places is not Places.CHOSEN else 0 if mask is not None
+               else _least_chosen(job.operators[0], first))
     if places is Places.ANY and mask is None:
         entries = max(calls, *map(least_entries, job.operands))
     return Least(calls * size.length, calls * size.shortest, entries)
 
 
 def _least_product(job: Job, sizes: Sequence[Size], price: 'Price') -> Least:
-    """Of a product under a mask the rows count in which the mask stores something, and steps are those of the terms that it lets pass."""
+    """Of a product under a mask the rows count in which the mask stores something, and steps are
+    those of the terms that it lets pass."""
     (add, mul), (a, b), mask = sizes, job.operands, job.mask
     terms, cells = _least_terms(a, b, price), job.shape[0] * job.shape[1]
     is_open = mask is None or least_entries(mask) == cells
@@ -279,16 +303,20 @@ def _least_product(job: Job, sizes: Sequence[Size], price: 'Price') -> Least:
     if not is_open:
         return Least(least_price, 0, 0)
     entries = most_of(job._replace(mask=None), 1).entries
-    return Least(least_price, terms * mul.shortest + max(0, terms - entries) * add.shortest, -(-terms // max(1, a.shape[1])))
+    return Least(least_price, terms * mul.shortest + max(0, terms - entries) * add.shortest,
+                 -(-terms // max(1, a.shape[1])))
 
 
 def _least_terms(a: Handle, b: Handle, price: 'Price') -> int:
-    """The terms of a product at the least. Of columns of `a` with x entries, and rows of `b` with y, the sum of x y is known for counted
-    matrices. Else (rows - x)(columns - y) is no less than 0; and the sum of x x is least where all are alike."""
+    """The terms of a product at the least. Of columns of `a` with x entries, and rows of `b` with
+    y, the sum of x y is known for counted matrices. Else (rows - x)(columns - y) is no less than 0;
+    and the sum of x x is least where all are alike."""
     first, second = root(a), root(b)
-    if all(not isinstance(one, EstimateHandle) and 'entries by row and column' in one.facts for one in (first, second)):
+    if all(not isinstance(one, EstimateHandle) and 'entries by row and column' in one.facts
+           for one in (first, second)):
         return int(counted(first)[1] @ counted(second)[0])
-    found = b.shape[1] * least_entries(a) + a.shape[0] * least_entries(b) - a.shape[0] * a.shape[1] * b.shape[1]
+    found = b.shape[1] * least_entries(a) + a.shape[0] * least_entries(
+        b) - a.shape[0] * a.shape[1] * b.shape[1]
     if _mirrors(first, second, price) and a.shape[1]:
         found = max(found, -(-least_entries(a) ** 2 // a.shape[1]))
     return max(0, found)
@@ -297,13 +325,16 @@ def _least_terms(a: Handle, b: Handle, price: 'Price') -> int:
 def _mirrors(a: Handle, b: Handle, price: 'Price') -> bool:
     """Whether one is known to be the transpose of the other, but for values."""
     if a.facts is b.facts:
-        known = a.facts.get('both ways') or price.found.get((id(a.facts), 'both ways'), (None, False))[1]
+        known = (a.facts.get('both ways') or price.found.get((id(a.facts), 'both ways'),
+                                                             (None, False))[1])
         return bool(known) or any(matrix.directed is False for matrix in a.matrices())
     held = a.transposed() if a.transposed is not None else None
-    others: List[Tuple[Any, Handle]] = [(a.facts.get('transpose'), b), (b.facts.get('transpose'), a)]
+    others: List[Tuple[Any, Handle]] = [(a.facts.get('transpose'), b),
+                                        (b.facts.get('transpose'), a)]
     turned = b.turned if isinstance(b, EstimateHandle) else None
-    return held is b or any(one is not None and one.kept is other.facts for one, other in others) or \
-        (turned is not None and turned.facts is a.facts)
+    return (held is b or any(one is not None and one.kept is other.facts for one, other in others)
+            or
+            (turned is not None and turned.facts is a.facts))
 
 
 def _least_overlap(handles: Sequence[Handle]) -> int:
@@ -314,5 +345,6 @@ def _least_overlap(handles: Sequence[Handle]) -> int:
 
 
 def _least_chosen(op: Operator, handle: Handle) -> int:
-    """The entries that a selection leaves, at the least: a diagonal has no more places than rows."""
+    """The entries that a selection leaves, at the least: a diagonal has no more places than
+    rows."""
     return max(0, least_entries(handle) - min(handle.shape)) if op == indexunary.offdiag else 0

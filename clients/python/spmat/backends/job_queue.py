@@ -1,4 +1,5 @@
-"""The queue of a session: jobs that wait, how many steps and entries they can have, and what runs settle."""
+"""The queue of a session: jobs that wait, how many steps and entries they can have, and what runs
+settle."""
 from __future__ import annotations
 
 import collections
@@ -15,9 +16,10 @@ from .protocol import AMPLE, Handle, JobResult, Most, Run
 
 
 class PendingJob:
-    """A job that was handed in: the result's handle, with the name that it will have, and its price once the server answered. So the
-    name is taken until the job ran, whoever holds the result. Where the job is refused, or lost, `cause` says why. `is_wanted` until
-    whoever asked for it was interrupted: its result is nobody's then."""
+    """A job that was handed in: the result's handle, with the name that it will have, and its price
+    once the server answered. So the name is taken until the job ran, whoever holds the result.
+    Where the job is refused, or lost, `cause` says why. `is_wanted` until whoever asked for it was
+    interrupted: its result is nobody's then."""
 
     __slots__ = ('handle', 'name', 'form', 'most', 'refused', 'is_wanted', 'cause')
 
@@ -36,17 +38,22 @@ class PendingJob:
 
 
 class Queue:
-    """Jobs that wait to be run, sent or not, and runs that wait to be sent. `left` is what the budget has for sure: all of it where
-    nobody shares it. `ceiling` is what it can have at most, were all prices settled with nothing."""
+    """Jobs that wait to be run, sent or not, and runs that wait to be sent. `left` is what the
+    budget has for sure: all of it where nobody shares it. `ceiling` is what it can have at most,
+    were all prices settled with nothing."""
 
     def __init__(self, connection: Connection, shared: bool) -> None:
         self._connection, self.shared = connection, shared
         self._waiting: Dict[str, PendingJob] = {}
-        self._running: Deque[List[PendingJob]] = collections.deque()      # in the order in which they will be answered
+        # in the order in which they will be answered
+        self._running: Deque[List[PendingJob]] = collections.deque()
         self._results = Run()
-        self._unknown = 0                          # entries, at most, of results that aren't known yet
-        self._queued_there = 0                     # jobs that the server has queued since its last run, as its replies say
-        self._run_lines: List[Tuple[int, int]] = []        # the entries and steps of each job of the run that is answered
+        # entries, at most, of results that aren't known yet
+        self._unknown = 0
+        # jobs that the server has queued since its last run, as its replies say
+        self._queued_there = 0
+        # the entries and steps of each job of the run that is answered
+        self._run_lines: List[Tuple[int, int]] = []
         self.left = self.ceiling = 0
         self.runs = 0
 
@@ -54,7 +61,8 @@ class Queue:
         return len(self._waiting)
 
     def note_budget(self, left: int, reserved: int) -> None:
-        """What the server says of the budget, whoever reserved it. What is spent doesn't come back."""
+        """What the server says of the budget, whoever reserved it. What is spent doesn't come
+        back."""
         self.left, self.ceiling = left, left + reserved
 
     @property
@@ -79,21 +87,25 @@ class Queue:
     # -- handing in
 
     def is_sure(self, most: Most) -> bool:
-        """Whether a job can be refused by nothing but want of memory, so that it needn't be sent at once."""
+        """Whether a job can be refused by nothing but want of memory, so that it needn't be sent at
+        once."""
         terms, steps, _ = most
-        return self.left - steps >= (AMPLE if self.shared else 0) and terms <= MOST_SIDE and steps <= MOST_PRICE
+        return (self.left - steps >= (AMPLE if self.shared else 0) and terms <= MOST_SIDE
+                and steps <= MOST_PRICE)
 
     def add_later(self, job: PendingJob, line: str) -> None:
         """Hands a job in without sending it."""
         self.left -= job.most.steps
         self._waiting[job.name] = job
         self._unknown += job.most.entries
-        self._connection.put(Command(line, done=lambda reply: self._queued(job, reply), lost=lambda cause: self._unqueued(job, cause),
-                                     matters=True, check=lambda reply: self._check_queued(job, reply)))
+        self._connection.put(Command(line, done=lambda reply: self._queued(job, reply),
+                                     lost=lambda cause: self._unqueued(job, cause), matters=True,
+                                     check=lambda reply: self._check_queued(job, reply)))
 
     def add_now(self, job: PendingJob, line: str) -> None:
-        """Hands a job in. A budget that is too small while jobs wait gets back what these don't take, and the job is sent once more.
-        Where that is interrupted, the job may be queued all the same."""
+        """Hands a job in. A budget that is too small while jobs wait gets back what these don't
+        take, and the job is sent once more. Where that is interrupted, the job may be queued all
+        the same."""
         try:
             self._hand_in(job, line)
         except BudgetExceeded:
@@ -106,7 +118,8 @@ class Queue:
             self._hand_in(job, line)
 
     def _hand_in(self, job: PendingJob, line: str) -> None:
-        command = Command(line, done=lambda reply: self._handed_in(job, reply), check=lambda reply: self._check_queued(job, reply))
+        command = Command(line, done=lambda reply: self._handed_in(job, reply),
+                          check=lambda reply: self._check_queued(job, reply))
         try:
             self._connection.exchange(command)
         except BaseException:
@@ -119,7 +132,8 @@ class Queue:
         self._queued(job, reply)
 
     def _check_queued(self, job: PendingJob, reply: Reply) -> None:
-        """ProtocolError where the server says another position than the next, or a price that the job can't have."""
+        """ProtocolError where the server says another position than the next, or a price that the
+        job can't have."""
         position = self._queued_there + 1
         words = ['ok', *reply.words]
         check_number('POSITION', reply.words[1], (position, position), job.form, words)
@@ -147,13 +161,15 @@ class Queue:
             self._waiting.clear()
             self._running.append(jobs)
             self.runs += 1
-            self._connection.put(Command('run', done=lambda _: self._ran(jobs), lost=lambda cause: self._not_run(jobs, cause),
-                                         matters=True, jobs=len(jobs), check=lambda reply: self._check_run(jobs, reply)))
+            self._connection.put(Command('run', done=lambda _: self._ran(jobs),
+                                         lost=lambda cause: self._not_run(jobs, cause),
+                                         matters=True, jobs=len(jobs),
+                                         check=lambda reply: self._check_run(jobs, reply)))
 
     def _check_run(self, jobs: List[PendingJob], reply: Reply) -> None:
         """ProtocolError where the lines of a run aren't those of its jobs."""
-        expected = [ExpectedJob(job.name, job.handle.shape, min(job.most.entries, MOST_SIDE), job.handle.price or 0)
-                    for job in jobs if not job.refused]
+        expected = [ExpectedJob(job.name, job.handle.shape, min(job.most.entries, MOST_SIDE),
+                                job.handle.price or 0) for job in jobs if not job.refused]
         self._run_lines = check_run(reply.words, reply.lines, expected)
 
     def _ran(self, jobs: List[PendingJob]) -> None:

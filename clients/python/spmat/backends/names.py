@@ -16,22 +16,27 @@ from .protocol import Handle
 if TYPE_CHECKING:
     from .server import ServerBackend
 
-SMALL = 65_536                                     # a dead matrix of more rows and entries than this is overwritten
+# a dead matrix of more rows and entries than this is overwritten
+SMALL = 65_536
 _NAME = re.compile('[A-Za-z0-9_]{1,32}')
-POISONED = 'SPMAT_POISON_NAMES'                    # the variable by which tests have names poisoned that are given back
+# the variable by which tests have names poisoned that are given back
+POISONED = 'SPMAT_POISON_NAMES'
 # What a poisoned name stands for: no matrix of a test has these sizes, nor these values.
-POISON = matrix_text.BANNER + b'3 16777213 2\n1 16777213 -6148914691236517206\n3 1 6148914691236517205\n'
+POISON = (matrix_text.BANNER
+          + b'3 16777213 2\n1 16777213 -6148914691236517206\n3 1 6148914691236517205\n')
 
 
 class ServerHandle(Handle):
     """The owner of a name at the server, `key`.
 
-    A name has one owner, which takes it as it is made: there is no second one for a name that is taken. Whatever has to do with a
-    matrix holds its owner, and the name is given back when nobody does."""
+    A name has one owner, which takes it as it is made: there is no second one for a name that is
+    taken. Whatever has to do with a matrix holds its owner, and the name is given back when nobody
+    does."""
 
     backend: 'ServerBackend'
 
-    def __init__(self, backend: 'ServerBackend', shape: Tuple[int, int], nvals: Optional[int] = None, most: int = MOST_SIDE,
+    def __init__(self, backend: 'ServerBackend', shape: Tuple[int, int],
+                 nvals: Optional[int] = None, most: int = MOST_SIDE,
                  wished: Optional[str] = None) -> None:
         super().__init__(backend, shape, nvals, most)
         self.key = backend.names.take(self, wished)
@@ -55,8 +60,11 @@ class DeferredHandle(ServerHandle):
     is_deferred = True
 
     # A server's handle takes its name as it is made, and this one at the first use.
-    def __init__(self, backend: 'ServerBackend', entries: Triples) -> None:  # pylint: disable=super-init-not-called
-        Handle.__init__(self, backend, (entries.nrows, entries.ncols), len(entries.rows))  # pylint: disable=non-parent-init-called
+    # pylint: disable-next=super-init-not-called
+    def __init__(self, backend: 'ServerBackend', entries: Triples) -> None:
+        shape = (entries.nrows, entries.ncols)
+        # pylint: disable-next=non-parent-init-called
+        Handle.__init__(self, backend, shape, len(entries.rows))
         self.entries = entries
         self._key = ''
 
@@ -75,11 +83,13 @@ class DeferredHandle(ServerHandle):
 class Names:
     """The names of one session.
 
-    An owner that nobody holds leaves its name here: that alone happens when it is collected, and nothing is sent. The name is used
-    again. What is large is overwritten before, as no command forgets a matrix.
+    An owner that nobody holds leaves its name here: that alone happens when it is collected, and
+    nothing is sent. The name is used again. What is large is overwritten before, as no command
+    forgets a matrix.
 
-    With the variable SPMAT_POISON_NAMES set, each name that is given back is overwritten before the next command, with a matrix that
-    nobody could take for another, and isn't used again. So a test shows who uses a name that it doesn't own.
+    With the variable SPMAT_POISON_NAMES set, each name that is given back is overwritten before the
+    next command, with a matrix that nobody could take for another, and isn't used again. So a test
+    shows who uses a name that it doesn't own.
     """
 
     def __init__(self) -> None:
@@ -87,19 +97,23 @@ class Names:
         self.poisons = bool(os.environ.get(POISONED))
         self._free: Deque[str] = collections.deque()
         self._given: Set[str] = set()                     # wished by the caller, and held
-        self._sizes: Dict[str, int] = {}                  # rows and entries of what a name stands for
+        # rows and entries of what a name stands for
+        self._sizes: Dict[str, int] = {}
         self._owners: Dict[str, 'weakref.ref[Handle]'] = {}
         self._count = 0
 
     def take(self, owner: Handle, wished: Optional[str] = None) -> str:
-        """A name for a new matrix, which its owner has until it is collected: the one that is wished, where the server takes it and no
-        other matrix has it, or one of the client's, which begin with an underscore."""
-        name = self._unused(wished) if wished is not None or not self._free else self._free.popleft()
+        """A name for a new matrix, which its owner has until it is collected: the one that is
+        wished, where the server takes it and no other matrix has it, or one of the client's, which
+        begin with an underscore."""
+        name = (self._unused(wished) if wished is not None or not self._free
+                else self._free.popleft())
         self._owners[name] = weakref.ref(owner, functools.partial(self._collected, name))
         return name
 
     def _unused(self, wished: Optional[str]) -> str:
-        if wished is not None and not wished.startswith('_') and wished not in self._given and _NAME.fullmatch(wished):
+        if wished is not None and not wished.startswith(
+            '_') and wished not in self._given and _NAME.fullmatch(wished):
             self._given.add(wished)
             return wished
         if self._free:
@@ -118,12 +132,13 @@ class Names:
             self._free.append(name)
 
     def named(self) -> Dict[str, Any]:
-        """The matrices that callers gave a name, by it; of two with one name the one whose entries came later, and of those with the same
-        entries the first."""
+        """The matrices that callers gave a name, by it; of two with one name the one whose entries
+        came later, and of those with the same entries the first."""
         found = {}
         for key, reference in list(self._owners.items()):
             owner = reference()
-            for matrix in reversed(owner.matrices() if owner is not None and not owner.is_deferred else []):
+            for matrix in reversed(owner.matrices() if owner is not None and not owner.is_deferred
+                                   else []):
                 if matrix.name and (matrix.name != key or not key.startswith('_')):
                     found[matrix.name] = matrix
         return found
@@ -138,7 +153,8 @@ class Names:
         self._sizes[name] = size
 
     def settle(self) -> Iterator[Tuple[str, bytes]]:
-        """Makes names of collected owners free, and yields those that are to be overwritten before, with the text."""
+        """Makes names of collected owners free, and yields those that are to be overwritten before,
+        with the text."""
         while self.dropped:
             name = self.dropped.popleft()
             is_large = self._sizes.pop(name, 0) > SMALL

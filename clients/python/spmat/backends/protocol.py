@@ -1,6 +1,7 @@
 """What a matrix asks of whatever holds it: jobs, entries in, entries out.
 
-A `Matrix` checks shapes, kinds, names and units. Then it hands a `Job` to its backend, which gives a `Handle` for the result:
+A `Matrix` checks shapes, kinds, names and units. Then it hands a `Job` to its backend, which gives
+a `Handle` for the result:
 
     server      one session, over a connection
     blocks      row blocks: a job is the same job at the server of each block
@@ -13,7 +14,8 @@ import abc
 import contextlib
 import itertools
 import weakref
-from typing import TYPE_CHECKING, Any, Callable, ContextManager, Dict, Iterator, List, NamedTuple, Optional, Tuple, Type
+from typing import (TYPE_CHECKING, Any, Callable, ContextManager, Dict, Iterator, List, NamedTuple,
+                    Optional, Tuple, Type)
 
 from .._client.protocol import FORMS, Places
 from ..display import html
@@ -26,14 +28,17 @@ from ..operators import Operator
 if TYPE_CHECKING:
     from ..matrix import Matrix
 
-AMPLE = 1 << 56                                    # steps that clients of one server don't take from one another within a day
+# steps that clients of one server don't take from one another within a day
+AMPLE = 1 << 56
 serial = itertools.count()
 _PLACES = {name: form.places for name, form in FORMS.items()}
-_ROWS, _TERMS, _ANY = Places.ROWS, Places.TERMS, Places.ANY      # members of an enum take long to find
+# members of an enum take long to find
+_ROWS, _TERMS, _ANY = Places.ROWS, Places.TERMS, Places.ANY
 
 
 class Budget(NamedTuple):
-    """Steps: left, reserved for jobs that wait, spent. Over TCP it is one for all sessions of the server."""
+    """Steps: left, reserved for jobs that wait, spent. Over TCP it is one for all sessions of the
+    server."""
     left: int
     reserved: int
     spent: int
@@ -43,8 +48,8 @@ class Budget(NamedTuple):
 
 
 class JobResult(NamedTuple):
-    """A job that `run` settled: its result (None where nobody holds it any more), its form as the protocol names it, the most steps
-    that it could have taken, and those that it took."""
+    """A job that `run` settled: its result (None where nobody holds it any more), its form as the
+    protocol names it, the most steps that it could have taken, and those that it took."""
     matrix: Optional['Matrix']
     form: str
     price: int
@@ -59,19 +64,23 @@ class Run(List[JobResult]):
 
 
 class Handle:
-    """What a backend gives for a matrix: its shape, the number of entries `nvals` (None until its job ran), the `most` that these can
-    be, and of a job's result the price and the steps that the job took. `lost` says why it is never made."""
+    """What a backend gives for a matrix: its shape, the number of entries `nvals` (None until its
+    job ran), the `most` that these can be, and of a job's result the price and the steps that the
+    job took. `lost` says why it is never made."""
 
     key = ''                                       # the name at a server, where there is one
-    is_deferred = False                            # the entries are sent when a job first wants them
+    # the entries are sent when a job first wants them
+    is_deferred = False
     steps: Optional[int] = None
 
-    def __init__(self, backend: 'Backend', shape: Tuple[int, int], nvals: Optional[int] = None, most: int = MOST_SIDE) -> None:
+    def __init__(self, backend: 'Backend', shape: Tuple[int, int], nvals: Optional[int] = None,
+                 most: int = MOST_SIDE) -> None:
         self.backend, self.shape, self.nvals = backend, shape, nvals
         self.most = most if nvals is None else nvals
         self.price: Optional[int] = None
         self.lost: Optional[BaseException] = None
-        self.transposed: Optional['weakref.ref[Handle]'] = None     # the transpose, while that is held
+        # the transpose, while that is held
+        self.transposed: Optional['weakref.ref[Handle]'] = None
         self.facts: Dict[str, Any] = {}            # what algorithms found out about the entries
         self.serial = next(serial)                 # which of two is older
         self._matrices: List['weakref.ref[Matrix]'] = []
@@ -83,12 +92,14 @@ class Handle:
 
     def mirrors(self, other: 'Handle') -> bool:
         """Whether another is known to be the transpose."""
-        return any(one.transposed is not None and one.transposed() is two for one, two in ((self, other), (other, self)))
+        return any(one.transposed is not None and one.transposed() is two
+                   for one, two in ((self, other), (other, self)))
 
     def check_made(self) -> None:
         """Raises NotMade where the run of this matrix was refused."""
         if self.lost is not None:
-            raise NotMade('this matrix was never made: its run was refused (%s)' % self.lost) from self.lost
+            raise NotMade('this matrix was never made: its run was refused (%s)'
+                          % self.lost) from self.lost
 
     def add_matrix(self, matrix: 'Matrix') -> None:
         """A matrix that callers have of this, which may be one of several."""
@@ -102,8 +113,9 @@ class Handle:
 
 
 class OneVisit(NamedTuple):
-    """What a backend that `fuses` makes in one visit to a session, under a mask of any kind: a method of matrices, by its name and
-    arguments, or by default that of the job's form. Of the jobs before the last nothing comes to the client."""
+    """What a backend that `fuses` makes in one visit to a session, under a mask of any kind: a
+    method of matrices, by its name and arguments, or by default that of the job's form. Of the jobs
+    before the last nothing comes to the client."""
     by_value: bool
     complement: bool
     method: Tuple[Any, ...] = ()
@@ -111,9 +123,10 @@ class OneVisit(NamedTuple):
 
 
 class Job(NamedTuple):
-    """A job of one of the protocol's forms, under a structural mask or none. `thunk` is the number beside an index operator. A product
-    that is too large `is_by_parts` where the caller makes it by parts of the rows then; loops want to know. `is_associative` is the
-    caller's word of its ADD, which blocks want to know. With a `visit` it is the last of several jobs."""
+    """A job of one of the protocol's forms, under a structural mask or none. `thunk` is the number
+    beside an index operator. A product that is too large `is_by_parts` where the caller makes it by
+    parts of the rows then; loops want to know. `is_associative` is the caller's word of its ADD,
+    which blocks want to know. With a `visit` it is the last of several jobs."""
     form: str
     operators: Tuple[Operator, ...]
     operands: Tuple[Handle, ...]
@@ -126,14 +139,16 @@ class Job(NamedTuple):
 
 
 class Most(NamedTuple):
-    """What a job can come to: terms that a product may be refused for, steps, entries of the result."""
+    """What a job can come to: terms that a product may be refused for, steps, entries of the
+    result."""
     terms: int
     steps: int
     entries: int
 
 
 def most_of(job: Job, length: int) -> Most:
-    """What a job with operators of so many instructions can come to, by what is known of its operands' entries."""
+    """What a job with operators of so many instructions can come to, by what is known of its
+    operands' entries."""
     form, operands, (nrows, ncols), mask = job.form, job.operands, job.shape, job.mask
     places, first = _PLACES[form], operands[0]
     calls, room = first.most, nrows * ncols
@@ -159,24 +174,31 @@ class Backend(abc.ABC):
     A handle is used with the backend that gave it, or with one of which `takes_others` is set."""
 
     session: Any
-    takes_others = False                           # whether it looks itself at handles that another backend gave
+    # whether it looks itself at handles that another backend gave
+    takes_others = False
     in_one_place = True                            # whether one session has each matrix whole
     is_estimate = False                            # whether it only foresees what jobs come to
-    halves_products = False                        # whether it makes a product `is_by_parts` itself by halves of the rows
-    ceiling = AMPLE                                # steps that can be left at the most, as far as that is known here
-    matrix_type: Optional[Type['Matrix']] = None   # the class of its matrices, where that isn't `Matrix`
+    # whether it makes a product `is_by_parts` itself by halves of the rows
+    halves_products = False
+    # steps that can be left at the most, as far as that is known here
+    ceiling = AMPLE
+    # the class of its matrices, where that isn't `Matrix`
+    matrix_type: Optional[Type['Matrix']] = None
 
     @abc.abstractmethod
     def submit(self, job: Job, name: Optional[str] = None) -> Handle:
-        """Queues a job; `name` is a wish. Raises a Refused that is known by now; another comes where the result is looked at."""
+        """Queues a job; `name` is a wish. Raises a Refused that is known by now; another comes
+        where the result is looked at."""
 
     @abc.abstractmethod
     def put(self, entries: Triples) -> Handle:
-        """A matrix of entries by ascending row and column, which aren't looked at. They are sent when a job wants them."""
+        """A matrix of entries by ascending row and column, which aren't looked at. They are sent
+        when a job wants them."""
 
     @abc.abstractmethod
     def put_text(self, text: bytes, name: Optional[str] = None) -> Handle:
-        """A matrix from a Matrix Market text, which is read as it is. TextRefused names the line."""
+        """A matrix from a Matrix Market text, which is read as it is. TextRefused names the
+        line."""
 
     @abc.abstractmethod
     def read_text(self, handle: Handle) -> bytes:
@@ -196,7 +218,8 @@ class Backend(abc.ABC):
 
     @abc.abstractmethod
     def wait(self, handle: Handle) -> None:
-        """Returns once the matrix is there. Raises NotMade where its run was refused, Closed where the session has ended."""
+        """Returns once the matrix is there. Raises NotMade where its run was refused, Closed where
+        the session has ended."""
 
     def count(self, handle: Handle) -> int:
         """The number of a matrix' entries, once it is there."""
@@ -214,7 +237,8 @@ class Backend(abc.ABC):
 
     @abc.abstractmethod
     def length_of(self, op: Operator) -> int:
-        """The number of an operator's instructions, the most steps that a call takes. OperatorRefused where it is refused."""
+        """The number of an operator's instructions, the most steps that a call takes.
+        OperatorRefused where it is refused."""
 
     @abc.abstractmethod
     def budget(self) -> Budget:
@@ -244,6 +268,7 @@ class Backend(abc.ABC):
         raise NotImplementedError
 
     def granting(self, facts: Dict[str, Any]) -> 'ContextManager[Any]':
-        """In its `with` these facts are what a graph has to have, or the call ends in an error: an estimate takes them for granted."""
+        """In its `with` these facts are what a graph has to have, or the call ends in an error: an
+        estimate takes them for granted."""
         _ = facts
         return contextlib.nullcontext()

@@ -1,6 +1,8 @@
-"""The backend of one session: operators are uploaded, jobs queued, matrices sent and read, over a connection.
+"""The backend of one session: operators are uploaded, jobs queued, matrices sent and read, over a
+connection.
 
-What makes many rounds of its own (`spmat.loops`) also uses the names, the queue and the connection."""
+What makes many rounds of its own (`spmat.loops`) also uses the names, the queue and the
+connection."""
 from __future__ import annotations
 
 import itertools
@@ -31,7 +33,8 @@ class Uploaded(NamedTuple):
 
 
 class ServerBackend(Backend):
-    """One session's operators, jobs and matrices at the server. `jobs` counts those that were submitted."""
+    """One session's operators, jobs and matrices at the server. `jobs` counts those that were
+    submitted."""
 
     def __init__(self, session: 'Session', connection: Connection, shared: bool) -> None:
         self.session, self.connection = session, connection
@@ -50,9 +53,11 @@ class ServerBackend(Backend):
         """One thread at a time, and no Ctrl-C amid."""
         return self._turns
 
-    def command(self, line: str, body: Optional[bytes] = None, near: Any = None,  # pylint: disable=dangerous-default-value
+    # pylint: disable-next=dangerous-default-value
+    def command(self, line: str, body: Optional[bytes] = None, near: Any = None,
                 within: Mapping[str, Limits] = NOTHING) -> Reply:
-        """Sends what waits and a command; its reply, whose numbers are `within` limits that the client knows."""
+        """Sends what waits and a command; its reply, whose numbers are `within` limits that the
+        client knows."""
         self.sweep()
         return self.connection.command(line, body, near, within)
 
@@ -63,12 +68,14 @@ class ServerBackend(Backend):
                 self.connection.put(Command('matrix ' + name, text))
 
     def poison(self) -> None:
-        """The same before what waits to be sent with the next command, where names that are given back are poisoned."""
+        """The same before what waits to be sent with the next command, where names that are given
+        back are poisoned."""
         if self.names.poisons:
             self.sweep()
 
     def flush(self, handle: Handle) -> None:
-        """Sends the jobs that wait to be sent, so that their prices are known. No run but those that stand behind them."""
+        """Sends the jobs that wait to be sent, so that their prices are known. No run but those
+        that stand behind them."""
         with self._turns:
             self.connection.exchange()
 
@@ -82,12 +89,13 @@ class ServerBackend(Backend):
     # -- matrices
 
     def put(self, entries: Triples) -> Handle:
-        """A matrix of entries by ascending row and column, which aren't looked at. The client has them; they are sent when a job
-        wants them."""
+        """A matrix of entries by ascending row and column, which aren't looked at. The client has
+        them; they are sent when a job wants them."""
         return DeferredHandle(self, entries)
 
     def send(self, entries: Triples, handle: DeferredHandle) -> None:
-        """Sends the entries of a matrix that the client has, with the next command, under a name that its handle takes."""
+        """Sends the entries of a matrix that the client has, with the next command, under a name
+        that its handle takes."""
         def lost(cause: BaseException) -> None:
             handle.lost = without_frames(cause)
         with self._turns:
@@ -96,7 +104,8 @@ class ServerBackend(Backend):
             handle.key = self.names.take(handle)
             sizes = {'ROWS': entries.nrows, 'COLUMNS': entries.ncols, 'ENTRIES': len(entries.rows)}
             self.connection.put(Command('matrix ' + handle.key, text, lost=lost, matters=True,
-                                        within={name: (size, size) for name, size in sizes.items()}))
+                                        within={name: (size, size)
+                                                for name, size in sizes.items()}))
             handle.note_size(entries.nrows, len(entries.rows))
             if self.connection.is_full:
                 self.connection.exchange()
@@ -108,7 +117,9 @@ class ServerBackend(Backend):
             self.sweep()
             handle = ServerHandle(self, (0, 0), wished=name)
             try:
-                reply = self.command('matrix ' + handle.key, text, lambda rule, at: matrix_text.line_at(text, at), sizes_of_text(text))
+                reply = self.command('matrix ' + handle.key, text,
+                                     lambda rule, at: matrix_text.line_at(text, at),
+                                     sizes_of_text(text))
             except BaseException:
                 handle.give_back()
                 raise
@@ -136,12 +147,15 @@ class ServerBackend(Backend):
             return body
 
     def _shown(self, handle: Handle) -> bytes:
-        """The text of a matrix. ProtocolError, and the session is ended, where it isn't that of this matrix."""
+        """The text of a matrix. ProtocolError, and the session is ended, where it isn't that of
+        this matrix."""
         self.sweep()
         most = handle.nvals if handle.nvals is not None else min(handle.most, MOST_SIDE)
         command = 'show ' + handle.key
         reply = self.connection.exchange(Command(command, within={'BYTES': (0, longest_text(most))},
-                                                 check=lambda reply: check_text(command, reply.body, handle.shape, handle.nvals)))
+                                                 check=lambda reply: check_text(command, reply.body,
+                                                                                handle.shape,
+                                                                                handle.nvals)))
         assert reply is not None
         return reply.body
 
@@ -151,7 +165,8 @@ class ServerBackend(Backend):
         return matrix_text.read(self.read_text(handle), True)
 
     def wait(self, handle: Handle) -> None:
-        """Runs the queue where a matrix waits. Raises Closed where the session has ended, and NotMade where the run was refused."""
+        """Runs the queue where a matrix waits. Raises Closed where the session has ended, and
+        NotMade where the run was refused."""
         self.connection.check_open()
         handle.check_made()
         if handle.waits:
@@ -161,7 +176,8 @@ class ServerBackend(Backend):
     # -- operators
 
     def upload(self, op: Operator) -> Uploaded:
-        """An operator as this session has it. It is uploaded at its first use; what the server refuses is OperatorRefused."""
+        """An operator as this session has it. It is uploaded at its first use; what the server
+        refuses is OperatorRefused."""
         if not isinstance(op, Operator):
             raise TypeError('expected an operator, such as spmat.binary.plus, got %r' % (op,))
         with self._turns:
@@ -173,7 +189,8 @@ class ServerBackend(Backend):
                 raise refusal('S7', detail='the operator has %d bytes' % len(op.body))
             name = self._operator_name(op)
             try:
-                reply = self.command('%s %s %s' % ('op' if op.text is None else 'asm', name, op.kind), op.body, op.line_at)
+                reply = self.command('%s %s %s' % ('op' if op.text is None else 'asm', name,
+                                                   op.kind), op.body, op.line_at)
             except OperatorRefused as refused:
                 raise diagnostics.explain_refusal(op, refused) from None
             self._operators[op] = Uploaded(name, int(reply.words[-1]))
@@ -187,17 +204,20 @@ class ServerBackend(Backend):
         taken = {uploaded.name for uploaded in self._operators.values()}
         if op.name and op.name not in taken and re.fullmatch('[A-Za-z0-9_]{1,32}', op.name):
             return op.name
-        return next(name for name in map('f{}'.format, itertools.count(len(taken) + 1)) if name not in taken)
+        return next(name for name in map('f{}'.format, itertools.count(len(taken) + 1))
+                    if name not in taken)
 
     # -- jobs
 
     def submit(self, job: Job, name: Optional[str] = None) -> Handle:
-        """Queues a job. It takes the versions that its names have when it is submitted, so an operand or mask that waits makes the
-        queue run first. So does a full queue, and a budget that is too small while jobs wait: then what they don't take comes
-        back, and the job is sent once more.
+        """Queues a job. It takes the versions that its names have when it is submitted, so an
+        operand or mask that waits makes the queue run first. So does a full queue, and a budget
+        that is too small while jobs wait: then what they don't take comes back, and the job is sent
+        once more.
 
-        A job that can be refused by nothing but want of memory, as what is known of its operands' entries tells, is sent with the
-        next command that needs an answer, and so is the run before it; any other at once."""
+        A job that can be refused by nothing but want of memory, as what is known of its operands'
+        entries tells, is sent with the next command that needs an answer, and so is the run before
+        it; any other at once."""
         with self._turns:
             form, operators, operands, shape, thunk, mask = job[:6]
             needed = operands if mask is None else (*operands, mask)
@@ -219,7 +239,8 @@ class ServerBackend(Backend):
             most = most_of(job, length)
             self.poison()
             made = ServerHandle(self, shape, None, most.entries, name)
-            self._hand_in(PendingJob(made, form, most), '%s %s %s' % (form, made.key, ' '.join(words)))
+            self._hand_in(PendingJob(made, form, most),
+                          '%s %s %s' % (form, made.key, ' '.join(words)))
             self.jobs += 1
             return made
 
@@ -229,7 +250,8 @@ class ServerBackend(Backend):
             self.queue.add_later(job, line)
             if self.connection.is_full or self.queue.is_long:
                 self.connection.exchange()
-                self.sweep()                       # so that a loop of jobs uses the names of what nobody holds again
+                # so that a loop of jobs uses the names of what nobody holds again
+                self.sweep()
             return
         try:
             self.queue.add_now(job, line)
@@ -254,6 +276,7 @@ class ServerBackend(Backend):
             return self.queue.results()
 
     def lines_of(self, command: str, op: Operator) -> List[str]:
-        """What the server says of an operator: `dis` its code, `types` what the verifier knows before each instruction."""
+        """What the server says of an operator: `dis` its code, `types` what the verifier knows
+        before each instruction."""
         with self._turns:
             return self.command('%s %s' % (command, self.upload(op).name)).lines

@@ -1,5 +1,5 @@
-"""A round of a loop, traced: its step is called with matrices that have shapes and methods and no entries, and asks for the jobs of the
-round. They are noted here, and none is run."""
+"""A round of a loop, traced: its step is called with matrices that have shapes and methods and no
+entries, and asks for the jobs of the round. They are noted here, and none is run."""
 from __future__ import annotations
 
 from typing import TYPE_CHECKING, Any, Dict, List, NamedTuple, NoReturn, Optional, Tuple, Union
@@ -15,12 +15,15 @@ from .protocol import Backend, Budget, Handle, Job, Most, Run, most_of
 if TYPE_CHECKING:
     from ..session import Session
 
-NO_ENTRIES = ('a step of a loop is traced, not run: %s has no entries yet. In a step reduce_rowwise() gives a number as a 1x1 matrix; '
-              'show=, each= and until= tell what a round came to')
-OUTSIDE = ('a step makes a matrix that does not depend on the state in each round: such matrices are to be made before the loop, so that '
-           'each round takes the same one')
-OTHER_ROUND = ('a step works on a matrix of another session, of another loop, or of an earlier round: what a later round is to have goes '
-               'into the state')
+NO_ENTRIES = (
+    'a step of a loop is traced, not run: %s has no entries yet. In a step reduce_rowwise() '
+    'gives a number as a 1x1 matrix; show=, each= and until= tell what a round came to')
+OUTSIDE = (
+    'a step makes a matrix that does not depend on the state in each round: such matrices are '
+    'to be made before the loop, so that each round takes the same one')
+OTHER_ROUND = (
+    'a step works on a matrix of another session, of another loop, or of an earlier round: what '
+    'a later round is to have goes into the state')
 
 
 class NotTraced(TypeError):
@@ -28,8 +31,8 @@ class NotTraced(TypeError):
 
 
 class NotAlike(ValueError):
-    """A step isn't one of its rounds alone: it makes matrices itself in each, takes some of an earlier round, or asks for other jobs where it
-    is called again for the same round."""
+    """A step isn't one of its rounds alone: it makes matrices itself in each, takes some of an
+    earlier round, or asks for other jobs where it is called again for the same round."""
 
 
 class Given(NamedTuple):
@@ -47,8 +50,8 @@ Value = Union[Given, Made, Handle]
 
 
 class TracedJob(NamedTuple):
-    """A job of the step. `is_numbered` says whether it takes a number, which each round has its own of; `is_by_parts` whether it is a product
-    that is made by parts where it is too large."""
+    """A job of the step. `is_numbered` says whether it takes a number, which each round has its own
+    of; `is_by_parts` whether it is a product that is made by parts where it is too large."""
     form: str
     operators: Tuple[Operator, ...]
     operands: Tuple[Value, ...]
@@ -60,12 +63,14 @@ class TracedJob(NamedTuple):
 
 
 class Traced:
-    """What some rounds ask for, of which only the numbers differ: jobs, and which values their results are."""
+    """What some rounds ask for, of which only the numbers differ: jobs, and which values their
+    results are."""
 
     def __init__(self, jobs: List[TracedJob], out: Dict[str, Value]) -> None:
         self.jobs, self.out = jobs, out
         self.steps = sum(min(job.most.steps, MOST_PRICE) for job in jobs)      # at most
-        self.is_sure = all(job.most.terms <= MOST_SIDE and job.most.steps <= MOST_PRICE for job in jobs)
+        self.is_sure = all(job.most.terms <= MOST_SIDE and job.most.steps <= MOST_PRICE
+                           for job in jobs)
         values = [value for job in jobs for value in (*job.operands, job.mask)]
         self.used = {value.name for value in values if isinstance(value, Given)}
         self.constants = [value for value in (*values, *out.values()) if isinstance(value, Handle)]
@@ -75,14 +80,15 @@ class Traced:
 class TraceHandle(Handle):
     """A matrix that a traced step works on; `value` says which."""
 
-    def __init__(self, backend: 'TraceBackend', shape: Tuple[int, int], most: int, value: Union[Given, Made], label: str) -> None:
+    def __init__(self, backend: 'TraceBackend', shape: Tuple[int, int], most: int,
+                 value: Union[Given, Made], label: str) -> None:
         super().__init__(backend, shape, None, min(most, MOST_SIDE))
         self.value, self.key = value, label
 
 
 class Jobs:
-    """The jobs that rounds ask for, as a tree: those that begin alike share a branch. So a round that is like an earlier one costs a look at
-    each job."""
+    """The jobs that rounds ask for, as a tree: those that begin alike share a branch. So a round
+    that is like an earlier one costs a look at each job."""
 
     def __init__(self, job: Optional[TracedJob] = None) -> None:
         self.job = job
@@ -92,16 +98,18 @@ class Jobs:
 
 
 class TraceBackend(Backend):
-    """What takes the jobs of one round of a traced step, and what its matrices have for their session. `ones` are rows of ones that
-    earlier rounds asked for; of a later round no matrix may be new that is none of the state's."""
+    """What takes the jobs of one round of a traced step, and what its matrices have for their
+    session. `ones` are rows of ones that earlier rounds asked for; of a later round no matrix may
+    be new that is none of the state's."""
 
     takes_others = True
 
-    def __init__(self, server_session: 'Session', begun: Jobs, ones: Dict[int, Matrix], is_later: bool) -> None:
+    def __init__(self, server_session: 'Session', begun: Jobs, ones: Dict[int, Matrix],
+                 is_later: bool) -> None:
         self.server_session = server_session
         self.session = self.backend = self
         self.connection = server_session.connection
-        self.at, self.jobs, self.numbers = begun, [], []     # type: Jobs, List[TracedJob], List[int]
+        self.at, self.jobs, self.numbers = begun, [], []  # type: Jobs, List[TracedJob], List[int]
         self._ones = ones
         self._last = next(protocol.serial) if is_later else None
 
@@ -110,11 +118,13 @@ class TraceBackend(Backend):
         values = tuple(map(self.value_of, job.operands))
         mask = None if job.mask is None else self.value_of(job.mask)
         is_numbered = job.thunk is not None
-        key = (job.form, job.operators, tuple(map(_key, values)), _key(mask), is_numbered, job.is_by_parts)
+        key = (job.form, job.operators, tuple(map(_key, values)), _key(mask), is_numbered,
+               job.is_by_parts)
         found = self.at.following.get(key)
         if found is None:
             most = most_of(job, sum(map(self.length_of, job.operators)))
-            traced = TracedJob(job.form, job.operators, values, mask, is_numbered, job.is_by_parts, job.shape, most)
+            traced = TracedJob(job.form, job.operators, values, mask, is_numbered, job.is_by_parts,
+                               job.shape, most)
             found = self.at.following[key] = Jobs(traced)
         assert found.job is not None
         self.at = found
@@ -122,11 +132,13 @@ class TraceBackend(Backend):
         if job.thunk is not None:
             self.numbers.append(job.thunk)
         made = Made(len(self.jobs) - 1)
-        return TraceHandle(self, job.shape, found.job.most.entries, made, name or 'the result of ' + job.form)
+        return TraceHandle(self, job.shape, found.job.most.entries, made,
+                           name or 'the result of ' + job.form)
 
     def given(self, name: str, shape: Tuple[int, int]) -> Matrix:
         """What the round begins with, by its name."""
-        return Matrix(self.session, TraceHandle(self, shape, shape[0] * shape[1], Given(name), name))
+        return Matrix(self.session, TraceHandle(self, shape, shape[0] * shape[1], Given(name),
+                                                name))
 
     def value_of(self, handle: Handle) -> Value:
         """What a matrix is in this round. NotAlike where it is none of it, nor of the session."""
@@ -177,7 +189,9 @@ class TraceBackend(Backend):
         self._refuse('budget')
 
     def _refuse(self, name: str) -> NoReturn:
-        raise NotTraced('a step of a loop is traced, and asks for jobs alone: `%s` of the session is to be called before the loop' % name)
+        raise NotTraced(
+            'a step of a loop is traced, and asks for jobs alone: `%s` of the session is to be '
+            'called before the loop' % name)
 
     def __getattr__(self, name: str) -> NoReturn:
         self._refuse(name)

@@ -1,4 +1,5 @@
-"""What stands for what only a result would tell, while a call is priced; and what is priced in this thread."""
+"""What stands for what only a result would tell, while a call is priced; and what is priced in this
+thread."""
 from __future__ import annotations
 
 import contextlib
@@ -10,12 +11,15 @@ if TYPE_CHECKING:
     from ..pricing.call_price import Price
 
 F = TypeVar('F', bound=Callable[..., Any])
-_DECIDES = ('bool int index float len iter getitem contains call eq ne lt le gt ge hash neg abs round add radd sub rsub mul rmul floordiv '
-            'rfloordiv truediv rtruediv mod rmod lshift rlshift rshift rrshift and rand or ror pow rpow str format')
+_DECIDES = (
+    'bool int index float len iter getitem contains call eq ne lt le gt ge hash neg abs round '
+    'add radd sub rsub mul rmul floordiv rfloordiv truediv rtruediv mod rmod lshift rlshift '
+    'rshift rrshift and rand or ror pow rpow str format')
 
 
 _here = threading.local()
-all_priced: List['Price'] = []                     # in whatever thread, so that jobs needn't ask for their thread where it is empty
+# in whatever thread, so that jobs needn't ask for their thread where it is empty
+all_priced: List['Price'] = []
 
 
 class Unforeseen(Exception):
@@ -27,7 +31,8 @@ def _refuse(*_: Any, **__: Any) -> NoReturn:
 
 
 class Unread:
-    """What stands for what only a result would tell. Whoever decides something by it ends what can be foreseen of a call."""
+    """What stands for what only a result would tell. Whoever decides something by it ends what can
+    be foreseen of a call."""
 
     def __getattr__(self, name: str) -> Any:
         if name.startswith('__'):
@@ -40,8 +45,8 @@ for _name in _DECIDES.split():
 
 
 def reading(method: F) -> F:
-    """A method that reads a matrix. That it is called of what is only foreseen isn't unforeseen yet: what it gives may be the last
-    that is wanted."""
+    """A method that reads a matrix. That it is called of what is only foreseen isn't unforeseen
+    yet: what it gives may be the last that is wanted."""
     @functools.wraps(method)
     def call(*args: Any, **named: Any) -> Any:
         try:
@@ -70,6 +75,7 @@ def current_price() -> Optional['Price']:
 
 
 def backend_now(own: Any) -> Any:
-    """What takes a session's jobs now: its own backend, or while a call is priced what stands in its place."""
+    """What takes a session's jobs now: its own backend, or while a call is priced what stands in
+    its place."""
     price = current_price() if all_priced else None
     return own if price is None else price.backend_in_place_of(own)

@@ -115,9 +115,11 @@ class Inputs(Sources[BlockMatrix]):
         it."""
         layout = request.layout
         files.check_length(path, request.max_bytes)
-        reading = parallel_edgelist.Reading(request.directed is not False, request.bipartite, dup_op, name, layout.scale, layout.unit)
-        made = None if dup_op is not None or request.directed is False or request.format not in (None, 'mtx') else parallel_read.read_matrix_market(
-            self, path, matrix_market.Values(layout.values, layout.scale), None, name)
+        reading = parallel_edgelist.Reading(request.directed is not False, request.bipartite,
+                                            dup_op, name, layout.scale, layout.unit)
+        made = (None if dup_op is not None or request.directed is False
+                or request.format not in (None, 'mtx') else parallel_read.read_matrix_market(
+                    self, path, matrix_market.Values(layout.values, layout.scale), None, name))
         if made is None and request.format in (None, 'edges', 'csv', 'tsv', 'parquet'):
             made = parallel_edgelist.read_file(self, path, request, reading)
         return super()._read(path, request, dup_op, name) if made is None else made
@@ -137,7 +139,9 @@ class Inputs(Sources[BlockMatrix]):
             raise ValueError(question)
         layout = Layout(missing=missing, unit=unit, date_format=date_format)
         reading = parallel_edgelist.Reading(directed, bool(bipartite), dup_op, name, times=unit)
-        return parallel_edgelist.read_frame(self, frame, Frame(None, (source, target), edge_attr, layout), reading)
+        return parallel_edgelist.read_frame(self, frame,
+                                            Frame(None, (source, target), edge_attr, layout),
+                                            reading)
 
     def _fold_file(self, spool: 'chunked_input.Spooled', cut: Optional[Sequence[int]],
                   name: Optional[str], dup_op: DupOp) -> BlockMatrix:

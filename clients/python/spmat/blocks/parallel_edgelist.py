@@ -158,8 +158,10 @@ def read_sources(sessions: 'Inputs', sources: Sequence[Source],
                   to).make_matrix(op, weighted, vertices, reading.name)
     rows = axis_of(vertices.names[0])
     columns = rows if len(sizes) == 1 else axis_of(vertices.names[-1])
-    made.notes = Notes(None, None, reading.directed, weighted or op is not None, _add_left_out(found).added_to(found[0][2]),
-                       units.of_read(reading.scale, reading.dup_op, reading.times) if weighted else 1, sides=int(reading.bipartite)).with_axes(rows, columns)
+    made.notes = Notes(None, None, reading.directed, weighted or op is not None,
+                       _add_left_out(found).added_to(found[0][2]),
+                       units.of_read(reading.scale, reading.dup_op, reading.times) if weighted
+                       else 1, sides=int(reading.bipartite)).with_axes(rows, columns)
     return made
 
 

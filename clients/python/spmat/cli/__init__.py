@@ -18,7 +18,9 @@ from . import graph_commands, session_commands
 from .exit_status import MEANINGS, PROGRAM, Status, finish
 from .grammar import Parser, add_completion, complete
 
-DESCRIPTION = 'Graph algorithms, pictures, operators and sessions of spmat, the job server for sparse integer matrices.'
+DESCRIPTION = (
+    'Graph algorithms, pictures, operators and sessions of spmat, the job server for sparse '
+    'integer matrices.')
 EPILOG = """examples:
   %%(prog)s triangle-count graph.mtx --undirected
   %%(prog)s bfs-levels people.csv --source Anna
@@ -29,8 +31,9 @@ EPILOG = """examples:
   %%(prog)s script session.txt
 
 A graph is a file in Matrix Market format, %s (also %s), which is seen from
-what stands in it. An entry at row i and column j, or a line `i j`, is an edge from i to j. Vertices have their names in the file; those of a Matrix Market file count
-from 1. `%%(prog)s COMMAND --help` tells more of each command. The server itself is another program: see `spmat --help`.
+what stands in it. An entry at row i and column j, or a line `i j`, is an edge from i to j. Vertices
+have their names in the file; those of a Matrix Market file count from 1. `%%(prog)s COMMAND --help`
+tells more of each command. The server itself is another program: see `spmat --help`.
 
 exit status:
 %s
@@ -66,7 +69,8 @@ def main(words: Optional[List[str]] = None, program: str = PROGRAM) -> int:
     try:
         status: int = options.run(options) or 0
         return status
-    except (Exception, KeyboardInterrupt) as fault:    # pylint: disable=broad-exception-caught  # each has its status
+    except (Exception, KeyboardInterrupt) as fault:  # pylint: disable=broad-exception-caught
+        # each has its status
         return finish(fault)
 
 

@@ -205,8 +205,10 @@ def commands() -> Dict[str, Command]:
         name.replace('_', '-'): Command(one, CALLS.get(name)
                                         or functools.partial(call_algorithm, one))
         for name, one in ALGORITHMS.items() if one.command}
-    back = found['degrees'].algorithm._replace(gives='edges that lead to each vertex', plot=None, says=(
-        'How many edges lead to each vertex; nothing of a vertex to which none does.'))
+    back = found['degrees'].algorithm._replace(gives='edges that lead to each vertex', plot=None,
+                                               says=(
+                                                   'How many edges lead to each vertex; nothing '
+                                                   'of a vertex to which none does.'))
     found['in-degrees'] = Command(back,
                                   lambda graph, options, progress: algorithms.degrees(graph.T))
     return dict(sorted(found.items()))
@@ -242,22 +244,32 @@ K_HELP = {'k_core': 'each vertex has at least K neighbours in the core',
           'k_shortest_paths': 'how many paths, at most'}
 SOURCE = 'by its name in the file; those of a Matrix Market file count from 1'
 OPTIONS: Dict[str, Dict[str, Any]] = {
-    'source': dict(flag='--source', metavar='V', help='the vertex to begin with, %s (default: the first)' % SOURCE),
-    'sources': dict(flag='--source', dest='sources', action='append', metavar='V', help='a vertex to begin with, %s; may stand several times' % SOURCE),
-    'target': dict(flag='--target', metavar='V', required=True, help='the vertex to end with, named as that of --source'),
-    'weighted': dict(flag='--weighted', action='store_true', help='values of edges count (default: each edge counts as 1)'),
-    'pair': dict(flag='--pair', nargs=2, action='append', required=True, metavar=('V', 'W'), help='two vertices; may stand several times'),
+    'source': dict(flag='--source', metavar='V',
+                   help='the vertex to begin with, %s (default: the first)' % SOURCE),
+    'sources': dict(flag='--source', dest='sources', action='append', metavar='V',
+                    help='a vertex to begin with, %s; may stand several times' % SOURCE),
+    'target': dict(flag='--target', metavar='V', required=True,
+                   help='the vertex to end with, named as that of --source'),
+    'weighted': dict(flag='--weighted', action='store_true',
+                     help='values of edges count (default: each edge counts as 1)'),
+    'pair': dict(flag='--pair', nargs=2, action='append', required=True, metavar=('V', 'W'),
+                 help='two vertices; may stand several times'),
     'k': dict(flag='--k', type=at_least(0, 'k is 0 or more'), required=True, metavar='K'),
-    'damping': dict(flag='--damping', type=between(0, 1, 'a damping lies between 0 and 1'), default=0.85, metavar='D',
-                    help='the share that follows edges (default: 0.85)'),
-    'tolerance': dict(flag='--tolerance', type=between(0, 2, 'a tolerance lies between 0 and 2'), default=None, metavar='T',
-                      help='how far the ranks may be from the true ones (default: 1e-6, or the least that can be kept)'),
-    'rounds': dict(flag='--rounds', type=at_least(1, 'rounds are 1 or more'), default=ROUNDS, metavar='N',
-                   help='ends after so many rounds (default: %d)' % ROUNDS),
-    'resolution': dict(flag='--resolution', type=between(0, 1000, 'a resolution lies between 0 and 1000'), default=1.0, metavar='R',
-                       help='a greater one gives smaller communities (default: 1)'),
-    'alpha': dict(flag='--alpha', type=between(0, 1000, 'alpha is above 0'), default=0.1, metavar='A',
-                  help='what is handed on along an edge (default: 0.1)'),
-    'authorities': dict(flag='--authorities', action='store_true', help='authorities in place of hubs'),
-    'seed': dict(flag='--seed', type=int, default=0, metavar='N', help='decides what is drawn at random (default: 0)'),
+    'damping': dict(flag='--damping', type=between(0, 1, 'a damping lies between 0 and 1'),
+                    default=0.85, metavar='D', help='the share that follows edges (default: 0.85)'),
+    'tolerance': dict(flag='--tolerance', type=between(0, 2, 'a tolerance lies between 0 and 2'),
+                      default=None, metavar='T',
+                      help='how far the ranks may be from the true ones (default: 1e-6, or the '
+                      'least that can be kept)'),
+    'rounds': dict(flag='--rounds', type=at_least(1, 'rounds are 1 or more'), default=ROUNDS,
+                   metavar='N', help='ends after so many rounds (default: %d)' % ROUNDS),
+    'resolution': dict(flag='--resolution',
+                       type=between(0, 1000, 'a resolution lies between 0 and 1000'), default=1.0,
+                       metavar='R', help='a greater one gives smaller communities (default: 1)'),
+    'alpha': dict(flag='--alpha', type=between(0, 1000, 'alpha is above 0'), default=0.1,
+                  metavar='A', help='what is handed on along an edge (default: 0.1)'),
+    'authorities': dict(flag='--authorities', action='store_true',
+                        help='authorities in place of hubs'),
+    'seed': dict(flag='--seed', type=int, default=0, metavar='N',
+                 help='decides what is drawn at random (default: 0)'),
 }

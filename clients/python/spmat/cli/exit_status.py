@@ -44,7 +44,8 @@ MEANINGS = {
     Status.FILE: 'a file is missing, could not be read, or is no graph that the command takes',
     Status.REFUSED: 'refused by a rule: an operator, a size, a limit, a command of a script',
     Status.BUDGET: 'the budget of steps is spent',
-    Status.BUSY: 'too little memory, too few threads, or no seat at the server: try later, or smaller',
+    Status.BUSY: 'too little memory, too few threads, or no seat at the server: try later, or '
+    'smaller',
     Status.UNREACHED: 'no program, no server, or the session ended amid the work',
     Status.FAULT: 'a fault of spmat-graph itself',
     Status.INTERRUPTED: 'interrupted (Ctrl-C)',

@@ -46,7 +46,9 @@ class Parser(argparse.ArgumentParser):
     def no_command(self, word: str) -> str:
         """What is said of a word that is no command."""
         if word in SERVERS:
-            return '`%s` is a command of the server, `spmat %s`; here `%s script FILE` runs a file of commands' % (word, word, self.prog)
+            return (
+                '`%s` is a command of the server, `spmat %s`; here `%s script FILE` runs a file '
+                'of commands' % (word, word, self.prog))
         names = next(tuple(action.choices or ()) for action in self._actions
                      if action.dest == 'command')
         near = difflib.get_close_matches(word.replace('_', '-'), names, 2)

@@ -25,19 +25,22 @@ WIDTH = 100                                        # of descriptions
 # printed.
 PYTHONIC = re.compile(
     r'`[^`]*[(=][^`]*`|`(G|W|GT|WT|sources|pairs|scale|tolerance|searches)`|\bNone\b')
-COLUMN = re.compile(r',? as (a column|bounds)( of (labels|ones))?( in units of [^:.;,]*)?|,? in units of [^:.;,]*|A column; | \(see `undirected`\)')
+COLUMN = re.compile(
+    r',? as (a column|bounds)( of (labels|ones))?( in units of [^:.;,]*)?|,? in units of '
+    r'[^:.;,]*|A column; | \(see `undirected`\)')
 SECTION = re.compile(r'^\w+\n-{3,}\n', re.M)      # the heads of a docstring's sections
 COSTS = re.compile(r'(Runs|Steps|GraphBLAS|LAGraph|networkx|igraph): ')
 EXAMPLES = {'source': '--source 1', 'target': '--target 7', 'k': '--k 4', 'sources': '--source 1',
             'pair': '--pair 1 2'}
 PLOT = 'where the picture goes; needs matplotlib'
-SPY = """Up to 256 rows and columns, each entry is a square. Above that, the picture shows how many entries
-each cell of a raster has. Rows and columns have their names; those of a Matrix Market file count from 1.
+SPY = """Up to 256 rows and columns, each entry is a square. Above that, the picture shows how many
+entries each cell of a raster has. Rows and columns have their names; those of a Matrix Market file
+count from 1.
 
 example:
   %(prog)s graph.mtx --plot spy.png"""
-DRAW = """Up to 1,000 vertices and 5,000 edges. Up to 60 vertices have their names, and with --weights up to 40
-edges their values.
+DRAW = """Up to 1,000 vertices and 5,000 edges. Up to 60 vertices have their names, and with
+--weights up to 40 edges their values.
 
 example:
   %(prog)s people.csv --plot people.png"""
@@ -93,12 +96,15 @@ def epilog(algorithm: Algorithm) -> str:
     """What is printed, and an example."""
     words = ' '.join(EXAMPLES[option] for option in algorithm.options if option in EXAMPLES)
     if algorithm.scale > 1:
-        printed = 'Printed are fractions; --mtx has whole numbers, in units of 1/%d.' % algorithm.scale
+        printed = ('Printed are fractions; --mtx has whole numbers, in units of 1/%d.'
+                   % algorithm.scale)
     elif algorithm.are_vertices:
         printed = 'Values are vertices.'
     else:
         printed = 'Vertices have their names.'
-    printed += ' Vertices of a Matrix Market file count from 1. A tab parts what is printed where a name has blanks.'
+    printed += (
+        ' Vertices of a Matrix Market file count from 1. A tab parts what is printed where a '
+        'name has blanks.')
     return '%s\n\nexample:\n  %%(prog)s graph.mtx%s' % (printed, ' ' + words if words else '')
 
 
@@ -139,8 +145,11 @@ def check_values(algorithm: Algorithm, options: argparse.Namespace) -> None:
                              (asked or '--weighted'))
     if algorithm.uses_values(weighted):
         if options.undirected and not options.pattern:
-            options.parser.error('%s, which --undirected drops: --both-ways keeps them, and --pattern takes each edge as 1' % (
-                '--weighted counts values of edges' if weighted else '%s counts values of edges' % options.command))
+            options.parser.error(
+                '%s, which --undirected drops: --both-ways keeps them, and --pattern takes each '
+                'edge as 1' % (
+                    '--weighted counts values of edges' if weighted else '%s counts values of edges'
+                    % options.command))
     elif asked and not options.quiet:
         print('%s: values of edges are read, and %s does not use them%s' %
               (asked, options.command, ': --weighted does' if 'weighted' in algorithm.flags
@@ -193,7 +202,8 @@ def add_pictures(commands: Any) -> None:
     spy = add_command(commands, 'spy', 'a picture of where a matrix has its entries', epilog=SPY,
                       description='Draws where a matrix has its entries.')
     graph = add_command(commands, 'draw', 'a picture of a graph', epilog=DRAW,
-                        description='Draws a graph: its vertices, and a line or an arrow for each edge.')
+                        description='Draws a graph: its vertices, and a line or an arrow for '
+                        'each edge.')
     for command, needs in ((spy, graph_options.Needs(rectangular=True)),
                            (graph, graph_options.Needs())):
         graph_options.add_graph_options(command)

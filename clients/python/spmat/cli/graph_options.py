@@ -37,7 +37,8 @@ def add_graph_options(command: argparse.ArgumentParser) -> None:
     command.add_argument('--undirected', action='store_true',
                          help='take the graph without directions, weights and loops')
     command.add_argument('--both-ways', action='store_true',
-                         help='each edge leads both ways, with its value; of two the lesser counts, or what --dup-op makes of them')
+                         help='each edge leads both ways, with its value; of two the lesser '
+                         'counts, or what --dup-op makes of them')
     kinds = command.add_mutually_exclusive_group()
     kinds.add_argument('--bipartite', action='store_true', default=None,
                        help='sources and targets (rows and columns) are two kinds of vertices')
@@ -46,7 +47,9 @@ def add_graph_options(command: argparse.ArgumentParser) -> None:
     group = command.add_argument_group('how the file is read')
     group.add_argument('--format', choices=FORMATS,
                        help='what it is (default: by what stands in it)')
-    group.add_argument('--delimiter', type=character, metavar='C', help='what parts the fields of a list (default: tab, comma, semicolon or blanks)')
+    group.add_argument('--delimiter', type=character, metavar='C',
+                       help='what parts the fields of a list (default: tab, comma, semicolon or '
+                       'blanks)')
     first = group.add_mutually_exclusive_group()
     first.add_argument('--header', action='store_true', default=None,
                        help='the first line of a list names its columns')
@@ -65,7 +68,9 @@ def add_graph_options(command: argparse.ArgumentParser) -> None:
                        'left out; keep: nan is a name as any other (default: raise)')
     group.add_argument('--unit', choices=tuple(UNITS),
                        help='values are times: so many days, seconds, .. since 1970-01-01')
-    group.add_argument('--date-format', metavar='FORMAT', help='how these times are written, as %%d.%%m.%%Y (default: as ISO 8601 has it)')
+    group.add_argument('--date-format', metavar='FORMAT',
+                       help='how these times are written, as %%d.%%m.%%Y (default: as ISO 8601 '
+                       'has it)')
     group.add_argument('--pattern', action='store_true', help='read no values: each edge has 1')
     group.add_argument('--scale', type=float, metavar='N',
                        help='multiply values by N and round them to whole numbers')
@@ -90,7 +95,9 @@ def character(word: str) -> str:
 def check_graph(options: argparse.Namespace) -> None:
     """Ends the command where its words on the graph don't go together."""
     if options.both_ways and (options.bipartite or options.undirected):
-        options.parser.error('--both-ways is for a graph of one kind of vertices, whose weights count: not with --bipartite or --undirected')
+        options.parser.error(
+            '--both-ways is for a graph of one kind of vertices, whose weights count: not with '
+            '--bipartite or --undirected')
 
 
 def add_output_options(command: argparse.ArgumentParser, ranked: bool = False) -> None:
@@ -154,8 +161,9 @@ def read_graph(session: Session, options: argparse.Namespace, needs: Needs) -> M
     elif graph.nrows == graph.ncols:
         check_kind(graph, needs.kind, graph.directed is False)
     elif not needs.rectangular:
-        raise Ended(Status.FILE, 'a graph is a square matrix, and %s has %d rows and %d columns: --bipartite takes them as two kinds of vertices'
-                         % (file, graph.nrows, graph.ncols))
+        raise Ended(Status.FILE,
+                    'a graph is a square matrix, and %s has %d rows and %d columns: --bipartite '
+                    'takes them as two kinds of vertices' % (file, graph.nrows, graph.ncols))
     return graph
 
 

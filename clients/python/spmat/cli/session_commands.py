@@ -18,19 +18,22 @@ from .exit_status import Ended, Status, reading, status_of
 from .grammar import add_command
 from .session_options import add_session_options, open_session
 
-SCRIPT = """SCRIPT holds the commands of docs/protocol.md as a server reads them: the line of a matrix or an operator ends with
-the length of its body, which follows. A shell writes such a script from files:
+SCRIPT = """SCRIPT holds the commands of docs/protocol.md as a server reads them: the line of a
+matrix or an operator ends with the length of its body, which follows. A shell writes such a script
+from files:
 
   send() { printf '%%s %%d\\n' "$1" "$(wc -c < "$2")"; cat "$2"; echo; }
   { send "matrix G" graph.mtx; send "asm plus binary" plus.asm
     echo reduce D plus G; echo run; echo show D; } | %(prog)s -
 
-A blank line, or one that begins with #, is passed over. Replies are printed as they come. Where a command is refused, the line,
-the rule and what it means are told, and the rest is left out, unless --keep-going is given. The exit status is that of the first refusal."""
-TYPES = """OPERATOR is a file of assembly text (.asm), of code in hexadecimal (.hex) or of C (.c), or a ready operator, as
-binary.plus. Each instruction is printed with what the verifier knows before it, for R0 to R10: - nothing is set there, n a number,
-pK the stack's top plus K, m set differently by the ways that lead there. A line that no way leads to says so. Where the verifier
-refuses the operator, what is known up to there is printed, and then the rule, the place and the line.
+A blank line, or one that begins with #, is passed over. Replies are printed as they come. Where a
+command is refused, the line, the rule and what it means are told, and the rest is left out, unless
+--keep-going is given. The exit status is that of the first refusal."""
+TYPES = """OPERATOR is a file of assembly text (.asm), of code in hexadecimal (.hex) or of C (.c),
+or a ready operator, as binary.plus. Each instruction is printed with what the verifier knows before
+it, for R0 to R10: - nothing is set there, n a number, pK the stack's top plus K, m set differently
+by the ways that lead there. A line that no way leads to says so. Where the verifier refuses the
+operator, what is known up to there is printed, and then the rule, the place and the line.
 
 examples:
   %(prog)s my_operator.asm --kind binary
@@ -47,8 +50,10 @@ class Command(NamedTuple):
 
 def add_commands(commands: Any, aliases: Sequence[str] = ()) -> None:
     """Add `types`, and `script` also by other names."""
-    command = add_command(commands, 'types', 'an operator beside what the verifier knows', epilog=TYPES,
-                          description='Shows an operator beside what the verifier knows at each line.')
+    command = add_command(commands, 'types', 'an operator beside what the verifier knows',
+                          epilog=TYPES,
+                          description='Shows an operator beside what the verifier knows at each '
+                          'line.')
     command.add_argument('operator', metavar='OPERATOR',
                          help='a file, or KIND.NAME of a ready operator')
     command.add_argument('--kind', choices=KINDS,
@@ -90,8 +95,10 @@ def read_script(stream: IO[bytes]) -> Iterator[Command]:
 def read_body(stream: IO[bytes], words: Sequence[str], number: int) -> bytes:
     """Read the body that follows a command's line, of the length that is its last word."""
     if not (words[-1].isascii() and words[-1].isdecimal() and len(words[-1]) < 19):
-        raise Ended(Status.FILE, 'line %d: expected the length of the body at the end, as in `%s .. 62`, got %r; '
-                    '--help shows how a shell takes bodies from files' % (number, words[0], words[-1]))
+        raise Ended(Status.FILE,
+                    'line %d: expected the length of the body at the end, as in `%s .. 62`, got '
+                    '%r; --help shows how a shell takes bodies from files'
+                    % (number, words[0], words[-1]))
     body = stream.read(int(words[-1]))
     if len(body) < int(words[-1]):
         raise Ended(Status.FILE,

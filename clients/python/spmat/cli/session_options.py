@@ -28,13 +28,19 @@ def add_session_options(command: argparse.ArgumentParser) -> None:
                        help='the budget, 0 to 2^62, also 1e9 (default: 2^62)')
     group.add_argument('--program', metavar='PATH',
                        help='the program (default: the variable SPMAT, then `spmat` on the PATH)')
-    group.add_argument('--quiet', action='store_true', help='no progress, also on a terminal, and no word on which columns were read')
+    group.add_argument('--quiet', action='store_true',
+                       help='no progress, also on a terminal, and no word on which columns were '
+                       'read')
     group = command.add_argument_group('a server in place of a process of its own')
-    group.add_argument('--connect', type=address, metavar='HOST:PORT', help='where it listens; a word with a slash is a socket file; '
-                       'spmat://USER@HOST:PORT is a gateway, whose token is in the variable SPMAT_TOKEN')
+    group.add_argument('--connect', type=address, metavar='HOST:PORT',
+                       help='where it listens; a word with a slash is a socket file; '
+                       'spmat://USER@HOST:PORT is a gateway, whose token is in the '
+                       'variable SPMAT_TOKEN')
     group.add_argument('--tls', action='store_true',
                        help='speak TLS; the name in the certificate has to be HOST')
-    group.add_argument('--cacert', metavar='FILE', help='who signs the server\'s certificate (default: those the system trusts)')
+    group.add_argument('--cacert', metavar='FILE',
+                       help='who signs the server\'s certificate (default: those the system '
+                       'trusts)')
     group.add_argument('--cert', metavar='FILE',
                        help='the certificate of this client, where the server asks for one')
     group.add_argument('--key', metavar='FILE', help='its key, where that is in a file of its own')

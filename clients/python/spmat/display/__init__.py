@@ -1,1 +1,2 @@
-"""Matrices, operators and sessions as notebooks show them, and what pictures of `spmat.draw` are made of."""
+"""Matrices, operators and sessions as notebooks show them, and what pictures of `spmat.draw` are
+made of."""

@@ -214,7 +214,8 @@ def draw_columns(G: Matrix, at: Mapping[int, int], target: Target,
             bend = .25 if x == u else .12 if is_directed and (j, i) in pairs else 0
             bend *= 1 if is_directed or y > v else -1
             look = look._replace(bend=bend, arrow=is_directed)
-            pictures.draw_edge(ax, ((x, y), (u, v)), look, (room, room), 1 + bool(ways & marked) / 2)
+            pictures.draw_edge(ax, ((x, y), (u, v)), look, (room, room),
+                               1 + bool(ways & marked) / 2)
     draw_leveled_dots(ax, G, positions, at)
     ax.set_xticks(range(deepest + 1))
     ax.set_xlabel('level')

@@ -1,14 +1,17 @@
-"""What a notebook shows of matrices, operators, budgets and runs: HTML without scripts, which `_repr_html_` gives.
+"""What a notebook shows of matrices, operators, budgets and runs: HTML without scripts, which
+`_repr_html_` gives.
 
-A matrix that waits is run for it, at the price that its job has reserved. Up to 50,000 entries come to the client; of more the server is asked
-for the corner and counts the raster (3 jobs, 2 runs), and where the budget refuses that, the sizes alone are shown. Matrices in row blocks
-are in `blocks.html`.
+A matrix that waits is run for it, at the price that its job has reserved. Up to 50,000 entries come
+to the client; of more the server is asked for the corner and counts the raster (3 jobs, 2 runs),
+and where the budget refuses that, the sizes alone are shown. Matrices in row blocks are in
+`blocks.html`.
 """
 from __future__ import annotations
 
 import html
 import math
-from typing import TYPE_CHECKING, Any, Dict, Iterator, List, Mapping, NamedTuple, Optional, Sequence, Tuple
+from typing import (TYPE_CHECKING, Any, Dict, Iterator, List, Mapping, NamedTuple, Optional,
+                    Sequence, Tuple)
 
 from ..errors import SpmatError
 from ..metadata import without_names
@@ -22,7 +25,8 @@ if TYPE_CHECKING:
     from ..operators import Operator, Semiring
     from ..operators.diagnostics import Check, Listing
 
-CORNER, CELLS, SIDE = 8, 48, 144                   # rows and columns of the corner, cells of the raster, pixels of its side
+# rows and columns of the corner, cells of the raster, pixels of its side
+CORNER, CELLS, SIDE = 8, 48, 144
 SHADES = 8                                         # of cells of the raster
 FEW = 50_000
 CELL = 'text-align:right;padding:1px 6px;white-space:nowrap;border:1px solid #ddd'
@@ -46,11 +50,13 @@ def table(heads: Sequence[Any], rows: Sequence[Sequence[Any]]) -> str:
     top = ''.join('<th style="%s">%s</th>' % (HEAD, text_of(head)) for head in heads)
     body = ''.join('<tr><th style="%s">%s</th>%s</tr>' % (HEAD, text_of(row[0]), ''.join(
         '<td style="%s">%s</td>' % (CELL, text_of(cell)) for cell in row[1:])) for row in rows)
-    return '<table style="border-collapse:collapse;font-size:90%%;font-family:monospace"><tr>%s</tr>%s</table>' % (top, body)
+    style = 'border-collapse:collapse;font-size:90%;font-family:monospace'
+    return '<table style="%s"><tr>%s</tr>%s</table>' % (style, top, body)
 
 
 def matrix(shown: 'Matrix') -> str:
-    """A matrix: its sizes and entries, what is known of it, a corner with values, and where its entries are."""
+    """A matrix: its sizes and entries, what is known of it, a corner with values, and where its
+    entries are."""
     about = [sizes(shown)]
     try:
         about.append('%s entries' % format(shown.nvals, ','))
@@ -61,7 +67,8 @@ def matrix(shown: 'Matrix') -> str:
         found = few(shown) if shown.nvals <= FEW else many(shown)
     except SpmatError as fault:
         return headed('Matrix', about, '<div>%s</div>' % text_of(fault))
-    return headed('Matrix', about, beside(corner(shown, values_of(shown, found.corner)), raster(shown.shape, found.raster)))
+    return headed('Matrix', about, beside(corner(shown, values_of(shown, found.corner)),
+                                          raster(shown.shape, found.raster)))
 
 
 def mask(shown: 'Mask') -> str:
@@ -70,7 +77,8 @@ def mask(shown: 'Mask') -> str:
     told = 'no entry' if shown.complement else 'an entry'
     if shown.value:
         told = 'no entry, or 0' if shown.complement else 'an entry that isn\'t 0'
-    about = [sizes(of), 'where %s has %s' % (text_of(of.name) if of.in_one_place else 'the matrix', told)]
+    about = [sizes(of), 'where %s has %s' % (text_of(of.name) if of.in_one_place else 'the matrix',
+                                             told)]
     if not of.in_one_place:
         return headed('Mask', about, '')
     try:
@@ -78,7 +86,9 @@ def mask(shown: 'Mask') -> str:
     except SpmatError as fault:
         return headed('Mask', about, '<div>%s</div>' % text_of(fault))
     cells = [(i, j) for i in range(min(CORNER, of.nrows)) for j in range(min(CORNER, of.ncols))]
-    open_ = {at: 1 for at in cells if (at in found.corner and not (shown.value and found.corner[at] == 0)) != shown.complement}
+    open_ = {at: 1 for at in cells
+             if (at in found.corner and not (shown.value and found.corner[at] == 0))
+             != shown.complement}
     # the raster is that of the matrix, so beside a complement it would show the contrary
     parts = [corner(of, open_)] + ([] if shown.complement else [raster(of.shape, found.raster)])
     return headed('Mask', about, beside(*parts))
@@ -86,15 +96,19 @@ def mask(shown: 'Mask') -> str:
 
 def semiring(shown: 'Semiring') -> str:
     """A semiring: its two operators, with their instructions."""
-    rows = [[part, op.name or 'of its own', ' ; '.join(line for _, line in op.slots()) if op.text is not None else '%d slots of code'
-             % (len(op.code or b'') // 8)] for part, op in (('add', shown.add), ('mul', shown.mul))]
-    return '<div><b>Semiring</b> %s%s</div>' % (text_of('%s_%s' % (shown.add.name or '?', shown.mul.name or '?')),
+    rows = [[part, op.name or 'of its own', ' ; '.join(line for _, line in op.slots())
+             if op.text is not None else '%d slots of code' % (len(op.code or b'') // 8)]
+            for part, op in (('add', shown.add), ('mul', shown.mul))]
+    return '<div><b>Semiring</b> %s%s</div>' % (text_of('%s_%s'
+                                                        % (shown.add.name or '?',
+                                                           shown.mul.name or '?')),
                                                 table(['', 'operator', 'instructions'], rows))
 
 
 def semirings(uses: Dict[str, str]) -> str:
     """What semirings there are, and some of them with what they are for."""
-    return '<div><b>Semirings</b> of any two binary operators, joined by _%s</div>' % table(['', 'what a product tells'], list(uses.items()))
+    return '<div><b>Semirings</b> of any two binary operators, joined by _%s</div>' % table(
+        ['', 'what a product tells'], list(uses.items()))
 
 
 def sizes(shown: 'Held') -> str:
@@ -105,13 +119,16 @@ def sizes(shown: 'Held') -> str:
 def known(shown: 'Held') -> List[str]:
     """What is known of a matrix beside its entries."""
     told = ['undirected'] if shown.directed is False else ['directed'] if shown.directed else []
-    told += ['unit %s' % shown.unit] if shown.unit != 1 else ['values are vertices'] if shown.notes.value_names is not None else []
-    return told + (['named'] if shown.row_nodes is not None or shown.column_nodes is not None else [])
+    told += (['unit %s' % shown.unit] if shown.unit != 1 else ['values are vertices']
+             if shown.notes.value_names is not None else [])
+    return told + (['named'] if shown.row_nodes is not None or shown.column_nodes is not None
+                   else [])
 
 
 def headed(kind: str, about: Sequence[str], rest: str) -> str:
     """A line about a matrix, and what stands below it."""
-    return '<div><div style="margin-bottom:4px"><b>%s</b> %s</div>%s</div>' % (kind, ', '.join(about), rest)
+    return '<div><div style="margin-bottom:4px"><b>%s</b> %s</div>%s</div>' % (
+        kind, ', '.join(about), rest)
 
 
 def beside(*parts: str) -> str:
@@ -138,25 +155,29 @@ def _cell(at: int, count: int) -> int:
 def many(shown: 'Matrix') -> Shown:
     """What is shown of a matrix of many entries: by one job the corner, by two the raster."""
     session, (nrows, ncols) = shown.session, shown.shape
-    rows = without_names(session.from_coo([_cell(i, nrows) for i in range(nrows)], range(nrows), 1, min(CELLS, nrows), nrows))
-    columns = without_names(session.from_coo(range(ncols), [_cell(j, ncols) for j in range(ncols)], 1, ncols, min(CELLS, ncols)))
+    rows = without_names(session.from_coo([_cell(i, nrows) for i in range(nrows)], range(nrows), 1,
+                                          min(CELLS, nrows), nrows))
+    columns = without_names(session.from_coo(range(ncols), [_cell(j, ncols) for j in range(ncols)],
+                                             1, ncols, min(CELLS, ncols)))
     near, counts = first_cells(shown), rows.mxm(shown, 'plus_pair').mxm(columns, 'plus_first')
     return Shown(near.to_dict(), counts.to_dict())
 
 
 def first_cells(shown: 'Matrix') -> 'Matrix':
-    """The job that gives the corner's entries: a product of ones with the first rows, under a mask of the first columns. It makes a call
-    for each entry of the corner alone."""
+    """The job that gives the corner's entries: a product of ones with the first rows, under a mask
+    of the first columns. It makes a call for each entry of the corner alone."""
     session, height, width = shown.session, min(CORNER, shown.nrows), min(CORNER, shown.ncols)
     first = without_names(session.from_coo(range(height), range(height), 1, height, shown.nrows))
-    where = without_names(session.from_coo([i for i in range(height) for _ in range(width)], [*range(width)] * height, 1, height, shown.ncols))
+    where = without_names(session.from_coo([i for i in range(height) for _ in range(width)],
+                                           [*range(width)] * height, 1, height, shown.ncols))
     return first.mxm(shown, 'any_second', mask=where.S)
 
 
 def values_of(shown: 'Held', near: Cells) -> Dict[Tuple[int, int], str]:
     """What stored values stand for, as text."""
     vertices = shown.notes.value_names
-    return {at: to_text(value, shown.unit) if vertices is None else str(vertices[value]) for at, value in near.items()}
+    return {at: to_text(value, shown.unit) if vertices is None else str(vertices[value])
+            for at, value in near.items()}
 
 
 def corner(shown: 'Held', near: Mapping[Tuple[int, int], Any]) -> str:
@@ -165,27 +186,36 @@ def corner(shown: 'Held', near: Mapping[Tuple[int, int], Any]) -> str:
     first: Sequence[Any] = shown.row_nodes or range(shown.nrows)
     second: Sequence[Any] = shown.column_nodes or range(shown.ncols)
     more = ['..'] if shown.ncols > CORNER else []
-    body: List[List[Any]] = [[first[i], *(near.get((i, j), '') for j in columns), *more] for i in rows]
+    body: List[List[Any]] = [[first[i], *(near.get((i, j), '') for j in columns), *more]
+                             for i in rows]
     body += [['..', *('..' for _ in columns), *more]] if shown.nrows > CORNER else []
     return table(['', *(second[j] for j in columns), *more], body)
 
 
 def raster(shape: Tuple[int, int], counts: Cells) -> str:
-    """A square for each cell that has entries, the darker the more, by the logarithm of their number."""
+    """A square for each cell that has entries, the darker the more, by the logarithm of their
+    number."""
     rows, columns = (max(1, min(CELLS, side)) for side in shape)
     size = SIDE / max(rows, columns)
     most = math.log(max(counts.values(), default=1) + 1)
-    shades: Dict[int, List[str]] = {}              # a path for each shade, since a notebook keeps every byte of this
-    for (i, j), shade, width in _runs({at: math.ceil(SHADES * math.log(count + 1) / most) for at, count in counts.items()}):
+    # a path for each shade, since a notebook keeps every byte of this
+    shades: Dict[int, List[str]] = {}
+    for (i, j), shade, width in _runs({at: math.ceil(SHADES * math.log(count + 1) / most)
+                                       for at, count in counts.items()}):
         shades.setdefault(shade, []).append('M%d %dh%dv1h-%dz' % (j, i, width, width))
-    paths = ''.join('<path fill-opacity="%.2f" d="%s"/>' % (.3 + .7 * shade / SHADES, ''.join(parts)) for shade, parts in sorted(shades.items()))
-    return ('<svg width="%d" height="%d" viewBox="0 0 %d %d" preserveAspectRatio="none" style="border:1px solid #ddd;background:#fff" role="img" '
-            'aria-label="where the entries are"><g fill="#1f4e79" shape-rendering="crispEdges">%s</g></svg>'
+    paths = ''.join('<path fill-opacity="%.2f" d="%s"/>' % (.3 + .7 * shade / SHADES,
+                                                            ''.join(parts))
+                    for shade, parts in sorted(shades.items()))
+    return ('<svg width="%d" height="%d" viewBox="0 0 %d %d" preserveAspectRatio="none" '
+            'style="border:1px solid #ddd;background:#fff" role="img" aria-label="where the '
+            'entries '
+            'are"><g fill="#1f4e79" shape-rendering="crispEdges">%s</g></svg>'
             % (math.ceil(columns * size), math.ceil(rows * size), columns, rows, paths))
 
 
 def _runs(shades: Mapping[Tuple[int, int], int]) -> Iterator[Tuple[Tuple[int, int], int, int]]:
-    """Cells beside one another in a row that have one shade: the first, the shade, and how many they are."""
+    """Cells beside one another in a row that have one shade: the first, the shade, and how many
+    they are."""
     start, shade, width = (-1, -1), 0, 0
     for (i, j), next_shade in sorted(shades.items()):
         if width and (i, j) == (start[0], start[1] + width) and next_shade == shade:
@@ -204,50 +234,68 @@ def operator(op: 'Operator') -> str:
     shown = diagnostics.list_operator(op)
     if shown is not None:
         return listing(shown)
-    return '<div><b>%s operator</b> %s%s</div>' % (text_of(op.kind), text_of(op.name or ''), code(op.origin()[1]))
+    return '<div><b>%s operator</b> %s%s</div>' % (text_of(op.kind), text_of(op.name or ''),
+                                                   code(op.origin()[1]))
 
 
 def code(text: str) -> str:
     """Lines of a program."""
-    return '<pre style="margin:4px 0;text-align:left;white-space:pre-wrap;overflow-wrap:anywhere">%s</pre>' % text_of(text.strip('\n'))
+    return ('<pre style="margin:4px '
+            '0;text-align:left;white-space:pre-wrap;overflow-wrap:anywhere">%s</pre>'
+            % text_of(text.strip('\n')))
 
 
 def listing(shown: 'Listing') -> str:
-    """An operator's source beside its instructions, with what is known of the registers before each."""
+    """An operator's source beside its instructions, with what is known of the registers before
+    each."""
     from ..operators import diagnostics
     heads, *rows = shown.columns()
-    known = '<div>%s%s</div>' % (table(heads, rows), '<small>%s</small>' % text_of(diagnostics.KNOWN))
-    about = '%s<div style="color:#1f4e79">%s</div>' % (beside(code(shown.source), known), text_of(diagnostics.steps(shown.operator)))
+    known = '<div>%s%s</div>' % (table(heads, rows),
+                                 '<small>%s</small>' % text_of(diagnostics.KNOWN))
+    about = '%s<div style="color:#1f4e79">%s</div>' % (beside(code(shown.source), known),
+                                                       text_of(diagnostics.steps(shown.operator)))
     return '<div><b>%s operator</b> %s <small>from %s</small>%s</div>' % (
-        text_of(shown.operator.kind), text_of(shown.operator.name or ''), text_of(shown.language), about)
+        text_of(shown.operator.kind), text_of(shown.operator.name or ''), text_of(shown.language),
+        about)
 
 
 def check(found: 'Check') -> str:
-    """An operator beside what the verifier knows before each instruction; the one that is refused last."""
+    """An operator beside what the verifier knows before each instruction; the one that is refused
+    last."""
     heads = ['slot', 'instruction'] + ['R%d' % number for number in range(11)]
-    rows = [row if len(row) == len(heads) else [*row[:2], 'no way leads here', *[''] * 10] for row in found.rows]
-    said = 'at most %d steps a call' % found.instructions if found.refusal is None else text_of(found.refusal)
+    rows = [row if len(row) == len(heads) else [*row[:2], 'no way leads here', *[''] * 10]
+            for row in found.rows]
+    said = ('at most %d steps a call' % found.instructions if found.refusal is None
+            else text_of(found.refusal))
     colour = '#1f4e79' if found.accepted else '#b5651d'
-    return '<div><b>%s operator</b> %s <span style="color:%s">%s</span>%s<div style="color:%s">%s</div></div>' % (
-        text_of(found.operator.kind), text_of(found.operator.name or ''), colour, 'accepted' if found.accepted else 'refused',
-        table(heads, rows) if rows else '', colour, said)
+    return ('<div><b>%s operator</b> %s <span style="color:%s">%s</span>%s<div '
+            'style="color:%s">%s</div></div>' % (
+                text_of(found.operator.kind), text_of(found.operator.name or ''), colour,
+                'accepted' if found.accepted else 'refused', table(heads, rows) if rows else '',
+                colour, said))
 
 
 def budget(told: 'Budget') -> str:
     """A budget, with a bar of what is spent and reserved."""
     whole = max(1, sum(told))
-    bar = ''.join('<span style="display:inline-block;height:8px;width:%.1fpx;background:%s"></span>' % (240 * part / whole, colour)
-                  for part, colour in ((told.spent, '#1f4e79'), (told.reserved, '#b5651d'), (told.left, '#c9d3dd')))
+    bar = ''.join('<span style="display:inline-block;height:8px;width:%.1fpx;background:%s"></span>'
+                  % (240 * part / whole, colour)
+                  for part, colour in ((told.spent, '#1f4e79'), (told.reserved, '#b5651d'),
+                                       (told.left, '#c9d3dd')))
     return '<div><b>Budget</b> %s left, %s reserved, %s spent<div>%s</div></div>' % (
         *(format(number, ',') for number in (told.left, told.reserved, told.spent)), bar)
 
 
 def runs(jobs: 'Sequence[JobResult]') -> str:
     """The jobs of a run: of each its result, its price and its steps."""
-    rows = [[at, job.form, _size(job.matrix), format(job.price, ','), format(job.steps, ',')] for at, job in enumerate(jobs, 1)]
+    rows = [[at, job.form, _size(job.matrix), format(job.price, ','), format(job.steps, ',')]
+            for at, job in enumerate(jobs, 1)]
     total = format(sum(job.steps for job in jobs), ',')
-    return '<div><b>Run</b> of %d jobs, %s steps%s</div>' % (len(jobs), total, table(['', 'form', 'result', 'price', 'steps'], rows))
+    return '<div><b>Run</b> of %d jobs, %s steps%s</div>' % (len(jobs), total,
+                                                             table(['', 'form', 'result', 'price',
+                                                                    'steps'], rows))
 
 
 def _size(made: Optional['Matrix']) -> str:
-    return 'held by nobody' if made is None else '%dx%d, %s entries' % (*made.shape, format(made.nvals, ','))
+    return ('held by nobody' if made is None else '%dx%d, %s entries'
+            % (*made.shape, format(made.nvals, ',')))

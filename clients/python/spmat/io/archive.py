@@ -1,7 +1,8 @@
 """Files that keep matrices with their names, so that a later session goes on with them.
 
-Such a file is a zip archive: `matrices.json` says of each matrix what it is called, the names of its vertices and what is known of it, and
-in which member its entries are, as Matrix Market text. Other programs can write and read it, too.
+Such a file is a zip archive: `matrices.json` says of each matrix what it is called, the names of
+its vertices and what is known of it, and in which member its entries are, as Matrix Market text.
+Other programs can write and read it, too.
 """
 from __future__ import annotations
 
@@ -34,48 +35,61 @@ from .time_values import UNITS
 
 CONTENTS = 'matrices.json'
 VERSION = 2                                        # 1 has no units, and no values that are vertices
-KINDS = (str, int, float, bool, type(None))        # of names, beside dates, and tuples and frozensets of these
+# of names, beside dates, and tuples and frozensets of these
+KINDS = (str, int, float, bool, type(None))
 TIMES = ('date', 'datetime', 'datetime64', 'Timestamp')
 DATETIME64 = re.compile(r'[<>=|]?M8\[\d{0,4}[a-zA-Z]{1,2}\]')
-UNIT = re.compile('[1-9][0-9]{0,99}(/[1-9][0-9]{0,99})?')              # a longer one would take long to make a number of
+# a longer one would take long to make a number of
+UNIT = re.compile('[1-9][0-9]{0,99}(/[1-9][0-9]{0,99})?')
 HEAD = 1 << 16                                     # bytes in which the sizes of a matrix stand
-FEW_CONTENTS = 1 << 22                             # bytes of `matrices.json` that may be packed as well as they like
+# bytes of `matrices.json` that may be packed as well as they like
+FEW_CONTENTS = 1 << 22
 
 
 def save(path: Any, matrices: Mapping[str, Held]) -> None:
-    """Writes matrices with their names; a file that is there is replaced at the end. TypeError, before anything is written, for a name of a
-    vertex that is no text, number, date, or tuple or frozenset of these."""
+    """Writes matrices with their names; a file that is there is replaced at the end. TypeError,
+    before anything is written, for a name of a vertex that is no text, number, date, or tuple or
+    frozenset of these."""
     contents: Dict[str, Any] = {'spmat': 1, 'matrices': {}}
     for number, (name, matrix) in enumerate(matrices.items()):
         contents['matrices'][name] = {
             'entries': '%d.mtx' % number, 'rows': _encoded(matrix.notes.rows, name),
-            'columns': 'rows' if matrix.notes.columns is matrix.notes.rows else _encoded(matrix.notes.columns, name),
-            'unnamed': [matrix.notes.unnamed_rows.name.lower(), matrix.notes.unnamed_columns.name.lower()],
-            'directed': matrix.notes.directed, 'weighted': matrix.notes.weighted, 'source': matrix.notes.source}
-        if matrix.unit != 1:                       # a client that knows no units doesn't read the file
+            'columns': 'rows' if matrix.notes.columns is matrix.notes.rows
+            else _encoded(matrix.notes.columns, name),
+            'unnamed': [matrix.notes.unnamed_rows.name.lower(),
+                        matrix.notes.unnamed_columns.name.lower()],
+            'directed': matrix.notes.directed, 'weighted': matrix.notes.weighted,
+            'source': matrix.notes.source}
+        if matrix.unit != 1:
+            # a client that knows no units doesn't read the file
             contents['matrices'][name]['unit'], contents['spmat'] = str(matrix.unit), VERSION
         if matrix.notes.sides:
             contents['matrices'][name]['sides'] = matrix.notes.sides
         if matrix.notes.value_names is not None:
-            vertices = 'rows' if matrix.notes.value_names is matrix.notes.rows else _encoded(matrix.notes.value_names, name)
+            vertices = ('rows' if matrix.notes.value_names is matrix.notes.rows
+                        else _encoded(matrix.notes.value_names, name))
             contents['matrices'][name]['values'], contents['spmat'] = vertices, VERSION
-    with replacing(os.fspath(path)) as part, zipfile.ZipFile(part, 'w', zipfile.ZIP_DEFLATED, compresslevel=1) as file:
+    with replacing(os.fspath(path)) as part, \
+            zipfile.ZipFile(part, 'w', zipfile.ZIP_DEFLATED, compresslevel=1) as file:
         file.writestr(CONTENTS, json.dumps(contents, ensure_ascii=False))
         for number, matrix in enumerate(matrices.values()):
             file.writestr('%d.mtx' % number, matrix.to_text())
 
 
 class Member(NamedTuple):
-    """A matrix of a file: what it is called, which member has its entries, and what is known of it."""
+    """A matrix of a file: what it is called, which member has its entries, and what is known of
+    it."""
     name: str
     entries: str
     notes: Notes
 
 
 def read(path: Any) -> Iterator[Tuple[str, bytes, Notes]]:
-    """The name of each matrix, its text and what is known of it. ReadError where the file is none that `save` wrote, or is damaged:
-    what it says of all matrices is held against their sizes before the first of them is given."""
-    with open(path, 'rb') as plain_file, _faults_of(os.fspath(path)), zipfile.ZipFile(plain_file) as file:
+    """The name of each matrix, its text and what is known of it. ReadError where the file is none
+    that `save` wrote, or is damaged: what it says of all matrices is held against their sizes
+    before the first of them is given."""
+    with open(path, 'rb') as plain_file, _faults_of(os.fspath(path)), \
+            zipfile.ZipFile(plain_file) as file:
         for member in list(_members(file)):
             text = file.read(member.entries)
             if member.notes.value_names is not None:
@@ -91,14 +105,17 @@ def _faults_of(file: str) -> Iterator[None]:
     except (ReadError, MemoryError):
         raise
     except ImportError as fault:
-        raise ReadError(file, None, 'the names of its vertices are those of %s, which is not installed' % fault.name) from None
+        raise ReadError(file, None,
+                        'the names of its vertices are those of %s, which is not installed'
+                        % fault.name) from None
     except (TextRefused, TooLarge) as fault:
         raise ReadError(file, None, str(fault)) from None
-    except (zipfile.BadZipFile, zlib.error, lzma.LZMAError, struct.error, LookupError, ValueError, AttributeError, TypeError, EOFError,
-            RuntimeError, OverflowError, OSError) as fault:
+    except (zipfile.BadZipFile, zlib.error, lzma.LZMAError, struct.error, LookupError, ValueError,
+            AttributeError, TypeError, EOFError, RuntimeError, OverflowError, OSError) as fault:
         if isinstance(fault, SpmatError):
             raise
-        raise ReadError(file, None, 'this is no file that save() wrote, or it is damaged (%s)' % fault) from None
+        raise ReadError(file, None, 'this is no file that save() wrote, or it is damaged (%s)'
+                        % fault) from None
 
 
 def _members(file: zipfile.ZipFile) -> Iterator[Member]:
@@ -106,13 +123,15 @@ def _members(file: zipfile.ZipFile) -> Iterator[Member]:
     _check_packed(file.getinfo(CONTENTS), FEW_CONTENTS)
     contents = _typed(json.loads(file.read(CONTENTS)), dict, CONTENTS)
     if contents.get('spmat') not in (1, VERSION):
-        raise ReadError(file.filename or '', None, 'its version is %r, and this client reads versions 1 and %d' % (
-            contents.get('spmat'), VERSION))
+        raise ReadError(file.filename or '', None,
+                        'its version is %r, and this client reads versions 1 and %d' % (
+                            contents.get('spmat'), VERSION))
     for called, about in _typed(contents['matrices'], dict, 'matrices').items():
         entries = _typed(_typed(about, dict, called)['entries'], str, 'entries')
         info = file.getinfo(entries)
         if info.file_size > MOST_TEXT:
-            raise ValueError('the text of %s has %d bytes, and a session takes %d' % (called, info.file_size, MOST_TEXT))
+            raise ValueError('the text of %s has %d bytes, and a session takes %d'
+                             % (called, info.file_size, MOST_TEXT))
         _check_packed(info, SMALL)
         with file.open(entries) as text:
             sizes = matrix_market.Reader(io.BytesIO(text.read(HEAD)))
@@ -128,7 +147,9 @@ def _check_packed(info: zipfile.ZipInfo, few: int) -> None:
 def _typed(thing: Any, kind: Any, what: str) -> Any:
     """A thing of the kind that it has to be of. ValueError where it isn't."""
     if not isinstance(thing, kind):
-        raise ValueError('%s: expected %s, got %.40r' % (what, getattr(kind, '__name__', 'another kind'), thing))
+        raise ValueError('%s: expected %s, got %.40r' % (what,
+                                                         getattr(kind, '__name__', 'another kind'),
+                                                         thing))
     return thing
 
 
@@ -137,7 +158,8 @@ def _notes(about: Dict[str, Any], shape: Tuple[int, int]) -> Notes:
     rows = _decoded(about['rows'], shape[0])
     columns = _decoded(about['columns'], shape[1], rows)
     vertices = _decoded(about.get('values'), None, rows)
-    words = _typed(about.get('unnamed', ['positions', 'positions']), list, 'unnamed')         # which older files don't say
+    # which older files don't say
+    words = _typed(about.get('unnamed', ['positions', 'positions']), list, 'unnamed')
     unnamed = [Unnamed[_typed(word, str, 'unnamed').upper()] for word in words]
     for what in ('directed', 'weighted'):
         if about[what] is not None:
@@ -145,8 +167,10 @@ def _notes(about: Dict[str, Any], shape: Tuple[int, int]) -> Notes:
     unit = about.get('unit', '1')
     if unit not in UNITS and UNIT.fullmatch(str(unit)) is None:
         raise ValueError('a unit is a number above 0, not %.40r' % (unit,))
-    return Notes(rows, columns, about['directed'], about['weighted'], _typed(about['source'], str, 'source'), as_unit(unit if unit in UNITS else Fraction(unit)),
-                 vertices, *_two(unnamed), _sides(about.get('sides', 0)))
+    return Notes(rows, columns, about['directed'], about['weighted'],
+                 _typed(about['source'], str, 'source'),
+                 as_unit(unit if unit in UNITS else Fraction(unit)), vertices, *_two(unnamed),
+                 _sides(about.get('sides', 0)))
 
 
 def _sides(given: Any) -> int:
@@ -166,14 +190,17 @@ def _check_vertices(member: Member, text: bytes) -> None:
     triples, _ = matrix_market.parse(text)
     count = len(member.notes.value_names or ())
     if any(not 0 <= value < count for value in triples.values):
-        raise ValueError('the values of %s are vertices, and there are %d of these' % (member.name, count))
+        raise ValueError('the values of %s are vertices, and there are %d of these'
+                         % (member.name, count))
 
 
 def _encoded(names: Optional[Nodes], matrix: str) -> Any:
-    """Names as JSON has them: a tuple as a list; of whole numbers that follow one another the first and their number."""
+    """Names as JSON has them: a tuple as a list; of whole numbers that follow one another the first
+    and their number."""
     if names is None:
         return None
-    if len(names) > 1 and type(names[0]) is int and names == list(range(names[0], names[0] + len(names))) and set(map(type, names)) == {int}:
+    if len(names) > 1 and type(names[0]) is int and names == list(
+        range(names[0], names[0] + len(names))) and set(map(type, names)) == {int}:
         return {'first': names[0], 'count': len(names)}
     return [_encoded_name(name, matrix) for name in names]
 
@@ -187,18 +214,22 @@ def _encoded_name(name: Any, matrix: str) -> Any:
     if kind in TIMES and type(name).__module__.partition('.')[0] in ('datetime', 'numpy', 'pandas'):
         if kind == 'datetime64':
             return {kind: str(name), 'unit': name.dtype.str}
-        zone = getattr(getattr(name, 'tz', None), 'key', None) or getattr(getattr(name, 'tz', None), 'zone', None)
+        zone = (getattr(getattr(name, 'tz', None), 'key', None)
+                or getattr(getattr(name, 'tz', None), 'zone', None))
         return {kind: name.isoformat(), **({'zone': zone} if zone else {})}
-    name = name.item() if hasattr(name, 'item') and hasattr(name, 'dtype') else name      # a number of numpy
+    # a number of numpy
+    name = (name.item() if hasattr(name, 'item') and hasattr(name, 'dtype') else name)
     if type(name) not in KINDS:
-        raise TypeError("the vertex %r of %s can't be saved: names are text, numbers, dates, or tuples and frozensets of these; G.nodes = [str(name) "
-                        'for name in G.nodes] makes text of them' % (name, matrix))
+        raise TypeError(
+            "the vertex %r of %s can't be saved: names are text, numbers, dates, or tuples and "
+            "frozensets of these; G.nodes = [str(name) "
+            'for name in G.nodes] makes text of them' % (name, matrix))
     return name
 
 
 def _decoded(names: Any, count: Optional[int], rows: Optional[Nodes] = None) -> Optional[Nodes]:
-    """Names of so many vertices, or of any number of them; those of the rows where it says so. ValueError where there are others, or
-    one stands twice."""
+    """Names of so many vertices, or of any number of them; those of the rows where it says so.
+    ValueError where there are others, or one stands twice."""
     if names == 'rows':
         if rows is not None and count not in (None, len(rows)):
             raise ValueError('%d names for %s vertices' % (len(rows), count))
@@ -223,7 +254,8 @@ def _decoded(names: Any, count: Optional[int], rows: Optional[Nodes] = None) -> 
 
 def _decoded_name(name: Any) -> Any:
     if isinstance(name, dict):
-        return frozenset(map(_decoded_name, name['frozenset'])) if 'frozenset' in name else _decoded_time(name)
+        return (frozenset(map(_decoded_name, name['frozenset'])) if 'frozenset' in name
+                else _decoded_time(name))
     return tuple(map(_decoded_name, name)) if isinstance(name, list) else name
 
 
@@ -242,11 +274,13 @@ def _decoded_time(name: Dict[str, str]) -> Any:
 
 
 def chosen(named: Mapping[str, Held], given: Mapping[str, Held]) -> Dict[str, Held]:
-    """The matrices to be saved: those that are given, or those that have a name. TypeError for what is no matrix, ValueError where there
-    are none."""
+    """The matrices to be saved: those that are given, or those that have a name. TypeError for what
+    is no matrix, ValueError where there are none."""
     wrong: List[str] = [name for name, matrix in given.items() if not isinstance(matrix, Held)]
     if wrong:
         raise TypeError('%s is no matrix, but %s' % (wrong[0], type(given[wrong[0]]).__name__))
     if not given and not named:
-        raise ValueError('no matrix has a name: save(path, A=A, B=B) names them here, name="A" where they are made')
+        raise ValueError(
+            'no matrix has a name: save(path, A=A, B=B) names them here, name="A" where they '
+            'are made')
     return dict(given or named)

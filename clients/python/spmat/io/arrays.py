@@ -1,5 +1,5 @@
-"""What numpy, pandas and scipy hand over, as plain arrays and lists: columns by position, tables with their labels. What can't be taken
-for either is refused by what it is."""
+"""What numpy, pandas and scipy hand over, as plain arrays and lists: columns by position, tables
+with their labels. What can't be taken for either is refused by what it is."""
 from __future__ import annotations
 
 import math
@@ -11,13 +11,15 @@ import numpy
 if TYPE_CHECKING:
     from ..metadata import Nodes
 
-NO_COLUMN = {'DataFrame': 'has two dimensions: name one of its columns, frame["a"]', 'dict': 'has keys beside values: write list(..) of '
-             'either', 'set': 'has no order: write sorted(..)', 'frozenset': 'has no order: write sorted(..)',
+NO_COLUMN = {'DataFrame': 'has two dimensions: name one of its columns, frame["a"]',
+             'dict': 'has keys beside values: write list(..) of either',
+             'set': 'has no order: write sorted(..)', 'frozenset': 'has no order: write sorted(..)',
              'str': 'is text', 'bytes': 'is text'}
 
 
 class Table(NamedTuple):
-    """The cells of a table, an array of two dimensions or a list of lists, and the names of its rows and columns."""
+    """The cells of a table, an array of two dimensions or a list of lists, and the names of its
+    rows and columns."""
     cells: Any
     rows: Optional[Nodes] = None
     columns: Optional[Nodes] = None
@@ -39,27 +41,36 @@ def is_series(thing: Any) -> bool:
 
 
 def is_many(values: Any) -> bool:
-    """Whether this is more than one number: what can be gone through, but for text, and arrays without a dimension."""
-    return hasattr(values, '__iter__') and not isinstance(values, (str, bytes)) and getattr(values, 'ndim', 1) != 0
+    """Whether this is more than one number: what can be gone through, but for text, and arrays
+    without a dimension."""
+    return (hasattr(values, '__iter__') and not isinstance(values, (str, bytes))
+            and getattr(values, 'ndim', 1) != 0)
 
 
 def plain_column(many: Any, what: str) -> Any:
-    """Numbers of one dimension as an array of numpy or a list, by position: of a column or an index of pandas what it holds, whatever its
-    labels are. TypeError for what has no order or more than one dimension, ValueError with the place where one is missing."""
+    """Numbers of one dimension as an array of numpy or a list, by position: of a column or an index
+    of pandas what it holds, whatever its labels are. TypeError for what has no order or more than
+    one dimension, ValueError with the place where one is missing."""
     if what in ('row', 'column') and _is_filter(many):
-        raise TypeError('%ss are whole numbers, not truth values: numpy.flatnonzero(array) gives the places of a filter' % what)
-    if type(many) in (list, tuple, range) or (isinstance(many, numpy.ndarray) and not _is_masked(many)):
+        raise TypeError(
+            '%ss are whole numbers, not truth values: numpy.flatnonzero(array) gives the places '
+            'of a filter' % what)
+    if type(many) in (list, tuple, range) or (isinstance(many, numpy.ndarray)
+                                              and not _is_masked(many)):
         return many
     if not is_many(many):
         raise TypeError('expected a list or an array of %ss, not %r' % (what, many))
     _check_column(many, what)
     if _is_masked(many) and many.mask.any():
-        raise ValueError('a %s is masked (entry %d): array.filled(0) gives it a value, array.compressed() leaves it out'
-                         % (what, int(many.mask.reshape(-1).argmax())))
+        raise ValueError(
+            'a %s is masked (entry %d): array.filled(0) gives it a value, array.compressed() '
+            'leaves it out' % (what, int(many.mask.reshape(-1).argmax())))
     if hasattr(many, 'to_numpy'):                  # a column, an index or an array of pandas
         gaps = getattr(many, 'isna', None)
         if gaps is not None and gaps().any():
-            raise ValueError('a %s is missing (entry %d): fillna(0) gives it a value, dropna() leaves it out' % (what, list(gaps()).index(True)))
+            raise ValueError(
+                'a %s is missing (entry %d): fillna(0) gives it a value, dropna() leaves it out'
+                % (what, list(gaps()).index(True)))
         found = many.to_numpy()
         return found if found.dtype.kind != 'O' else found.tolist()
     if hasattr(many, '__array__'):
@@ -70,7 +81,8 @@ def plain_column(many: Any, what: str) -> Any:
 def _is_filter(many: Any) -> bool:
     """Whether an array, or the first of a list, is a truth value."""
     kind = getattr(getattr(many, 'dtype', None), 'kind', '')
-    return kind == 'b' or (isinstance(many, (list, tuple)) and len(many) > 0 and isinstance(many[0], bool))
+    return (kind == 'b' or (isinstance(many, (list, tuple)) and len(many) > 0
+                            and isinstance(many[0], bool)))
 
 
 def _is_masked(thing: Any) -> bool:
@@ -78,7 +90,8 @@ def _is_masked(thing: Any) -> bool:
 
 
 def _check_column(many: Any, what: str) -> None:
-    """TypeError where this isn't a column of numbers but something else that can be gone through."""
+    """TypeError where this isn't a column of numbers but something else that can be gone
+    through."""
     from .exporters import Held
     if isinstance(many, Held):
         _refuse(what, 'a matrix', 'write A.to_list() of a column, or A.to_coo()')
@@ -94,11 +107,14 @@ def _refuse(what: str, kind: str, instead: str) -> NoReturn:
 
 
 def columns_of_frame(frame: Any) -> Tuple[Any, Any, Any]:
-    """The columns of a table of pandas, by position: rows, columns and values, which are 1 where there are two."""
+    """The columns of a table of pandas, by position: rows, columns and values, which are 1 where
+    there are two."""
     parts: List[Any] = [frame.iloc[:, place] for place in range(frame.shape[1])]
     if len(parts) not in (2, 3):
-        raise ValueError('expected a table of two or three columns (row, column, value), not of %d: from_dense takes a table of values, '
-                         'from_pandas_edgelist names the columns' % len(parts))
+        raise ValueError(
+            'expected a table of two or three columns (row, column, value), not of %d: '
+            'from_dense takes a table of values, from_pandas_edgelist names the columns'
+            % len(parts))
     return parts[0], parts[1], parts[2] if len(parts) == 3 else 1
 
 
@@ -108,11 +124,13 @@ def edges_of_frame(frame: Any) -> List[Tuple[Any, ...]]:
 
 
 def table_of(thing: Any) -> Table:
-    """A table: of pandas with its labels as names, an array of numpy, or rows of cells. One dimension is a column. TypeError for what is
-    no table, ValueError for more dimensions, and for a label that stands twice."""
+    """A table: of pandas with its labels as names, an array of numpy, or rows of cells. One
+    dimension is a column. TypeError for what is no table, ValueError for more dimensions, and for a
+    label that stands twice."""
     if is_frame(thing):
         rows, columns = _names_of(thing.index, 'row'), _names_of(thing.columns, 'column')
-        return Table(_cells_of(thing), rows, rows if rows is not None and columns is not None and list(rows) == list(columns) else columns)
+        return Table(_cells_of(thing), rows, rows if rows is not None and columns is not None
+                     and list(rows) == list(columns) else columns)
     if is_series(thing):
         return Table(_cells_of(thing.to_frame()), _names_of(thing.index, 'row'))
     _check_table(thing)
@@ -124,7 +142,8 @@ def table_of(thing: Any) -> Table:
     rows_ = list(thing)
     many = [is_many(row) for row in rows_]
     if any(many) and not all(many):
-        raise ValueError('a table is a list of rows, or a list of numbers, and row %d is %r' % (many.index(not many[0]), rows_[many.index(not many[0])]))
+        raise ValueError('a table is a list of rows, or a list of numbers, and row %d is %r'
+                         % (many.index(not many[0]), rows_[many.index(not many[0])]))
     return Table([list(row) for row in rows_] if any(many) else [[cell] for cell in rows_])
 
 
@@ -132,9 +151,12 @@ def _check_table(thing: Any) -> None:
     """TypeError where this is something else than a table."""
     from .exporters import Held
     if isinstance(thing, Held):
-        raise TypeError('expected a table, not a matrix: A.dup() copies it, s.adopt(A) takes one of another session')
+        raise TypeError(
+            'expected a table, not a matrix: A.dup() copies it, s.adopt(A) takes one of another '
+            'session')
     if hasattr(thing, 'tocoo'):
-        raise TypeError('expected a table, not a matrix of scipy.sparse: from_scipy_sparse takes it')
+        raise TypeError(
+            'expected a table, not a matrix of scipy.sparse: from_scipy_sparse takes it')
     if isinstance(thing, dict):
         raise TypeError('expected a table, not a dict: from_dicts takes {row: {column: value}}')
     if not is_many(thing) or isinstance(thing, (set, frozenset)):
@@ -146,7 +168,8 @@ def _names_of(labels: Any, what: str) -> Optional[Nodes]:
     """The labels of a table's side as names; None where these are its positions."""
     from ..metadata import Nodes, check_names
     if labels.isna().any() if type(labels).__name__ != 'MultiIndex' else False:
-        raise ValueError('a label of the %ss is missing: give it one, or frame.reset_index(drop=True)' % what)
+        raise ValueError(
+            'a label of the %ss is missing: give it one, or frame.reset_index(drop=True)' % what)
     names = labels.tolist()
     if names == list(range(len(names))) and all(type(name) is int for name in names):
         return None
@@ -156,10 +179,12 @@ def _names_of(labels: Any, what: str) -> Optional[Nodes]:
 
 
 def _cells_of(frame: Any) -> Any:
-    """The values of a table of pandas: an array, of objects where numpy has no kind for all of them."""
+    """The values of a table of pandas: an array, of objects where numpy has no kind for all of
+    them."""
     kinds = {getattr(kind, 'kind', 'O') for kind in frame.dtypes}
     extension = any(type(kind).__module__.split('.')[0] != 'numpy' for kind in frame.dtypes)
-    return frame.astype(object).to_numpy() if extension or not kinds <= {'i', 'b', 'f'} or len(kinds) > 1 else frame.to_numpy()
+    return (frame.astype(object).to_numpy() if extension or not kinds <= {'i', 'b', 'f'}
+            or len(kinds) > 1 else frame.to_numpy())
 
 
 def is_gap(cell: Any) -> bool:

@@ -1,4 +1,5 @@
-"""Triples from what callers have, looked at before anything is sent: lists, arrays of numpy, scipy.sparse."""
+"""Triples from what callers have, looked at before anything is sent: lists, arrays of numpy,
+scipy.sparse."""
 from __future__ import annotations
 
 import math
@@ -17,17 +18,21 @@ LEAST, MOST = -1 << 63, (1 << 63) - 1
 DUP_OP = 'dup_op= folds the values of a position that repeats'
 
 
-def checked(rows: Any, columns: Any, values: Any, nrows: Optional[int] = None, ncols: Optional[int] = None) -> Triples:
-    """Triples of whole numbers within 64 bits, as arrays, indices within the sizes. Sizes that aren't given are the least that fit.
-    `values` may be one number for all. TypeError for what is no number, ValueError for lengths that differ, values that aren't whole,
-    and what is out of range; the place is counted from 0."""
-    rows, columns = whole_array(plain_column(rows, 'row'), 'row'), whole_array(plain_column(columns, 'column'), 'column')
+def checked(rows: Any, columns: Any, values: Any, nrows: Optional[int] = None,
+            ncols: Optional[int] = None) -> Triples:
+    """Triples of whole numbers within 64 bits, as arrays, indices within the sizes. Sizes that
+    aren't given are the least that fit. `values` may be one number for all. TypeError for what is
+    no number, ValueError for lengths that differ, values that aren't whole, and what is out of
+    range; the place is counted from 0."""
+    rows, columns = whole_array(plain_column(rows, 'row'),
+                                'row'), whole_array(plain_column(columns, 'column'), 'column')
     if is_many(values):
         values = whole_array(plain_column(values, 'value'), 'value')
     else:
         values = numpy.full(len(rows), word(values, 'value'), numpy.int64)
     if not len(rows) == len(columns) == len(values):
-        raise ValueError('%d rows, %d columns and %d values' % (len(rows), len(columns), len(values)))
+        raise ValueError('%d rows, %d columns and %d values'
+                         % (len(rows), len(columns), len(values)))
     nrows = side(nrows, max(0, int(rows.max()) + 1) if len(rows) else 0, 'nrows')
     ncols = side(ncols, max(0, int(columns.max()) + 1) if len(columns) else 0, 'ncols')
     for what, many, most in (('row', rows, nrows - 1), ('column', columns, ncols - 1)):
@@ -38,15 +43,16 @@ def checked(rows: Any, columns: Any, values: Any, nrows: Optional[int] = None, n
 
 
 def _outside(what: str, number: int, least: int, most: int, at: int) -> ValueError:
-    """What is said of a number out of range: of an index below 0 no more than that, as the least size that fits may be none."""
+    """What is said of a number out of range: of an index below 0 no more than that, as the least
+    size that fits may be none."""
     if least == 0 and number < 0:
         return ValueError('%s %d is below 0 (entry %d)' % (what, number, at))
     return ValueError('%s %d is not in %d to %d (entry %d)' % (what, number, least, most, at))
 
 
 def columns_of(triples: Any) -> Tuple[Any, Any, Any]:
-    """The rows, columns and values of (row, column, value) or (row, column), whose value is 1; or of an array of numpy with these as
-    its columns."""
+    """The rows, columns and values of (row, column, value) or (row, column), whose value is 1; or
+    of an array of numpy with these as its columns."""
     if is_frame(triples):
         return columns_of_frame(triples)
     if isinstance(triples, numpy.ndarray) and triples.shape[1:] in ((2,), (3,)):
@@ -55,7 +61,9 @@ def columns_of(triples: Any) -> Tuple[Any, Any, Any]:
     lengths = {len(triple) for triple in many}
     if not lengths <= {2, 3}:
         at = next(at for at, triple in enumerate(many) if len(triple) not in (2, 3))
-        raise ValueError('a triple is (row, column, value), or (row, column) for a value of 1, not %r (entry %d)' % (many[at], at))
+        raise ValueError(
+            'a triple is (row, column, value), or (row, column) for a value of 1, not %r (entry %d)'
+            % (many[at], at))
     if lengths == {2, 3}:
         many = [(*triple, 1) if len(triple) == 2 else triple for triple in many]
     parts = tuple(zip(*many)) if many else ((), (), ())
@@ -63,10 +71,14 @@ def columns_of(triples: Any) -> Tuple[Any, Any, Any]:
 
 
 def list_edges(edges: Iterable[Any]) -> List[Any]:
-    """Edges as a list. TypeError for a dict, whose values would be lost, and for what has no order or no hash; ValueError for other lengths."""
+    """Edges as a list. TypeError for a dict, whose values would be lost, and for what has no order
+    or no hash; ValueError for other lengths."""
     if isinstance(edges, Mapping):
-        raise TypeError('edges are a list, and a dict would lose its values: from_edgelist([(*edge, value) for edge, value in edges.items()]) '
-                        'takes {(from, to): value}; networkx.from_dict_of_lists and from_dict_of_dicts take neighbours, and from_networkx the graph')
+        raise TypeError(
+            'edges are a list, and a dict would lose its values: from_edgelist([(*edge, value) '
+            'for edge, value in edges.items()]) takes {(from, to): value}; '
+            'networkx.from_dict_of_lists and from_dict_of_dicts take neighbours, and '
+            'from_networkx the graph')
     many: List[Any] = edges.tolist() if hasattr(edges, 'tolist') else list(edges)
     for at, edge in enumerate(many):
         if not hasattr(edge, '__getitem__') or len(edge) not in (2, 3):
@@ -76,7 +88,8 @@ def list_edges(edges: Iterable[Any]) -> List[Any]:
 
 
 def whole(number: Any, what: str = 'value') -> int:
-    """A number as an int: any integer, or a float that is one. TypeError for what is no number, ValueError for other floats."""
+    """A number as an int: any integer, or a float that is one. TypeError for what is no number,
+    ValueError for other floats."""
     try:
         return operator.index(number)
     except TypeError:
@@ -122,7 +135,8 @@ def whole_list(many: Iterable[Any], what: str) -> List[int]:
 def _whole_at(number: Any, what: str, at: int) -> int:
     """A number as an int; errors name its place."""
     if is_gap(number):
-        raise ValueError('a %s is missing: it is %s (entry %d)' % (what, 'nan' if isinstance(number, float) else repr(number), at))
+        raise ValueError('a %s is missing: it is %s (entry %d)'
+                         % (what, 'nan' if isinstance(number, float) else repr(number), at))
     try:
         return whole(number, what)
     except (TypeError, ValueError) as fault:
@@ -140,10 +154,11 @@ def side(given: Optional[int], least: int, what: str) -> int:
 
 
 def whole_array(many: Any, what: str) -> Any:
-    """One dimension of numbers as an array of int64. TypeError for what is no number, ValueError for more dimensions, for values
-    that aren't whole, and for those beyond 64 bits."""
+    """One dimension of numbers as an array of int64. TypeError for what is no number, ValueError
+    for more dimensions, for values that aren't whole, and for those beyond 64 bits."""
     if not hasattr(many, '__array__'):
-        listed = whole_list(many, what)            # not by numpy, which makes floats of a list with ints that no float holds
+        # not by numpy, which makes floats of a list with ints that no float holds
+        listed = whole_list(many, what)
         try:
             return numpy.array(listed, numpy.int64)
         except OverflowError:
@@ -152,9 +167,12 @@ def whole_array(many: Any, what: str) -> Any:
     if array.ndim != 1:
         raise ValueError('expected one dimension of %ss, got %d' % (what, array.ndim))
     if array.dtype.kind == 'O' or not len(array):
-        return numpy.array([word(_whole_at(number, what, at), what) for at, number in enumerate(array.tolist())], numpy.int64)
+        return numpy.array([word(_whole_at(number, what, at), what)
+                            for at, number in enumerate(array.tolist())], numpy.int64)
     if array.dtype.kind not in 'biuf':
-        since = ': .astype("datetime64[s]").astype("int64") makes seconds since 1970-01-01 of times' if array.dtype.kind == 'M' else ''
+        since = (
+            ': .astype("datetime64[s]").astype("int64") makes seconds since 1970-01-01 of times'
+            if array.dtype.kind == 'M' else '')
         raise TypeError('%ss are whole numbers, not %s%s' % (what, array.dtype, since))
     wrong = None
     if array.dtype.kind == 'f':
@@ -172,8 +190,9 @@ def whole_array(many: Any, what: str) -> Any:
 
 
 def from_dense(cells: Any, missing: Any = None) -> Triples:
-    """The cells of a table, an array of two dimensions or a list of lists, but for those that are `missing` (None: no cell), and masked
-    ones. ValueError with its row and column for a cell that holds no value."""
+    """The cells of a table, an array of two dimensions or a list of lists, but for those that are
+    `missing` (None: no cell), and masked ones. ValueError with its row and column for a cell that
+    holds no value."""
     if isinstance(cells, numpy.ndarray) and cells.dtype.kind != 'O':
         return _from_array(cells, missing)
     ncols = cells.shape[1] if isinstance(cells, numpy.ndarray) else len(cells[0]) if cells else 0
@@ -194,22 +213,25 @@ MASKED = object()                                  # what stands in a cell that 
 
 def _unmasked(table: Any) -> List[List[Any]]:
     """The rows of an array of objects."""
-    hidden: Any = numpy.ma.getmaskarray(table)                         # type: ignore[no-untyped-call]
-    return [[MASKED if out else cell for cell, out in zip(row, gone)] for row, gone in zip(numpy.asarray(table).tolist(), hidden)]
+    hidden: Any = numpy.ma.getmaskarray(table)  # type: ignore[no-untyped-call]
+    return [[MASKED if out else cell for cell, out in zip(row, gone)]
+            for row, gone in zip(numpy.asarray(table).tolist(), hidden)]
 
 
 def _is_missing(cell: Any, missing: Any) -> bool:
     """Whether a cell is what stands for no entry. NaN stands for all that is missing."""
-    return missing is not None and (is_gap(cell) if is_gap(missing) else not is_gap(cell) and bool(cell == missing))
+    return (missing is not None and (is_gap(cell) if is_gap(missing) else not is_gap(cell)
+                                     and bool(cell == missing)))
 
 
 def _gap(i: int, j: int, cell: Any) -> ValueError:
-    return ValueError('the cell at row %d, column %d is missing (%s): fill it, or missing=float("nan") leaves such cells out'
-                      % (i, j, 'nan' if isinstance(cell, float) else repr(cell)))
+    return ValueError(
+        'the cell at row %d, column %d is missing (%s): fill it, or missing=float("nan") leaves '
+        'such cells out' % (i, j, 'nan' if isinstance(cell, float) else repr(cell)))
 
 
 def _from_array(table: Any, missing: Any) -> Triples:
-    hidden: Any = numpy.ma.getmaskarray(table)                         # type: ignore[no-untyped-call]
+    hidden: Any = numpy.ma.getmaskarray(table)  # type: ignore[no-untyped-call]
     values, chosen = numpy.asarray(table), ~hidden
     gaps = numpy.isnan(values) if values.dtype.kind == 'f' else numpy.zeros(values.shape, bool)
     if missing is not None:
@@ -234,35 +256,41 @@ def full(nrows: int, ncols: int, value: int) -> Triples:
 
 
 def from_scipy(matrix: Any) -> Tuple[Any, Any, Any, Tuple[int, int]]:
-    """Rows, columns, values and shape of a scipy.sparse matrix or array; entries of one position are added up, as scipy has it."""
+    """Rows, columns, values and shape of a scipy.sparse matrix or array; entries of one position
+    are added up, as scipy has it."""
     if not hasattr(matrix, 'tocoo'):
-        raise TypeError('expected a matrix of scipy.sparse, got %s: from_dense takes tables' % type(matrix).__name__)
+        raise TypeError('expected a matrix of scipy.sparse, got %s: from_dense takes tables'
+                        % type(matrix).__name__)
     if len(matrix.shape) != 2:
         raise ValueError('expected two dimensions, got %d' % len(matrix.shape))
     coo = matrix.tocoo(copy=True)
     if coo.data.dtype.kind in 'iu' and coo.data.dtype.itemsize < 8:
         coo.data = coo.data.astype('int64')        # so that sums of short numbers don't wrap
     elif coo.data.dtype.kind == 'u':
-        coo.data = whole_array(coo.data, 'value')  # so that two which are beyond 64 bits don't make one that isn't
+        # so that two which are beyond 64 bits don't make one that isn't
+        coo.data = whole_array(coo.data, 'value')
     coo.sum_duplicates()
     return coo.row, coo.col, coo.data, coo.shape
 
 
 def repeated(triples: Triples, at: int, symmetric: bool = False) -> Refused:
-    """The refusal (M8) of entry `at` of triples, whose position an earlier one has; or, where they are `symmetric`, its mirror."""
+    """The refusal (M8) of entry `at` of triples, whose position an earlier one has; or, where they
+    are `symmetric`, its mirror."""
     i, j = int(triples.rows[at]), int(triples.columns[at])
     places = ((i, j), (j, i)) if symmetric else ((i, j),)
     first = next(k for k, place in enumerate(zip(triples.rows, triples.columns)) if place in places)
-    return refusal('M8', detail='row %d, column %d is given as entry %d and as entry %d; %s' % (i, j, first, at, DUP_OP))
+    return refusal('M8', detail='row %d, column %d is given as entry %d and as entry %d; %s'
+                   % (i, j, first, at, DUP_OP))
 
 
 Fold = Callable[[Triples], Any]
 
 
 def unrepeated(triples: Triples, fold: Fold) -> Triples:
-    """Triples in which each position stands once. `fold` gets the values of those that stand several times as a matrix with a row
-    for each such position, its values from column 0 in their order, and answers one value a row. It isn't called where there are
-    none. Those that stand alone come as they do, and behind them those that are folded."""
+    """Triples in which each position stands once. `fold` gets the values of those that stand
+    several times as a matrix with a row for each such position, its values from column 0 in their
+    order, and answers one value a row. It isn't called where there are none. Those that stand alone
+    come as they do, and behind them those that are folded."""
     key = triples.rows * max(triples.ncols, 1) + triples.columns
     ordered = numpy.sort(key)
     again = numpy.unique(ordered[1:][ordered[1:] == ordered[:-1]])
@@ -279,5 +307,6 @@ def unrepeated(triples: Triples, fold: Fold) -> Triples:
     folded = fold(Triples(row, column, triples.values[at], len(again), int(lengths.max())))
     first = at[starts]
     rows, columns, values = (numpy.concatenate(both) for both in (
-        (triples.rows[alone], triples.rows[first]), (triples.columns[alone], triples.columns[first]), (triples.values[alone], folded)))
+        (triples.rows[alone], triples.rows[first]),
+        (triples.columns[alone], triples.columns[first]), (triples.values[alone], folded)))
     return Triples(rows, columns, values, triples.nrows, triples.ncols)

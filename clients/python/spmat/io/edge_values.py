@@ -3,6 +3,7 @@ from __future__ import annotations
 
 import decimal
 import fractions
+import functools
 import numbers
 import re
 from typing import Any, Callable, List, NoReturn, Optional, Sequence, Tuple
@@ -14,11 +15,14 @@ from .arrays import is_gap
 from .coo import LEAST, MOST
 
 EXACT = float(1 << 53)                             # floats below it hold every whole number
-NEAR, HALF = float(1 << 40), 1e-3                  # products of floats below it are as near as that to the true ones
-SLIP = 2.0 ** -50                                  # a product of floats is as near as that to the true one
+# products of floats below it are as near as that to the true ones
+NEAR, HALF = float(1 << 40), 1e-3
+# a product of floats is as near as that to the true one
+SLIP = 2.0 ** -50
 NOT_WHOLE = 'a number that is not whole'
 # What stands for a value that isn't there: in tables of pandas, R, SQL and spreadsheets.
-MISSING = {'', 'na', 'n/a', '#n/a', '<na>', 'nan', '-nan', 'null', '#null!', 'none', 'nil', '-', '?', '.', '\\n'}
+MISSING = {'', 'na', 'n/a', '#n/a', '<na>', 'nan', '-nan', 'null', '#null!', 'none', 'nil', '-',
+           '?', '.', '\\n'}
 LONGEST = max(map(len, MISSING))
 SCALE = 'scale=1000 takes thousandths (0.125 is 125 then), values=False reads no values'
 
@@ -37,47 +41,55 @@ def check_scale(scale: Optional[float]) -> Optional[decimal.Decimal]:
 
 
 class Rounding:
-    """What rounding did to values that were multiplied by a scale: how many there are, how many weren't whole then, and by how much
-    at most they were changed, in their own units."""
+    """What rounding did to values that were multiplied by a scale: how many there are, how many
+    weren't whole then, and by how much at most they were changed, in their own units."""
 
     def __init__(self, scale: Optional[float]) -> None:
         self.scale, self.count, self.rounded, self.most = scale, 0, 0, 0.0
 
     def note(self, count: int, rounded: int, most: float) -> None:
-        """Adds some values, of which the one that was changed most was so by `most`, once it was multiplied."""
+        """Adds some values, of which the one that was changed most was so by `most`, once it was
+        multiplied."""
         self.count, self.rounded = self.count + count, self.rounded + rounded
         self.most = max(self.most, most / float(self.scale or 1))
 
     def __str__(self) -> str:
         if self.scale is None:
             return ''
-        done = '%d of %d rounded, by at most %.2g' % (self.rounded, self.count, self.most) if self.rounded else 'all whole then'
+        done = ('%d of %d rounded, by at most %.2g' % (self.rounded, self.count, self.most)
+                if self.rounded else 'all whole then')
         return 'values times %g, %s' % (self.scale, done)
 
 
-def whole_values(fields: Sequence[str], scale: Optional[float], wrong: Wrong, rounding: Optional[Rounding] = None) -> List[int]:
-    """Fields as whole numbers. With a scale each is multiplied by it and rounded to the nearest, halves to the even one; without one
-    0.5 is an error, and 2.0 is 2. `rounding` notes what that did."""
+def whole_values(fields: Sequence[str], scale: Optional[float], wrong: Wrong,
+                 rounding: Optional[Rounding] = None) -> List[int]:
+    """Fields as whole numbers. With a scale each is multiplied by it and rounded to the nearest,
+    halves to the even one; without one 0.5 is an error, and 2.0 is 2. `rounding` notes what that
+    did."""
     if scale is None:
         try:
             values = list(map(int, fields))
         except ValueError:
             pass
         else:
-            if all(LEAST <= value <= MOST for value in values) and not any('_' in field for field in fields):
+            if all(LEAST <= value <= MOST
+                   for value in values) and not any('_' in field for field in fields):
                 return values
     exact = check_scale(scale)
-    whole = [whole_value(field, exact, lambda words, at=at: wrong(at, words)) for at, field in enumerate(fields)]  # type: ignore[misc]
+    whole = [whole_value(field, exact, functools.partial(wrong, at))
+             for at, field in enumerate(fields)]
     if rounding is not None and exact is not None:
-        apart = [abs(decimal.Decimal(field.strip().lower().replace('d', 'e')) * exact - value) for field, value in zip(fields, whole)]
+        apart = [abs(decimal.Decimal(field.strip().lower().replace('d', 'e')) * exact - value)
+                 for field, value in zip(fields, whole)]
         rounding.note(len(whole), sum(map(bool, apart)), float(max(apart, default=0)))
     return whole
 
 
 def scaled(values: Any, scale: Optional[float], what: str = 'value') -> Tuple[Any, Rounding]:
-    """Numbers of Python or numpy as whole ones: multiplied by a scale and rounded to the nearest, halves to the even one, as they are
-    written in decimals (0.29 times 100 is 29); and what that did. One number is for all. Without a scale they are as they were. TypeError
-    for what is no number, ValueError with its place for what isn't finite or is beyond 64 bits."""
+    """Numbers of Python or numpy as whole ones: multiplied by a scale and rounded to the nearest,
+    halves to the even one, as they are written in decimals (0.29 times 100 is 29); and what that
+    did. One number is for all. Without a scale they are as they were. TypeError for what is no
+    number, ValueError with its place for what isn't finite or is beyond 64 bits."""
     rounding, exact = Rounding(scale), check_scale(scale)
     if exact is None:
         return values, rounding
@@ -87,7 +99,8 @@ def scaled(values: Any, scale: Optional[float], what: str = 'value') -> Tuple[An
             return found, rounding
     if not hasattr(values, '__iter__'):
         return scaled_one(values, exact, rounding, what), rounding
-    whole = [scaled_one(value, exact, rounding, '%s (entry %d)' % (what, at)) for at, value in enumerate(values)]
+    whole = [scaled_one(value, exact, rounding, '%s (entry %d)' % (what, at))
+             for at, value in enumerate(values)]
     return whole, rounding
 
 
@@ -105,12 +118,14 @@ def scaled_one(value: Any, scale: Optional[decimal.Decimal], rounding: Rounding,
 
 
 def _decimal_of(value: Any) -> decimal.Decimal:
-    """A number in decimals, a float as it is written; a fraction by 60 digits, which tell how it is rounded."""
+    """A number in decimals, a float as it is written; a fraction by 60 digits, which tell how it is
+    rounded."""
     if isinstance(value, fractions.Fraction):
         with decimal.localcontext() as context:
             context.prec = 60
             return decimal.Decimal(value.numerator) / value.denominator
-    return decimal.Decimal(str(float(value) if isinstance(value, numbers.Real) and not hasattr(value, '__index__') else value))
+    return decimal.Decimal(str(float(value) if isinstance(value, numbers.Real)
+                               and not hasattr(value, '__index__') else value))
 
 
 def is_missing(field: str) -> bool:
@@ -118,17 +133,21 @@ def is_missing(field: str) -> bool:
     return field.strip().lower() in MISSING
 
 
-def whole_value(field: str, scale: Optional[decimal.Decimal], wrong: Callable[[str], Exception]) -> int:
+def whole_value(field: str, scale: Optional[decimal.Decimal],
+                wrong: Callable[[str], Exception]) -> int:
     """One field as a whole number."""
     if is_missing(field):
-        raise wrong('the value is missing (%r): fill it in or leave the line out; values=False reads no values' % field)
+        raise wrong(
+            'the value is missing (%r): fill it in or leave the line out; values=False reads no '
+            'values' % field)
     try:
         exact = decimal.Decimal(field.strip().lower().replace('d', 'e'))
         if '_' in field:
             raise ValueError
     except (ValueError, decimal.InvalidOperation):
         raise wrong('expected a number as the value, got %r: %s' % (
-            field, 'write it as 1500.25, without thousands separators or currency signs' if _is_dressed(field) else 'values=False reads none')) \
+            field, 'write it as 1500.25, without thousands separators or currency signs'
+            if _is_dressed(field) else 'values=False reads none')) \
             from None
     return whole_of(exact, field, scale, wrong)
 
@@ -138,7 +157,8 @@ def _is_dressed(field: str) -> bool:
     return re.fullmatch(r'[-+]?\W{0,2}\d[\d., _\']*\W{0,2}', field.strip()) is not None
 
 
-def whole_of(exact: decimal.Decimal, field: str, scale: Optional[decimal.Decimal], wrong: Callable[[str], Exception]) -> int:
+def whole_of(exact: decimal.Decimal, field: str, scale: Optional[decimal.Decimal],
+             wrong: Callable[[str], Exception]) -> int:
     """A number as a whole one."""
     if not exact.is_finite() or exact.adjusted() > 40:
         _out_of_range(field, wrong)
@@ -158,7 +178,8 @@ def _out_of_range(field: str, wrong: Callable[[str], Exception]) -> NoReturn:
 
 
 def scaled_array(values: Any, scale: Optional[float], rounding: Optional[Rounding] = None) -> Any:
-    """An array of floats as one of int64, as `whole_values` has it; None where floats can't tell that."""
+    """An array of floats as one of int64, as `whole_values` has it; None where floats can't tell
+    that."""
     scaled = values if scale is None else values * float(scale)
     rounded = numpy.rint(scaled)
     if not (numpy.abs(scaled) < (EXACT if scale is None else NEAR)).all():
@@ -168,5 +189,6 @@ def scaled_array(values: Any, scale: Optional[float], rounding: Optional[Roundin
         return None
     if rounding is not None and scale is not None and len(apart):
         changed = apart > numpy.abs(scaled) * SLIP
-        rounding.note(len(apart), int(changed.sum()), float(apart[changed].max()) if changed.any() else 0.0)
+        rounding.note(len(apart), int(changed.sum()), float(apart[changed].max()) if changed.any()
+                      else 0.0)
     return rounded.astype(numpy.int64)

@@ -1,10 +1,12 @@
-"""What a matrix holds, taken out: text, numbers, tables of numpy, scipy and networkx; with the names of its rows and columns."""
+"""What a matrix holds, taken out: text, numbers, tables of numpy, scipy and networkx; with the
+names of its rows and columns."""
 from __future__ import annotations
 
 import difflib
 import heapq
 import os
-from typing import TYPE_CHECKING, Any, Dict, Iterable, Iterator, List, Optional, Sequence, Set, Tuple, TypeVar
+from typing import (TYPE_CHECKING, Any, Dict, Iterable, Iterator, List, Optional, Sequence, Set,
+                    Tuple, TypeVar)
 
 import numpy
 
@@ -12,7 +14,8 @@ from .. import top_k
 from ..errors import BudgetExceeded, refusal
 from ..extras import import_extra
 from ..mask import warn_user
-from ..metadata import COLUMNS, NOTHING, ROWS, Nodes, Notes, axes_of, check_one_kind, given_axis, list_of_names, vertices_of
+from ..metadata import (COLUMNS, NOTHING, ROWS, Nodes, Notes, axes_of, check_one_kind, given_axis,
+                        list_of_names, vertices_of)
 from ..rescaling import rescaled
 from ..units import Unit, are_decimals, as_unit, is_whole, to_decimals
 from . import compressed, coo, files, matrix_text
@@ -34,7 +37,8 @@ class Held(Written):
     nrows: int
     ncols: int
     notes: Notes = NOTHING
-    dtype = 'INT64'                                # the type of all values, by python-graphblas' name
+    # the type of all values, by python-graphblas' name
+    dtype = 'INT64'
     is_named = True                                # whether its name may be one that a caller gave
 
     # -- what it is
@@ -46,10 +50,11 @@ class Held(Written):
 
     @property
     def nodes(self) -> Optional[List[Any]]:
-        """The names of the vertices: of the rows of a column, of the columns of a row, and of the rows of a square matrix whose
-        columns have the same. None where there are none, or rows and columns have different ones (`row_nodes`, `column_nodes`).
-        Results carry the names of what they are made of. They can be set: `G.nodes = names`; ValueError where one stands twice, or has
-        an end of line in it."""
+        """The names of the vertices: of the rows of a column, of the columns of a row, and of the
+        rows of a square matrix whose columns have the same. None where there are none, or rows and
+        columns have different ones (`row_nodes`, `column_nodes`). Results carry the names of what
+        they are made of. They can be set: `G.nodes = names`; ValueError where one stands twice, or
+        has an end of line in it."""
         if 1 in self.shape and self.shape != (1, 1):
             return self.notes.rows if self.ncols == 1 else self.notes.columns
         axis = vertices_of(self.notes)
@@ -57,7 +62,9 @@ class Held(Written):
 
     @nodes.setter
     def nodes(self, names: Optional[Iterable[Any]]) -> None:
-        self.notes = self.notes.with_axes(*axes_of(names if names is None or isinstance(names, Nodes) else list_of_names(names), self.shape))
+        self.notes = self.notes.with_axes(*axes_of(names if names is None
+                                                   or isinstance(names, Nodes)
+                                                   else list_of_names(names), self.shape))
 
     @property
     def row_nodes(self) -> Optional[List[Any]]:
@@ -79,15 +86,17 @@ class Held(Written):
 
     @property
     def directed(self) -> Optional[bool]:
-        """False where the matrix is known to be that of an undirected graph, whose entries stand both ways with one value; True
-        where it was read as a directed one; None where nothing is known."""
+        """False where the matrix is known to be that of an undirected graph, whose entries stand
+        both ways with one value; True where it was read as a directed one; None where nothing is
+        known."""
         return self.notes.directed
 
     @property
     def unit(self) -> Unit:
-        """What the stored whole numbers are parts of: x stands for x / unit. It is 100 for what was read with `scale=100`, and 1 unless
-        anything is known. It can be set, `A.unit = 100`, which changes no stored number, so that each stands for another one. Of times
-        it is "s" or the like, which counts as a number of 1. ValueError where it is neither."""
+        """What the stored whole numbers are parts of: x stands for x / unit. It is 100 for what was
+        read with `scale=100`, and 1 unless anything is known. It can be set, `A.unit = 100`, which
+        changes no stored number, so that each stands for another one. Of times it is "s" or the
+        like, which counts as a number of 1. ValueError where it is neither."""
         return self.notes.unit
 
     @unit.setter
@@ -97,18 +106,22 @@ class Held(Written):
     def _told(self) -> str:
         """What `repr` says of the values, and of the file that the matrix was read from."""
         vertices = self.notes.value_names
-        values = ', values are vertices: ' + told(vertices) if vertices is not None else ', unit %s' % self.unit if self.unit != 1 else ''
+        values = (', values are vertices: ' + told(vertices) if vertices is not None
+                  else ', unit %s' % self.unit if self.unit != 1 else '')
         return values + ('; ' + self.notes.source if self.notes.source else '')
 
     def rescale(self: Self, unit: Any, *, exact: bool = True) -> Self:
-        """The same numbers in another unit: 1.25 of 125 stored hundredths is 1250 thousandths after `A.rescale(1000)`.
+        """The same numbers in another unit: 1.25 of 125 stored hundredths is 1250 thousandths after
+        `A.rescale(1000)`.
 
         Parameters
         ----------
         unit : number or str
-            What the new stored whole numbers are parts of, such as 1000; of times "D", "s", "ms", "us" or "ns".
+            What the new stored whole numbers are parts of, such as 1000; of times "D", "s", "ms",
+            "us" or "ns".
         exact : bool
-            False rounds values that have more digits than the new unit, halves to the even one; times are cut down.
+            False rounds values that have more digits than the new unit, halves to the even one;
+            times are cut down.
 
         Returns
         -------
@@ -118,7 +131,8 @@ class Held(Written):
         Raises
         ------
         ValueError
-            Where a value would lose digits, unless `exact=False`; where one would be beyond 64 bits.
+            Where a value would lose digits, unless `exact=False`; where one would be beyond 64
+            bits.
 
         Notes
         -----
@@ -128,30 +142,36 @@ class Held(Written):
         return made
 
     def index(self, node: Any, axis: int = 0) -> int:
-        """The row (with `axis=1` the column) of a vertex: the place of its name where rows have names, else the number itself. Where
-        no name is a number, numbers are places as well. ValueError where there is no such vertex."""
+        """The row (with `axis=1` the column) of a vertex: the place of its name where rows have
+        names, else the number itself. Where no name is a number, numbers are places as well.
+        ValueError where there is no such vertex."""
         names, count = self.notes.names(axis), self.shape[axis]
         if names is not None:
             try:
                 return names.at(node)
             except KeyError:
                 if names.numbered or not hasattr(node, '__index__'):
-                    raise ValueError('no vertex %r: %s' % (node, near(node, names) or 'they are ' + told(names))) from None
+                    raise ValueError('no vertex %r: %s' % (node,
+                                                           near(node, names)
+                                                           or 'they are ' + told(names))) from None
         if isinstance(node, bool) or not hasattr(node, '__index__') or not 0 <= node < count:
-            raise ValueError('no vertex %r: they are 0 to %d' % (node, count - 1) if count else 'there is no vertex')
+            raise ValueError('no vertex %r: they are 0 to %d' % (node, count - 1) if count
+                             else 'there is no vertex')
         return int(node)
 
     # -- what it holds
 
     def to_text(self) -> bytes:
-        """The canonical Matrix Market text: coordinate integer general, entries by ascending row and column. Runs the queue where
-        this matrix waits, as all of the following do."""
+        """The canonical Matrix Market text: coordinate integer general, entries by ascending row
+        and column. Runs the queue where this matrix waits, as all of the following do."""
         raise NotImplementedError
 
     def to_coo(self, *, arrays: Optional[bool] = None, dtype: Any = None) -> Tuple[Any, Any, Any]:
-        """Rows, columns (from 0) and values, by ascending row and column: arrays of numpy, or with `arrays=False`
-        lists. Those of a part count within the part: `from_coo(*part.to_coo(), nodes=part.nodes)` has its names again, and `to_edgelist`
-        gives names. Values are the stored whole numbers, with `dtype=float` what these stand for. In python-graphblas the same name."""
+        """Rows, columns (from 0) and values, by ascending row and column: arrays of numpy, or with
+        `arrays=False` lists. Those of a part count within the part: `from_coo(*part.to_coo(),
+        nodes=part.nodes)` has its names again, and `to_edgelist` gives names. Values are the stored
+        whole numbers, with `dtype=float` what these stand for. In python-graphblas the same
+        name."""
         return self.entries(arrays=arrays, dtype=dtype)
 
     def entries(self, *, arrays: Optional[bool] = None, dtype: Any = None) -> Tuple[Any, Any, Any]:
@@ -165,10 +185,12 @@ class Held(Written):
 
     def _floats(self, values: Any) -> Any:
         """What stored values stand for, as floats."""
-        return to_decimals(values, self.unit) if not is_whole(self.unit) else list(map(float, values)) if isinstance(values, list) else values * 1.0
+        return (to_decimals(values, self.unit) if not is_whole(self.unit)
+                else list(map(float, values)) if isinstance(values, list) else values * 1.0)
 
     def _shown(self, values: Any, raw: bool) -> Any:
-        """Values as people are shown them: what they stand for, or with `raw` as they are stored."""
+        """Values as people are shown them: what they stand for, or with `raw` as they are
+        stored."""
         if self.notes.value_names is not None and not raw:
             return list(map(self.notes.value_names.__getitem__, values))
         return values if raw else to_decimals(values, self.unit)
@@ -178,28 +200,30 @@ class Held(Written):
         return list(zip(*self._stored(False)))
 
     def to_dict(self) -> Dict[Tuple[int, int], int]:
-        """{(row, column): value}; values are the stored whole numbers. `to_dicts` has a dict for each row."""
+        """{(row, column): value}; values are the stored whole numbers. `to_dicts` has a dict for
+        each row."""
         rows, columns, values = self._stored(False)
         return dict(zip(zip(rows, columns), values))
 
     def to_dicts(self, order: str = 'rowwise') -> Dict[int, Dict[int, int]]:
-        """{row: {column: value}}, with `order="columnwise"` {column: {row: value}}, of the stored whole numbers; nothing of a row without
-        entries. In python-graphblas the same name."""
+        """{row: {column: value}}, with `order="columnwise"` {column: {row: value}}, of the stored
+        whole numbers; nothing of a row without entries. In python-graphblas the same name."""
         return compressed.to_dicts(self._stored(True), order)
 
     def to_csr(self) -> Tuple[Any, Any, Any]:
-        """Compressed rows: for each row where its entries begin, and at last how many there are; then their columns and their stored values.
-        All are arrays of numpy. In python-graphblas the same name."""
+        """Compressed rows: for each row where its entries begin, and at last how many there are;
+        then their columns and their stored values. All are arrays of numpy. In python-graphblas the
+        same name."""
         return compressed.to_compressed(self.entries(), self.nrows)
 
     def to_csc(self) -> Tuple[Any, Any, Any]:
-        """Compressed columns: for each column where its entries begin, and at last how many there are; then their rows and their stored
-        values. In python-graphblas the same name."""
+        """Compressed columns: for each column where its entries begin, and at last how many there
+        are; then their rows and their stored values. In python-graphblas the same name."""
         return compressed.to_compressed(compressed.by_columns(self.entries()), self.ncols)
 
     def to_list(self, missing: Any = None, dtype: Any = None) -> List[Any]:
-        """The values of a column or a row, `missing` where there is no entry: the stored whole numbers, with `dtype=float` what these
-        stand for. DimensionMismatch for another shape."""
+        """The values of a column or a row, `missing` where there is no entry: the stored whole
+        numbers, with `dtype=float` what these stand for. DimensionMismatch for another shape."""
         count = self._length('a column or a row')
         rows, columns, values = self.entries(arrays=False, dtype=dtype)
         if len(values) == count:
@@ -210,19 +234,23 @@ class Held(Written):
         return out
 
     def by_node(self, *, raw: bool = False) -> Dict[Any, Any]:
-        """{name: value} of a column or a row, {number: value} where it has no names; nothing of a vertex without an entry. Values are
-        what stored numbers stand for: floats where there is a unit, and the names of vertices where values are vertices, as those of parents
-        and of components are; unless `raw` is set. DimensionMismatch for another shape. In networkx results have this form."""
+        """{name: value} of a column or a row, {number: value} where it has no names; nothing of a
+        vertex without an entry. Values are what stored numbers stand for: floats where there is a
+        unit, and the names of vertices where values are vertices, as those of parents and of
+        components are; unless `raw` is set. DimensionMismatch for another shape. In networkx
+        results have this form."""
         self._length('a column or a row')
         rows, columns, values = self._stored(False)
         at, names = (rows, self.notes.rows) if self.ncols == 1 else (columns, self.notes.columns)
-        return dict(zip(at if names is None else map(names.__getitem__, at), self._shown(values, raw)))
+        return dict(zip(at if names is None else map(names.__getitem__, at),
+                        self._shown(values, raw)))
 
     def sets(self) -> List[Set[Any]]:
-        """The vertices of each group, of a column or a row whose values say which vertices belong together: those of one value are one
-        set, of their names, or of their numbers where there are none. The largest comes first, of equals that of the first vertex. Vertices
-        without an entry are in none. DimensionMismatch for another shape. In networkx functions on components and communities have this
-        form."""
+        """The vertices of each group, of a column or a row whose values say which vertices belong
+        together: those of one value are one set, of their names, or of their numbers where there
+        are none. The largest comes first, of equals that of the first vertex. Vertices without an
+        entry are in none. DimensionMismatch for another shape. In networkx functions on components
+        and communities have this form."""
         self._length('a column or a row')
         rows, columns, values = self.entries(arrays=False)
         at, names = (rows, self.notes.rows) if self.ncols == 1 else (columns, self.notes.columns)
@@ -232,31 +260,36 @@ class Held(Written):
         return sorted(found.values(), key=len, reverse=True)
 
     def to_edgelist(self, *, raw: bool = False) -> List[Tuple[Any, Any, Any]]:
-        """(row, column, value) of each entry, with names where rows and columns have them, and values as `by_node` has them. In networkx
-        the same name."""
+        """(row, column, value) of each entry, with names where rows and columns have them, and
+        values as `by_node` has them. In networkx the same name."""
         rows, columns, values = self._stored(False)
         first, second = self.notes.rows, self.notes.columns
         return list(zip(rows if first is None else map(first.__getitem__, rows),
-                        columns if second is None else map(second.__getitem__, columns), self._shown(values, raw)))
+                        columns if second is None else map(second.__getitem__, columns),
+                        self._shown(values, raw)))
 
     def top(self, k: int = 10, *, raw: bool = False) -> List[Tuple[Any, ...]]:
-        """The k entries of the greatest values, the greatest first, of equals the first: (name, value) of a column or a row, (name,
-        name, value) of another matrix; numbers where there are no names, and values as `by_node` has them. Of many entries the session
-        finds those from a threshold on, by some 50 small jobs, and these come to the client; all come where the budget has too little
-        left. In pandas `nlargest`."""
+        """The k entries of the greatest values, the greatest first, of equals the first: (name,
+        value) of a column or a row, (name, name, value) of another matrix; numbers where there are
+        no names, and values as `by_node` has them. Of many entries the session finds those from a
+        threshold on, by some 50 small jobs, and these come to the client; all come where the budget
+        has too little left. In pandas `nlargest`."""
         few: Any = self
         k = coo.whole(k, 'number of entries')
         if k < 0:
-            raise ValueError('top(k) gives the k greatest entries: k is 0 or more, not %d; A.apply("ainv").top(%d) has the least' % (k, -k))
+            raise ValueError('top(k) gives the k greatest entries: k is 0 or more, not %d; '
+                             'A.apply("ainv").top(%d) has the least' % (k, -k))
         try:
             few = top_k.greatest(few, k)
         except BudgetExceeded:
             pass                                   # entries can be read all the same
         if few is not self:
             few.notes = self.notes
-        found: Iterable[Tuple[Any, ...]] = few.by_node(raw=True).items() if 1 in self.shape else few.to_edgelist(raw=True)
+        found: Iterable[Tuple[Any, ...]] = (few.by_node(raw=True).items() if 1 in self.shape
+                                            else few.to_edgelist(raw=True))
         most = heapq.nlargest(k, found, key=lambda entry: int(entry[-1]))
-        return [(*entry[:-1], shown) for entry, shown in zip(most, self._shown([entry[-1] for entry in most], raw))]
+        return [(*entry[:-1], shown)
+                for entry, shown in zip(most, self._shown([entry[-1] for entry in most], raw))]
 
     def _length(self, wanted: str) -> int:
         """The length of a column or a row."""
@@ -265,44 +298,53 @@ class Held(Written):
         return self.nrows if self.ncols == 1 else self.ncols
 
     def to_dense(self, fill: Any = 0, dtype: Any = None, *, fill_value: Any = None) -> Any:
-        """An array of numpy of this shape, `fill` (also called `fill_value`) where there is no entry: int64, the stored whole numbers, or
-        with `to_dense(float)` float64, what these stand for. One column is an array of shape (n, 1), which refuses to become n x n
-        beside one of shape (n,); a `Vector` gives the latter. In python-graphblas the same name."""
+        """An array of numpy of this shape, `fill` (also called `fill_value`) where there is no
+        entry: int64, the stored whole numbers, or with `to_dense(float)` float64, what these stand
+        for. One column is an array of shape (n, 1), which refuses to become n x n beside one of
+        shape (n,); a `Vector` gives the latter. In python-graphblas the same name."""
         fill = fill if fill_value is None else fill_value
-        if dtype is None and (isinstance(fill, (type, str)) or hasattr(fill, 'itemsize') and not hasattr(fill, '__float__')):
+        if dtype is None and (isinstance(fill, (type, str)) or hasattr(fill, 'itemsize')
+                              and not hasattr(fill, '__float__')):
             fill, dtype = 0, fill
         kind = numpy.float64 if are_decimals(dtype) else numpy.int64
-        table = numpy.full(self.shape, fill if kind is numpy.float64 else coo.word(fill, 'fill'), kind)
+        table = numpy.full(self.shape, fill if kind is numpy.float64 else coo.word(fill, 'fill'),
+                           kind)
         rows, columns, values = self.entries(arrays=True, dtype=dtype)
         table[rows, columns] = values
         return dense(table)
 
     def to_scipy_sparse(self, format: str = 'csr', dtype: Any = None) -> Any:
-        """A matrix of scipy.sparse, of int64, the stored whole numbers, or with `dtype=float` of float64, what these stand for. In
-        python-graphblas `io.to_scipy_sparse`."""
+        """A matrix of scipy.sparse, of int64, the stored whole numbers, or with `dtype=float` of
+        float64, what these stand for. In python-graphblas `io.to_scipy_sparse`."""
         sparse = import_extra('scipy.sparse', 'to_scipy_sparse')
         rows, columns, values = self.entries(arrays=True, dtype=dtype)
         return sparse.coo_matrix((values, (rows, columns)), self.shape).asformat(format)
 
     def to_networkx(self, directed: Optional[bool] = None, weight: Optional[str] = 'weight',
                     nodes: Optional[Sequence[Any]] = None, *, raw: bool = False) -> Any:
-        """A networkx graph of a square matrix: a Graph where `directed` is False, or isn't given and the matrix is known to be that
-        of an undirected graph, else a DiGraph. (A Graph that is asked for has an edge where one of (i, j) and (j, i) is.) Its nodes
-        are `nodes`, or this matrix's, or 0 to n - 1. Values, as `by_node` has them, are the edges' `weight`, unless that is None, or the
-        matrix came from a graph without weights. In python-graphblas `io.to_networkx`."""
+        """A networkx graph of a square matrix: a Graph where `directed` is False, or isn't given
+        and the matrix is known to be that of an undirected graph, else a DiGraph. (A Graph that is
+        asked for has an edge where one of (i, j) and (j, i) is.) Its nodes are `nodes`, or this
+        matrix's, or 0 to n - 1. Values, as `by_node` has them, are the edges' `weight`, unless that
+        is None, or the matrix came from a graph without weights. In python-graphblas
+        `io.to_networkx`."""
         networkx = import_extra('networkx', 'to_networkx')
         if self.nrows != self.ncols:
-            raise refusal('J5', detail='expected a square matrix, got %dx%d: `spmat.bipartite` makes one of it' % self.shape)
+            raise refusal('J5',
+                          detail='expected a square matrix, got %dx%d: `spmat.bipartite` makes '
+                          'one of it' % self.shape)
         if nodes is None:
             check_one_kind(self.notes)
         given = nodes if nodes is not None else self.nodes
         labels = list(range(self.nrows) if given is None else given)
         if len(labels) != self.nrows:
             raise ValueError('%d nodes for %d rows' % (len(labels), self.nrows))
-        graph = networkx.Graph() if (self.directed if directed is None else directed) is False else networkx.DiGraph()
+        graph = (networkx.Graph() if (self.directed if directed is None else directed) is False
+                 else networkx.DiGraph())
         graph.add_nodes_from(labels)
         rows, columns, values = self._stored(False)
-        named = ((labels[i], labels[j], value) for i, j, value in zip(rows, columns, self._shown(values, raw)))
+        named = ((labels[i], labels[j], value)
+                 for i, j, value in zip(rows, columns, self._shown(values, raw)))
         if weight is None or self.notes.weighted is False:
             graph.add_edges_from((u, v) for u, v, _ in named)
         else:
@@ -310,11 +352,12 @@ class Held(Written):
         return graph
 
     def mmwrite(self, target: Any) -> None:
-        """Writes the text to a path, or to a file opened in binary. It warns where values have a unit, which the text has not. In
-        python-graphblas `io.mmwrite`."""
+        """Writes the text to a path, or to a file opened in binary. It warns where values have a
+        unit, which the text has not. In python-graphblas `io.mmwrite`."""
         if self.unit != 1:
-            warn_user('mmwrite writes the stored whole numbers, which are %s times what they stand for: to_csv writes decimals, and save() '
-                      'keeps the unit' % self.unit, UserWarning)
+            warn_user('mmwrite writes the stored whole numbers, which are %s times what they stand '
+                      'for: to_csv writes decimals, and save() keeps the unit' % self.unit,
+                      UserWarning)
         if not hasattr(target, 'write'):
             with files.replacing(os.fspath(target)) as file:
                 file.writelines(self._texts())
@@ -329,14 +372,17 @@ class Held(Written):
 
 def near(node: Any, names: Sequence[Any]) -> str:
     """The names that a wrong one may have meant, in words; nothing where none is like it."""
-    folded = {name.casefold(): name for name in names if isinstance(name, str)} if isinstance(node, str) else {}
-    found = [folded[word] for word in difflib.get_close_matches(node.casefold(), folded, FEW_NEAR, LIKE)] if folded else []
+    folded = ({name.casefold(): name for name in names if isinstance(name, str)}
+              if isinstance(node, str) else {})
+    found = ([folded[word] for word in difflib.get_close_matches(node.casefold(), folded, FEW_NEAR,
+                                                                 LIKE)] if folded else [])
     return 'did you mean %s?' % ' or '.join(map(repr, found)) if found else ''
 
 
 def told(names: Sequence[Any]) -> str:
     """Some names in words."""
-    if len(names) > 1 and type(names[0]) is int and names == list(range(names[0], names[0] + len(names))):
+    if len(names) > 1 and type(names[0]) is int and names == list(
+        range(names[0], names[0] + len(names))):
         return '%d to %d' % (names[0], names[-1])
     some = ', '.join(map(repr, names[:FEW_NAMES]))
     return some + (', .. (%d)' % len(names) if len(names) > FEW_NAMES else '')

@@ -1,7 +1,9 @@
-"""Files, as bytes in and bytes out: also packed ones, by gzip, bzip2, xz and zip (one file), and by zstd where Python or a package has it.
+"""Files, as bytes in and bytes out: also packed ones, by gzip, bzip2, xz and zip (one file), and by
+zstd where Python or a package has it.
 
-How a file is packed is seen from its first bytes, whatever its name. What can't be read is a ReadError, a ValueError, that names the
-file; that there is no file, or that nobody may read it, is an OSError as for `open`.
+How a file is packed is seen from its first bytes, whatever its name. What can't be read is a
+ReadError, a ValueError, that names the file; that there is no file, or that nobody may read it, is
+an OSError as for `open`.
 """
 from __future__ import annotations
 
@@ -23,19 +25,23 @@ from ..limits import MOST_TEXT
 
 ENDINGS = ('.gz', '.bz2', '.xz', '.zst', '.zip')
 LONGEST_MARK = 10
-ZSTD_MODULES = ('compression.zstd', 'backports.zstd', 'zstandard')      # of Python 3.14, of PyPI, of PyPI and Debian
+# of Python 3.14, of PyPI, of PyPI and Debian
+ZSTD_MODULES = ('compression.zstd', 'backports.zstd', 'zstandard')
 UTF8_MARK = b'\xef\xbb\xbf'
 MARKET = b'%%matrixmarket'
 PIECE = 1 << 22                                    # bytes that are unpacked at a time
-# A file that unpacks to more than both is taken for a bomb, unless the caller says how long it may be. Lists of edges pack to a fifth
-# or a tenth of their length.
+# A file that unpacks to more than both is taken for a bomb, unless the caller says how long it may
+# be. Lists of edges pack to a fifth or a tenth of their length.
 SMALL, RATIO = 1 << 28, 100
-# What damaged zip archives make the standard library raise as they are opened; RuntimeError also where a password is missing.
-DAMAGED_ZIP = (zipfile.BadZipFile, struct.error, RuntimeError, ValueError, IndexError, OverflowError, EOFError, OSError)
+# What damaged zip archives make the standard library raise as they are opened; RuntimeError also
+# where a password is missing.
+DAMAGED_ZIP = (zipfile.BadZipFile, struct.error, RuntimeError, ValueError, IndexError,
+               OverflowError, EOFError, OSError)
 
 
 class Packer(NamedTuple):
-    """What packs files: its name, and what opens a file that is open already and unpacks what is read of it."""
+    """What packs files: its name, and what opens a file that is open already and unpacks what is
+    read of it."""
     name: str
     open: Callable[[IO[bytes]], IO[bytes]]
 
@@ -48,33 +54,38 @@ def _open_zstd(file: IO[bytes]) -> IO[bytes]:
             continue
         opened_file: IO[bytes] = module.open(file, 'rb')
         return opened_file
-    raise ImportError('it is packed by zstd, which Python has from 3.14 on: install the package zstandard, or unpack it by `zstd -d`')
+    raise ImportError(
+        'it is packed by zstd, which Python has from 3.14 on: install the package zstandard, or '
+        'unpack it by `zstd -d`')
 
 
 def _list_members(whole: IO[bytes]) -> List[str]:
     """The files of a zip archive, but for folders and what macOS adds; none where it isn't one."""
     try:
         with zipfile.ZipFile(whole) as archive:
-            return [name for name in archive.namelist() if not name.endswith('/') and not name.startswith('__MACOSX/')]
+            return [name for name in archive.namelist() if not name.endswith('/')
+                    and not name.startswith('__MACOSX/')]
     except DAMAGED_ZIP:
         return []
 
 
 def _open_zip(file: IO[bytes]) -> IO[bytes]:
-    """The one file of a zip archive, as pandas reads it. Any other archive is given as it is, and refused by what it is."""
+    """The one file of a zip archive, as pandas reads it. Any other archive is given as it is, and
+    refused by what it is."""
     whole = io.BytesIO(file.read())
     names = _list_members(whole)
     if len(names) == 1 and not names[0].endswith('.npy'):
         try:
             with zipfile.ZipFile(whole) as archive:
-                return archive.open(names[0])      # which is read when the archive is closed: the bytes are held here
+                # which is read when the archive is closed: the bytes are held here
+                return archive.open(names[0])
         except DAMAGED_ZIP as fault:               # also a way of packing that Python has not
             raise zipfile.BadZipFile(str(fault)) from None
     whole.seek(0)
     return whole
 
 
-GZIP = Packer('gzip', lambda file: gzip.open(file, 'rb'))       # type: ignore[arg-type, return-value]
+GZIP = Packer('gzip', lambda file: gzip.open(file, 'rb'))  # type: ignore[arg-type, return-value]
 BZIP2 = Packer('bzip2', lambda file: bz2.open(file, 'rb'))
 XZ = Packer('xz', lambda file: lzma.open(file, 'rb'))
 ZSTD = Packer('zstd', _open_zstd)
@@ -139,16 +150,19 @@ class _Counted(io.RawIOBase):
 
 
 class Limit(NamedTuple):
-    """How many bytes a file may have, unpacked: as the caller says; else a packed file as many as `market` where it is a Matrix Market
-    file, and others above `SMALL` so many times its length as `RATIO` says."""
+    """How many bytes a file may have, unpacked: as the caller says; else a packed file as many as
+    `market` where it is a Matrix Market file, and others above `SMALL` so many times its length as
+    `RATIO` says."""
     max_bytes: Optional[int] = None
     market: Optional[int] = None
 
 
 class _Bounded(io.RawIOBase):
-    """A file whose length is looked at while it is read, so that what is too long is seen before it fills the memory."""
+    """A file whose length is looked at while it is read, so that what is too long is seen before it
+    fills the memory."""
 
-    def __init__(self, name: str, file: IO[bytes], packed: Optional[_Counted], limit: Limit) -> None:
+    def __init__(self, name: str, file: IO[bytes], packed: Optional[_Counted],
+                 limit: Limit) -> None:
         super().__init__()
         self._name, self._file, self._packed, self._limit = name, file, packed, limit
         self._most, self._count = limit.max_bytes, 0
@@ -173,8 +187,11 @@ class _Bounded(io.RawIOBase):
         self._count += len(piece)
         if self._most is not None and self._count > self._most:
             raise too_long(self._name, self._most, self._packed is not None)
-        if self._most is None and self._packed is not None and self._count > SMALL and self._count > RATIO * self._packed.count:
-            raise ReadError(self._name, None, 'it unpacks to more than %d times its length: max_bytes= says how many bytes it may have' % RATIO)
+        if (self._most is None and self._packed is not None and self._count > SMALL
+            and self._count > RATIO * self._packed.count):
+            raise ReadError(self._name, None,
+                            'it unpacks to more than %d times its length: max_bytes= says how '
+                            'many bytes it may have' % RATIO)
         return piece
 
 
@@ -185,14 +202,15 @@ def is_market(text: bytes) -> bool:
 
 def too_long(name: str, most: int, packed: bool = False) -> ReadError:
     """The error of a file that has more bytes than it may have."""
-    return ReadError(name, None, 'it has more than %s bytes%s: max_bytes= says how many it may have' % (
-        format(most, ','), ', once it is unpacked' if packed else ''))
+    return ReadError(name, None, 'it has more than %s bytes%s: max_bytes= says how many it may have'
+                     % (
+                         format(most, ','), ', once it is unpacked' if packed else ''))
 
 
 @contextlib.contextmanager
 def opened(source: Any, limit: Limit = Limit()) -> Iterator[IO[bytes]]:
-    """A path, or a file that is open in binary, unpacked as it is read. ReadError where it can't be unpacked, is a folder, or has more
-    bytes than it may have."""
+    """A path, or a file that is open in binary, unpacked as it is read. ReadError where it can't be
+    unpacked, is a folder, or has more bytes than it may have."""
     name = name_of(source)
     check_max_bytes(limit.max_bytes)
     with contextlib.ExitStack() as stack:
@@ -210,10 +228,12 @@ def opened(source: Any, limit: Limit = Limit()) -> Iterator[IO[bytes]]:
         whole: Any = io.BufferedReader(counted)
         packer = packer_of(start)
         if packer is None:
-            yield whole if limit.max_bytes is None else io.BufferedReader(_Bounded(name, whole, None, limit))
+            yield (whole if limit.max_bytes is None
+                   else io.BufferedReader(_Bounded(name, whole, None, limit)))
             return
         with _faults_named(name, packer):
-            yield io.BufferedReader(_Bounded(name, stack.enter_context(packer.open(whole)), counted, limit))
+            yield io.BufferedReader(_Bounded(name, stack.enter_context(packer.open(whole)), counted,
+                                             limit))
 
 
 @contextlib.contextmanager
@@ -222,7 +242,8 @@ def _faults_named(name: str, packer: Packer) -> Iterator[None]:
     try:
         yield
     except EOFError:
-        raise ReadError(name, None, 'it is packed by %s, and cut off: its end is missing' % packer.name) from None
+        raise ReadError(name, None, 'it is packed by %s, and cut off: its end is missing'
+                        % packer.name) from None
     except ImportError as fault:
         raise ReadError(name, None, str(fault)) from None
     except (zlib.error, lzma.LZMAError, zipfile.BadZipFile, OSError) as fault:
@@ -230,27 +251,33 @@ def _faults_named(name: str, packer: Packer) -> Iterator[None]:
             raise
         cut = 'end' in str(fault) and 'marker' in str(fault)
         raise ReadError(name, None, 'it is packed by %s, and %s' % (
-            packer.name, 'cut off: its end is missing' if cut else 'damaged (%s)' % fault)) from None
+            packer.name, 'cut off: its end is missing' if cut else 'damaged (%s)'
+            % fault)) from None
 
 
 def check_max_bytes(max_bytes: Optional[int]) -> None:
     """TypeError and ValueError for what is no number of bytes."""
-    if max_bytes is not None and (isinstance(max_bytes, bool) or not hasattr(max_bytes, '__index__')):
+    if max_bytes is not None and (isinstance(max_bytes, bool)
+                                  or not hasattr(max_bytes, '__index__')):
         raise TypeError('max_bytes is a number of bytes, or None, not %r' % (max_bytes,))
     if max_bytes is not None and max_bytes < 1:
         raise ValueError('max_bytes is 1 or more, not %d' % max_bytes)
 
 
 def check_length(source: Any, max_bytes: Optional[int]) -> None:
-    """ReadError for a path whose file has more bytes already than it may have once it is unpacked."""
+    """ReadError for a path whose file has more bytes already than it may have once it is
+    unpacked."""
     check_max_bytes(max_bytes)
-    if max_bytes is not None and isinstance(source, (str, os.PathLike)) and os.path.isfile(source) and os.path.getsize(source) > max_bytes:
+    if max_bytes is not None and isinstance(source,
+                                            (str, os.PathLike)) and os.path.isfile(
+                                                source) and os.path.getsize(source) > max_bytes:
         raise too_long(name_of(source), max_bytes)
 
 
 def load(source: Any, max_bytes: Optional[int] = None) -> bytes:
-    """The bytes of a path, or of a file opened in binary, unpacked, without a byte-order mark. ReadError where there are more than
-    `max_bytes`, as soon as that is seen. Without it a packed Matrix Market file has at most the bytes that a session takes."""
+    """The bytes of a path, or of a file opened in binary, unpacked, without a byte-order mark.
+    ReadError where there are more than `max_bytes`, as soon as that is seen. Without it a packed
+    Matrix Market file has at most the bytes that a session takes."""
     with opened(source, Limit(max_bytes, MOST_TEXT)) as file:
         return without_mark(file.read())
 
@@ -263,15 +290,18 @@ def without_mark(text: bytes) -> bytes:
 # -- writing
 
 # A link of this name, or a file, is an error, where the system can tell.
-CREATE_ANEW = os.O_WRONLY | os.O_CREAT | os.O_EXCL | sum(getattr(os, flag, 0) for flag in ('O_NOFOLLOW', 'O_CLOEXEC', 'O_BINARY'))
+CREATE_ANEW = os.O_WRONLY | os.O_CREAT | os.O_EXCL | sum(getattr(os, flag, 0)
+                                                         for flag in ('O_NOFOLLOW', 'O_CLOEXEC',
+                                                                      'O_BINARY'))
 
 
 @contextlib.contextmanager
 def replacing(path: str) -> Iterator[IO[bytes]]:
-    """A file opened in binary that takes the place of another one at the end; nothing is left of it where something fails. What is no
-    plain file, as a pipe, is written itself.
+    """A file opened in binary that takes the place of another one at the end; nothing is left of it
+    where something fails. What is no plain file, as a pipe, is written itself.
 
-    It lies beside that one under a name that nobody can guess, and is made anew, so that no link or file of somebody else is written."""
+    It lies beside that one under a name that nobody can guess, and is made anew, so that no link or
+    file of somebody else is written."""
     if os.path.exists(path) and not os.path.isfile(path):
         with open(path, 'wb') as file:
             yield file
@@ -280,7 +310,8 @@ def replacing(path: str) -> Iterator[IO[bytes]]:
     try:
         descriptor = os.open(part, CREATE_ANEW, 0o666)
     except OSError as fault:
-        fault.filename = os.path.dirname(path) or os.curdir        # the folder is what is missing, or closed
+        # the folder is what is missing, or closed
+        fault.filename = (os.path.dirname(path) or os.curdir)
         raise
     try:
         with os.fdopen(descriptor, 'wb') as file:

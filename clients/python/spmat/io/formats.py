@@ -1,4 +1,5 @@
-"""Which format a file has, and reading it as a matrix: lists of edges, DIMACS, GraphML, GEXF, GML and parquet. (`matrix_market` reads the rest.)"""
+"""Which format a file has, and reading it as a matrix: lists of edges, DIMACS, GraphML, GEXF, GML
+and parquet. (`matrix_market` reads the rest.)"""
 from __future__ import annotations
 
 import json
@@ -16,14 +17,16 @@ OF_LISTS = ('edges', 'csv', 'tsv', 'parquet')     # which have columns
 START = 1 << 16                                    # bytes that are looked at
 GML = re.compile(rb'(creator\s|version\s|comment\s|directed\s|graph\s*\[)', re.I)
 MARKUP = re.compile(rb'<([?!/]|[A-Za-z][\w:.-]*[\s/>])')
-DOT_OR_PAJEK = re.compile(rb'(strict\s+)?(di)?graph(\s+[\w"]+)?\s*\{|\*\s*(vertices|network|arcs|edges)\b', re.I)
+DOT_OR_PAJEK = re.compile(
+    rb'(strict\s+)?(di)?graph(\s+[\w"]+)?\s*\{|\*\s*(vertices|network|arcs|edges)\b', re.I)
 NO_TEXT = re.compile(rb'[\x00-\x08\x0e-\x1f\x7f-\xc1\xf5-\xff]')       # no text in UTF-8 begins so
 Progress = Callable[[str, int, int], object]
 
 
 class Request(NamedTuple):
-    """What a caller asks of a file: its format, or None for what its content says; how a list is written; what becomes of its edges.
-    `directed` None is as the file has it: DIMACS says, and a list's edges lead one way. `max_bytes` bounds the file, unpacked."""
+    """What a caller asks of a file: its format, or None for what its content says; how a list is
+    written; what becomes of its edges. `directed` None is as the file has it: DIMACS says, and a
+    list's edges lead one way. `max_bytes` bounds the file, unpacked."""
     format: Optional[str] = None
     layout: Layout = Layout()
     directed: Optional[bool] = None
@@ -39,8 +42,9 @@ class Request(NamedTuple):
 # -- which format a file has
 
 class GraphFormat(NamedTuple):
-    """A format that says by itself what its vertices are and which way edges lead: its name for callers, what texts call it, whether
-    bytes look like it, and what reads these. A module and a row here are all that a new one needs."""
+    """A format that says by itself what its vertices are and which way edges lead: its name for
+    callers, what texts call it, whether bytes look like it, and what reads these. A module and a
+    row here are all that a new one needs."""
     name: str
     called: str
     is_like: Callable[[bytes], bool]
@@ -55,7 +59,8 @@ def _read_dimacs(file: str, text: bytes, layout: Layout) -> graph_formats.GraphF
 def _by_networkx(name: str, is_like: Callable[[bytes], bool]) -> GraphFormat:
     """The row of a format that networkx reads."""
     return GraphFormat(name, graph_formats.CALLED[name], is_like,
-                       lambda file, text, layout: graph_formats.read_graph(file, text, name, layout))
+                       lambda file, text, layout: graph_formats.read_graph(file, text, name,
+                                                                           layout))
 
 
 def _has_root(text: bytes, name: bytes) -> bool:
@@ -82,12 +87,14 @@ GRAPH_FORMATS: Dict[str, GraphFormat] = {one.name: one for one in (
 )}
 FORMATS = ('mtx', 'edges', 'csv', 'tsv', *GRAPH_FORMATS, 'parquet')
 # what a sentence lists that says what can be read
-READABLE = ', '.join(['an edge list', 'CSV', 'TSV', *(one.called for one in GRAPH_FORMATS.values())])
+READABLE = ', '.join(['an edge list', 'CSV', 'TSV',
+                      *(one.called for one in GRAPH_FORMATS.values())])
 EXPECTED = 'expected %s or Matrix Market, got ' % READABLE
 
 
 def format_of(text: bytes) -> str:
-    """Which format a text has, by its beginning: `mtx`, `parquet`, or the first of GRAPH_FORMATS that it is like; else `edges`."""
+    """Which format a text has, by its beginning: `mtx`, `parquet`, or the first of GRAPH_FORMATS
+    that it is like; else `edges`."""
     if text[:14].lower() == b'%%matrixmarket':
         return 'mtx'
     if text[:4] == b'PAR1':
@@ -103,43 +110,52 @@ def describe_other(text: bytes) -> Optional[str]:
     if start[:2] in (b'\xff\xfe', b'\xfe\xff'):
         return EXPECTED + 'text in UTF-16: `iconv -f utf-16 -t utf-8` makes UTF-8 of it'
     if start.startswith(b'PK\x03\x04'):
-        return EXPECTED + 'a zip archive of several files, or a damaged one: unpack it, and read one of them'
+        return (EXPECTED
+                + 'a zip archive of several files, or a damaged one: unpack it, and read one of '
+                'them')
     if b'\0' in start[:4096] or start.startswith(b'%PDF') or NO_TEXT.match(start):
         return EXPECTED + 'binary data'
     start = start.lstrip()
     if MARKUP.match(start):
-        return EXPECTED + ('a page in HTML, perhaps in place of the file that was asked for' if _is_html(start) else
-                           'XML that is neither GraphML nor GEXF')
+        return EXPECTED + ('a page in HTML, perhaps in place of the file that was asked for'
+                           if _is_html(start) else 'XML that is neither GraphML nor GEXF')
     if start[:1] in (b'{', b'[') and _is_json(start, len(text) > START):
-        return EXPECTED + 'JSON: json.load reads it, and from_edgelist takes its edges, or networkx.node_link_graph and from_networkx'
+        return (EXPECTED + 'JSON: json.load reads it, and from_edgelist takes its edges, or '
+                'networkx.node_link_graph and from_networkx')
     if DOT_OR_PAJEK.match(start):
-        return EXPECTED + 'a graph in DOT or of Pajek: networkx.nx_pydot.read_dot or networkx.read_pajek reads it, and from_networkx takes it'
+        return (EXPECTED + 'a graph in DOT or of Pajek: networkx.nx_pydot.read_dot or '
+                'networkx.read_pajek reads it, and from_networkx takes it')
     return None
 
 
 def _is_json(start: bytes, cut: bool) -> bool:
-    """Whether a text begins with a value of JSON that fills its line, or goes on behind what is looked at."""
+    """Whether a text begins with a value of JSON that fills its line, or goes on behind what is
+    looked at."""
     words = start.decode('utf-8', 'replace')
     try:
         end = json.JSONDecoder().raw_decode(words)[1]
     except json.JSONDecodeError as fault:
-        return cut and re.match(r'[\[{]\s*[\[{"]', words) is not None and fault.pos > len(words) // 2
+        return (cut and re.match(r'[\[{]\s*[\[{"]', words) is not None
+                and fault.pos > len(words) // 2)
     except RecursionError:
         return True
     return not words[end:].partition('\n')[0].strip(' \t\r,')
 
 
 def check_format(file: str, text: bytes, format: Optional[str]) -> str:
-    """The format that a caller names, or the content's. ValueError for none of `FORMATS`, ReadError for a file that is no Matrix
-    Market file and was to be one, or is one and was not."""
+    """The format that a caller names, or the content's. ValueError for none of `FORMATS`, ReadError
+    for a file that is no Matrix Market file and was to be one, or is one and was not."""
     if format is not None and format not in FORMATS:
-        raise ValueError('a format is %s, or None for what stands in the file; not %r' % (', '.join(FORMATS), format))
+        raise ValueError('a format is %s, or None for what stands in the file; not %r'
+                         % (', '.join(FORMATS), format))
     found = format_of(text)
     if format == 'mtx' and found != 'mtx':
-        raise ReadError(file, 1, 'this is no Matrix Market file, which begins with %%MatrixMarket; read_graph(), and the command line without '
-                        '--format mtx, read ' + READABLE, line_at(text, 1))
+        raise ReadError(file, 1, 'this is no Matrix Market file, which begins with %%MatrixMarket; '
+                        'read_graph(), and the command line without --format mtx, read ' + READABLE,
+                        line_at(text, 1))
     if format not in (None, 'mtx') and found == 'mtx':
-        raise ReadError(file, 1, 'this is a Matrix Market file, and %s was asked for' % format, line_at(text, 1))
+        raise ReadError(file, 1, 'this is a Matrix Market file, and %s was asked for' % format,
+                        line_at(text, 1))
     if format in (*graph_formats.CALLED, 'parquet') and found != format:
         raise ReadError(file, 1, 'this is no file of the format %s' % format, line_at(text, 1))
     other = describe_other(text) if found == 'edges' else None
@@ -149,20 +165,25 @@ def check_format(file: str, text: bytes, format: Optional[str]) -> str:
 
 
 def check_layout(file: str, format: str, request: Request) -> None:
-    """ReadError where a caller says how a list is written, of a file that is none: the words would do nothing."""
-    given = {name: getattr(request.layout, name) for name in ('delimiter', 'header', 'columns', 'nodetype')}
+    """ReadError where a caller says how a list is written, of a file that is none: the words would
+    do nothing."""
+    given = {name: getattr(request.layout, name) for name in ('delimiter', 'header', 'columns',
+                                                              'nodetype')}
     if format == 'mtx':
         given['nodelist'] = request.nodelist
     named = [name for name, value in given.items() if value is not None]
     if named:
-        raise ReadError(file, None, named[0] + '= is for a list of edges, and this is a file of the format ' + format)
+        raise ReadError(file, None,
+                        named[0] + '= is for a list of edges, and this is a file of the format '
+                        + format)
 
 
 # -- reading it
 
-def read(file: str, text: bytes, request: Request, folds: bool, tell: Optional[Progress] = None) -> Graph:
-    """The matrix of a file of another format than Matrix Market; of an undirected graph the lower triangle alone. `tell` is told of the
-    phases: 'reading' of the bytes, 'names' of the edges."""
+def read(file: str, text: bytes, request: Request, folds: bool,
+         tell: Optional[Progress] = None) -> Graph:
+    """The matrix of a file of another format than Matrix Market; of an undirected graph the lower
+    triangle alone. `tell` is told of the phases: 'reading' of the bytes, 'names' of the edges."""
     tell = tell if tell is not None else lambda what, done, of: None
     tell('reading', 0, len(text))
     edges, how = _edges_of(file, text, request, folds)
@@ -180,10 +201,12 @@ def _edges_of(file: str, text: bytes, request: Request, folds: bool) -> Tuple[Ed
     how = How(request.directed is not False, request.nodelist, request.bipartite, folds)
     if format in GRAPH_FORMATS:
         if how.bipartite:
-            raise ReadError(file, None, '%s has one kind of vertices: bipartite=True is for lists' % format)
+            raise ReadError(file, None, '%s has one kind of vertices: bipartite=True is for lists'
+                            % format)
         edges, nodes, directed = GRAPH_FORMATS[format].read(file, text, layout)
-        return edges, how._replace(directed=directed if request.directed is None else request.directed,
-                                   nodelist=nodes if how.nodelist is None else how.nodelist)
+        return edges, how._replace(directed=directed if request.directed is None
+                                   else request.directed, nodelist=nodes if how.nodelist is None
+                                   else how.nodelist)
     if format == 'parquet':
         return graph_formats.read_table(file, text, layout), how
     if layout.columns is None and graph_formats.has_dictionaries(text, layout.comments):

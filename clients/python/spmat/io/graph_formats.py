@@ -1,5 +1,5 @@
-"""Files that other packages read: GraphML, GEXF and GML by networkx, parquet by pandas; and lists as networkx writes them, with a
-dictionary of attributes behind each edge."""
+"""Files that other packages read: GraphML, GEXF and GML by networkx, parquet by pandas; and lists
+as networkx writes them, with a dictionary of attributes behind each edge."""
 from __future__ import annotations
 
 import ast
@@ -27,33 +27,43 @@ class GraphFile(NamedTuple):
 
 
 def read_graph(file: str, text: bytes, format: str, layout: Layout) -> GraphFile:
-    """The graph of a GraphML, GEXF or GML file. ReadError where networkx isn't there, or takes it for none."""
+    """The graph of a GraphML, GEXF or GML file. ReadError where networkx isn't there, or takes it
+    for none."""
     try:
         networkx = import_extra('networkx', CALLED[format])
     except ImportError as fault:
         raise ReadError(file, None, str(fault)) from None
     try:
-        found = _read_gml(networkx, text) if format == 'gml' else getattr(networkx, 'read_' + format)(io.BytesIO(text))
+        found = (_read_gml(networkx, text) if format == 'gml'
+                 else getattr(networkx, 'read_' + format)(io.BytesIO(text)))
         many = list(found.edges(data=True))
-    except Exception as fault:                     # pylint: disable=broad-exception-caught  # of XML, of numbers, of networkx' own
-        raise ReadError(file, None, 'no %s that networkx reads (%s: %s)' % (CALLED[format], type(fault).__name__, fault)) from None
+    except Exception as fault:  # pylint: disable=broad-exception-caught
+        # of XML, of numbers, of networkx' own
+        raise ReadError(file, None,
+                        'no %s that networkx reads (%s: %s)'
+                        % (CALLED[format], type(fault).__name__, fault)) from None
     attribute = _find_attribute([data for _, _, data in many], layout)
 
     def fault_of(at: int, words: str) -> ReadError:
-        return ReadError('%s, the edge from %r to %r' % (file, many[at][0], many[at][1]), None, words)
+        return ReadError('%s, the edge from %r to %r' % (file, many[at][0], many[at][1]), None,
+                         words)
     values, done = _values_of([data for _, _, data in many], attribute, layout, fault_of)
-    summary = '%s: %s by networkx; %s%s' % (file, CALLED[format], 'no values' if attribute is None else 'values=' + attribute, done)
+    summary = '%s: %s by networkx; %s%s' % (file, CALLED[format], 'no values' if attribute is None
+                                            else 'values=' + attribute, done)
     edges = Edges([u for u, _, _ in many], [v for _, v, _ in many], values, fault_of, summary)
     return GraphFile(edges, list(found), bool(found.is_directed()))
 
 
 def _find_attribute(held: List[Any], layout: Layout) -> Optional[str]:
     """The attribute of edges that has their values, where one has any."""
-    return next((name for name in VALUES if any(name in data for data in held)), None) if layout.values else None
+    return (next((name for name in VALUES if any(name in data for data in held)), None)
+            if layout.values else None)
 
 
-def _values_of(held: List[Any], attribute: Optional[str], layout: Layout, fault_of: Callable[[int, str], ReadError]) -> Tuple[Any, str]:
-    """The values of edges by their attributes, 1 where one has none, and what rounding did to them. ReadError names the edge."""
+def _values_of(held: List[Any], attribute: Optional[str], layout: Layout,
+               fault_of: Callable[[int, str], ReadError]) -> Tuple[Any, str]:
+    """The values of edges by their attributes, 1 where one has none, and what rounding did to them.
+    ReadError names the edge."""
     if attribute is None:
         return None, ''
     values = [data.get(attribute, 1) for data in held]
@@ -62,7 +72,8 @@ def _values_of(held: List[Any], attribute: Optional[str], layout: Layout, fault_
     except (TypeError, ValueError) as fault:
         place = re.search(r'\(entry (\d+)\)', str(fault))
         words = str(fault) if place is None else str(fault).replace(' ' + place.group(), '')
-        raise fault_of(int(place.group(1)) if place is not None else 0, 'the attribute %r: %s' % (attribute, words)) from None
+        raise fault_of(int(place.group(1)) if place is not None else 0,
+                       'the attribute %r: %s' % (attribute, words)) from None
     return found, '; ' + done if done else ''
 
 
@@ -79,25 +90,30 @@ def read_table(file: str, text: bytes, layout: Layout) -> Edges:
     try:
         frame = import_extra('pandas', 'parquet').read_parquet(io.BytesIO(text))
     except ImportError as fault:
-        raise ReadError(file, None, describe_missing('pandas' if fault.name == 'pandas' else 'pyarrow', 'parquet')) from None
-    except Exception as fault:                     # pylint: disable=broad-exception-caught  # each engine has its own
+        raise ReadError(file, None,
+                        describe_missing('pandas' if fault.name == 'pandas' else 'pyarrow',
+                                         'parquet')) from None
+    except Exception as fault:  # pylint: disable=broad-exception-caught  # each engine has its own
         raise ReadError(file, None, 'no parquet file that pandas reads (%s)' % fault) from None
     names = [str(name) for name in frame.columns]
     first = frame.head(SAMPLE)
     rows: List[List[str]] = first.astype(str).where(first.notna(), '').values.tolist()
     choice = choose_columns(Head(file, 0, names, rows), layout._replace(header=True))
-    ends, value = (frame.columns[choice.ends[0]], frame.columns[choice.ends[1]]), None if choice.value is None else frame.columns[choice.value]
+    ends, value = ((frame.columns[choice.ends[0]], frame.columns[choice.ends[1]]),
+                   None if choice.value is None else frame.columns[choice.value])
     try:
         edges = edges_of_frame(frame, ends, value, layout)
     except (TypeError, ValueError) as fault:
         raise ReadError(file, None, str(fault)) from None
     summary = '%s: parquet; %s' % (file, choice.describe(names).partition('; ')[2])
-    return edges._replace(summary=summary + ('; ' + edges.summary if edges.summary else ''), fault=lambda at, words: ReadError(
-        '%s, row %d' % (file, at), None, words))
+    return edges._replace(summary=summary + ('; ' + edges.summary if edges.summary else ''),
+                          fault=lambda at, words: ReadError(
+                              '%s, row %d' % (file, at), None, words))
 
 
 def has_dictionaries(text: bytes, comments: Comments) -> bool:
-    """Whether the first edge of a list has a dictionary behind it, as networkx' `write_edgelist` writes it."""
+    """Whether the first edge of a list has a dictionary behind it, as networkx' `write_edgelist`
+    writes it."""
     for line in blank_comments(text[:1 << 16], comments)[0].split(b'\n'):
         if line.strip():
             return DICTIONARY.fullmatch(line.decode('utf-8', 'replace')) is not None
@@ -121,7 +137,8 @@ def read_dictionaries(file: str, text: bytes, layout: Layout) -> Edges:
         return ReadError(file, numbers[at], words, line_at(text, numbers[at]))
     attribute = _find_attribute(held, layout)
     values, done = _values_of(held, attribute, layout, fault_of)
-    summary = "%s: networkx' edge list; source=column 0, target=column 1, %s%s" % (file, 'no values' if values is None else 'values=weight', done)
+    summary = "%s: networkx' edge list; source=column 0, target=column 1, %s%s" % (
+        file, 'no values' if values is None else 'values=weight', done)
     columns: List[Any] = [[names[at] for names in ends] for at in (0, 1)]
     if all(WHOLE.fullmatch(name) and len(name) < 4000 for column in columns for name in column):
         columns = [list(map(int, column)) for column in columns]
@@ -133,12 +150,15 @@ def _split_line(file: str, number: int, line: bytes) -> Tuple[str, str, Any]:
     try:
         words = line.decode('utf-8')
     except UnicodeDecodeError:
-        raise ReadError(file, number, 'no UTF-8: convert it, as iconv -f latin1 -t utf-8 does') from None
+        raise ReadError(file, number,
+                        'no UTF-8: convert it, as iconv -f latin1 -t utf-8 does') from None
     parts = DICTIONARY.fullmatch(words)
     try:
         data = ast.literal_eval(parts.group(3)) if parts else None
     except (ValueError, SyntaxError, RecursionError, MemoryError):     # of deep nests, too
         data = None
     if parts is None or not isinstance(data, dict):
-        raise ReadError(file, number, "an edge is written as networkx writes it, `1 2 {'weight': 3}`", line_at(line, 1))
+        raise ReadError(file, number,
+                        "an edge is written as networkx writes it, `1 2 {'weight': 3}`",
+                        line_at(line, 1))
     return parts.group(1), parts.group(2), data

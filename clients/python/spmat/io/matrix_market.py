@@ -23,11 +23,14 @@ from .coo import DUP_OP, LEAST
 from .edge_values import NOT_WHOLE, check_scale, scaled_array, whole_of
 from .matrix_text import Triples, line_at
 
-FIELDS = {'integer': 'integer', 'unsigned-integer': 'integer', 'pattern': 'pattern', 'real': 'real', 'double': 'real',
+FIELDS = {'integer': 'integer', 'unsigned-integer': 'integer', 'pattern': 'pattern', 'real': 'real',
+          'double': 'real',
           'complex': 'complex'}
 SYMMETRIES = ('general', 'symmetric', 'skew-symmetric')
 _DIGITS = b'+-0123456789 \t\r\n'
-NO_MARKET = 'this is no Matrix Market file, which begins with %%MatrixMarket: read_graph reads other formats, too'
+NO_MARKET = (
+    'this is no Matrix Market file, which begins with %%MatrixMarket: read_graph reads other '
+    'formats, too')
 ENDINGS, load = files.ENDINGS, files.load          # a file, also packed
 BYTE_ORDER_MARK = b'\xef\xbb\xbf'
 COMMAND = 'mmread'                                 # what refusals of a file name as their command
@@ -78,8 +81,9 @@ class Kind(NamedTuple):
     def notes(self) -> Notes:
         """What is known of the matrix."""
         weighted = self.field != 'pattern' and self.values.read
-        return BY_POSITIONS._replace(directed=False if self.symmetry == 'symmetric' else None, weighted=weighted,
-                                     unit=as_unit(self.values.scale) if weighted and self.values.scale is not None else 1)
+        return BY_POSITIONS._replace(directed=False if self.symmetry == 'symmetric' else None,
+                                     weighted=weighted, unit=as_unit(self.values.scale) if weighted
+                                     and self.values.scale is not None else 1)
 
 
 def is_plain(text: bytes) -> bool:
@@ -88,7 +92,8 @@ def is_plain(text: bytes) -> bool:
     words = text.split(b'\n', 1)[0].decode('utf-8', 'replace').split()
     if len(words) != 5 or words[0] != '%%MatrixMarket' or words[1].lower() != 'matrix':
         return True
-    return words[2].lower() == 'coordinate' and words[3].lower() in ('integer', 'pattern') and words[4].lower() in SYMMETRIES[:2]
+    return (words[2].lower() == 'coordinate' and words[3].lower() in ('integer', 'pattern')
+            and words[4].lower() in SYMMETRIES[:2])
 
 
 def kind_of(text: bytes, values: Values = Values()) -> Kind:
@@ -100,12 +105,17 @@ def kind_of(text: bytes, values: Values = Values()) -> Kind:
     if len(words) != 5:
         raise line.refused('M1')
     form, field, symmetry = (word.lower() for word in words[2:])
-    if words[1].lower() != 'matrix' or form not in ('coordinate', 'array') or symmetry not in SYMMETRIES + ('hermitian',):
+    if words[1].lower() != 'matrix' or form not in ('coordinate',
+                                                    'array') or symmetry not in SYMMETRIES + (
+                                                        'hermitian',):
         raise line.refused('M2')
     if field not in FIELDS or (form, field) == ('array', 'pattern'):
-        raise line.refused('M2', 'values are whole numbers: real, integer or pattern (of coordinate)')
+        raise line.refused('M2',
+                           'values are whole numbers: real, integer or pattern (of coordinate)')
     if values.read and (symmetry == 'hermitian' or field == 'complex'):
-        raise line.refused('M2', 'values are whole numbers, and these are complex: values=False reads none')
+        raise line.refused('M2',
+                           'values are whole numbers, and these are complex: values=False reads '
+                           'none')
     if (field, symmetry) == ('pattern', 'skew-symmetric'):
         raise line.refused('M2', 'a pattern has no signs')
     if not values.read and symmetry != 'general':
@@ -244,7 +254,8 @@ def find_repeated(file: Any, wanted: Optional[Collection[Tuple[int,
 
 
 def _cells(symmetry: str, nrows: int, ncols: int) -> int:
-    return {'general': nrows * ncols, 'symmetric': nrows * (nrows + 1) // 2, 'skew-symmetric': nrows * (nrows - 1) // 2}[symmetry]
+    return {'general': nrows * ncols, 'symmetric': nrows * (nrows + 1) // 2,
+            'skew-symmetric': nrows * (nrows - 1) // 2}[symmetry]
 
 
 def _places(symmetry: str, nrows: int, ncols: int) -> Iterator[Tuple[int, int]]:
@@ -296,12 +307,15 @@ def read_quickly(kind: Kind, body: bytes, count: int, nrows: int, ncols: int) ->
         return None
     if even_lines(body, each) != count:
         return None
-    numbers = numpy.fromstring(body, numpy.int64 if kind.field in ('integer', 'pattern') else numpy.float64, sep=' ')
+    numbers = numpy.fromstring(body, numpy.int64 if kind.field in ('integer', 'pattern')
+                               else numpy.float64, sep=' ')
     if len(numbers) != each * count:
         return None
-    i, j = _grid(kind.symmetry, nrows, ncols) if kind.array else (numbers[0::each] - 1, numbers[1::each] - 1)
+    i, j = (_grid(kind.symmetry, nrows, ncols) if kind.array
+            else (numbers[0::each] - 1, numbers[1::each] - 1))
     values = _read_values(kind, numbers[0 if kind.array else 2::max(each, 1)], count)
-    outside = (i < 0) | (i >= nrows) | (j < 0) | (j >= ncols) | (i != numpy.trunc(i)) | (j != numpy.trunc(j))
+    outside = (i < 0) | (i >= nrows) | (j < 0) | (j >= ncols) | (i != numpy.trunc(i)) | (
+        j != numpy.trunc(j))
     if values is None or outside.any() or (kind.symmetry == 'skew-symmetric' and (i == j).any()):
         return None
     return Triples(i.astype(numpy.int64), j.astype(numpy.int64), values, nrows, ncols)
@@ -311,7 +325,8 @@ def _read_values(kind: Kind, found: Any, count: int) -> Any:
     """The values of entries as whole numbers; None where they have to be looked at one by one."""
     if kind.field == 'pattern' or not kind.values.read:
         return numpy.ones(count, numpy.int64)
-    return scaled_array(found.astype(numpy.float64) if kind.field == 'integer' else found, kind.values.scale)
+    return scaled_array(found.astype(numpy.float64) if kind.field == 'integer' else found,
+                        kind.values.scale)
 
 
 def even_lines(body: bytes, each: int) -> Optional[int]:
@@ -339,4 +354,5 @@ def lowered(triples: Triples, symmetry: str) -> Triples:
     sign = -1 if symmetry == 'skew-symmetric' else 1
     rows, columns, values, nrows, ncols = triples
     above = rows < columns
-    return Triples(numpy.maximum(rows, columns), numpy.minimum(rows, columns), numpy.where(above, sign * values, values), nrows, ncols)
+    return Triples(numpy.maximum(rows, columns), numpy.minimum(rows, columns),
+                   numpy.where(above, sign * values, values), nrows, ncols)

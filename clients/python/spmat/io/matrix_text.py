@@ -1,6 +1,8 @@
-"""Matrix text as the server reads and writes it: `coordinate integer general`, from triples and back.
+"""Matrix text as the server reads and writes it: `coordinate integer general`, from triples and
+back.
 
-Triples are three arrays of numpy (int64) of one length, indices from 0, which are written and read without a step of Python for an entry.
+Triples are three arrays of numpy (int64) of one length, indices from 0, which are written and read
+without a step of Python for an entry.
 """
 from __future__ import annotations
 
@@ -16,8 +18,10 @@ BANNER = b'%%MatrixMarket matrix coordinate integer general\n'
 HEAD_LINES = 2                                     # lines before the first entry in a text of ours
 PATTERN = b'%%MatrixMarket matrix coordinate pattern general\n'
 EMPTY = BANNER + b'0 0 0\n'
-FEW_LINES = 256                                    # fewer are written in less time from lists than from arrays
-_LINES = 1 << 15                                   # lines that are written at a time, so that their table stays in a cache
+# fewer are written in less time from lists than from arrays
+FEW_LINES = 256
+# lines that are written at a time, so that their table stays in a cache
+_LINES = 1 << 15
 
 
 class Triples(NamedTuple):
@@ -41,15 +45,17 @@ def as_arrays(triples: Triples) -> Triples:
 
 
 def write(triples: Triples, ones: bool = False, symmetric: bool = False) -> bytes:
-    """The text of triples, in their order. With `ones` a text without values, each of which is 1, is written
-    as `pattern`: a third shorter, and sooner read. With `symmetric` an entry off the diagonal stands for its mirror, too."""
+    """The text of triples, in their order. With `ones` a text without values, each of which is 1,
+    is written as `pattern`: a third shorter, and sooner read. With `symmetric` an entry off the
+    diagonal stands for its mirror, too."""
     rows, columns, values = (numpy.asarray(many, numpy.int64) for many in triples[:3])
     nrows, ncols = triples[3:]
     bare = ones and len(values) > 0 and bool((values == 1).all())
     head = (PATTERN if bare else BANNER) + b'%d %d %d\n' % (nrows, ncols, len(rows))
     head = head.replace(b'general', b'symmetric') if symmetric else head
     if len(rows) >= FEW_LINES:
-        return head + _written(rows, columns, None if bare else values, limits.MOST_TEXT - len(head))
+        return head + _written(rows, columns, None if bare else values,
+                               limits.MOST_TEXT - len(head))
     at = (rows + 1).tolist(), (columns + 1).tolist()
     if bare:
         return head + b''.join([b'%d %d\n' % line for line in zip(*at)])
@@ -57,8 +63,9 @@ def write(triples: Triples, ones: bool = False, symmetric: bool = False) -> byte
 
 
 def _written(rows: Any, columns: Any, values: Any, room: int) -> bytes:
-    """All lines at one width, numbers with leading zeros, which the format allows: a table of bytes that is filled by columns.
-    Where that is too long for a body, the zeros are taken out again. Values of None are left out."""
+    """All lines at one width, numbers with leading zeros, which the format allows: a table of bytes
+    that is filled by columns. Where that is too long for a body, the zeros are taken out again.
+    Values of None are left out."""
     if len(rows) == 0:
         return b''
     least, most = (int(values.min()), int(values.max())) if values is not None else (0, 0)
@@ -69,7 +76,8 @@ def _written(rows: Any, columns: Any, values: Any, room: int) -> bytes:
     pieces = []
     for at in range(0, len(rows), _LINES):
         part = slice(at, at + _LINES)
-        pieces.append(table.fill(rows[part] + 1, columns[part] + 1, None if values is None else values[part], bare))
+        pieces.append(table.fill(rows[part] + 1, columns[part] + 1,
+                                 None if values is None else values[part], bare))
     return b''.join(pieces)
 
 
@@ -85,7 +93,8 @@ def _four_digits() -> Any:
 
 
 class _Table:
-    """Lines of one width: two or three numbers of so many digits, the last with a sign where one is wanted, blanks between them, LF."""
+    """Lines of one width: two or three numbers of so many digits, the last with a sign where one is
+    wanted, blanks between them, LF."""
 
     def __init__(self, widths: List[int], signed: bool) -> None:
         self._widths, self._signed = widths, signed
@@ -100,7 +109,8 @@ class _Table:
         at = self._digits(columns, self._widths[1], out, at, keep)
         if self._signed:
             out[:, at + 1] = numpy.where(values < 0, 45, 43)
-            values = numpy.where(values < 0, 0 - values.astype(numpy.uint64), values.astype(numpy.uint64))
+            values = numpy.where(values < 0, 0 - values.astype(numpy.uint64),
+                                 values.astype(numpy.uint64))
         if values is not None:
             at = self._digits(values, self._widths[2], out, at + 1 + self._signed, keep)
         out[:, at] = 10
@@ -108,13 +118,15 @@ class _Table:
         return text
 
     def _digits(self, numbers: Any, width: int, out: Any, at: int, keep: Any) -> int:
-        """Writes numbers that aren't negative into columns of the table, four digits at a time; the place behind them."""
+        """Writes numbers that aren't negative into columns of the table, four digits at a time; the
+        place behind them."""
         end = at + width
         for part, left in self._eights(numbers, width):
             for step in range(left // 4):
                 end -= 4
                 above = part // numpy.uint32(10000) if step + 1 < left // 4 else numpy.uint32(0)
-                place: Any = numpy.ndarray((len(out),), numpy.uint32, buffer=out.data, offset=end, strides=(self.line,))
+                place: Any = numpy.ndarray((len(out),), numpy.uint32, buffer=out.data, offset=end,
+                                           strides=(self.line,))
                 place[:] = self._four.take((part - above * numpy.uint32(10000)).astype(numpy.intp))
                 part = above
         if keep is not None:
@@ -123,7 +135,8 @@ class _Table:
         return at + width
 
     def _eights(self, numbers: Any, width: int) -> Iterator[Tuple[Any, int]]:
-        """Numbers by eight digits, the lowest first, as 32-bit words, with how many digits are left of them."""
+        """Numbers by eight digits, the lowest first, as 32-bit words, with how many digits are left
+        of them."""
         while width > 8:
             numbers = numbers.astype(numpy.uint64, copy=False)
             above = numbers // numpy.uint64(10 ** 8)

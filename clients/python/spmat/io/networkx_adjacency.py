@@ -3,7 +3,8 @@ from __future__ import annotations
 
 import itertools
 import operator
-from typing import Any, Callable, Dict, Iterator, List, NamedTuple, NoReturn, Optional, Sequence, Tuple
+from typing import (Any, Callable, Dict, Iterator, List, NamedTuple, NoReturn, Optional, Sequence,
+                    Tuple)
 
 import numpy
 
@@ -18,14 +19,17 @@ Neighbours = Dict[Any, Any]
 
 
 class Asked(NamedTuple):
-    """What a caller asks beside: whether it folds parallel edges, and what weights are multiplied by before they are rounded."""
+    """What a caller asks beside: whether it folds parallel edges, and what weights are multiplied
+    by before they are rounded."""
     folds: bool = False
     scale: Optional[float] = None
 
 
 def neighbourhoods(graph: Any) -> Dict[Any, Neighbours]:
-    """The neighbours of each node, in the graph's order. Views of networkx may count others than they give, so what they give is copied."""
-    return {node: many if type(many) is dict else dict(many.items()) for node, many in graph.adjacency()}
+    """The neighbours of each node, in the graph's order. Views of networkx may count others than
+    they give, so what they give is copied."""
+    return {node: many if type(many) is dict else dict(many.items())
+            for node, many in graph.adjacency()}
 
 
 def row_numbers(counts: List[int]) -> Any:
@@ -33,21 +37,26 @@ def row_numbers(counts: List[int]) -> Any:
     return numpy.repeat(numpy.arange(len(counts), dtype=numpy.int64), counts)
 
 
-def triples_of(graph: Any, weight: Optional[str], nodelist: Optional[Sequence[Any]], asked: Asked = Asked()) -> Tuple[Triples, Notes]:
-    """The triples of a graph, and its nodes. Entry (i, j) is the edge from node i to node j; an undirected edge stands both ways, a
-    loop once. Edges that leave `nodelist` are left out. Parallel edges are entries of one position where the caller folds them.
-    TypeError where it is no graph, or the weight no attribute; ValueError names the edge with parallel ones, or with a weight that
-    isn't whole."""
+def triples_of(graph: Any, weight: Optional[str], nodelist: Optional[Sequence[Any]],
+               asked: Asked = Asked()) -> Tuple[Triples, Notes]:
+    """The triples of a graph, and its nodes. Entry (i, j) is the edge from node i to node j; an
+    undirected edge stands both ways, a loop once. Edges that leave `nodelist` are left out.
+    Parallel edges are entries of one position where the caller folds them. TypeError where it is no
+    graph, or the weight no attribute; ValueError names the edge with parallel ones, or with a
+    weight that isn't whole."""
     if not hasattr(graph, 'adjacency') or not hasattr(graph, 'is_multigraph'):
         raise TypeError('expected a graph of networkx, got %s' % type(graph).__name__)
     if callable(weight):
-        raise TypeError('weight is the name of an edge attribute, or None for ones; what a function gives for each edge has to be put '
-                        'into an attribute first: networkx.set_edge_attributes(G, values, "w"), and weight="w"')
+        raise TypeError(
+            'weight is the name of an edge attribute, or None for ones; what a function gives '
+            'for each edge has to be put into an attribute first: '
+            'networkx.set_edge_attributes(G, values, "w"), and weight="w"')
     near = neighbourhoods(graph)
     nodes = Nodes(near if nodelist is None else nodelist)
     _check_nodes(nodes, near)
     blocks = _blocks(near, nodes, nodelist is not None)
-    rows = _one_by_one(blocks, nodes, asked.folds) if graph.is_multigraph() else _each_once(blocks, weight is not None)
+    rows = (_one_by_one(blocks, nodes, asked.folds) if graph.is_multigraph()
+            else _each_once(blocks, weight is not None))
     rounding = Rounding(asked.scale)
     triples = _triples(rows, nodes, weight, rounding)
     weighted = weight is not None and any(weight in held for held in rows.held)
@@ -82,11 +91,13 @@ def _blocks(near: Dict[Any, Neighbours], nodes: Nodes, some: bool) -> List[Neigh
 def _each_once(blocks: List[Neighbours], weighted: bool) -> _Rows:
     """Each edge, and what it holds where that is asked."""
     ends = list(itertools.chain.from_iterable(blocks))
-    return _Rows(list(map(len, blocks)), ends, [held for many in blocks for held in many.values()] if weighted else [])
+    return _Rows(list(map(len, blocks)), ends, [held for many in blocks for held in many.values()]
+                 if weighted else [])
 
 
 def _one_by_one(blocks: List[Neighbours], nodes: Nodes, folds: bool) -> _Rows:
-    """Each of a multigraph's parallel edges by itself. ValueError where there are any and nobody folds them."""
+    """Each of a multigraph's parallel edges by itself. ValueError where there are any and nobody
+    folds them."""
     counts: List[int] = []
     ends: List[Any] = []
     held: List[Any] = []
@@ -94,8 +105,9 @@ def _one_by_one(blocks: List[Neighbours], nodes: Nodes, folds: bool) -> _Rows:
         before = len(ends)
         for end, keys in block.items():
             if len(keys) > 1 and not folds:
-                raise ValueError('%d edges lead from %r to %r: dup_op= says how parallel ones are folded, such as "plus", "min" or "first"'
-                                 % (len(keys), node, end))
+                raise ValueError(
+                    '%d edges lead from %r to %r: dup_op= says how parallel ones are folded, '
+                    'such as "plus", "min" or "first"' % (len(keys), node, end))
             ends.extend([end] * len(keys))
             held.extend(keys.values())
         counts.append(len(ends) - before)
@@ -108,14 +120,17 @@ def _triples(rows: _Rows, nodes: Nodes, weight: Optional[str], rounding: Roundin
     values: Any = 1 if weight is None else _weights(rows, nodes, weight, rounding)
     firsts = row_numbers(rows.counts)
     values = values if weight is None else numpy.fromiter(values, numpy.int64, len(values))
-    return checked(firsts, numpy.fromiter(ends, numpy.int64, len(ends)), values, len(nodes), len(nodes))
+    return checked(firsts, numpy.fromiter(ends, numpy.int64, len(ends)), values, len(nodes),
+                   len(nodes))
 
 
 def _weights(rows: _Rows, nodes: Nodes, weight: str, rounding: Rounding) -> List[int]:
     """The weights in whole numbers of 64 bits; an edge without one has 1."""
     found = [held.get(weight, 1) for held in rows.held]
     if rounding.scale is not None:
-        return _each(found, rows, nodes, lambda value: scaled_one(value, check_scale(rounding.scale), rounding, 'weight'))
+        return _each(found, rows, nodes,
+                     lambda value: scaled_one(value, check_scale(rounding.scale), rounding,
+                                              'weight'))
     try:
         values = list(map(operator.index, found))
     except TypeError:
@@ -138,7 +153,8 @@ def _each(found: List[Any], rows: _Rows, nodes: Nodes, one: Callable[[Any], int]
 
 def _wrong(fault: Exception, at: int, rows: _Rows, nodes: Nodes) -> NoReturn:
     """The fault of one edge, with the edge."""
-    raise type(fault)('the edge from %r to %r: %s' % (nodes[_row_of(at, rows.counts)], rows.ends[at], fault)) from None
+    raise type(fault)('the edge from %r to %r: %s' % (nodes[_row_of(at, rows.counts)],
+                                                      rows.ends[at], fault)) from None
 
 
 def _row_of(at: int, counts: Sequence[int]) -> int:

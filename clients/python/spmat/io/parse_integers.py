@@ -1,8 +1,9 @@
 """Numbers out of matrix text, by numpy: of each line the fields that are asked for alone.
 
-A number ends at a byte below `-`: a blank, or LF. The eight bytes before that end are taken as one word; the bytes of it that are no digit of
-the number are masked out, and three multiplications join the digits, by pairs, by fours, by eights: all numbers at once. A number of more
-than eight digits takes a word or two more.
+A number ends at a byte below `-`: a blank, or LF. The eight bytes before that end are taken as one
+word; the bytes of it that are no digit of the number are masked out, and three multiplications join
+the digits, by pairs, by fours, by eights: all numbers at once. A number of more than eight digits
+takes a word or two more.
 """
 from __future__ import annotations
 
@@ -11,17 +12,22 @@ from typing import Any, List, Sequence
 
 import numpy
 
-CHUNK = 1 << 17                                    # bytes that are looked at together, so that their tables stay in a cache
-SHORT = 1 << 14                                    # bytes that numpy's own reader takes in less time than it takes to set this up
-WORD, LONGEST = 8, 24                              # digits of a word, and the bytes of the three words that a number may have
+# bytes that are looked at together, so that their tables stay in a cache
+CHUNK = 1 << 17
+# bytes that numpy's own reader takes in less time than it takes to set this up
+SHORT = 1 << 14
+# digits of a word, and the bytes of the three words that a number may have
+WORD, LONGEST = 8, 24
 MINUS = 45
 
 
 def fields(text: bytes, wanted: Sequence[int] = (1, 2), per_line: int = 3) -> List[Any]:
-    """Arrays of int64: the wanted fields (from 0) of all lines. Each line has so many whole numbers of 64 bits, without a sign but `-`,
-    with one blank between two, and ends in LF; as the server writes its matrices."""
+    """Arrays of int64: the wanted fields (from 0) of all lines. Each line has so many whole numbers
+    of 64 bits, without a sign but `-`, with one blank between two, and ends in LF; as the server
+    writes its matrices."""
     if len(text) < SHORT:
-        numbers = numpy.fromstring(text, numpy.int64, sep=' ') if text else numpy.zeros(0, numpy.int64)
+        numbers = (numpy.fromstring(text, numpy.int64, sep=' ') if text
+                   else numpy.zeros(0, numpy.int64))
         return [numbers[field::per_line].copy() for field in wanted]
     if len(text) <= 2 * CHUNK:
         return _fields(memoryview(text), wanted, per_line)
@@ -34,25 +40,32 @@ def fields(text: bytes, wanted: Sequence[int] = (1, 2), per_line: int = 3) -> Li
 
 
 def _fields(text: memoryview, wanted: Sequence[int], per_line: int) -> List[Any]:
-    padded = numpy.empty(len(text) + LONGEST, numpy.uint8)             # so that three words stand before each end
+    # so that three words stand before each end
+    padded = numpy.empty(len(text) + LONGEST, numpy.uint8)
     padded[:LONGEST] = 32
     padded[LONGEST:] = numpy.frombuffer(text, numpy.uint8)
-    ends = numpy.flatnonzero(padded[LONGEST - 1:] < MINUS) + LONGEST - 1     # the first is the byte before the text
-    words: Any = numpy.ndarray((len(padded) - WORD + 1,), numpy.uint64, buffer=padded.data, strides=(1,))
-    return [_numbers(padded, words, ends[field:-1:per_line], ends[field + 1::per_line]) for field in wanted]
+    # the first is the byte before the text
+    ends = numpy.flatnonzero(padded[LONGEST - 1:] < MINUS) + LONGEST - 1
+    words: Any = numpy.ndarray((len(padded) - WORD + 1,), numpy.uint64, buffer=padded.data,
+                               strides=(1,))
+    return [_numbers(padded, words, ends[field:-1:per_line], ends[field + 1::per_line])
+            for field in wanted]
 
 
 @functools.lru_cache(maxsize=None)
 def _digits() -> Any:
     """The bits of the digits, by how many of the last bytes of a word are digits."""
-    return numpy.array([(0x0F0F0F0F0F0F0F0F << 8 * (WORD - many)) % (1 << 64) for many in range(WORD + 1)], numpy.uint64)
+    return numpy.array([(0x0F0F0F0F0F0F0F0F << 8 * (WORD - many)) % (1 << 64)
+                        for many in range(WORD + 1)], numpy.uint64)
 
 
 def _word(words: Any, ends: Any, many: Any) -> Any:
-    """The numbers of so many digits (0 to 8) before these places. The first digit is the lowest byte."""
+    """The numbers of so many digits (0 to 8) before these places. The first digit is the lowest
+    byte."""
     got = words[ends - WORD]
     got &= _digits()[many]
-    for times, shift, bits in ((10 * 2 ** 8 + 1, 8, 0x00FF00FF00FF00FF), (100 * 2 ** 16 + 1, 16, 0x0000FFFF0000FFFF),
+    for times, shift, bits in ((10 * 2 ** 8 + 1, 8, 0x00FF00FF00FF00FF),
+                               (100 * 2 ** 16 + 1, 16, 0x0000FFFF0000FFFF),
                                (10000 * 2 ** 32 + 1, 32, 0xFFFFFFFF)):
         got *= numpy.uint64(times)
         got >>= numpy.uint64(shift)
@@ -71,7 +84,8 @@ def _numbers(padded: Any, words: Any, before: Any, ends: Any) -> Any:
     value = _word(words, ends, lengths if most <= WORD else numpy.minimum(lengths, WORD))
     for above in range(WORD, most, WORD):
         some = numpy.flatnonzero(lengths > above)
-        value[some] += _word(words, ends[some] - above, numpy.minimum(lengths[some] - above, WORD)) * numpy.uint64(10 ** above)
+        value[some] += _word(words, ends[some] - above,
+                             numpy.minimum(lengths[some] - above, WORD)) * numpy.uint64(10 ** above)
     value = value.view(numpy.int64)
     if signed:
         numpy.negative(value, out=value, where=minus)

@@ -1,4 +1,5 @@
-"""Points in time as values: whole numbers of a unit since 1970-01-01 (UTC), from text, from Python's dates, from numpy and pandas."""
+"""Points in time as values: whole numbers of a unit since 1970-01-01 (UTC), from text, from
+Python's dates, from numpy and pandas."""
 from __future__ import annotations
 
 import datetime
@@ -9,47 +10,58 @@ import numpy
 
 from .coo import LEAST, MOST, whole
 
-UNITS = {'D': 86400 * 10 ** 9, 's': 10 ** 9, 'ms': 10 ** 6, 'us': 10 ** 3, 'ns': 1}      # in nanoseconds
+# in nanoseconds
+UNITS = {'D': 86400 * 10 ** 9, 's': 10 ** 9, 'ms': 10 ** 6, 'us': 10 ** 3, 'ns': 1}
 EPOCH = datetime.datetime(1970, 1, 1, tzinfo=datetime.timezone.utc)
-ISO = re.compile(r'\s*(\d{4})-(\d\d)-(\d\d)(?:[T ]+(\d\d):(\d\d)(?::(\d\d)(?:[.,](\d{1,9}))?)?)?\s*(Z|[+-]\d\d:?\d\d)?\s*', re.I)
+ISO = re.compile(r'\s*(\d{4})-(\d\d)-(\d\d)(?:[T '
+                 r']+(\d\d):(\d\d)(?::(\d\d)(?:[.,](\d{1,9}))?)?)?\s*(Z|[+-]\d\d:?\d\d)?\s*', re.I)
 # Columns that are called so have times.
 NAMES = {'timestamp', 'time', 'date', 'datetime', 'ts', 'when', 'day'}
 TAKES = 'unit="s" takes times as seconds since 1970-01-01'
 
 
 class Clock:
-    """What makes whole numbers of times: in which unit, and how text writes them (None: as ISO 8601 has it). It counts the times that it
-    cut down to a whole number."""
+    """What makes whole numbers of times: in which unit, and how text writes them (None: as ISO 8601
+    has it). It counts the times that it cut down to a whole number."""
 
     def __init__(self, unit: str, date_format: Optional[str] = None) -> None:
         if unit not in UNITS:
-            raise ValueError('a unit of times is %s, not %r' % (', '.join(map('"%s"'.__mod__, UNITS)), unit))
-        self.unit, self._format, self._size, self.count, self.cut = unit, date_format, UNITS[unit], 0, 0
+            raise ValueError('a unit of times is %s, not %r'
+                             % (', '.join(map('"%s"'.__mod__, UNITS)), unit))
+        self.unit, self._format, self._size, self.count, self.cut = unit, date_format, UNITS[
+            unit], 0, 0
 
     def __str__(self) -> str:
         cut = ', %d of %d cut down to a whole one' % (self.cut, self.count) if self.cut else ''
         return 'values in %s since 1970-01-01%s' % (self.unit, cut)
 
     def read(self, values: Sequence[Any], wrong: Callable[[int, str], Exception]) -> List[int]:
-        """Times as whole numbers; what is a number is one of this unit. The error of `wrong` where one is neither, or beyond 64 bits."""
+        """Times as whole numbers; what is a number is one of this unit. The error of `wrong` where
+        one is neither, or beyond 64 bits."""
         found = []
         for at, value in enumerate(values):
             try:
                 exact = nanoseconds(value, self._format)
-                number = int(value) if exact is None and isinstance(value, str) else whole(value) if exact is None else exact // self._size
+                number = (int(value) if exact is None and isinstance(value, str) else whole(value)
+                          if exact is None else exact // self._size)
             except (TypeError, ValueError):
-                how = 'date_format=%r' % self._format if self._format else 'as 2024-05-31 or 2024-05-31T10:15:00Z, or date_format= says how, as "%d.%m.%Y"'
+                how = ('date_format=%r' % self._format if self._format
+                       else 'as 2024-05-31 or 2024-05-31T10:15:00Z, or date_format= says how, '
+                       'as "%d.%m.%Y"')
                 raise wrong(at, 'expected a time, got %r: write it %s' % (value, how)) from None
             self.cut += exact is not None and exact % self._size != 0
             if not LEAST <= number <= MOST:
-                raise wrong(at, '%s is beyond 64 bits in %s: unit="us" has room' % (value, self.unit))
+                raise wrong(at, '%s is beyond 64 bits in %s: unit="us" has room'
+                            % (value, self.unit))
             found.append(number)
         self.count += len(found)
         return found
 
 
-def clock_of(unit: Optional[str], date_format: Optional[str], scale: Optional[float]) -> Optional[Clock]:
-    """What makes numbers of times; None where values are no times. ValueError for words that don't go together."""
+def clock_of(unit: Optional[str], date_format: Optional[str],
+             scale: Optional[float]) -> Optional[Clock]:
+    """What makes numbers of times; None where values are no times. ValueError for words that don't
+    go together."""
     if unit is None:
         if date_format is not None:
             raise ValueError('date_format= says how times are written: unit="s" takes them')
@@ -68,9 +80,11 @@ def is_time(value: Any, date_format: Optional[str] = None) -> bool:
 
 
 def nanoseconds(value: Any, date_format: Optional[str] = None) -> Optional[int]:
-    """A time in nanoseconds since 1970-01-01, where it has no zone in UTC; None of a number. ValueError where text is neither."""
+    """A time in nanoseconds since 1970-01-01, where it has no zone in UTC; None of a number.
+    ValueError where text is neither."""
     if isinstance(value, str):
-        return None if date_format is None and re.fullmatch(r'\s*[+-]?\d+\s*', value) else _of_text(value, date_format)
+        return (None if date_format is None and re.fullmatch(r'\s*[+-]?\d+\s*', value)
+                else _of_text(value, date_format))
     if isinstance(value, datetime.datetime):
         return _of_datetime(value) + int(getattr(value, 'nanosecond', 0))
     if isinstance(value, datetime.date):
@@ -87,7 +101,8 @@ def nanoseconds(value: Any, date_format: Optional[str] = None) -> Optional[int]:
 
 
 def _of_datetime(value: datetime.datetime) -> int:
-    passed = (value if value.tzinfo is not None else value.replace(tzinfo=datetime.timezone.utc)) - EPOCH
+    passed = (value if value.tzinfo is not None
+              else value.replace(tzinfo=datetime.timezone.utc)) - EPOCH
     return ((passed.days * 86400 + passed.seconds) * 10 ** 6 + passed.microseconds) * 1000
 
 

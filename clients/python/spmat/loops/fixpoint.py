@@ -10,12 +10,16 @@ from ..io.coo import whole
 from ..matrix import Matrix
 from . import Loop, NotAlike, NotTraced, Until
 
-NOT_SETTLED = ('it still changes after %d rounds: most= allows more, such as most=10**6. By default a fixpoint has one round more than there are rows '
-               'or columns, which lengths of paths need at most; they fall for ever along a cycle of negative length')
+NOT_SETTLED = (
+    'it still changes after %d rounds: most= allows more, such as most=10**6. By default a '
+    'fixpoint has one round more than there are rows or columns, which lengths of paths need at '
+    'most; they fall for ever along a cycle of negative length')
 
 
-def fixpoint(matrix: Matrix, step: Callable[[Matrix], Matrix], most: Optional[int] = None, progress: Progress = None) -> Matrix:
-    """`step(matrix)`, `step(step(matrix))` and so on, until two that follow are the same, which is the answer.
+def fixpoint(matrix: Matrix, step: Callable[[Matrix], Matrix], most: Optional[int] = None,
+             progress: Progress = None) -> Matrix:
+    """`step(matrix)`, `step(step(matrix))` and so on, until two that follow are the same, which is
+    the answer.
 
         lengths = spmat.fixpoint(start, lambda d: d.ewise_add(d.mxm(W, 'min_plus'), 'min'))
 
@@ -24,10 +28,12 @@ def fixpoint(matrix: Matrix, step: Callable[[Matrix], Matrix], most: Optional[in
     matrix : Matrix
         What the first round works on.
     step : callable
-        Makes a matrix of the same shape. It is called once for each round, ahead of it, as that of `spmat.loop`. One that looks at entries,
-        or makes matrices itself, is called with the matrix of each round.
+        Makes a matrix of the same shape. It is called once for each round, ahead of it, as that of
+        `spmat.loop`. One that looks at entries, or makes matrices itself, is called with the matrix
+        of each round.
     most : int, optional
-        The most rounds. By default one more than the matrix has rows or columns, which is enough for lengths of paths.
+        The most rounds. By default one more than the matrix has rows or columns, which is enough
+        for lengths of paths.
     progress : callable, optional
         `progress('round', k, most or 0)` is called after each round.
 
@@ -43,12 +49,13 @@ def fixpoint(matrix: Matrix, step: Callable[[Matrix], Matrix], most: Optional[in
 
     Notes
     -----
-    Runs: those of the step, and 3 a round, of which 2 where the number of entries stays as it was. GraphBLAS: the loop around `GrB_mxm` that
-    ends where nothing changes."""
+    Runs: those of the step, and 3 a round, of which 2 where the number of entries stays as it was.
+    GraphBLAS: the loop around `GrB_mxm` that ends where nothing changes."""
     limit = max(matrix.shape) + 1 if most is None else whole(most, 'number of rounds')
     price = current_price()
     if price is not None:
-        state = price.repeat(lambda _, now: {'now': _compared(step, now['now'])['now']}, {'now': matrix}, limit, min(1, limit))
+        state = price.repeat(lambda _, now: {'now': _compared(step, now['now'])['now']},
+                             {'now': matrix}, limit, min(1, limit))
         return state['now']  # type: ignore[no-any-return]
     made, number = matrix, 0
 
@@ -62,17 +69,20 @@ def fixpoint(matrix: Matrix, step: Callable[[Matrix], Matrix], most: Optional[in
                 answer: Matrix = loop.state.now
                 return answer
             raise NotSettled(NOT_SETTLED % limit)
-    except (NotTraced, NotAlike):                  # in a later round: what is left is made by the step
+    except (NotTraced, NotAlike):
+        # in a later round: what is left is made by the step
         assert loop is not None
         made, number = loop.state.now, loop.number
     try:
-        return iterate(made, step, lambda before, now: now.isequal(before), lambda word, k, of: tell(progress, word, number + k, most or 0),
-                        limit - number)
+        return iterate(made, step, lambda before, now: now.isequal(before),
+                       lambda word, k, of: tell(progress, word, number + k, most or 0),
+                       limit - number)
     except NotSettled:
         raise NotSettled(NOT_SETTLED % limit) from None
 
 
-SAME = Until(('now', 'both', 'differ'), lambda counts, before: counts['both'] == counts['now'] == before['now'] and not counts['differ'])
+SAME = Until(('now', 'both', 'differ'), lambda counts, before: counts['both'] == counts['now']
+             == before['now'] and not counts['differ'])
 
 
 def _compared(step: Callable[[Matrix], Matrix], before: Matrix) -> Dict[str, Matrix]:
@@ -85,6 +95,7 @@ def _compared(step: Callable[[Matrix], Matrix], before: Matrix) -> Dict[str, Mat
 def _traced(matrix: Matrix, step: Callable[[Matrix], Matrix]) -> Optional[Loop]:
     """The loop of a step; None where it can't be traced."""
     try:
-        return Loop(lambda state: _compared(step, state.now), {'now': matrix}) if matrix.in_one_place else None
+        return (Loop(lambda state: _compared(step, state.now), {'now': matrix})
+                if matrix.in_one_place else None)
     except (NotTraced, NotAlike):
         return None

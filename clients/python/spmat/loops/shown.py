@@ -1,7 +1,8 @@
-"""Results that come to the client in each round: of a loop's rounds, whose entries are read in bulk, and of products of a row with a graph.
+"""Results that come to the client in each round: of a loop's rounds, whose entries are read in
+bulk, and of products of a row with a graph.
 
-Where the client decides what is next, such a product is all that the server does in a round. It takes one trip, and its commands are made
-once, but for the row.
+Where the client decides what is next, such a product is all that the server does in a round. It
+takes one trip, and its commands are made once, but for the row.
 """
 from __future__ import annotations
 
@@ -24,7 +25,8 @@ HEAD = len(matrix_text.BANNER)
 
 
 class Body(NamedTuple):
-    """The text of a matrix as the server writes it, which stands between two places of some bytes."""
+    """The text of a matrix as the server writes it, which stands between two places of some
+    bytes."""
     data: bytes
     start: int
     end: int
@@ -35,21 +37,22 @@ class Body(NamedTuple):
 
 
 class Entries(NamedTuple):
-    """Entries of rows or columns by round: the round, the place (the column of a row, the row of a column, from 0) and the value of
-    each."""
+    """Entries of rows or columns by round: the round, the place (the column of a row, the row of a
+    column, from 0) and the value of each."""
     rounds: Any
     places: Any
     values: Any
 
 
 class Shown:
-    """What was shown of one result. `rounds`, `places` and `values` are those of all its entries, up to the round that was asked for
-    last."""
+    """What was shown of one result. `rounds`, `places` and `values` are those of all its entries,
+    up to the round that was asked for last."""
 
     def __init__(self, shape: Tuple[int, int]) -> None:
         if 1 not in shape:
-            raise ValueError('show= is of rows and columns, and this is %dx%d: `loop.state` has the matrix, or reduce_rowwise() a column of it'
-                             % shape)
+            raise ValueError(
+                'show= is of rows and columns, and this is %dx%d: `loop.state` has the matrix, '
+                'or reduce_rowwise() a column of it' % shape)
         self._field = 0 if shape[1] == 1 else 1
         self._texts: List[bytes] = []
         self._numbers: List[int] = []              # of rounds, with how many entries each has
@@ -64,7 +67,8 @@ class Shown:
             self._counts.append(count)
 
     def drain(self, values: bool = True, rounds: bool = True) -> Entries:
-        """The entries that came since this was asked last, and weren't read otherwise; values and rounds where they are wanted."""
+        """The entries that came since this was asked last, and weren't read otherwise; values and
+        rounds where they are wanted."""
         text, numbers, counts = b''.join(self._texts), self._numbers, self._counts
         self._texts, self._numbers, self._counts = [], [], []
         found = parse_integers.fields(text, (self._field, 2) if values else (self._field,))
@@ -112,10 +116,14 @@ class Push:
         made = self._names.free({row}).key.encode()
         self._row = row.encode()
         ops = [session.backend.upload(op).name.encode() for op in (ring.add, ring.mul)]
-        self._rest = b'product %s %s %s %s\nrun\nshow %s\nbudget\n' % (made, b' '.join(ops), self._row, graph.handle.key.encode(), made)
+        self._rest = b'product %s %s %s %s\nrun\nshow %s\nbudget\n' % (made, b' '.join(ops),
+                                                                       self._row,
+                                                                       graph.handle.key.encode(),
+                                                                       made)
 
     def __call__(self, entries: Triples, values: bool = True) -> Optional[Entries]:
-        """The row that the product is: places, and values where they are wanted. None where the server refuses the job, whatever for."""
+        """The row that the product is: places, and values where they are wanted. None where the
+        server refuses the job, whatever for."""
         session = self.session
         text = matrix_text.write(entries, ones=True)
         batch = CommandBatch(b'matrix %s %d\n%s\n%s' % (self._row, len(text), text, self._rest), 5)

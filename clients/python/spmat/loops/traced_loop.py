@@ -1,16 +1,19 @@
 """Loops whose rounds stay at the server.
 
-A step makes of named matrices, the state, the next ones. It is called ahead of the rounds, and says which jobs they are: many rounds go in one
-trip, and two trips are under way at a time, so that neither side waits for the other. What ends the loop is seen from the numbers of entries
-that the server tells of each result anyway.
+A step makes of named matrices, the state, the next ones. It is called ahead of the rounds, and says
+which jobs they are: many rounds go in one trip, and two trips are under way at a time, so that
+neither side waits for the other. What ends the loop is seen from the numbers of entries that the
+server tells of each result anyway.
 
-Where a trip can't be borne or something in it is refused, the loop goes on round by round from where the trip began: so each refusal comes in
-the round, and leaves the state, that it would have without trips.
+Where a trip can't be borne or something in it is refused, the loop goes on round by round from
+where the trip began: so each refusal comes in the round, and leaves the state, that it would have
+without trips.
 """
 from __future__ import annotations
 
 import time
-from typing import TYPE_CHECKING, Any, Callable, Dict, List, Mapping, NamedTuple, Optional, Sequence, Set, Tuple, Union, cast
+from typing import (TYPE_CHECKING, Any, Callable, Dict, List, Mapping, NamedTuple, Optional,
+                    Sequence, Set, Tuple, Union, cast)
 
 from ..backends.trace import TraceHandle
 from ..errors import NotSettled, Refused
@@ -25,13 +28,15 @@ if TYPE_CHECKING:
     from ..pricing.call_price import Price
 
 FIRST = 4                                          # rounds of the first trip
-QUICK, LONG = .002, .05                            # seconds of a trip: those that may be in vain grow to the one, others to the other
+# seconds of a trip: those that may be in vain grow to the one, others to the other
+QUICK, LONG = .002, .05
 Each = Callable[[int, Counts], Any]
 
 
 class Until(NamedTuple):
-    """An end: the results that it looks at, whether it is met by their numbers of entries in a round and in the one before, and whether
-    rounds behind it cost next to nothing, should they work on these results."""
+    """An end: the results that it looks at, whether it is met by their numbers of entries in a
+    round and in the one before, and whether rounds behind it cost next to nothing, should they work
+    on these results."""
     names: Tuple[str, ...]
     met: Callable[[Counts, Counts], bool]
     rests: bool = False
@@ -43,8 +48,8 @@ def empty(name: str) -> Until:
 
 
 def steady(name: str) -> Until:
-    """The end of a loop: this result has as many entries as in the round before. Their values may still change: a loop over values returns
-    the difference, and ends where that is `empty`."""
+    """The end of a loop: this result has as many entries as in the round before. Their values may
+    still change: a loop over values returns the difference, and ends where that is `empty`."""
     return Until((name,), lambda counts, before: counts[name] == before.get(name))
 
 
@@ -53,19 +58,25 @@ def _until(end: Union[Until, Callable[[Counts], bool]]) -> Until:
         return end
     function: Any = end
     if not callable(function):
-        raise TypeError('until= is spmat.empty("name"), spmat.steady("name") or a function of the numbers of entries by name, not %r' % (end,))
+        raise TypeError(
+            'until= is spmat.empty("name"), spmat.steady("name") or a function of the numbers '
+            'of entries by name, not %r' % (end,))
     return Until((), lambda counts, _: bool(function(counts)))
 
 
 class Loop:
-    """A step that is made again and again: `spmat.loop` makes one. `number` rounds are made; `state` has the matrices behind them, by name
-    (`loop.state.front`, or `loop.state["front"]`); `shown` the entries of what is shown, for all rounds (`loop.shown["front"].places`)."""
+    """A step that is made again and again: `spmat.loop` makes one. `number` rounds are made;
+    `state` has the matrices behind them, by name (`loop.state.front`, or `loop.state["front"]`);
+    `shown` the entries of what is shown, for all rounds (`loop.shown["front"].places`)."""
 
-    def __init__(self, step: Callable[..., Mapping[str, Any]], state: Mapping[str, Any], show: Sequence[str] = (), alike: bool = False) -> None:
+    def __init__(self, step: Callable[..., Mapping[str, Any]], state: Mapping[str, Any],
+                 show: Sequence[str] = (), alike: bool = False) -> None:
         self._step, begun = of_two(step), _checked(state)
         self._state, self._made = begun, 0         # where no trips are
-        self._last: Counts = {}                    # of all results of the last round, where no trips are
-        self._end: Optional[int] = None            # rounds that are made, where fewer are known by their names
+        # of all results of the last round, where no trips are
+        self._last: Counts = {}
+        # rounds that are made, where fewer are known by their names
+        self._end: Optional[int] = None
         self._careful = False                      # something was refused
         self.shown: Dict[str, Shown] = {}
         self._show = [show] if isinstance(show, str) else list(show)
@@ -95,7 +106,8 @@ class Loop:
 
     @property
     def state(self) -> State:
-        """The matrices behind the last round. Where an end was met amid a trip, the trip's rounds up to it are made again for this."""
+        """The matrices behind the last round. Where an end was met amid a trip, the trip's rounds
+        up to it are made again for this."""
         price = current_price()
         if price is not None:
             self._foresee(price, 0, 0)
@@ -106,31 +118,37 @@ class Loop:
         self._trips.settle()
         return self._trips.matrices()
 
-    def run(self, until: Union[Until, Callable[[Counts], bool]], most: Optional[int] = None, each: Optional[Each] = None,
-            progress: 'Progress' = None) -> int:
-        """Makes rounds until an end is met: `spmat.empty("front")`, `spmat.steady("known")`, or a function of the numbers of entries,
-        a dict by name. The number of rounds that this took.
+    def run(self, until: Union[Until, Callable[[Counts], bool]], most: Optional[int] = None,
+            each: Optional[Each] = None, progress: 'Progress' = None) -> int:
+        """Makes rounds until an end is met: `spmat.empty("front")`, `spmat.steady("known")`, or a
+        function of the numbers of entries, a dict by name. The number of rounds that this took.
 
-        `each(k, counts)` is called for each round up to the end, in order, and `progress("round", k, 0)`. More rounds than `most` (by
-        default one more than rows or columns of the largest matrix) are a NotSettled, a RuntimeError, behind which the state is there. A few rounds behind the end may be
-        made in vain, and cost steps: with `empty` up to 128, else up to those that take 2 ms; with `advance` none."""
+        `each(k, counts)` is called for each round up to the end, in order, and `progress("round",
+        k, 0)`. More rounds than `most` (by default one more than rows or columns of the largest
+        matrix) are a NotSettled, a RuntimeError, behind which the state is there. A few rounds
+        behind the end may be made in vain, and cost steps: with `empty` up to 128, else up to those
+        that take 2 ms; with `advance` none."""
         end, begun = _until(until), self._resumed()
         most = self._default() if most is None else whole(most, 'number of rounds')
         self._check_names(end.names)
         if not self.rounds(end, most, _tells(each, progress, 0)):
-            raise NotSettled('did not converge after %d rounds: most= allows more, and advance() makes rounds without an end; the state is that '
-                             'behind them' % most)
+            raise NotSettled(
+                'did not converge after %d rounds: most= allows more, and advance() makes '
+                'rounds without an end; the state is that behind them' % most)
         made: Any = self.number - begun if current_price() is None else Unread()
         return cast(int, made)
 
-    def advance(self, rounds: int = 1, each: Optional[Each] = None, progress: 'Progress' = None) -> None:
+    def advance(self, rounds: int = 1, each: Optional[Each] = None,
+                progress: 'Progress' = None) -> None:
         """Makes so many rounds, none in vain. `each` and `progress` are as in `run`."""
         self._resumed()
         rounds = whole(rounds, 'number of rounds')
         self.rounds(None, rounds, _tells(each, progress, rounds))
 
-    def rounds(self, end: Optional[Until], most: int, heard: Callable[[int, List[Round]], Any]) -> bool:
-        """Makes rounds until an end is met, or so many; whether it was met. `heard(first, rounds)` is told of all rounds of a trip."""
+    def rounds(self, end: Optional[Until], most: int,
+               heard: Callable[[int, List[Round]], Any]) -> bool:
+        """Makes rounds until an end is met, or so many; whether it was met. `heard(first, rounds)`
+        is told of all rounds of a trip."""
         price = current_price()
         if price is not None:
             self._foresee(price, most, most if end is None else min(1, most))
@@ -158,21 +176,25 @@ class Loop:
     # -- rounds
 
     def _foresee(self, price: 'Price', most: int, least: int) -> None:
-        """Tells who asks what so many rounds would ask for, or fewer but so many at the least. The loop stays where it is."""
+        """Tells who asks what so many rounds would ask for, or fewer but so many at the least. The
+        loop stays where it is."""
         number = self.number
 
         def made(round_: int, now: State) -> State:
             got = results(self._step, State(now), number + round_)
             return State((name, got[name]) for name in now)
         if id(self) not in price.loops:
-            again = 0 if self._end is None or self._trips is None else self._end - self._trips.place.number
+            again = (0 if self._end is None or self._trips is None
+                     else self._end - self._trips.place.number)
             begun = State(self._state) if self._trips is None else self._trips.matrices()
             price.loops[id(self)] = self, price.repeat(made, begun, again, again)
         price.loops[id(self)] = self, price.repeat(made, price.loops[id(self)][1], most, least)
 
     def _rests(self, end: Until) -> bool:
-        """Whether rounds behind an end cost next to nothing: the next ones work on what is empty then."""
-        return end.rests and self._trips is not None and self._trips.rounds.first.traced.used.issuperset(end.names)
+        """Whether rounds behind an end cost next to nothing: the next ones work on what is empty
+        then."""
+        return (end.rests and self._trips is not None
+                and self._trips.rounds.first.traced.used.issuperset(end.names))
 
     def _by_trip(self, rests: bool, size: int, goal: int) -> Optional[List[Round]]:
         """The rounds of the trip that was sent first. None where they are to be made one by one."""
@@ -214,7 +236,8 @@ class Loop:
         for name in self._show:
             self.shown.setdefault(name, Shown(got[name].shape))
         if trips is None:
-            self._state, self._made, self._last = State((name, got[name]) for name in self._state), number, made.counts
+            self._state, self._made, self._last = (State((name, got[name]) for name in self._state),
+                                                   number, made.counts)
         else:
             trips.accept_one(got)
         return [made]
@@ -240,7 +263,8 @@ class Loop:
                 self.shown[name].add(number, one.counts[name], one.bodies[name])
 
     def _counts(self) -> Counts:
-        """The numbers of entries of all results of the last round; before there was one, of the state."""
+        """The numbers of entries of all results of the last round; before there was one, of the
+        state."""
         if self._trips is not None:
             return self._trips.place.counts
         return self._last or {name: matrix.nvals for name, matrix in self._state.items()}
@@ -266,17 +290,20 @@ class Loop:
         return self.number
 
     def _default(self) -> int:
-        shapes = [matrix.shape for matrix in self._state.values()] if self._trips is None else list(self._trips.rounds.shapes.values())
+        shapes = ([matrix.shape for matrix in self._state.values()] if self._trips is None
+                  else list(self._trips.rounds.shapes.values()))
         return int(max(max(shape) for shape in shapes)) + 1
 
     def _check_names(self, names: Sequence[str]) -> None:
         if self._results is not None:
             for name in names:
                 if name not in self._results:
-                    raise ValueError('until= looks at %r, which no step returns: it has %s' % (name, ', '.join(sorted(self._results))))
+                    raise ValueError('until= looks at %r, which no step returns: it has %s'
+                                     % (name, ', '.join(sorted(self._results))))
 
 
-def _tells(each: Optional[Each], progress: 'Progress', of: int) -> Callable[[int, List[Round]], None]:
+def _tells(each: Optional[Each], progress: 'Progress',
+           of: int) -> Callable[[int, List[Round]], None]:
     """Tells both of rounds, of which the first has this number."""
     def heard(first: int, rounds: List[Round]) -> None:
         for number, one in enumerate(rounds, first):
@@ -305,22 +332,29 @@ def _body(matrix: Any) -> Body:
 def _checked(state: Mapping[str, Any]) -> State:
     """The state as it begins. TypeError or ValueError where it is none."""
     if not isinstance(state, Mapping) or not state:
-        raise TypeError('the state of a loop is its matrices by name, such as {"front": F}, not %r' % (state,))
+        raise TypeError('the state of a loop is its matrices by name, such as {"front": F}, not %r'
+                        % (state,))
     for name, matrix in state.items():
-        if not hasattr(type(matrix), 'mxm') or isinstance(getattr(matrix, 'handle', None), TraceHandle):
-            raise TypeError('%r of the state is no matrix of a session, but %s' % (name, type(matrix).__name__))
+        if not hasattr(type(matrix), 'mxm') or isinstance(getattr(matrix, 'handle', None),
+                                                          TraceHandle):
+            raise TypeError('%r of the state is no matrix of a session, but %s'
+                            % (name, type(matrix).__name__))
     sessions = {matrix.session for matrix in state.values()}
     if len(sessions) > 1:
-        raise ValueError('the matrices of a state are of one session, and here of %d' % len(sessions))
+        raise ValueError('the matrices of a state are of one session, and here of %d'
+                         % len(sessions))
     return State(state)
 
 
-def loop(step: Callable[..., Mapping[str, Any]], state: Mapping[str, Any], show: Sequence[str] = ()) -> Loop:
-    """A loop whose rounds stay at the server: `step(s, k)` makes of the matrices `s` (`s.front`, or `s["front"]`) in round k, from 1, the next
-    ones, which it returns by name. Names that it leaves out stay as they are. It may leave out k (a second parameter with a value by default
-    isn't k), and return more results than the state has, to show or count them.
+def loop(step: Callable[..., Mapping[str, Any]], state: Mapping[str, Any],
+         show: Sequence[str] = ()) -> Loop:
+    """A loop whose rounds stay at the server: `step(s, k)` makes of the matrices `s` (`s.front`, or
+    `s["front"]`) in round k, from 1, the next ones, which it returns by name. Names that it leaves
+    out stay as they are. It may leave out k (a second parameter with a value by default isn't k),
+    and return more results than the state has, to show or count them.
 
-        NEXT = spmat.semiring("any", spmat.asm("binary", "mov64 r0, r1\\nadd64 r0, 1\\nexit"))      # the level, and one
+        NEXT = spmat.semiring("any", spmat.asm("binary", "mov64 r0, r1\\nadd64 r0, 1\\nexit"))
+        # the level, and one
 
         def step(s, k):
             new = s.front.mxm(G, NEXT).ewise_add(s.near, "zero").select("valueeq", k)
@@ -328,17 +362,20 @@ def loop(step: Callable[..., Mapping[str, Any]], state: Mapping[str, Any], show:
 
         search = spmat.loop(step, {"front": F, "near": F}, show=["front"])
         search.run(until=spmat.empty("front"))
-        search.shown["front"].places, search.shown["front"].rounds     # which vertices were found, and in which round each
+        # which vertices were found, and in which round each
+        search.shown["front"].places, search.shown["front"].rounds
 
-    The step is called once for each round, in order and up to 128 rounds ahead, with matrices that have no entries: the round is what it asks
-    for. So it may make of k what it likes, and decides nothing about data by Python: that is select, masks, and 1x1 matrices, as
-    reduce_rowwise makes of a row. It has all methods of a matrix but those that read entries (`nvals`, `to_coo`, `T`, `reduce_scalar`).
-    Matrices from outside the step are constants, which are made before the loop.
+    The step is called once for each round, in order and up to 128 rounds ahead, with matrices that
+    have no entries: the round is what it asks for. So it may make of k what it likes, and decides
+    nothing about data by Python: that is select, masks, and 1x1 matrices, as reduce_rowwise makes
+    of a row. It has all methods of a matrix but those that read entries (`nvals`, `to_coo`, `T`,
+    `reduce_scalar`). Matrices from outside the step are constants, which are made before the loop.
 
-    `show` names results that are rows or columns; their entries come to the client in each round. Jobs are those that the step asks for; runs as
-    few as they need. In blocks, on a budget that may not do for a trip of rounds, and where something is refused, rounds are made one
-    by one. Raises TypeError where the step asks for entries (NotTraced), and ValueError (NotAlike) where it makes matrices itself in each round, or
-    asks for something else where it is called again for a round, behind an end.
-    A refusal is raised as without a loop, with `.round`; the state is that before this round. Ctrl-C leaves the loop as it is: `run` goes on.
-    Threads take turns between trips."""
+    `show` names results that are rows or columns; their entries come to the client in each round.
+    Jobs are those that the step asks for; runs as few as they need. In blocks, on a budget that may
+    not do for a trip of rounds, and where something is refused, rounds are made one by one. Raises
+    TypeError where the step asks for entries (NotTraced), and ValueError (NotAlike) where it makes
+    matrices itself in each round, or asks for something else where it is called again for a round,
+    behind an end. A refusal is raised as without a loop, with `.round`; the state is that before
+    this round. Ctrl-C leaves the loop as it is: `run` goes on. Threads take turns between trips."""
     return Loop(step, state, show)

@@ -1,12 +1,14 @@
-"""Rounds that are sent together, two trips at a time: so neither side waits for the other, and a round costs the client a few microseconds.
+"""Rounds that are sent together, two trips at a time: so neither side waits for the other, and a
+round costs the client a few microseconds.
 
-While two trips are under way, the names that held the state when the first began aren't written. Where something in a trip is refused, that
-state is there as it was.
+While two trips are under way, the names that held the state when the first began aren't written.
+Where something in a trip is refused, that state is there as it was.
 """
 from __future__ import annotations
 
 import collections
-from typing import TYPE_CHECKING, Deque, Dict, FrozenSet, List, Mapping, NamedTuple, Optional, Sequence, Set, Tuple
+from typing import (TYPE_CHECKING, Deque, Dict, FrozenSet, List, Mapping, NamedTuple, Optional,
+                    Sequence, Set, Tuple)
 
 from .. import oversized_jobs
 from .._client.commands import CommandBatch
@@ -16,21 +18,25 @@ from ..backends.trace import Given, Made, TracedJob, Value
 from ..errors import TooLarge
 from ..matrix import Matrix
 from ..metadata import Notes
-from .rounds import Begin, Counted, Pending, Renderer, RoundJobs, Rounds, Sources, State, Template, keys_of, run_of
+from .rounds import (Begin, Counted, Pending, Renderer, RoundJobs, Rounds, Sources, State, Template,
+                     keys_of, run_of)
 from .shown import Body, flush
 
 if TYPE_CHECKING:
     from ..session import Session
 
-MOST_BYTES = 24_000                                # of a trip: two of them and their line ends fit into a pipe
+# of a trip: two of them and their line ends fit into a pipe
+MOST_BYTES = 24_000
 MOST_ROUNDS = 64                                   # of a trip
 MOST_UNSURE = 4                                    # of a trip of which a job could be too large
-SPARE = 3                                          # so many trips' steps have to be there: two under way, and one made again
+# so many trips' steps have to be there: two under way, and one made again
+SPARE = 3
 Counts = Dict[str, int]
 
 
 class Place(NamedTuple):
-    """How far a loop is: rounds that were made, the state, what is known of it beside, and numbers of entries of all results."""
+    """How far a loop is: rounds that were made, the state, what is known of it beside, and numbers
+    of entries of all results."""
     number: int
     state: Sources
     notes: Dict[str, Notes]
@@ -44,7 +50,8 @@ class Round(NamedTuple):
 
 
 class Written(NamedTuple):
-    """Some rounds as text: their templates, the state behind them, where counts stand of what the last run makes, and what that shows."""
+    """Some rounds as text: their templates, the state behind them, where counts stand of what the
+    last run makes, and what that shows."""
     text: List[bytes]
     templates: List[Template]
     state: Sources
@@ -69,7 +76,8 @@ class Trip(CommandBatch):
 
     def shows(self) -> List[Tuple[int, Tuple[str, ...]]]:
         """The rounds, from 0, and the results of what is shown, in order."""
-        out = [(at - back, results) for at, template in enumerate(self.templates) for back, results in template.shows]
+        out = [(at - back, results) for at, template in enumerate(self.templates)
+               for back, results in template.shows]
         return out + [(len(self.templates) - back, results) for back, results in self.ends_shown]
 
     def rounds(self) -> Optional[List[Round]]:
@@ -89,7 +97,8 @@ class Trip(CommandBatch):
         return out
 
 
-def _note(out: List[Round], at: int, counts: Sequence[Counted], words: List[bytes], base: int) -> None:
+def _note(out: List[Round], at: int, counts: Sequence[Counted], words: List[bytes],
+          base: int) -> None:
     for word, back, results in counts:
         if at >= back:
             number = int(words[base + word])
@@ -112,9 +121,11 @@ def _parted(data: bytes) -> Tuple[bytes, List[Body]]:
 
 
 class Trips:
-    """A loop's rounds by trips. `place` is what is known; `under_way` are trips that follow it, each on the one before."""
+    """A loop's rounds by trips. `place` is what is known; `under_way` are trips that follow it,
+    each on the one before."""
 
-    def __init__(self, session: 'Session', rounds: Rounds, state: State, show: Sequence[str]) -> None:
+    def __init__(self, session: 'Session', rounds: Rounds, state: State,
+                 show: Sequence[str]) -> None:
         self.session, self.rounds = session, rounds
         size = max((job.shape[0] + job.most.entries for job in rounds.first.traced.jobs), default=0)
         self.renderer = Renderer(session, show, size)
@@ -134,8 +145,9 @@ class Trips:
         return self.under_way[-1].number if self.under_way else self.place.number
 
     def bearable(self, most: int) -> List[RoundJobs]:
-        """The next rounds, at most so many, that may go in one trip now, so that nothing in it can be refused for want of steps; none where that
-        can't be said of one. Raises what the step ends in where it is called for the next round that is made."""
+        """The next rounds, at most so many, that may go in one trip now, so that nothing in it can
+        be refused for want of steps; none where that can't be said of one. Raises what the step
+        ends in where it is called for the next round that is made."""
         queue = self.session.backend.queue
         left = queue.left - (AMPLE if queue.shared else 0)
         if not self.under_way:
@@ -197,8 +209,9 @@ class Trips:
     # -- what comes back
 
     def take(self) -> Optional[List[Round]]:
-        """What the first trip under way came to. None where something in it was refused: then it is as if no trip had been sent.
-        `accept` goes on behind it. KeyboardInterrupt leaves all as it was."""
+        """What the first trip under way came to. None where something in it was refused: then it is
+        as if no trip had been sent. `accept` goes on behind it. KeyboardInterrupt leaves all as it
+        was."""
         trip, session = self.under_way[0], self.session
         replies = session.connection.collect(trip)
         try:
@@ -215,7 +228,8 @@ class Trips:
         before = trip.start.counts or self.place.counts
         for one, asked in zip(rounds, trip.asked):
             one.counts.update((name, matrix.nvals) for name, matrix in asked.outside.items())
-            one.counts.update((name, before[value.name]) for name, value in asked.traced.out.items() if isinstance(value, Given))
+            one.counts.update((name, before[value.name]) for name, value in asked.traced.out.items()
+                              if isinstance(value, Given))
             before = one.counts
         return rounds
 
@@ -250,13 +264,16 @@ class Trips:
     def resume(self) -> None:
         """Goes on from the state, of which the caller may have named vertices."""
         if not self.under_way:
-            self.rounds.resume(self.place.number, {name: source.notes if isinstance(source, Matrix) else self.place.notes[name]
-                                                   for name, source in self.place.state.items()})
+            self.rounds.resume(self.place.number,
+                               {name: source.notes if isinstance(source, Matrix)
+                                else self.place.notes[name]
+                                for name, source in self.place.state.items()})
 
     # -- rounds that are made one by one
 
     def make_one(self) -> Dict[str, Matrix]:
-        """The results of the next round, of which each job is handed in by itself, as the step asked for it. A refusal leaves the state."""
+        """The results of the next round, of which each job is handed in by itself, as the step
+        asked for it. A refusal leaves the state."""
         number, state = self.place.number + 1, self.matrices()
         self.rounds.check(number)
         asked = self.rounds.ask(number)
@@ -271,12 +288,16 @@ class Trips:
     def accept_one(self, got: Mapping[str, Matrix]) -> None:
         """These results are what the loop goes on from."""
         state = State((name, got[name]) for name in self.place.state)
-        self._go_on(place_of(state, self.place.number + 1)._replace(counts={name: matrix.nvals for name, matrix in got.items()}))
+        self._go_on(place_of(state,
+                             self.place.number
+                             + 1)._replace(counts={name: matrix.nvals
+                                                   for name, matrix in got.items()}))
 
     # -- the state
 
     def matrices(self) -> State:
-        """The state, as matrices that have their names from now on. What the caller has, of the state or outside of the step, is itself."""
+        """The state, as matrices that have their names from now on. What the caller has, of the
+        state or outside of the step, is itself."""
         place, state = self.place, State()
         with self.session.backend.turn():
             for name, source in place.state.items():
@@ -286,7 +307,8 @@ class Trips:
     def _matrix(self, name: str, owner: ServerHandle) -> Matrix:
         """The matrix of what a round made, in the place of its owner."""
         place, found = self.place, owner.matrices()
-        if found:                                  # it was asked for while later rounds were under way
+        if found:
+            # it was asked for while later rounds were under way
             made: Matrix = found[0]
         else:
             self.renderer.hand_over(owner)
@@ -295,13 +317,15 @@ class Trips:
             owner.note_size(owner.shape[0], owner.nvals)
             made = Matrix(self.session, owner, name)
             made.notes = place.notes[name]
-        place.state.update((other, made) for other, source in place.state.items() if source is owner)
+        place.state.update((other, made) for other, source in place.state.items()
+                           if source is owner)
         return made
 
 
 def place_of(state: State, number: int) -> Place:
     """A place of matrices."""
-    return Place(number, dict(state), {name: matrix.notes for name, matrix in state.items()}, {name: matrix.nvals for name, matrix in state.items()})
+    return Place(number, dict(state), {name: matrix.notes for name, matrix in state.items()},
+                 {name: matrix.nvals for name, matrix in state.items()})
 
 
 def replayed(session: 'Session', asked: RoundJobs, state: State) -> Dict[str, Matrix]:
@@ -312,10 +336,13 @@ def replayed(session: 'Session', asked: RoundJobs, state: State) -> Dict[str, Ma
     def matrix_of(value: Value) -> Matrix:
         if isinstance(value, Handle):
             return Matrix(session, value)
-        return made[value.job] if isinstance(value, Made) else state[value.name]  # type: ignore[no-any-return]
+        found: Matrix = made[value.job] if isinstance(value, Made) else state[value.name]
+        return found
     for job in asked.traced.jobs:
-        operands, mask = list(map(matrix_of, job.operands)), None if job.mask is None else matrix_of(job.mask)
-        made.append(submit_traced(session, job, operands, mask, next(numbers) if job.is_numbered else None))
+        operands, mask = (list(map(matrix_of, job.operands)),
+                          None if job.mask is None else matrix_of(job.mask))
+        made.append(submit_traced(session, job, operands, mask, next(numbers) if job.is_numbered
+                                  else None))
     got: Dict[str, Matrix] = {}
     for name, value in asked.traced.out.items():
         got[name] = asked.outside[name] if name in asked.outside else matrix_of(value)
@@ -324,14 +351,22 @@ def replayed(session: 'Session', asked: RoundJobs, state: State) -> Dict[str, Ma
     return got
 
 
-def submit_traced(session: 'Session', job: TracedJob, operands: List[Matrix], mask: Optional[Matrix], thunk: Optional[int]) -> Matrix:
-    """A job of a round, by parts where the step asks for it so. Where it is too large, the refusal says how large it is."""
-    under, others = None if mask is None else mask.handle, [operand.handle for operand in operands[1:]]
+def submit_traced(session: 'Session', job: TracedJob, operands: List[Matrix],
+                  mask: Optional[Matrix], thunk: Optional[int]) -> Matrix:
+    """A job of a round, by parts where the step asks for it so. Where it is too large, the refusal
+    says how large it is."""
+    under, others = (None if mask is None else mask.handle,
+                     [operand.handle for operand in operands[1:]])
 
     def submit(first: Matrix) -> Matrix:
-        return Matrix(session, session.backend.submit(Job(job.form, job.operators, (first.handle, *others), job.shape, thunk, under)))
+        return Matrix(session,
+                      session.backend.submit(Job(job.form, job.operators, (first.handle, *others),
+                                                 job.shape, thunk, under)))
     try:
-        return oversized_jobs.in_parts(operands[0], submit) if job.is_by_parts else submit(operands[0])
+        return (oversized_jobs.in_parts(operands[0], submit) if job.is_by_parts
+                else submit(operands[0]))
     except TooLarge as fault:
-        whole = Job(job.form, job.operators, tuple(operand.handle for operand in operands), job.shape, thunk, under)
-        raise oversized_jobs.explained(fault, whole, operands if mask is None else [*operands, mask]) from None
+        whole = Job(job.form, job.operators, tuple(operand.handle for operand in operands),
+                    job.shape, thunk, under)
+        raise oversized_jobs.explained(fault, whole,
+                                       operands if mask is None else [*operands, mask]) from None

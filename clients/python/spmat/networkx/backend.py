@@ -17,10 +17,13 @@ import networkx as nx
 from .. import errors
 from . import process_session
 from .backend_info import NEVER, SERVED
-from .convert import convert_from_nx, convert_to_nx, fold_of, forget_changed, find_conversion, odd_graph, read_values
+from .convert import (convert_from_nx, convert_to_nx, fold_of, forget_changed, find_conversion,
+                      odd_graph, read_values)
 from .spmat_graph import BOUND, SpmatGraph
 
-MORE_STEPS = 'a greater nx.config.backends.spmat.steps opens another session, and 0 gives the most that there are'
+MORE_STEPS = (
+    'a greater nx.config.backends.spmat.steps opens another session, and 0 gives the most that '
+    'there are')
 FALLS_BACK = (errors.TooLarge, errors.OutOfMemory, errors.NoThread)
 # arguments that name an edge attribute where a function reads any
 WEIGHTS = ('weight', 'distance')

@@ -111,18 +111,20 @@ def info() -> Dict[str, Any]:
         The functions that are served, each with a line for its docstring, and the settings.
     """
     return {'backend_name': 'spmat', 'project': 'spmat', 'package': 'spmat.networkx',
-            'short_summary': 'Sparse matrices of 64-bit integers by verified operators, within a budget of steps.',
-            'functions': {name: {'additional_docs': _describe(served.pays)} for name, served in SERVED.items()},
+            'short_summary': 'Sparse matrices of 64-bit integers by verified operators, within '
+            'a budget of steps.',
+            'functions': {name: {'additional_docs': _describe(served.pays)}
+                          for name, served in SERVED.items()},
             'default_config': _settings_class()(**DEFAULTS)}
 
 
 def _describe(pays: Pays) -> str:
     """Say when networkx hands a function over."""
     if pays.first == NEVER:
-        return ('Taken by itself from %d edges on for a graph that was converted before, and wherever backend="spmat" is given.'
-                % pays.again)
-    return ('Taken by itself from %d edges on, from %d on for a graph that was converted before, and wherever backend="spmat" is given.'
-            % (pays.first, pays.again))
+        return ('Taken by itself from %d edges on for a graph that was converted before, and '
+                'wherever backend="spmat" is given.' % pays.again)
+    return ('Taken by itself from %d edges on, from %d on for a graph that was converted before, '
+            'and wherever backend="spmat" is given.' % (pays.first, pays.again))
 
 
 # -- settings
@@ -176,7 +178,9 @@ def _program(value: Any) -> Any:
     if (isinstance(value, (list, tuple)) and value
         and all(isinstance(word, (str, os.PathLike)) for word in value)):
         return tuple(map(os.fspath, value))
-    raise ValueError('program is the path of the program, or the words that start it, as a text or a list; not %r' % (value,))
+    raise ValueError(
+        'program is the path of the program, or the words that start it, as a text or a list; '
+        'not %r' % (value,))
 
 
 def _connect(value: Any) -> str:
@@ -184,7 +188,9 @@ def _connect(value: Any) -> str:
         return value
     host, colon, port = value.rpartition(':') if isinstance(value, str) else ('', '', '')
     if not colon or not port.isdigit() or not 1 <= int(port) <= 65535:
-        raise ValueError('connect is HOST:PORT, as "127.0.0.1:7171", or the path of a socket file, with a slash; not %r' % (value,))
+        raise ValueError(
+            'connect is HOST:PORT, as "127.0.0.1:7171", or the path of a socket file, with a '
+            'slash; not %r' % (value,))
     return '%s:%s' % (host, port)
 
 

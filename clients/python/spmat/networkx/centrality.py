@@ -85,7 +85,9 @@ def betweenness_centrality(G: SpmatGraph, k: Any = None, normalized: bool = True
                            seed: Any = None) -> Dict[Any, float]:
     count = len(G)
     if weight is not None and G.entries and G.values(weight).least < 1:
-        raise NotImplementedError('weights below 1: along edges of length 0 networkx counts paths by the order in which it meets them')
+        raise NotImplementedError(
+            'weights below 1: along edges of length 0 networkx counts paths by the order in '
+            'which it meets them')
     if count < 3:
         return dict.fromkeys(G, 0.0)
     unit = min(PATHS, (1 << 61) // count ** 2)

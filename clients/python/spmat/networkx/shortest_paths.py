@@ -17,7 +17,8 @@ from networkx import NetworkXNoPath, NetworkXUnbounded
 from ..matrix import Matrix
 from . import weight_scaling
 from .backend import SIGNED, Terms, serves
-from .single_source_lengths import NEGATIVE, check_method, check_weights, level_column, need, need_some, shortest
+from .single_source_lengths import (NEGATIVE, check_method, check_weights, level_column, need,
+                                    need_some, shortest)
 from .spmat_graph import SpmatGraph
 
 Paths = Dict[Any, List[Any]]
@@ -53,7 +54,9 @@ def search(G: SpmatGraph, sources: Sequence[Any], query: Query) -> Found:
         most = weight_scaling.scale_cutoff(query.cutoff, G.values(query.weight).unit)
         far = {at: x for at, x in far.items() if x <= most or at in starts}
     near = _tight(G, far, query)
-    order, before, seen = {}, {at: [] for at in starts}, set(starts)  # type: Dict[int, int], Dict[int, List[int]], Any
+    order: Dict[int, int] = {}
+    before: Dict[int, List[int]] = {at: [] for at in starts}
+    seen: Any = set(starts)
     number = itertools.count()
     heap = [(0, next(number), at) for at in starts]
     while heap:

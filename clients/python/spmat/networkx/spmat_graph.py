@@ -101,8 +101,9 @@ class SpmatGraph:
     def __getattr__(self, name: str) -> Any:
         """Says where that is which networkx graphs have, and this one hasn't."""
         if not name.startswith('_') and hasattr(nx.Graph, name):
-            raise AttributeError("%r is with the networkx graph that this one was made of: this one stays on the server, for networkx' functions, as "
-                                 'nx.triangles(H), and for H.matrix()' % name)
+            raise AttributeError(
+                "%r is with the networkx graph that this one was made of: this one stays on the "
+                "server, for networkx' functions, as " 'nx.triangles(H), and for H.matrix()' % name)
         raise AttributeError('%r object has no attribute %r' % (type(self).__name__, name))
 
     def __getstate__(self) -> Dict[str, Any]:

@@ -17,7 +17,8 @@ from ..io.edge_values import Rounding, check_scale, scaled_one
 
 MOST_DIGITS = 9                                    # behind the point
 MOST_BITS = 40
-UNEVEN = 'the edge attribute %r has values that are no whole multiples of a power of ten or two: nx.config.backends.spmat.scale = 1e6 rounds them'
+UNEVEN = ('the edge attribute %r has values that are no whole multiples of a power of ten or two: '
+          'nx.config.backends.spmat.scale = 1e6 rounds them')
 
 
 class Whole(NamedTuple):
@@ -33,7 +34,9 @@ def find_whole_multiples(found: List[Any], name: Any, scale: float) -> Whole:
     if scale:
         unit = int(scale) if scale == int(scale) else None
         if unit is None:
-            raise NotImplementedError('nx.config.backends.spmat.scale is %r, and results are divided by a whole one alone' % scale)
+            raise NotImplementedError(
+                'nx.config.backends.spmat.scale is %r, and results are divided by a whole one alone'
+                % scale)
         exact, rounding = check_scale(scale), Rounding(scale)
         known = {value: scaled_one(value, exact, rounding, 'weight') for value in several}
     else:

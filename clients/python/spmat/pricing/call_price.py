@@ -1,12 +1,15 @@
-"""What a call costs, at the least and at the most, before it does any work; and what is said where a budget is too small for a call."""
+"""What a call costs, at the least and at the most, before it does any work; and what is said where
+a budget is too small for a call."""
 from __future__ import annotations
 
 import contextlib
 import functools
 import warnings
-from typing import Any, Callable, Dict, Iterator, List, NamedTuple, Optional, Sequence, Tuple, TypeVar, cast
+from typing import (Any, Callable, Dict, Iterator, List, NamedTuple, Optional, Sequence, Tuple,
+                    TypeVar, cast)
 
-from ..backends.estimate import EstimateBackend, EstimateHandle, Size, least_taken, most_taken, size_of, stand_for_result
+from ..backends.estimate import (EstimateBackend, EstimateHandle, Size, least_taken, most_taken,
+                                 size_of, stand_for_result)
 from ..backends.protocol import AMPLE, Backend, Job
 from ..backends.unread import Unforeseen, Unread, current_price, pricing
 from ..errors import MORE_STEPS, BudgetExceeded, BudgetWarning
@@ -16,33 +19,41 @@ from ..vector import as_matrix, as_vector
 from .call_sizes import CallSizes
 
 ROUNDS = 64                                        # rounds that are foreseen one by one
-AN_ENTRY = 1 << 14                                 # steps for each entry of a graph, which no call is certain to take
+# steps for each entry of a graph, which no call is certain to take
+AN_ENTRY = 1 << 14
 F = TypeVar('F', bound=Callable[..., Any])
 
 
 class Foreseen(NamedTuple):
-    """A job that would be queued: its form as the protocol names it, and the most steps that it could take."""
+    """A job that would be queued: its form as the protocol names it, and the most steps that it
+    could take."""
     form: str
     steps: int
 
 
 class Bound(NamedTuple):
-    """The most that a call takes: `steps`; what has to be left for that none of its jobs is refused, `reserved`, which is more where jobs
-    under a mask reserve more than they take; and how it comes about, in words."""
+    """The most that a call takes: `steps`; what has to be left for that none of its jobs is
+    refused, `reserved`, which is more where jobs under a mask reserve more than they take; and how
+    it comes about, in words."""
     steps: int
     reserved: int
     words: str = ''
 
 
 class Price:
-    """What a call costs. It takes `least` steps, or more, and `most`, or fewer; `most` is None where no bound is known, as where the caller's
-    own code looks at a result and goes on by it. On a budget with `steps` left none of its jobs is refused: that is `most`, but for jobs under
-    a mask, which reserve more than they take. `jobs` are those that can be foreseen, and `complete` says whether these are all."""
+    """What a call costs. It takes `least` steps, or more, and `most`, or fewer; `most` is None
+    where no bound is known, as where the caller's own code looks at a result and goes on by it. On
+    a budget with `steps` left none of its jobs is refused: that is `most`, but for jobs under a
+    mask, which reserve more than they take. `jobs` are those that can be foreseen, and `complete`
+    says whether these are all."""
 
     def __init__(self, sends: bool = True) -> None:
-        self.sends = sends                         # whether matrices go to the server, and entries come from there
-        self.found: Dict[Tuple[int, str], Tuple[Any, Any]] = {}        # by graphs, which keep their numbers meanwhile, and facts
-        self.loops: Dict[int, Tuple[Any, Any]] = {}                    # loops, and the states that they would have
+        # whether matrices go to the server, and entries come from there
+        self.sends = sends
+        # by graphs, which keep their numbers meanwhile, and facts
+        self.found: Dict[Tuple[int, str], Tuple[Any, Any]] = {}
+        # loops, and the states that they would have
+        self.loops: Dict[int, Tuple[Any, Any]] = {}
         self.jobs: List[Foreseen] = []
         self.complete = True
         self.least = self.needed = 0
@@ -51,21 +62,28 @@ class Price:
         self._words: List[str] = []
         self._granted: Dict[str, Any] = {}
         self._backends: Dict[int, EstimateBackend] = {}
-        self.is_inside = False                     # an algorithm, of which no call of its own is looked at
+        # an algorithm, of which no call of its own is looked at
+        self.is_inside = False
 
     @property
     def steps(self) -> int:
-        """The steps that have to be left for that no job is refused. ValueError where no bound is known: it would be no price."""
+        """The steps that have to be left for that no job is refused. ValueError where no bound is
+        known: it would be no price."""
         if self._reserved is None:
-            raise ValueError('no bound is known of what this call takes: it takes %s steps or more (`least`)' % format(self.least, ','))
+            raise ValueError(
+                'no bound is known of what this call takes: it takes %s steps or more (`least`)'
+                % format(self.least, ','))
         return self._reserved
 
     def __repr__(self) -> str:
         if self.most is None:
             return '<Price: at least %s steps; no bound is known>' % format(self.least, ',')
-        words = ': ' + '; '.join(self._words) if self._words else ' in %d job%s' % (len(self.jobs), '' if len(self.jobs) == 1 else 's')
-        more = '' if self.steps == self.most else ', of which none is refused where %s are left' % format(self.steps, ',')
-        return '<Price: at least %s, at most %s steps%s%s>' % (format(self.least, ','), format(self.most, ','), words, more)
+        words = (': ' + '; '.join(self._words) if self._words else ' in %d job%s'
+                 % (len(self.jobs), '' if len(self.jobs) == 1 else 's'))
+        more = ('' if self.steps == self.most else ', of which none is refused where %s are left'
+                % format(self.steps, ','))
+        return '<Price: at least %s, at most %s steps%s%s>' % (format(self.least, ','),
+                                                               format(self.most, ','), words, more)
 
     def inside(self) -> 'Price':
         """This, as it is asked amid an algorithm: what can't be foreseen ends all."""
@@ -81,7 +99,8 @@ class Price:
         return self._backends[id(own)]
 
     def add_job(self, backend: EstimateBackend, job: Job) -> EstimateHandle:
-        """Notes the least and the most that a job comes to. Its price has to be left, and of the jobs before it what they take."""
+        """Notes the least and the most that a job comes to. Its price has to be left, and of the
+        jobs before it what they take."""
         sizes = [self._size(backend, op) for op in job.operators]
         least, most = least_taken(job, sizes, self), most_taken(job, sizes, self.sends)
         self.needed = max(self.needed, self.least + least.price)
@@ -100,7 +119,8 @@ class Price:
 
     def _add(self, most: Optional[int], reserved: Optional[int]) -> None:
         self.most = None if self.most is None or most is None else self.most + most
-        self._reserved = None if self._reserved is None or reserved is None else self._reserved + reserved
+        self._reserved = (None if self._reserved is None or reserved is None else self._reserved
+                          + reserved)
 
     # -- facts of graphs, which the client looks up where it may
 
@@ -109,8 +129,8 @@ class Price:
         return name in graph.kept or (id(graph.kept), name) in self.found
 
     def find_fact(self, graph: Any, name: str, find: Callable[[], Any]) -> Any:
-        """A fact of a graph that isn't known yet, once. The jobs that find it out are counted; what only their result would tell is looked
-        up, or granted, or ends what is foreseen."""
+        """A fact of a graph that isn't known yet, once. The jobs that find it out are counted; what
+        only their result would tell is looked up, or granted, or ends what is foreseen."""
         key = (id(graph.kept), name)
         if key not in self.found:
             try:
@@ -126,8 +146,9 @@ class Price:
             return self._granted[name]
         if self.sends and not isinstance(getattr(graph, 'handle', None), EstimateHandle):
             degrees = CallSizes(graph, {}, self.knows, True).degrees
-            facts = {} if degrees is None else {
-                'both ways': degrees.both_ways, 'loops': degrees.loops > 0, 'extremes': (degrees.least, degrees.greatest)}
+            facts = ({} if degrees is None else {
+                'both ways': degrees.both_ways, 'loops': degrees.loops > 0,
+                'extremes': (degrees.least, degrees.greatest)})
             if name in facts:
                 return facts[name]
         raise Unforeseen()
@@ -144,9 +165,12 @@ class Price:
     # -- calls of algorithms, and loops
 
     def call(self, name: str, args: Sequence[Any], named: Dict[str, Any]) -> Any:
-        """Notes the jobs of an algorithm that can be foreseen, and its bound where a result is read amid its work."""
+        """Notes the jobs of an algorithm that can be foreseen, and its bound where a result is read
+        amid its work."""
         from ..algorithms.registry import ALGORITHMS  # which want matrices
-        one, sizes = ALGORITHMS[name], None if self.is_inside else sizes_of(ALGORITHMS[name].function, args, named, self)
+        one, sizes = (ALGORITHMS[name],
+                      None if self.is_inside else sizes_of(ALGORITHMS[name].function, args, named,
+                                                           self))
         if sizes is None:
             return one.function(*args, **named)
         bound = None if one.steps is None else bound_of(one.steps, sizes)
@@ -170,15 +194,20 @@ class Price:
             self._words += [bound.words] if bound.words else []
         return result
 
-    def repeat(self, step: Callable[[int, Any], Any], state: Any, rounds: Optional[int], least: int) -> Any:
-        """Foresees rounds one by one, as long as each can come to more than the one before it; the others take as much as the last of them. Of
-        rounds that end by what they come to some are made twice, where the state is wanted."""
-        if self.is_inside:                         # what follows depends on what the first round comes to
+    def repeat(self, step: Callable[[int, Any], Any], state: Any, rounds: Optional[int],
+               least: int) -> Any:
+        """Foresees rounds one by one, as long as each can come to more than the one before it; the
+        others take as much as the last of them. Of rounds that end by what they come to some are
+        made twice, where the state is wanted."""
+        if self.is_inside:
+            # what follows depends on what the first round comes to
             step(1, state)
             raise Unforeseen()
         marks, costs, sizes, made = [self.least], [0], [_most_entries(state)], [len(self.jobs)]
-        begun, limit = (self.most, self._reserved), ROUNDS if rounds is None else min(rounds, ROUNDS)
-        while len(marks) <= limit and not (len(sizes) > 2 and sizes[-1] == sizes[-2] and costs[-1] == costs[-2]):
+        begun, limit = ((self.most, self._reserved),
+                        ROUNDS if rounds is None else min(rounds, ROUNDS))
+        while len(marks) <= limit and not (len(sizes) > 2 and sizes[-1] == sizes[-2]
+                                           and costs[-1] == costs[-2]):
             state = step(len(marks), state)
             marks.append(self.least)
             costs.append(sum(job.steps for job in self.jobs[made[-1]:]))
@@ -188,7 +217,8 @@ class Price:
         self.least = marks[min(least, number)]
         del self.jobs[made[min(least, number)]:]
         self.complete = self.complete and rounds == number == least
-        more = None if rounds is None or rounds > number and not is_even else (rounds - number) * costs[-1]
+        more = (None if rounds is None or rounds > number and not is_even else (rounds - number)
+                * costs[-1])
         self._add(more, more)
         if rounds != least and self.most is not None and begun[0] is not None:
             self._add(self.most - begun[0], self.most - begun[0])
@@ -197,11 +227,14 @@ class Price:
 
 def _most_entries(state: Any) -> Dict[str, int]:
     """The most entries of each matrix of a state."""
-    return {name: matrix.handle.most if hasattr(matrix, 'handle') else matrix.nvals for name, matrix in state.items()}
+    return {name: matrix.handle.most if hasattr(matrix, 'handle') else matrix.nvals
+            for name, matrix in state.items()}
 
 
-def sizes_of(function: Callable[..., Any], args: Sequence[Any], named: Dict[str, Any], price_: Price) -> Optional[CallSizes]:
-    """The sizes that a call's cost grows with; None where its arguments are wrong, as the call itself says."""
+def sizes_of(function: Callable[..., Any], args: Sequence[Any], named: Dict[str, Any],
+             price_: Price) -> Optional[CallSizes]:
+    """The sizes that a call's cost grows with; None where its arguments are wrong, as the call
+    itself says."""
     try:
         return CallSizes.of(function, args, named, price_.knows, price_.sends)
     except (AttributeError, TypeError):
@@ -209,7 +242,8 @@ def sizes_of(function: Callable[..., Any], args: Sequence[Any], named: Dict[str,
 
 
 def bound_of(steps: Callable[[CallSizes], Any], sizes: CallSizes) -> Optional[Bound]:
-    """What a function of sizes tells; None where it tells none, as of arguments that are refused."""
+    """What a function of sizes tells; None where it tells none, as of arguments that are
+    refused."""
     with contextlib.suppress(ArithmeticError, AttributeError, LookupError, TypeError, ValueError):
         found = steps(sizes)
         return found if found is None or isinstance(found, Bound) else Bound(int(found), int(found))
@@ -217,16 +251,18 @@ def bound_of(steps: Callable[[CallSizes], Any], sizes: CallSizes) -> Optional[Bo
 
 
 def price(call: Callable[[], Any]) -> Price:
-    """What a call costs, as `spmat.price(lambda: spmat.algorithms.triangle_count(G))`: `least` and `most` steps of the whole call, before it
-    does any work. No job is queued, and no step is spent.
+    """What a call costs, as `spmat.price(lambda: spmat.algorithms.triangle_count(G))`: `least` and
+    `most` steps of the whole call, before it does any work. No job is queued, and no step is spent.
 
-    Of jobs the most is what they can take by their operands' entries. Of an algorithm that looks at results amid its work it is the bound
-    that its docstring names: by the sizes of the graph, which the client reads once, and by the rounds that there can be. What is found out
-    of a graph once is counted where it isn't known. Where the caller's own code looks at a result and goes on by it, `most` is None, and
-    what came before counts in `least`. A graph that an algorithm would refuse is taken for one that it takes.
+    Of jobs the most is what they can take by their operands' entries. Of an algorithm that looks at
+    results amid its work it is the bound that its docstring names: by the sizes of the graph, which
+    the client reads once, and by the rounds that there can be. What is found out of a graph once is
+    counted where it isn't known. Where the caller's own code looks at a result and goes on by it,
+    `most` is None, and what came before counts in `least`. A graph that an algorithm would refuse
+    is taken for one that it takes.
 
-    In this thread; other threads go on. Of matrices in row blocks no entries are read, and bounds are as for any graph of so many vertices
-    and edges."""
+    In this thread; other threads go on. Of matrices in row blocks no entries are read, and bounds
+    are as for any graph of so many vertices and edges."""
     made = Price()
     with pricing(made):
         try:
@@ -238,7 +274,8 @@ def price(call: Callable[[], Any]) -> Price:
 
 
 def needed_by(call: Callable[[], Any]) -> int:
-    """The steps that have to be left for a call to end in an answer, as far as that is known before it begins: no fewer do."""
+    """The steps that have to be left for a call to end in an answer, as far as that is known before
+    it begins: no fewer do."""
     certain = Price(sends=False).inside()
     with pricing(certain):
         try:
@@ -251,8 +288,9 @@ def needed_by(call: Callable[[], Any]) -> int:
 # -- algorithms on a small budget
 
 def guarded(function: F, check: Callable[[Tuple[Any, ...], Dict[str, Any]], None]) -> F:
-    """An algorithm whose arguments are looked at by `check`. It raises BudgetExceeded before its first job where the budget is known to have
-    too little left for it, and warns where it may have."""
+    """An algorithm whose arguments are looked at by `check`. It raises BudgetExceeded before its
+    first job where the budget is known to have too little left for it, and warns where it may
+    have."""
     @functools.wraps(function)
     def call(*args: Any, **named: Any) -> Any:
         check(args, named)
@@ -261,10 +299,12 @@ def guarded(function: F, check: Callable[[Tuple[Any, ...], Dict[str, Any]], None
             return _with_vectors(priced.call(function.__name__, *_listed(args, named)))
         graph = args[0] if args else next(iter(named.values()), None)
         left = _left(graph)
-        if left < AMPLE and not any(isinstance(one, Matrix) and one.session.backend.takes_others for one in (*args, *named.values())):
+        if left < AMPLE and not any(isinstance(one, Matrix) and one.session.backend.takes_others
+                                    for one in (*args, *named.values())):
             args, named = _listed(args, named)
             _check_budget(function, args, named, left)
-        args, named = tuple(map(as_matrix, args)), {name: as_matrix(one) for name, one in named.items()}
+        args, named = tuple(map(as_matrix, args)), {name: as_matrix(one)
+                                                    for name, one in named.items()}
         try:
             return _with_vectors(function(*args, **named))
         except BudgetExceeded as fault:
@@ -291,28 +331,34 @@ def _list(one: Any) -> Any:
 
 
 def _left(graph: Any) -> int:
-    """What a graph's session, or those of its blocks, can have left at the most; all there can be of what is no graph."""
+    """What a graph's session, or those of its blocks, can have left at the most; all there can be
+    of what is no graph."""
     return int(graph.session.backend.ceiling) if hasattr(graph, 'session') else AMPLE
 
 
-def _check_budget(function: Callable[..., Any], args: Tuple[Any, ...], named: Any, left: int) -> None:
+def _check_budget(function: Callable[..., Any], args: Tuple[Any, ...], named: Any,
+                  left: int) -> None:
     graph = args[0] if args else next(iter(named.values()))
     if isinstance(graph, Matrix) and left < AN_ENTRY * (graph.handle.most + sum(graph.shape) + 1):
         try:
             needed = needed_by(lambda: function(*args, **named))
-        except Exception:                          # pylint: disable=broad-exception-caught  # the call itself raises it
+        except Exception:  # pylint: disable=broad-exception-caught  # the call itself raises it
             return
         if needed > left:
             raise BudgetExceeded('S8', (needed, left)).of_call(function.__name__)
     most = _most(function, args, named, left)
     if most is not None and most > left:
-        warnings.warn('%s may take up to %s steps, and %s are left: it may be refused amid its work; %s' % (
-            function.__name__, format(most, ','), format(left, ','), MORE_STEPS), BudgetWarning, stacklevel=3)
+        warnings.warn(
+            '%s may take up to %s steps, and %s are left: it may be refused amid its work; %s' % (
+                function.__name__, format(most, ','), format(left, ','), MORE_STEPS), BudgetWarning,
+            stacklevel=3)
 
 
-def _most(function: Callable[..., Any], args: Tuple[Any, ...], named: Any, left: int) -> Optional[int]:
-    """The most that has to be left, by the sizes of the graph; where that may be too much, what `price` tells by its entries. None where that
-    isn't known, or the call itself raises an error."""
+def _most(function: Callable[..., Any], args: Tuple[Any, ...], named: Any,
+          left: int) -> Optional[int]:
+    """The most that has to be left, by the sizes of the graph; where that may be too much, what
+    `price` tells by its entries. None where that isn't known, or the call itself raises an
+    error."""
     from ..algorithms.registry import ALGORITHMS  # which want matrices
     steps = ALGORITHMS[function.__name__].steps
     try:
@@ -324,5 +370,5 @@ def _most(function: Callable[..., Any], args: Tuple[Any, ...], named: Any, left:
         with pricing(priced):
             priced.call(function.__name__, args, named)
         return None if priced.most is None else priced.steps
-    except Exception:                              # pylint: disable=broad-exception-caught  # the call itself raises it
+    except Exception:  # pylint: disable=broad-exception-caught  # the call itself raises it
         return None

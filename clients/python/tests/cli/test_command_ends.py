@@ -1,4 +1,5 @@
-"""How commands end: a status for each cause, one line on standard error, and no traceback whatever a file holds."""
+"""How commands end: a status for each cause, one line on standard error, and no traceback whatever
+a file holds."""
 import bz2
 import gzip
 import lzma
@@ -63,13 +64,17 @@ class Ends(CommandLine):
         self.assertEqual(self.run_words('--help').returncode, Status.DONE)
 
     def test_not_written(self):
-        self.ends(Status.OTHER, 'degrees', 'graph.mtx', '--output', 'none/x', says='none: no such folder')
-        self.ends(Status.OTHER, 'degrees', 'graph.mtx', '--output', '.', says='.: not written: Is a directory')
+        self.ends(Status.OTHER, 'degrees', 'graph.mtx', '--output', 'none/x',
+                  says='none: no such folder')
+        self.ends(Status.OTHER, 'degrees', 'graph.mtx', '--output', '.',
+                  says='.: not written: Is a directory')
         with open('/dev/full', 'w', encoding='utf-8') as full:
-            done = subprocess.run([sys.executable, '-m', 'spmat', 'degrees', 'graph.mtx'], cwd=self.folder, stdout=full,
-                                  stderr=subprocess.PIPE, env=dict(os.environ, PYTHONPATH=PACKAGE), check=False)
+            done = subprocess.run([sys.executable, '-m', 'spmat', 'degrees', 'graph.mtx'],
+                                  cwd=self.folder, stdout=full, stderr=subprocess.PIPE,
+                                  env=dict(os.environ, PYTHONPATH=PACKAGE), check=False)
         self.assertEqual((done.returncode, done.stderr.splitlines()[0]),
-                         (Status.OTHER, b'spmat-graph: standard output: not written: No space left on device'))
+                         (Status.OTHER,
+                          b'spmat-graph: standard output: not written: No space left on device'))
 
     def test_a_package_that_is_missing(self):
         with mock.patch.dict(sys.modules, {'matplotlib': None}):
@@ -77,13 +82,20 @@ class Ends(CommandLine):
 
     def test_words(self):
         self.write('list.csv', 'ann,bob\nbob,cid\n')
-        for words in (['nothing'], [], ['degrees'], ['k-core', 'graph.mtx'], ['degrees', 'graph.mtx', '--steps', '-1'],
-                      ['degrees', 'graph.mtx', '--workers', '0'], ['degrees', 'graph.mtx', '--workers', 'two'],
-                      ['degrees', 'graph.mtx', '--connect', 'here'], ['degrees', 'graph.mtx', '--connect', 'here:99999'],
-                      ['degrees', 'graph.mtx', '--tls'], ['degrees', 'graph.mtx', '--connect', '/tmp/s', '--cacert', 'x'],
-                      ['degrees', 'graph.mtx', '--connect', 'h:1', '--key', 'x'], ['pagerank', 'graph.mtx', '--damping', '1'],
-                      ['pagerank', 'graph.mtx', '--tolerance', '0'], ['k-hop', 'graph.mtx', '--k', '-1'],
-                      ['degrees', 'graph.mtx', '--delimiter', ', '], ['degrees', 'graph.mtx', '--undirected', '--both-ways'],
+        for words in (['nothing'], [], ['degrees'], ['k-core', 'graph.mtx'],
+                      ['degrees', 'graph.mtx', '--steps', '-1'],
+                      ['degrees', 'graph.mtx', '--workers', '0'],
+                      ['degrees', 'graph.mtx', '--workers', 'two'],
+                      ['degrees', 'graph.mtx', '--connect', 'here'],
+                      ['degrees', 'graph.mtx', '--connect', 'here:99999'],
+                      ['degrees', 'graph.mtx', '--tls'],
+                      ['degrees', 'graph.mtx', '--connect', '/tmp/s', '--cacert', 'x'],
+                      ['degrees', 'graph.mtx', '--connect', 'h:1', '--key', 'x'],
+                      ['pagerank', 'graph.mtx', '--damping', '1'],
+                      ['pagerank', 'graph.mtx', '--tolerance', '0'],
+                      ['k-hop', 'graph.mtx', '--k', '-1'],
+                      ['degrees', 'graph.mtx', '--delimiter', ', '],
+                      ['degrees', 'graph.mtx', '--undirected', '--both-ways'],
                       ['path-lengths', 'graph.mtx'], ['bfs-levels', 'list.csv', '--source', 'eve']):
             with self.subTest(words=words):
                 self.assertEqual(self.run_words(*words).returncode, Status.WORDS)
@@ -96,14 +108,17 @@ class Ends(CommandLine):
             self.write(name, data)
             with self.subTest(name=name):
                 self.ends(Status.FILE, 'degrees', name, says=says)
-                self.assertIn(self.run_words('types', name, '--kind', 'unary').returncode, (Status.FILE, Status.REFUSED))
-                self.assertIn(self.run_words('script', name).returncode, (Status.FILE, Status.REFUSED, Status.DONE))
+                self.assertIn(self.run_words('types', name, '--kind', 'unary').returncode,
+                              (Status.FILE, Status.REFUSED))
+                self.assertIn(self.run_words('script', name).returncode,
+                              (Status.FILE, Status.REFUSED, Status.DONE))
 
     def test_what_is_no_file(self):
         os.mkdir(os.path.join(self.folder, 'folder'))
         for command in (['degrees'], ['script'], ['types', '--kind', 'unary']):
             self.ends(Status.FILE, command[0], 'folder', *command[1:], says='folder: ')
-            self.ends(Status.FILE, command[0], 'nothere.csv', *command[1:], says='nothere.csv: No such file or directory')
+            self.ends(Status.FILE, command[0], 'nothere.csv', *command[1:],
+                      says='nothere.csv: No such file or directory')
         self.ends(Status.FILE, 'degrees', '/dev/null', says='/dev/null: it is empty')
         with socket.socket(socket.AF_UNIX) as bound:
             bound.bind(os.path.join(self.folder, 'bound'))
@@ -123,7 +138,9 @@ class Ends(CommandLine):
             writer.join()
 
     def test_a_size_above_the_limit(self):
-        self.write('huge.mtx', '%%MatrixMarket matrix coordinate integer general\n99999999999999999999 1 1\n1 1 1\n')
+        self.write('huge.mtx',
+                   '%%MatrixMarket matrix coordinate integer general\n99999999999999999999 1 '
+                   '1\n1 1 1\n')
         self.ends(Status.REFUSED, 'degrees', 'huge.mtx', says='M4')
 
     def test_graphs_of_another_kind(self):
@@ -141,45 +158,62 @@ class Ends(CommandLine):
 
     def test_names_that_stand_for_nothing(self):
         """S4 says which of a command's names."""
-        head = with_body('matrix G', GRAPH) + with_body('asm f unary', 'mov64 r0, r1\nexit') + 'apply H f G\n'
-        for command, says in (('show X', 'nothing is called X'), ('show H', 'H is the result of a job that waits: `run` makes it'),
-                              ('apply I g G', 'nothing is called g'), ('apply I f G mask M', 'nothing is called M'),
-                              ('product I f f G N', 'nothing is called N'), ('select I f X 5', 'nothing is called X')):
+        head = with_body('matrix G', GRAPH) + with_body('asm f unary',
+                                                        'mov64 r0, r1\nexit') + 'apply H f G\n'
+        for command, says in (('show X', 'nothing is called X'),
+                              ('show H', 'H is the result of a job that waits: `run` makes it'),
+                              ('apply I g G', 'nothing is called g'),
+                              ('apply I f G mask M', 'nothing is called M'),
+                              ('product I f f G N', 'nothing is called N'),
+                              ('select I f X 5', 'nothing is called X')):
             with self.subTest(command=command):
                 done = self.run_words('script', '-', text=head + command + '\n')
                 self.assertIn('S4', done.stderr)
                 self.assertTrue(done.stderr.rstrip().endswith(says), done.stderr)
-        self.assertEqual(self.run_words('script', '-', text=head + 'run\nshow H\n').returncode, Status.DONE)
+        self.assertEqual(self.run_words('script', '-', text=head + 'run\nshow H\n').returncode,
+                         Status.DONE)
 
     def test_budget(self):
         self.ends(Status.BUDGET, 'triangle-count', 'graph.mtx', '--steps', '3', says='S8')
-        text = with_body('matrix G', GRAPH) + with_body('asm f unary', 'mov64 r0, r1\nexit') + 'apply H f G\n'
+        text = with_body('matrix G', GRAPH) + with_body('asm f unary',
+                                                        'mov64 r0, r1\nexit') + 'apply H f G\n'
         done = self.run_words('script', '-', '--steps', '0', text=text)
         self.assertEqual(done.returncode, Status.BUDGET)
 
     def test_too_little(self):
         """No seat, no memory, no thread."""
         with support.Scripted(lambda words, body: support.Last(b'no busy\n')) as server:
-            self.ends(Status.BUSY, 'degrees', 'graph.mtx', '--connect', '127.0.0.1:%d' % server.port, says='busy')
-        for reply, says in ((b'no memory\n', 'out of memory'), (b'no memory 12\n', 'after 12 steps'), (b'no thread 34\n', 'to 34 steps')):
+            self.ends(Status.BUSY, 'degrees', 'graph.mtx', '--connect',
+                      '127.0.0.1:%d' % server.port, says='busy')
+        for reply, says in ((b'no memory\n', 'out of memory'),
+                            (b'no memory 12\n', 'after 12 steps'),
+                            (b'no thread 34\n', 'to 34 steps')):
             def answer(words, body, reply=reply):
                 return reply if words[0] in ('matrix', 'run') else support.plausible(words, body)
             with support.Scripted(answer) as server:
-                self.ends(Status.BUSY, 'degrees', 'graph.mtx', '--connect', '127.0.0.1:%d' % server.port, says=says)
+                self.ends(Status.BUSY, 'degrees', 'graph.mtx', '--connect',
+                          '127.0.0.1:%d' % server.port, says=says)
 
     def test_nobody_there(self):
         with socket.create_server(('127.0.0.1', 0)) as taken:
             port = taken.getsockname()[1]
-        self.ends(Status.UNREACHED, 'degrees', 'graph.mtx', '--connect', '127.0.0.1:%d' % port, says='no connection to 127.0.0.1')
-        self.ends(Status.UNREACHED, 'degrees', 'graph.mtx', '--connect', self.folder + '/none', says='no connection to')
-        self.ends(Status.UNREACHED, 'degrees', 'graph.mtx', '--program', '/none/spmat', says='/none/spmat')
+        self.ends(Status.UNREACHED, 'degrees', 'graph.mtx', '--connect', '127.0.0.1:%d' % port,
+                  says='no connection to 127.0.0.1')
+        self.ends(Status.UNREACHED, 'degrees', 'graph.mtx', '--connect', self.folder + '/none',
+                  says='no connection to')
+        self.ends(Status.UNREACHED, 'degrees', 'graph.mtx', '--program', '/none/spmat',
+                  says='/none/spmat')
         self.ends(Status.UNREACHED, 'degrees', 'graph.mtx', '--program', 'false', says='status 1')
-        with support.Scripted(lambda words, body: support.plausible(words, body) if words[0] == 'budget' else None) as server:
-            self.ends(Status.UNREACHED, 'degrees', 'graph.mtx', '--connect', '127.0.0.1:%d' % server.port, says='closed the connection')
+        with support.Scripted(lambda words, body: support.plausible(words, body)
+                              if words[0] == 'budget' else None) as server:
+            self.ends(Status.UNREACHED, 'degrees', 'graph.mtx', '--connect',
+                      '127.0.0.1:%d' % server.port, says='closed the connection')
 
     def test_a_fault_of_its_own(self):
         with mock.patch('spmat.cli.graph_options.read_graph', side_effect=KeyError('x')):
-            self.ends(Status.FAULT, 'degrees', 'graph.mtx', says="a fault of spmat-graph itself: KeyError: 'x' (SPMAT_TRACE=1 shows where)")
+            self.ends(Status.FAULT, 'degrees', 'graph.mtx',
+                      says="a fault of spmat-graph itself: KeyError: 'x' (SPMAT_TRACE=1 shows "
+                      "where)")
             with mock.patch.dict(os.environ, {exit_status.TRACE: '1'}), self.assertRaises(KeyError):
                 self.run_words('degrees', 'graph.mtx')
 
@@ -191,13 +225,15 @@ class Ends(CommandLine):
 
     def signalled(self, number):
         """The status of a command that waits for standard input, and gets a signal."""
-        with subprocess.Popen([sys.executable, '-m', 'spmat', 'degrees', '-'], cwd=self.folder, stdin=subprocess.PIPE, stdout=subprocess.PIPE,
-                              stderr=subprocess.PIPE, env=dict(os.environ, PYTHONPATH=PACKAGE)) as process:
+        with subprocess.Popen([sys.executable, '-m', 'spmat', 'degrees', '-'], cwd=self.folder,
+                              stdin=subprocess.PIPE, stdout=subprocess.PIPE, stderr=subprocess.PIPE,
+                              env=dict(os.environ, PYTHONPATH=PACKAGE)) as process:
             children = '/proc/%d/task/%d/children' % (process.pid, process.pid)
             end = time.monotonic() + 60
             while time.monotonic() < end:
                 with open(children, encoding='ascii') as file:
-                    if file.read().strip():        # the program has begun, so all of Python is there
+                    if file.read().strip():
+                        # the program has begun, so all of Python is there
                         break
                 time.sleep(.02)
             time.sleep(.3)
@@ -207,20 +243,24 @@ class Ends(CommandLine):
 
     def test_signals(self):
         # what a shell began in the background ignores SIGINT, and so would its children
-        self.addCleanup(signal.signal, signal.SIGINT, signal.signal(signal.SIGINT, signal.default_int_handler))
-        self.assertEqual(self.signalled(signal.SIGINT), (Status.INTERRUPTED, b'spmat-graph: interrupted\n'))
+        self.addCleanup(signal.signal, signal.SIGINT,
+                        signal.signal(signal.SIGINT, signal.default_int_handler))
+        self.assertEqual(self.signalled(signal.SIGINT),
+                         (Status.INTERRUPTED, b'spmat-graph: interrupted\n'))
         self.assertEqual(self.signalled(signal.SIGTERM), (Status.TERMINATED, b''))
 
     def test_a_reader_who_goes(self):
         self.write('many.txt', ''.join('%d %d\n' % (n, n + 1) for n in range(20000)))
-        with subprocess.Popen([sys.executable, '-m', 'spmat', 'degrees', 'many.txt', '--quiet'], cwd=self.folder, stdout=subprocess.PIPE,
-                              stderr=subprocess.PIPE, env=dict(os.environ, PYTHONPATH=PACKAGE)) as process:
+        with subprocess.Popen([sys.executable, '-m', 'spmat', 'degrees', 'many.txt', '--quiet'],
+                              cwd=self.folder, stdout=subprocess.PIPE, stderr=subprocess.PIPE,
+                              env=dict(os.environ, PYTHONPATH=PACKAGE)) as process:
             process.stdout.readline()
             process.stdout.close()
             self.assertEqual((process.stderr.read(), process.wait(timeout=60)), (b'', Status.PIPE))
 
     def test_the_manual_has_each(self):
-        with open(os.path.join(support.TOP, 'packaging', 'man', 'spmat-graph.1'), encoding='utf-8') as file:
+        with open(os.path.join(support.TOP, 'packaging', 'man', 'spmat-graph.1'),
+                  encoding='utf-8') as file:
             section = file.read().split('.SH EXIT STATUS')[1].split('.SH')[0]
         told = dict(re.findall(r'^\.B (\d+)\n(.*)$', section.replace('\\-', '-'), re.M))
         self.assertEqual({int(number) for number in told}, {int(status) for status in Status})

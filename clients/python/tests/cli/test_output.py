@@ -9,7 +9,9 @@ import command_line
 import support
 from spmat.cli import algorithm_table, output
 
-GRAPH = '%%MatrixMarket matrix coordinate pattern symmetric\n6 6 7\n2 1\n3 1\n3 2\n4 3\n5 4\n6 4\n6 5\n'
+GRAPH = (
+    '%%MatrixMarket matrix coordinate pattern symmetric\n6 6 7\n2 1\n3 1\n3 2\n4 3\n5 4\n6 4\n6 '
+    '5\n')
 ROWS = [('Anna', 'Dvořák, Emil', 3), ('a "b"', 'c', -2)]
 
 
@@ -23,16 +25,19 @@ class Forms(unittest.TestCase):
         result = output.named(ROWS, 'weight', single_column=False)
         self.assertEqual(printed(result), 'Anna\tDvořák, Emil\t3\na "b"\tc\t-2\n')
         self.assertEqual(list(csv.reader(io.StringIO(printed(result, csv=True)))),
-                         [['source', 'target', 'weight'], ['Anna', 'Dvořák, Emil', '3'], ['a "b"', 'c', '-2']])
+                         [['source', 'target', 'weight'], ['Anna', 'Dvořák, Emil', '3'],
+                          ['a "b"', 'c', '-2']])
         text = printed(result, json=True)
-        self.assertEqual(json.loads(text), [dict(zip(('source', 'target', 'weight'), row)) for row in ROWS])
+        self.assertEqual(json.loads(text),
+                         [dict(zip(('source', 'target', 'weight'), row)) for row in ROWS])
         self.assertEqual(text.count('\n'), 4)      # an object a line
 
     def test_a_column_of_fractions(self):
         result = output.named([(1, .25), (2, 1 / 3)], 'rank', single_column=True)
         self.assertEqual(printed(result), '1 0.250000000\n2 0.333333333\n')
         self.assertEqual(printed(result, csv=True), 'node,rank\n1,0.250000000\n2,0.333333333\n')
-        self.assertEqual(json.loads(printed(result, json=True)), [{'node': 1, 'rank': .25}, {'node': 2, 'rank': 1 / 3}])
+        self.assertEqual(json.loads(printed(result, json=True)),
+                         [{'node': 1, 'rank': .25}, {'node': 2, 'rank': 1 / 3}])
 
     def test_a_number(self):
         result = output.number('triangles', 45)
@@ -41,17 +46,20 @@ class Forms(unittest.TestCase):
 
     def test_nothing(self):
         result = output.Result(('node', 'level'), [])
-        self.assertEqual((printed(result), printed(result, csv=True), json.loads(printed(result, json=True))), ('', 'node,level\n', []))
+        self.assertEqual((printed(result), printed(result, csv=True),
+                          json.loads(printed(result, json=True))), ('', 'node,level\n', []))
 
     def test_names_that_json_has_not(self):
         result = output.Result(('node', 'value'), [(('row', 1), None)])
-        self.assertEqual(json.loads(printed(result, json=True)), [{'node': "('row', 1)", 'value': None}])
+        self.assertEqual(json.loads(printed(result, json=True)),
+                         [{'node': "('row', 1)", 'value': None}])
         self.assertEqual(printed(result, csv=True), 'node,value\n"(\'row\', 1)",\n')
 
     def test_options(self):
         parser = argparse.ArgumentParser()
         output.add_form_options(parser, mtx=True)
-        self.assertEqual(vars(parser.parse_args(['--json'])), {'json': True, 'csv': False, 'mtx': False})
+        self.assertEqual(vars(parser.parse_args(['--json'])),
+                         {'json': True, 'csv': False, 'mtx': False})
 
 
 class EveryCommand(command_line.CommandLine):
@@ -77,17 +85,21 @@ class EveryCommand(command_line.CommandLine):
                  'target': ['--target', 'd']}
         for name, command in algorithm_table.COMMANDS.items():
             more = [word for option in command.algorithm.options for word in words.get(option, [])]
-            graph = 'path.csv' if name in ('topological-levels', 'longest-paths', 'bipartite-sides') else 'graph.csv'
+            graph = ('path.csv' if name in ('topological-levels', 'longest-paths',
+                                            'bipartite-sides') else 'graph.csv')
             fields, objects, rows, plain = self.forms(name, graph, *more, '--quiet')
             between = '\t' if any(' ' in cell for row in rows for cell in row) else ' '
             self.assertEqual(plain, ''.join(between.join(row) + '\n' for row in rows), name)
             for one, row in zip(objects, rows):
-                self.assertEqual(['%.9f' % cell if isinstance(cell, float) else str(cell) for cell in one.values()], row, name)
+                self.assertEqual(['%.9f' % cell if isinstance(cell, float) else str(cell)
+                                  for cell in one.values()], row, name)
             self.assertEqual(len(set(fields)), len(fields), name)
 
     def test_the_greatest(self):
         fields, objects, _, _ = self.forms('degrees', 'graph.mtx', '--top', '2')
-        self.assertEqual((fields, objects), (['node', 'degrees'], [{'node': 3, 'degrees': 3}, {'node': 4, 'degrees': 3}]))
+        self.assertEqual((fields, objects),
+                         (['node', 'degrees'],
+                          [{'node': 3, 'degrees': 3}, {'node': 4, 'degrees': 3}]))
         self.assertIn('--top', self.run_words('degrees', 'graph.mtx', '--top', '2', '--mtx').stderr)
         self.assertEqual(self.run_words('degrees', 'graph.mtx', '--csv', '--json').returncode, 2)
 
@@ -95,7 +107,8 @@ class EveryCommand(command_line.CommandLine):
         text = self.printed('k-truss', 'graph.mtx', '--k', '3', '--csv')
         self.assertEqual(text.splitlines()[:2], ['source,target,k_truss', '1,2,1'])
         self.write('truss.csv', text)
-        self.assertEqual(self.printed('degrees', 'truss.csv'), self.printed('degrees', 'truss.csv', '--columns', 'source,target'))
+        self.assertEqual(self.printed('degrees', 'truss.csv'),
+                         self.printed('degrees', 'truss.csv', '--columns', 'source,target'))
 
     def test_types(self):
         fields, objects, _, _ = self.forms('types', 'unary.abs')
@@ -103,21 +116,24 @@ class EveryCommand(command_line.CommandLine):
         self.assertEqual((objects[0]['slot'], objects[0]['r1'], objects[0]['r10']), (0, 'n', 'p0'))
 
     def test_script(self):
-        script = command_line.with_body('matrix G', self.read('graph.mtx')) + 'show G\nbudget\nshow H\n'
+        script = command_line.with_body('matrix G',
+                                        self.read('graph.mtx')) + 'show G\nbudget\nshow H\n'
         self.write('s.txt', script)
         first = 1 + script[:script.index('show G')].count('\n')
         done = self.run_words('script', 's.txt', '--json')
         self.assertEqual(done.returncode, 4)
         rows = json.loads(done.stdout)
         self.assertEqual([(row['line'], row['reply'].split()[:2]) for row in rows],
-                         [(1, ['ok', 'matrix']), (first, ['ok', 'show']), (first + 1, ['ok', 'budget']), (first + 2, ['no', 'S4'])])
+                         [(1, ['ok', 'matrix']), (first, ['ok', 'show']),
+                          (first + 1, ['ok', 'budget']), (first + 2, ['no', 'S4'])])
         self.assertTrue(rows[1]['text'].startswith('%%MatrixMarket'))
         header, *rows = csv.reader(io.StringIO(self.run_words('script', 's.txt', '--csv').stdout))
         self.assertEqual((header, len(rows)), (['line', 'command', 'reply', 'text'], 4))
 
     @support.needs('matplotlib')
     def test_spy(self):
-        self.assertEqual(json.loads(self.printed('spy', 'graph.mtx', '--plot', 'p.png', '--json')), {'rows': 6, 'columns': 6, 'entries': 14})
+        self.assertEqual(json.loads(self.printed('spy', 'graph.mtx', '--plot', 'p.png', '--json')),
+                         {'rows': 6, 'columns': 6, 'entries': 14})
 
 
 if __name__ == '__main__':

@@ -28,7 +28,8 @@ class Parser(html.parser.HTMLParser):
 
     def handle_startendtag(self, tag, attributes):
         """Of a path each cell of the raster that it fills."""
-        widths = [int(width) for width in re.findall(r'M\d+ \d+h(\d+)v1h-\1z', dict(attributes)['d'])]
+        widths = [int(width) for width in re.findall(r'M\d+ \d+h(\d+)v1h-\1z',
+                                                     dict(attributes)['d'])]
         self.tags += ['cell'] * sum(widths)
 
     def handle_endtag(self, tag):
@@ -65,21 +66,26 @@ class Html(support.InSession):
         self.assertEqual(self.s.runs, before)
         words, tags = self.seen(waiting)
         self.assertIn('3 × 3, 9 entries', words)
-        self.assertEqual((words.split().count('-7'), tags.count('cell'), self.s.runs), (9, 9, before + 1))
+        self.assertEqual((words.split().count('-7'), tags.count('cell'), self.s.runs),
+                         (9, 9, before + 1))
 
     def test_size_in_a_notebook(self):
         """A notebook keeps every byte."""
-        A = self.s.from_coo([k % 997 for k in range(4000)], [k % 991 for k in range(4000)], 1, 1000, 1000, dup_op='plus')
+        A = self.s.from_coo([k % 997 for k in range(4000)], [k % 991 for k in range(4000)], 1, 1000,
+                            1000, dup_op='plus')
         self.assertLess(len(A._repr_html_()), 35_000)
 
     def test_masks(self):
         """The corner has a mark where a result may have an entry."""
         A = self.s.from_triples([(0, 0, 5), (0, 1, 0), (1, 2, 3)], 2, 3)
-        for mask, said, marks in ((A.S, 'has an entry', 3), (~A.S, 'has no entry', 3), (A.V, "has an entry that isn't 0", 2),
+        for mask, said, marks in ((A.S, 'has an entry', 3), (~A.S, 'has no entry', 3),
+                                  (A.V, "has an entry that isn't 0", 2),
                                   (~A.V, 'has no entry, or 0', 4)):
             words, tags = self.seen(mask)
             self.assertIn('Mask  2 × 3, where %s %s' % (A.name, said), words)
-            self.assertEqual((words.split().count('1') - 2, tags.count('cell')), (marks, 0 if mask.complement else 3), words)       # a row and a column are 1
+            # a row and a column are 1
+            self.assertEqual((words.split().count('1') - 2, tags.count('cell')),
+                             (marks, 0 if mask.complement else 3), words)
 
     def test_semirings(self):
         words, tags = self.seen(spmat.semiring.min_plus)
@@ -99,7 +105,8 @@ class Html(support.InSession):
         self.assertNotIn('facts', dir(spmat.algorithms))
 
     def test_large_ones(self):
-        """Of many entries the server counts the raster; what the client counts of few is the same."""
+        """Of many entries the server counts the raster; what the client counts of few is the
+        same."""
         A = self.s.from_triples([(i, 7 * i % 90, i) for i in range(90)] + [(89, 3, 4)], 90, 90)
         few = shown.few(A)
         many = shown.many(A)
@@ -119,7 +126,8 @@ class Html(support.InSession):
             A._repr_html_()
             self.assertEqual(s.runs - before, 2)
             spent = s.budget().spent
-            self.assertEqual(shown.first_cells(A).to_triples(), [(i, j, 1) for i in range(8) for j in range(8)])
+            self.assertEqual(shown.first_cells(A).to_triples(),
+                             [(i, j, 1) for i in range(8) for j in range(8)])
             self.assertLessEqual(s.budget().spent - spent, 3 * 64)
 
     def test_row_blocks(self):
@@ -139,7 +147,8 @@ class Html(support.InSession):
                 self.assertIn('91 entries', words)
                 self.assertNotIn('cell', tags)
                 self.assertEqual(words.split('rows entries')[1], near.split('rows entries')[1])
-            self.assertEqual([told.spent > 0 for told in s.budgets().values()], [True, False, False])
+            self.assertEqual([told.spent > 0 for told in s.budgets().values()],
+                             [True, False, False])
 
     def test_row_blocks_that_wait_or_fail(self):
         with blocks.Sessions(2) as s:
@@ -177,7 +186,8 @@ class Html(support.InSession):
         op = spmat.asm('unary', 'mov64 r0, r1 ; <x>\nexit')
         self.assertIn('unary operator', self.seen(op)[0])
         self.assertIn('mov64 r0, r1 ; <x>', self.seen(op)[0])
-        self.assertIn('mov64 r0, r1', self.seen(spmat.code('unary', 'bf10000000000000' '9500000000000000'))[0])
+        self.assertIn('mov64 r0, r1',
+                      self.seen(spmat.code('unary', 'bf100000000000009500000000000000'))[0])
         words, tags = self.seen(self.s.check(op))
         self.assertIn('accepted', words)
         self.assertEqual(tags.count('tr'), 3)
@@ -200,7 +210,8 @@ class Html(support.InSession):
         from spmat import draw
         A = self.s.from_triples([(0, 1, 1), (1, 0, 1)])
         written = io.BytesIO()
-        for axes in (draw.spy(A), draw.degree_histogram(A), draw.levels(A, spmat.algorithms.bfs_levels(A, 0))):
+        for axes in (draw.spy(A), draw.degree_histogram(A),
+                     draw.levels(A, spmat.algorithms.bfs_levels(A, 0))):
             axes.figure.savefig(written)
             self.assertIn(axes.figure.number, pyplot.get_fignums())        # a notebook shows these
         self.assertEqual(written.getvalue()[:8], b'\x89PNG\r\n\x1a\n')

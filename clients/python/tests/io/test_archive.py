@@ -1,4 +1,5 @@
-"""What goes out of a session: files that keep matrices with their names, and tables, lists and CSV that are read again."""
+"""What goes out of a session: files that keep matrices with their names, and tables, lists and CSV
+that are read again."""
 import csv
 import datetime
 import io
@@ -42,7 +43,8 @@ class InAFolder(support.InSession):
 
 
 def kinds(name):
-    """The type of a name with what its repr says beside, and those of its parts, whatever order a frozenset tells them in."""
+    """The type of a name with what its repr says beside, and those of its parts, whatever order a
+    frozenset tells them in."""
     if isinstance(name, (tuple, frozenset)):
         return type(name).__name__, sorted(map(str, map(kinds, name)))
     return type(name).__name__, repr(name)
@@ -65,7 +67,8 @@ class Archives(InAFolder):
                 again = found[name]
                 self.assertEqual((again.to_text(), again.name), (matrix.to_text(), name))
                 self.assertEqual(again.notes, matrix.notes, name)
-                self.assertEqual(again.row_nodes and list(map(type, again.row_nodes)), matrix.row_nodes and list(map(type, matrix.row_nodes)))
+                self.assertEqual(again.row_nodes and list(map(type, again.row_nodes)),
+                                 matrix.row_nodes and list(map(type, matrix.row_nodes)))
             self.assertEqual(found['G'].reduce_rowwise().by_node()['Bob'], -7)
             self.assertIs(found['G'].notes.rows, found['G'].notes.columns)
         with blocks.Sessions(2) as many_sessions:
@@ -79,20 +82,24 @@ class Archives(InAFolder):
             A.apply('ainv')                        # has no name
             s.from_coo([0], [0], 5, 1, 1, name='gone')
             s.save(self.path)
-            self.assertEqual({name: matrix.to_dict() for name, matrix in s.load(self.path).items()}, {'A': {(0, 0): 5}, 'of two words': {(0, 0): 5}})
+            self.assertEqual({name: matrix.to_dict() for name, matrix in s.load(self.path).items()},
+                             {'A': {(0, 0): 5}, 'of two words': {(0, 0): 5}})
             del B
 
     def test_after_a_kill(self):
-        done = subprocess.run([sys.executable, '-c', SAVER, self.path], env=dict(os.environ, PYTHONPATH=PACKAGE), check=False, timeout=100)
+        done = subprocess.run([sys.executable, '-c', SAVER, self.path],
+                              env=dict(os.environ, PYTHONPATH=PACKAGE), check=False, timeout=100)
         self.assertEqual(done.returncode, -signal.SIGKILL)
         found = self.s.load(self.path)
-        self.assertEqual((found['G'].to_edgelist(), found['ranks'].by_node()), ([('a', 'b', 3), ('b', 'c', 4)], {'a': 3, 'b': 4}))
+        self.assertEqual((found['G'].to_edgelist(), found['ranks'].by_node()),
+                         ([('a', 'b', 3), ('b', 'c', 4)], {'a': 3, 'b': 4}))
 
     def test_a_failure_leaves_the_old_file(self):
         self.s.save(self.path, A=self.s.full(1, 1))
         odd = self.s.full(1, 1)
         odd.nodes = [1j]
-        self.assertIn("the vertex 1j of B can't be saved", self.said(TypeError, self.s.save, self.path, B=odd))
+        self.assertIn("the vertex 1j of B can't be saved",
+                      self.said(TypeError, self.s.save, self.path, B=odd))
         self.assertIn('B is no matrix, but int', self.said(TypeError, self.s.save, self.path, B=5))
         self.assertEqual(list(self.s.load(self.path)), ['A'])
         self.assertEqual(os.listdir(self.folder), ['work.spmat'])
@@ -104,7 +111,8 @@ class Archives(InAFolder):
         for text in (b'', b'from,to\n', whole[:-30], whole[:40] + b'\0' * 20 + whole[60:]):
             with open(self.path, 'wb') as file:
                 file.write(text)
-            self.assertIn('work.spmat: this is no file that save() wrote', self.said(spmat.ReadError, self.s.load, self.path))
+            self.assertIn('work.spmat: this is no file that save() wrote',
+                          self.said(spmat.ReadError, self.s.load, self.path))
         with zipfile.ZipFile(self.path, 'w') as file:
             file.writestr('matrices.json', json.dumps({'spmat': 9}))
         self.assertIn('its version is 9', self.said(spmat.ReadError, self.s.load, self.path))
@@ -113,28 +121,35 @@ class Archives(InAFolder):
 
     def test_dates_as_names(self):
         """Dates, times and frozensets come back as they were, also in tuples."""
-        names = [datetime.date(2024, 1, 2), datetime.datetime(2024, 1, 2, 3, 4, 5, 678), datetime.datetime(2024, 1, 2, tzinfo=datetime.timezone.utc),
-                 frozenset(), frozenset({'b', 'a', 3}), ('x', datetime.date(2024, 1, 2), frozenset({(1, 2)}))]
+        names = [datetime.date(2024, 1, 2), datetime.datetime(2024, 1, 2, 3, 4, 5, 678),
+                 datetime.datetime(2024, 1, 2, tzinfo=datetime.timezone.utc), frozenset(),
+                 frozenset({'b', 'a', 3}), ('x', datetime.date(2024, 1, 2), frozenset({(1, 2)}))]
         if support.has('pandas'):
             import numpy
             import pandas
-            names += [pandas.Timestamp('2024-05-02 03:04:05.678901234'), pandas.Timestamp('2024-07-02', tz='Europe/Berlin'), pandas.Timestamp('2024-07-03', tz='UTC'),
-                      numpy.datetime64('2024-09-02'), numpy.datetime64('2024-10-02T03:04:05.678901234')]
+            names += [pandas.Timestamp('2024-05-02 03:04:05.678901234'),
+                      pandas.Timestamp('2024-07-02', tz='Europe/Berlin'),
+                      pandas.Timestamp('2024-07-03', tz='UTC'), numpy.datetime64('2024-09-02'),
+                      numpy.datetime64('2024-10-02T03:04:05.678901234')]
         G = self.s.from_edgelist([(name, 'x', 3) for name in names])
         self.s.save(self.path, G=G)
         with blocks.Sessions(2) as many:
             for s in (self.s, many):
                 got = s.load(self.path)['G'].nodes
                 self.assertEqual((got, list(map(kinds, got))), (G.nodes, list(map(kinds, G.nodes))))
-        self.assertIn('this is a file that save() wrote: s.load(path) reads it', self.said(ValueError, self.s.read_graph, self.path))
+        self.assertIn('this is a file that save() wrote: s.load(path) reads it',
+                      self.said(ValueError, self.s.read_graph, self.path))
         if support.has('pandas'):
             with mock.patch.dict(sys.modules, {'pandas': None}):
-                self.assertIn('those of pandas, which is not installed', self.said(spmat.ReadError, self.s.load, self.path))
+                self.assertIn('those of pandas, which is not installed',
+                              self.said(spmat.ReadError, self.s.load, self.path))
 
     def test_no_folder(self):
         """The error names the folder, and not the file that is written meanwhile."""
-        G, path = self.s.from_edgelist([('a', 'b', 3)]), os.path.join(self.folder, 'none', 'w.spmat')
-        for write in (lambda: self.s.save(path, G=G), lambda: G.to_csv(path), lambda: G.write_edgelist(path)):
+        G, path = self.s.from_edgelist([('a', 'b', 3)]), os.path.join(self.folder, 'none',
+                                                                      'w.spmat')
+        for write in (lambda: self.s.save(path, G=G), lambda: G.to_csv(path),
+                      lambda: G.write_edgelist(path)):
             with self.assertRaises(FileNotFoundError) as said:
                 write()
             self.assertEqual(said.exception.filename, os.path.dirname(path))
@@ -143,7 +158,8 @@ class Archives(InAFolder):
     def test_zip(self):
         """One file in a zip archive is read, as pandas reads it."""
         path = os.path.join(self.folder, 'g.zip')
-        for members in (['g.csv'], ['folder/', 'folder/g.csv', '__MACOSX/folder/._g.csv'], ['a.csv', 'b.csv'], []):
+        for members in (['g.csv'], ['folder/', 'folder/g.csv', '__MACOSX/folder/._g.csv'],
+                        ['a.csv', 'b.csv'], []):
             with zipfile.ZipFile(path, 'w', zipfile.ZIP_DEFLATED) as file:
                 for member in members:
                     file.writestr(member, '' if member.endswith('/') else 'from,to,w\na,b,3\n')
@@ -152,7 +168,8 @@ class Archives(InAFolder):
                 with blocks.Sessions(2) as many, open(path, 'rb') as file:
                     self.assertEqual(many.read_graph(file).to_edgelist(), [('a', 'b', 3)])
             elif members:
-                self.assertIn('a zip archive of several files', self.said(ValueError, self.s.read_graph, path))
+                self.assertIn('a zip archive of several files',
+                              self.said(ValueError, self.s.read_graph, path))
         with zipfile.ZipFile(path, 'w') as file:
             file.writestr('g.mtx', support.BANNER + '2 2 1\n1 2 3\n')
         self.assertEqual(self.s.mmread(path).to_triples(), [(0, 1, 3)])
@@ -160,24 +177,30 @@ class Archives(InAFolder):
             whole = bytearray(file.read())
         at = whole.index(b'1 2 3')
         whole[at:at + 5] = b'1 2 4'
-        self.assertIn('packed by zip, and damaged', self.said(ValueError, self.s.read_graph, io.BytesIO(bytes(whole))))
+        self.assertIn('packed by zip, and damaged',
+                      self.said(ValueError, self.s.read_graph, io.BytesIO(bytes(whole))))
 
 
 class Lists(InAFolder):
     def test_csv(self):
         G = self.s.from_edgelist(EDGES)
         text = G.to_csv()
-        self.assertEqual(list(csv.reader(io.StringIO(text)))[:2], [['source', 'target', 'weight'], ['Ann', 'Bob', '5']])
+        self.assertEqual(list(csv.reader(io.StringIO(text)))[:2],
+                         [['source', 'target', 'weight'], ['Ann', 'Bob', '5']])
         self.assertTrue(self.s.read_graph(io.BytesIO(text.encode())).isequal(G))
         path = os.path.join(self.folder, 'g.csv')
         self.assertIsNone(G.to_csv(path, ('who', 'whom', 'km'), sep=';', scale=2))
         with open(path, encoding='utf-8') as file:
             self.assertEqual(file.read().splitlines()[:2], ['who;whom;km', 'Ann;Bob;2.5'])
-        self.assertEqual(G.reduce_rowwise().to_csv(header=False), 'Ann,5\nBob,-7\n"Dvořák, Emil",%d\n' % 2 ** 62)
-        self.assertEqual(G.reduce_columnwise('max').to_csv(fields=('name', 'most')).splitlines()[0], 'name,most')
+        self.assertEqual(G.reduce_rowwise().to_csv(header=False),
+                         'Ann,5\nBob,-7\n"Dvořák, Emil",%d\n' % 2 ** 62)
+        self.assertEqual(G.reduce_columnwise('max').to_csv(fields=('name', 'most')).splitlines()[0],
+                         'name,most')
         self.assertEqual(self.s.from_triples([(1, 0, 3)], 2, 2).to_csv(header=False), '1,0,3\n')
-        self.assertIn("expected 2 fields, such as ('node', 'value'), got 3", self.said(ValueError, G.reduce_rowwise().to_csv, fields=('a', 'b', 'c')))
-        self.assertIn('No such file', self.said(OSError, G.to_csv, os.path.join(self.folder, 'none', 'g.csv')))
+        self.assertIn("expected 2 fields, such as ('node', 'value'), got 3",
+                      self.said(ValueError, G.reduce_rowwise().to_csv, fields=('a', 'b', 'c')))
+        self.assertIn('No such file',
+                      self.said(OSError, G.to_csv, os.path.join(self.folder, 'none', 'g.csv')))
 
     def test_edge_lists(self):
         G = self.s.from_edgelist(EDGES)
@@ -200,8 +223,10 @@ class Lists(InAFolder):
         self.assertEqual(list(G.to_pandas_edgelist('a', 'b', None).columns), ['a', 'b'])
         self.assertEqual(G.to_pandas(scale=2)['weight'].tolist()[0], 2.5)
         column = G.reduce_rowwise().to_pandas()
-        self.assertEqual((column.to_dict(), column.dtype, column.index.name), (G.reduce_rowwise().by_node(), 'int64', 'node'))
-        self.assertEqual(self.s.from_triples([(1, 0, 3)], 2, 2).to_pandas_edgelist().values.tolist(), [[1, 0, 3]])
+        self.assertEqual((column.to_dict(), column.dtype, column.index.name),
+                         (G.reduce_rowwise().by_node(), 'int64', 'node'))
+        self.assertEqual(self.s.from_triples([(1, 0, 3)], 2,
+                                             2).to_pandas_edgelist().values.tolist(), [[1, 0, 3]])
 
     @support.needs('pandas', 'pyarrow')
     def test_parquet(self):

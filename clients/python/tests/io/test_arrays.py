@@ -17,7 +17,8 @@ class Numpy(InSession):
     def test_there_and_back(self):
         import numpy
         r = numpy.random.default_rng(1)
-        for least, most in ((0, 1), (-9, 10), (0, 10 ** 8), (-10 ** 9, 10 ** 12), (-2 ** 63, 2 ** 63 - 1)):
+        for least, most in ((0, 1), (-9, 10), (0, 10 ** 8), (-10 ** 9, 10 ** 12),
+                            (-2 ** 63, 2 ** 63 - 1)):
             at = numpy.unique(r.integers(0, 1 << 40, 3000))
             r.shuffle(at)
             rows, columns = at >> 20, at & (1 << 20) - 1
@@ -28,45 +29,59 @@ class Numpy(InSession):
             for got, want in zip(A.to_coo(), (rows, columns, values)):
                 self.assertEqual(got.dtype, numpy.int64)
                 self.assertTrue((got == want[order]).all())
-            self.assertEqual(A.to_triples(), list(zip(*(part[order].tolist() for part in (rows, columns, values)))))
-            self.assertTrue(A.isequal(self.s.from_coo(rows.tolist(), columns.tolist(), values.tolist(), 1 << 20, 1 << 20)))
+            self.assertEqual(A.to_triples(),
+                             list(zip(*(part[order].tolist() for part in (rows, columns, values)))))
+            self.assertTrue(A.isequal(self.s.from_coo(rows.tolist(), columns.tolist(),
+                                                      values.tolist(), 1 << 20, 1 << 20)))
 
     def test_without_leading_zeros(self):
         """Where lines of one width are too long for a body, the zeros are taken out."""
         import numpy
-        rows, columns, values = numpy.array([0, 99999, 7]), numpy.array([12345678, 0, 9]), numpy.array([0, -10, 2 ** 62])
+        rows, columns, values = numpy.array([0, 99999,
+                                             7]), numpy.array([12345678, 0, 9]), numpy.array(
+                                                 [0, -10, 2 ** 62])
         triples = matrix_text.Triples(rows, columns, values, 100000, 12345679)
         with mock.patch.object(matrix_text, 'FEW_LINES', 0):
             long = matrix_text.write(triples)
             with mock.patch.object(limits, 'MOST_TEXT', len(long) - 1):
                 short = matrix_text.write(triples)
-        self.assertEqual(short.split(b'\n')[2:], [b'1 12345679 +0', b'100000 1 -10', b'8 10 +4611686018427387904', b''])
+        self.assertEqual(short.split(b'\n')[2:],
+                         [b'1 12345679 +0', b'100000 1 -10', b'8 10 +4611686018427387904', b''])
         self.assertLess(len(short), len(long))
         self.assertTrue(self.s.from_text(short).isequal(self.s.from_text(long)))
 
     def test_kinds_of_arrays(self):
         import numpy
         s = self.s
-        for values in (numpy.array([1, 0, 5], numpy.uint8), numpy.array([1., 0., 5.]), numpy.array([1, 0, 5], object), [1, 0, 5],
+        for values in (numpy.array([1, 0, 5], numpy.uint8), numpy.array([1., 0., 5.]),
+                       numpy.array([1, 0, 5], object), [1, 0, 5],
                        numpy.array([1, 0, 5], numpy.uint64)):
-            self.assertEqual(s.from_coo(numpy.arange(3), [0, 1, 0], values).to_triples(), [(0, 0, 1), (1, 1, 0), (2, 0, 5)])
-        self.assertEqual(s.from_coo(numpy.arange(3), numpy.zeros(3), 7).to_triples(), [(0, 0, 7), (1, 0, 7), (2, 0, 7)])
-        self.assertEqual(s.from_coo(numpy.array([0]), numpy.array([0]), numpy.array([True])).to_list(), [1])
+            self.assertEqual(s.from_coo(numpy.arange(3), [0, 1, 0], values).to_triples(),
+                             [(0, 0, 1), (1, 1, 0), (2, 0, 5)])
+        self.assertEqual(s.from_coo(numpy.arange(3), numpy.zeros(3), 7).to_triples(),
+                         [(0, 0, 7), (1, 0, 7), (2, 0, 7)])
+        self.assertEqual(s.from_coo(numpy.array([0]), numpy.array([0]),
+                                    numpy.array([True])).to_list(), [1])
         self.assertEqual(s.from_coo([], numpy.array([]), []).shape, (0, 0))
         table = numpy.array([[0, 1, 5], [2, 0, -7]])
-        self.assertEqual(s.from_triples(table, 3, 4).to_triples(), [tuple(row) for row in table.tolist()])
-        self.assertEqual(s.from_coo([numpy.int32(2)], [numpy.uint8(1)], [numpy.float32(3)]).to_triples(), [(2, 1, 3)])
+        self.assertEqual(s.from_triples(table, 3, 4).to_triples(),
+                         [tuple(row) for row in table.tolist()])
+        self.assertEqual(s.from_coo([numpy.int32(2)], [numpy.uint8(1)],
+                                    [numpy.float32(3)]).to_triples(), [(2, 1, 3)])
 
     def test_lists_beside_arrays(self):
-        """A list with a float in it stays as it is, where numpy would round its whole numbers to floats."""
+        """A list with a float in it stays as it is, where numpy would round its whole numbers to
+        floats."""
         import numpy
-        for values in ([2 ** 53 + 1, 1.0], [1.0, 2 ** 63 - 1], [-2 ** 63, 2.0], (2 ** 53 + 1, numpy.float64(3))):
+        for values in ([2 ** 53 + 1, 1.0], [1.0, 2 ** 63 - 1], [-2 ** 63, 2.0],
+                       (2 ** 53 + 1, numpy.float64(3))):
             A = self.s.from_coo(numpy.arange(2), [0, 0], values, 2, 1)
             self.assertEqual(A.to_list(), [int(value) for value in values])
         for values in ([2 ** 53 + 1, .5], [2 ** 63, -1], [2 ** 64, 1.0], [1.0, float('nan')]):
             with self.assertRaises(ValueError):
                 self.s.from_coo(numpy.arange(2), [0, 0], values, 2, 1)
-        self.assertEqual(self.s.from_coo(iter([0, 1]), numpy.arange(2), (k for k in (5, 6))).to_dict(), {(0, 0): 5, (1, 1): 6})
+        self.assertEqual(self.s.from_coo(iter([0, 1]), numpy.arange(2),
+                                         (k for k in (5, 6))).to_dict(), {(0, 0): 5, (1, 1): 6})
 
     def test_repeated_entries_are_named(self):
         import numpy
@@ -78,21 +93,26 @@ class Numpy(InSession):
     def test_small_arrays_are_quick(self):
         """The table of digits is made once, not at each upload."""
         import numpy
-        matrix_text.write(matrix_text.Triples(numpy.arange(3), numpy.arange(3), numpy.arange(3), 3, 3))
+        matrix_text.write(matrix_text.Triples(numpy.arange(3), numpy.arange(3), numpy.arange(3), 3,
+                                              3))
         before = matrix_text._four_digits.cache_info().misses
         for _ in range(5):
-            matrix_text.write(matrix_text.Triples(numpy.arange(3), numpy.arange(3), numpy.arange(3), 3, 3))
+            matrix_text.write(matrix_text.Triples(numpy.arange(3), numpy.arange(3), numpy.arange(3),
+                                                  3, 3))
         self.assertEqual(matrix_text._four_digits.cache_info().misses, before)
 
     def test_wrong_arrays(self):
         import numpy
         s, one = self.s, numpy.array([0])
         before = s.connection.commands
-        for kind, value in ((ValueError, .5), (ValueError, 2. ** 63), (ValueError, -2. ** 63 - 2048), (ValueError, numpy.nan),
-                            (ValueError, numpy.inf), (ValueError, numpy.uint64(2 ** 63)), (TypeError, 'x'), (TypeError, 1j)):
+        for kind, value in ((ValueError, .5), (ValueError, 2. ** 63),
+                            (ValueError, -2. ** 63 - 2048), (ValueError, numpy.nan),
+                            (ValueError, numpy.inf), (ValueError, numpy.uint64(2 ** 63)),
+                            (TypeError, 'x'), (TypeError, 1j)):
             with self.assertRaises(kind):
                 s.from_coo(one, one, numpy.array([value]))
-        for rows, columns, sizes in ((one - 1, one, ()), (one, one - 1, ()), (one + 5, one, (5, 5)), (one, one + 5, (5, 5)),
+        for rows, columns, sizes in ((one - 1, one, ()), (one, one - 1, ()), (one + 5, one, (5, 5)),
+                                     (one, one + 5, (5, 5)),
                                      (one, numpy.arange(2), ()), (one.reshape(1, 1), one, ())):
             with self.assertRaises(ValueError):
                 s.from_coo(rows, columns, 1, *sizes)
@@ -110,7 +130,8 @@ class Numpy(InSession):
             many = [(r.randrange(5), r.randrange(4), r.randrange(9)) for _ in range(60)]
             rows, columns, values = (numpy.array(part) for part in zip(*many))
             want = self.s.from_triples(many, 5, 4, dup_op=op).to_dict()
-            self.assertEqual(self.s.from_coo(rows, columns, values, 5, 4, dup_op=op).to_dict(), want)
+            self.assertEqual(self.s.from_coo(rows, columns, values, 5, 4, dup_op=op).to_dict(),
+                             want)
         with self.assertRaises(spmat.TextRefused):
             self.s.from_coo(numpy.zeros(2), numpy.zeros(2), 1)
 
@@ -119,8 +140,10 @@ class Numpy(InSession):
         table = numpy.array([[1, 0, -3], [0, 5, 0]])
         self.assertTrue((self.s.from_dense(table).to_dense() == table).all())
         self.assertEqual(self.s.from_dense(table, 0).nvals, 3)
-        self.assertTrue((self.s.from_dense(table, 0).to_dense(9) == numpy.where(table == 0, 9, table)).all())
-        self.assertEqual(self.s.from_dense(numpy.array([4., 5.])).to_triples(), [(0, 0, 4), (1, 0, 5)])
+        self.assertTrue((self.s.from_dense(table, 0).to_dense(9)
+                         == numpy.where(table == 0, 9, table)).all())
+        self.assertEqual(self.s.from_dense(numpy.array([4., 5.])).to_triples(),
+                         [(0, 0, 4), (1, 0, 5)])
 
     def test_large_transpose(self):
         import numpy
@@ -137,7 +160,8 @@ class Scipy(InSession):
     def test_there_and_back(self):
         import numpy
         import scipy.sparse
-        M = scipy.sparse.random(50, 40, .1, random_state=1, data_rvs=lambda n: numpy.arange(n) - 70.)
+        M = scipy.sparse.random(50, 40, .1, random_state=1,
+                                data_rvs=lambda n: numpy.arange(n) - 70.)
         for form in ('coo', 'csr', 'csc', 'lil', 'dok', 'bsr'):
             A = self.s.from_scipy_sparse(M.asformat(form))
             self.assertEqual((A.shape, A.nvals), ((50, 40), M.nnz))
@@ -163,10 +187,12 @@ class Scipy(InSession):
         import numpy
         import scipy.io
         import scipy.sparse
-        M = scipy.sparse.random(30, 30, .2, random_state=1, data_rvs=lambda n: numpy.arange(n) - 70.)
+        M = scipy.sparse.random(30, 30, .2, random_state=1,
+                                data_rvs=lambda n: numpy.arange(n) - 70.)
         for field, dtype in (('real', float), ('integer', int)):
             M = M.astype(dtype)
-            for symmetry, what in (('general', M), ('symmetric', M + M.T), ('skew-symmetric', M - M.T)):
+            for symmetry, what in (('general', M), ('symmetric', M + M.T),
+                                   ('skew-symmetric', M - M.T)):
                 for thing in (what.tocoo(), what.toarray()):
                     file = io.BytesIO()
                     scipy.io.mmwrite(file, thing, field=field, symmetry=symmetry)
@@ -178,8 +204,9 @@ class Scipy(InSession):
         self.assertTrue((scipy.io.mmread(file).toarray() == M.toarray()).all())
 
     def test_speed(self):
-        """A million entries from numpy are there in a third of the time that scipy.io.mmwrite takes to write them: processor time,
-        the server's with it, since on a busy machine nothing can be said of the clock's."""
+        """A million entries from numpy are there in a third of the time that scipy.io.mmwrite takes
+        to write them: processor time, the server's with it, since on a busy machine nothing can be
+        said of the clock's."""
         import numpy
         import scipy.io
         import scipy.sparse

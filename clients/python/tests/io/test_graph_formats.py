@@ -1,4 +1,5 @@
-"""Files that other packages write: GraphML, GEXF, GML, lists of networkx, parquet; and what is said where the package isn't there."""
+"""Files that other packages write: GraphML, GEXF, GML, lists of networkx, parquet; and what is said
+where the package isn't there."""
 import io
 import sys
 import unittest
@@ -7,7 +8,8 @@ from unittest import mock
 import support
 import spmat
 
-GML = b'graph [\n  node [ id 3 label "x y" ]\n  node [ id 5 label "z" ]\n  node [ id 9 label "alone" ]\n  edge [ source 3 target 5 value 4 ]\n]\n'
+GML = (b'graph [\n  node [ id 3 label "x y" ]\n  node [ id 5 label "z" ]\n  node [ id 9 label '
+       b'"alone" ]\n  edge [ source 3 target 5 value 4 ]\n]\n')
 
 
 class Case(support.InSession):
@@ -37,9 +39,11 @@ class ByNetworkx(Case):
             for how in ('graphml', 'gexf', 'gml'):
                 G = self.read(self.written(how, graph))
                 want = self.s.from_networkx(graph)
-                self.assertEqual((G.nodes, sorted(G.to_edgelist()), G.directed), (want.nodes, sorted(want.to_edgelist()), graph.is_directed()), how)
+                self.assertEqual((G.nodes, sorted(G.to_edgelist()), G.directed),
+                                 (want.nodes, sorted(want.to_edgelist()), graph.is_directed()), how)
                 self.assertIn('by networkx; values=weight', G.notes.source)
-                self.assertEqual(set(self.read(self.written(how, graph), values=False).to_coo(arrays=False)[2]), {1})
+                self.assertEqual(set(self.read(self.written(how, graph),
+                                               values=False).to_coo(arrays=False)[2]), {1})
 
     def test_weights(self):
         import networkx
@@ -52,21 +56,27 @@ class ByNetworkx(Case):
 
     def test_gml(self):
         G = self.read(GML)
-        self.assertEqual((G.nodes, G.to_edgelist()), (['x y', 'z', 'alone'], [('x y', 'z', 4), ('z', 'x y', 4)]))
+        self.assertEqual((G.nodes, G.to_edgelist()),
+                         (['x y', 'z', 'alone'], [('x y', 'z', 4), ('z', 'x y', 4)]))
         self.assertEqual(self.read(GML.replace(b'label', b'name')).nodes, [3, 5, 9])
         self.assertIn('no GML that networkx reads', self.said(GML[:-3]))
-        self.assertIn('no GraphML that networkx reads', self.said(b'<?xml version="1.0"?>\n<graphml><graph>\n'))
+        self.assertIn('no GraphML that networkx reads',
+                      self.said(b'<?xml version="1.0"?>\n<graphml><graph>\n'))
         self.assertIn('one kind of vertices', self.said(GML, ValueError, bipartite=True))
         self.assertIn('no file of the format gml', self.said(b'a b\n', format='gml'))
 
     def test_without_networkx(self):
         with mock.patch.dict(sys.modules, networkx=None):
-            self.assertIn('GML needs networkx (extra networkx): pip install networkx', self.said(GML))
+            self.assertIn('GML needs networkx (extra networkx): pip install networkx',
+                          self.said(GML))
 
     def test_lists(self):
         import networkx
-        for graph, edges in ((networkx.DiGraph([(1, 2, {'weight': 3}), (2, 3, {'weight': 4, 'color': 'red'})]), [(1, 2, 3), (2, 3, 4)]),
-                             (networkx.DiGraph([('a', 'b', {}), ('b', 'c', {})]), [('a', 'b', 1), ('b', 'c', 1)])):
+        for graph, edges in ((networkx.DiGraph([(1, 2, {'weight': 3}),
+                                                (2, 3, {'weight': 4, 'color': 'red'})]),
+                              [(1, 2, 3), (2, 3, 4)]),
+                             (networkx.DiGraph([('a', 'b', {}), ('b', 'c', {})]),
+                              [('a', 'b', 1), ('b', 'c', 1)])):
             for delimiter in (' ', ',', '\t'):
                 text = io.BytesIO()
                 networkx.write_edgelist(graph, text, delimiter=delimiter)
@@ -77,10 +87,13 @@ class ByNetworkx(Case):
 
 class Lists(Case):
     def test_dictionaries(self):
-        self.assertEqual(self.read(b"# c\n1 2 {'weight': 0.5}\n", scale=2).to_edgelist(), [(1, 2, 0.5)])
-        self.assertEqual(self.read(b"1 2 {'weight': 5}\n2 3 {}\n").to_edgelist(), [(1, 2, 5), (2, 3, 1)])
+        self.assertEqual(self.read(b"# c\n1 2 {'weight': 0.5}\n", scale=2).to_edgelist(),
+                         [(1, 2, 0.5)])
+        self.assertEqual(self.read(b"1 2 {'weight': 5}\n2 3 {}\n").to_edgelist(),
+                         [(1, 2, 5), (2, 3, 1)])
         self.assertEqual(self.read(b"1 2 {'weight': 5}\n", values=False).to_edgelist(), [(1, 2, 1)])
-        self.assertIn('line 2: an edge is written as networkx writes it', self.said(b"1 2 {'weight': 3}\n2 3\n"))
+        self.assertIn('line 2: an edge is written as networkx writes it',
+                      self.said(b"1 2 {'weight': 3}\n2 3\n"))
         self.assertIn('line 1: an edge is written', self.said(b"1 2 {'weight': print(3)}\n"))
         self.assertIn('0.5', self.said(b"1 2 {'weight': 0.5}\n", ValueError))
 
@@ -90,28 +103,34 @@ class Lists(Case):
         seen = []
         with spmat.Session(progress=lambda *told: seen.append(told)) as s:
             s.read_graph(io.BytesIO(b'a b\nb c\n'))
-        self.assertEqual(seen[:4], [('reading', 0, 8), ('reading', 8, 8), ('names', 0, 2), ('names', 2, 2)])
+        self.assertEqual(seen[:4], [('reading', 0, 8), ('reading', 8, 8), ('names', 0, 2),
+                                    ('names', 2, 2)])
 
 
 class Parquet(Case):
-    TEXT = b'PAR1....'                             # what an engine would read: pandas is told what it gives
+    # what an engine would read: pandas is told what it gives
+    TEXT = b'PAR1....'
 
     @support.needs('pandas')
     def test_columns_are_found(self):
         import pandas
-        frame = pandas.DataFrame({'id': [1, 2], 'payer': ['a', 'b'], 'payee': ['b', 'c'], 'amount': [5, 7]})
+        frame = pandas.DataFrame({'id': [1, 2], 'payer': ['a', 'b'], 'payee': ['b', 'c'],
+                                  'amount': [5, 7]})
         with mock.patch.object(pandas, 'read_parquet', lambda file: frame):
             G = self.read(self.TEXT)
             self.assertEqual((G.to_edgelist(), G.notes.source),
-                             ([('a', 'b', 5), ('b', 'c', 7)], 'the text: parquet; source=payer, target=payee, values=amount'))
-            self.assertEqual(self.read(self.TEXT, columns=('payee', 'payer')).to_edgelist(), [('b', 'a', 1), ('c', 'b', 1)])
+                             ([('a', 'b', 5), ('b', 'c', 7)],
+                              'the text: parquet; source=payer, target=payee, values=amount'))
+            self.assertEqual(self.read(self.TEXT, columns=('payee', 'payer')).to_edgelist(),
+                             [('b', 'a', 1), ('c', 'b', 1)])
         odd = pandas.DataFrame({'p': ['a'], 'q': ['b'], 'r': ['c']})
         with mock.patch.object(pandas, 'read_parquet', lambda file: odd):
             self.assertIn("columns=('p', 'q')", self.said(self.TEXT))
 
     def test_without_an_engine(self):
         with mock.patch.dict(sys.modules, pandas=None):
-            self.assertIn('parquet needs pandas (extra files): pip install pandas', self.said(self.TEXT))
+            self.assertIn('parquet needs pandas (extra files): pip install pandas',
+                          self.said(self.TEXT))
 
 
 if __name__ == '__main__':

@@ -1,4 +1,5 @@
-"""What is written is read back the same, whatever the names of the vertices are: every writer with every reader, in a session, in blocks, in the shell."""
+"""What is written is read back the same, whatever the names of the vertices are: every writer with
+every reader, in a session, in blocks, in the shell."""
 import io
 import os
 import random
@@ -13,10 +14,13 @@ import spmat
 from spmat import blocks
 from spmat.blocks import parallel_read
 
-SPECIAL = ['#1 fan', '#', '%', '%20x', '%%MatrixMarket matrix', 'a,b', 'a;b', 'a|b', 'a\tb', 'a b', ' a', 'a ', '\ta', 'a\t', '"', '"a"', 'a"b', '""', "it's",
-           '007', '1e3', '1.5', '-0', '+1', 'nan', 'NA', 'NaN', 'null', 'None', '-', '?', '.', 'True', 'inf', 'Ünï', '日本', 'e\u0301', '\u00a0a', 'a\u00a0', '\ufeffa',
-           'source', 'target', 'weight', 'from', 'to', 'u', 'v', 'node1', 'node2', 'node', 'value', 'p', '<html>', '{', '[1', "{'weight': 3}", '12345678901234567890',
-           '1_000', '\u2028', '\x0b', '\x1f', 'x' * 300, '\\N', 'PAR1', '_', '0x1', '\x7f', 'p sp 3 4', '#,#', "('a', 1)"]
+SPECIAL = ['#1 fan', '#', '%', '%20x', '%%MatrixMarket matrix', 'a,b', 'a;b', 'a|b', 'a\tb', 'a b',
+           ' a', 'a ', '\ta', 'a\t', '"', '"a"', 'a"b', '""', "it's", '007', '1e3', '1.5', '-0',
+           '+1', 'nan', 'NA', 'NaN', 'null', 'None', '-', '?', '.', 'True', 'inf', 'Ünï', '日本',
+           'e\u0301', '\u00a0a', 'a\u00a0', '\ufeffa', 'source', 'target', 'weight', 'from', 'to',
+           'u', 'v', 'node1', 'node2', 'node', 'value', 'p', '<html>', '{', '[1', "{'weight': 3}",
+           '12345678901234567890', '1_000', '\u2028', '\x0b', '\x1f', 'x' * 300, '\\N', 'PAR1', '_',
+           '0x1', '\x7f', 'p sp 3 4', '#,#', "('a', 1)"]
 PIECES = list('ab01 ,;|\t"#%\'.-_') + ['é', '\u00a0', 'nan', '//']
 REFUSED = ['', 'a\nb', 'a\rb', '\n', 'a\0b', '\ud800']
 
@@ -34,7 +38,8 @@ def names_of(chance):
 
 def edges_of(chance, names, values=True):
     """Some edges with values, each once."""
-    found = {(chance.choice(names), chance.choice(names)): chance.choice((1, 7, -3, 10 ** 12, 0)) if values else 1 for _ in range(chance.randrange(1, 9))}
+    found = {(chance.choice(names), chance.choice(names)): chance.choice((1, 7, -3, 10 ** 12, 0))
+             if values else 1 for _ in range(chance.randrange(1, 9))}
     return [(*ends, value) for ends, value in found.items()]
 
 
@@ -62,8 +67,9 @@ class ReadBack(unittest.TestCase):
         self.asked = self.warned = self.refused = self.equal = 0
 
     def check(self, edges, write, asks=False, refuses=False, **how):
-        """Writes the graph of edges into `self.path` and reads it, in a session and in blocks. The edges are the same, or the writer refuses
-        the names, or warns that they come back as text or as numbers, or the reader asks whether there is a header."""
+        """Writes the graph of edges into `self.path` and reads it, in a session and in blocks. The
+        edges are the same, or the writer refuses the names, or warns that they come back as text or
+        as numbers, or the reader asks whether there is a header."""
         G = self.one.from_edgelist(edges)
         with warnings.catch_warnings(record=True) as said:
             warnings.simplefilter('always')
@@ -106,7 +112,8 @@ class ReadBack(unittest.TestCase):
         G = self.one.from_edgelist([('a', 'b', 1)], nodelist=['a', 'b', 'c', 'd'])
         rows = self.one.from_coo([0], [1], nrows=2, ncols=2, nodes=(['a', 'b'], ['x', 'y']))
         for write in (G.to_csv, G.write_edgelist):
-            with self.assertWarnsRegex(UserWarning, "2 vertices have no edge.*nodelist=G.nodes") as said:
+            with self.assertWarnsRegex(UserWarning,
+                                       "2 vertices have no edge.*nodelist=G.nodes") as said:
                 write(self.path)
             self.assertEqual(said.filename, __file__)
             back = self.one.read_graph(self.path, nodelist=G.nodes)
@@ -121,62 +128,76 @@ class ReadBack(unittest.TestCase):
             G.reduce_rowwise('plus').to_csv(self.path)
 
     def test_csv_read_by_workers(self):
-        with mock.patch.object(parallel_read, 'LEAST', 1), mock.patch.object(parallel_read, 'MOST', 60):
+        with mock.patch.object(parallel_read, 'LEAST', 1), \
+                mock.patch.object(parallel_read, 'MOST', 60):
             self.random(5, 40, lambda G: G.to_csv(self.path))
 
     @support.needs('numpy')
     def test_long_csv(self):
         """Of a list that is read in bulk."""
         for number, name in enumerate(SPECIAL):
-            edges = [('w%dx' % k, 'w%dx' % (k + 1), k) for k in range(5000)] if number % 5 == 0 else [('w%dx' % k, 'y', k) for k in range(9)]
+            edges = ([('w%dx' % k, 'w%dx' % (k + 1), k) for k in range(5000)] if number % 5 == 0
+                     else [('w%dx' % k, 'y', k) for k in range(9)])
             self.check([*edges, (name, 'w0x', 5), ('w1x', name, 6)], lambda G: G.to_csv(self.path))
 
     def test_without_a_header(self):
         for number, sep in enumerate(',\t'):
-            self.random(10 + number, 25, lambda G: G.to_csv(self.path, sep=sep, header=False), asks=True, refuses=True)
+            self.random(10 + number, 25, lambda G: G.to_csv(self.path, sep=sep, header=False),
+                        asks=True, refuses=True)
         self.assertLess(self.refused, 15)
 
     def test_edge_lists(self):
         for number, delimiter in enumerate(' ,\t;'):
-            self.random(20 + number, 20, lambda G: G.write_edgelist(self.path, delimiter), asks=True, refuses=True)
+            self.random(20 + number, 20, lambda G: G.write_edgelist(self.path, delimiter),
+                        asks=True, refuses=True)
         self.assertGreater(self.refused, 10)                  # by blanks
 
     def test_edge_lists_without_values(self):
         for number, delimiter in enumerate(' ,'):
-            self.random(30 + number, 25, lambda G: G.write_edgelist(self.path, delimiter, values=False), values=False, asks=True, refuses=True)
+            self.random(30 + number, 25,
+                        lambda G: G.write_edgelist(self.path, delimiter, values=False),
+                        values=False, asks=True, refuses=True)
 
     def test_each_special_name(self):
         for name in SPECIAL:
-            for edges in ([(name, 'x', 3), ('x', 'y', 4)], [('x', name, 3)], [(name, name, 3), (name, 'x', 2)]):
+            for edges in ([(name, 'x', 3), ('x', 'y', 4)], [('x', name, 3)],
+                          [(name, name, 3), (name, 'x', 2)]):
                 self.check(edges, lambda G: G.to_csv(self.path))
-                self.check(edges, lambda G: G.write_edgelist(self.path, ','), asks=True, refuses=True)
+                self.check(edges, lambda G: G.write_edgelist(self.path, ','), asks=True,
+                           refuses=True)
                 self.check(edges, lambda G: G.write_edgelist(self.path), asks=True, refuses=True)
 
     def test_refused(self):
         """Before anything is written, also of a column."""
         for name in REFUSED:
             G = self.one.from_edgelist([(name, 'x', 3), ('x', 'y', 4)])
-            for write in (G.to_csv, G.write_edgelist, lambda path, G=G: G.write_edgelist(path, ','), spmat.algorithms.degrees(G).to_csv):
+            for write in (G.to_csv, G.write_edgelist, lambda path, G=G: G.write_edgelist(path, ','),
+                          spmat.algorithms.degrees(G).to_csv):
                 with self.assertRaises(ValueError, msg=repr(name)) as said:
                     write(self.path)
                 self.assertIn('save() keeps such names', str(said.exception))
                 self.assertFalse(os.path.exists(self.path))
-        with self.assertRaisesRegex(ValueError, "'1' and 1 are written alike|1 and '1' are written alike"):
+        with self.assertRaisesRegex(ValueError,
+                                    "'1' and 1 are written alike|1 and '1' are written alike"):
             self.one.from_edgelist([(1, '1', 3)]).to_csv()
         with self.assertRaisesRegex(ValueError, 'a separator is one character'):
             self.one.from_edgelist([('a', 'b', 3)]).to_csv(sep='::')
         with self.assertRaisesRegex(ValueError, 'would be taken for something else'):
-            self.one.from_edgelist([('from', 'to', 3), ('a', 'b', 2)]).write_edgelist(self.path, values=False)
+            self.one.from_edgelist([('from', 'to', 3),
+                                    ('a', 'b', 2)]).write_edgelist(self.path, values=False)
 
     def test_names_that_come_back_as_others(self):
-        for edges, words in (([('1', '2', 3)], "text such as '1', which is read as numbers"), ([(('row', 1), 'b', 3)], "('row', 1)"), ([(1, 'b', 3)], 'read as text'),
+        for edges, words in (([('1', '2', 3)], "text such as '1', which is read as numbers"),
+                             ([(('row', 1), 'b', 3)], "('row', 1)"),
+                             ([(1, 'b', 3)], 'read as text'),
                              ([(1.5, 2.5, 3)], '1.5'), ([(True, 5, 3)], 'True')):
             G = self.one.from_edgelist(edges)
             with self.assertWarns(UserWarning) as said:
                 text = G.to_csv()
             self.assertIn(words, str(said.warning))
             self.assertEqual(said.filename, __file__)
-            self.assertEqual(self.one.read_graph(io.BytesIO(text.encode()), nodetype=str).to_edgelist(), as_text(edges))
+            self.assertEqual(self.one.read_graph(io.BytesIO(text.encode()),
+                                                 nodetype=str).to_edgelist(), as_text(edges))
         with warnings.catch_warnings():
             warnings.simplefilter('error')
             self.one.from_edgelist([('a', '1', 3)]).to_csv()
@@ -188,13 +209,15 @@ class ReadBack(unittest.TestCase):
         for s in (self.one, self.many):
             self.assertEqual(s.read_graph(io.BytesIO(text), nodetype=str).nodes, ['1', '2', '3'])
             self.assertEqual(s.read_graph(io.BytesIO(text), nodetype=int).nodes, [1, 2, 3])
-            with self.assertRaisesRegex(spmat.ReadError, 'line 2: a name is no whole number, and nodetype=int'):
+            with self.assertRaisesRegex(spmat.ReadError,
+                                        'line 2: a name is no whole number, and nodetype=int'):
                 s.read_edgelist(io.BytesIO(b'1,2\n3,x\n'), nodetype=int)
             with self.assertRaisesRegex(ValueError, 'nodetype is str or int'):
                 s.read_edgelist(io.BytesIO(b'1,2\n'), nodetype=float)
 
     def test_one_vertex(self):
-        """A graph of one vertex is no column, and neither is one of two kinds with one vertex of a kind."""
+        """A graph of one vertex is no column, and neither is one of two kinds with one vertex of a
+        kind."""
         for s in (self.one, self.many):
             G = s.from_edgelist([('a', 'a', 3)])
             self.assertEqual(G.to_csv(), 'source,target,weight\na,a,3\n')
@@ -205,18 +228,24 @@ class ReadBack(unittest.TestCase):
             self.assertEqual(B.reduce_rowwise().to_csv(), 'node,value\na,3\nb,4\n')
             self.assertEqual(G.select('offdiag').to_csv(), 'source,target,weight\n')
         text = spmat.algorithms.degrees(self.one.from_edgelist([('a', 'b', 3)])).to_csv()
-        with self.assertRaisesRegex(spmat.ReadError, "this is a column of values, and an edge has two names: columns=\\('node', 'value'\\)"):
+        with self.assertRaisesRegex(spmat.ReadError,
+                                    "this is a column of values, and an edge has two names: "
+                                    "columns=\\('node', 'value'\\)"):
             self.one.read_graph(io.BytesIO(text.encode()))
 
     @support.needs('pandas', 'numpy')
     def test_pandas(self):
         chance = random.Random(40)
         for _ in range(60):
-            edges = edges_of(chance, names_of(chance) if chance.random() < .8 else [(1, 'a'), 2, 'b', 2.5, 'nan'])
+            edges = edges_of(chance, names_of(chance) if chance.random() < .8
+                             else [(1, 'a'), 2, 'b', 2.5, 'nan'])
             for s in (self.one, self.many):
                 G = s.from_edgelist(edges)
-                self.assertEqual(same(s.from_pandas_edgelist(G.to_pandas_edgelist(), edge_attr='weight').to_edgelist()), same(edges))
-        self.assertEqual(list(self.one.from_edgelist([('a', 'a', 3)]).to_pandas().columns), ['source', 'target', 'weight'])
+                self.assertEqual(same(s.from_pandas_edgelist(G.to_pandas_edgelist(),
+                                                             edge_attr='weight').to_edgelist()),
+                                 same(edges))
+        self.assertEqual(list(self.one.from_edgelist([('a', 'a', 3)]).to_pandas().columns),
+                         ['source', 'target', 'weight'])
 
     @support.needs('pandas', 'pyarrow')
     def test_parquet(self):
@@ -238,7 +267,8 @@ class Shell(command_line.CommandLine):
         chance = random.Random(50)
         with spmat.Session() as s:
             for _ in range(12):
-                names = [name for name in names_of(chance) if isinstance(name, int) or name.isprintable()]
+                names = [name for name in names_of(chance) if isinstance(name, int)
+                         or name.isprintable()]
                 edges = [(u, v, 1) for u in names[:3] for v in names[:3] if u != v]
                 if not edges:
                     continue
@@ -247,7 +277,9 @@ class Shell(command_line.CommandLine):
                     s.from_edgelist(edges).to_csv(os.path.join(self.folder, 'g.csv'))
                 self.write('h.csv', self.printed('k-truss', 'g.csv', '--k', '2', '--csv'))
                 got = s.read_graph(os.path.join(self.folder, 'h.csv')).to_edgelist()
-                self.assertEqual(same(got), same(s.read_graph(os.path.join(self.folder, 'g.csv'), values=False).to_edgelist()), edges)
+                self.assertEqual(same(got),
+                                 same(s.read_graph(os.path.join(self.folder, 'g.csv'),
+                                                   values=False).to_edgelist()), edges)
                 self.assertEqual(same(as_text(got)), same(as_text(edges)))
 
 

@@ -1,4 +1,5 @@
-"""Matrix texts: those that the client writes and reads, and files of every field that can be had as whole numbers."""
+"""Matrix texts: those that the client writes and reads, and files of every field that can be had as
+whole numbers."""
 import bz2
 import gzip
 import io
@@ -16,7 +17,8 @@ from spmat.io import matrix_market, matrix_text
 
 
 def text_of(head, *lines):
-    return ('%%MatrixMarket matrix ' + head + '\n' + ''.join(line + '\n' for line in lines)).encode()
+    return ('%%MatrixMarket matrix ' + head + '\n'
+            + ''.join(line + '\n' for line in lines)).encode()
 
 
 class Files(support.InSession):
@@ -24,25 +26,33 @@ class Files(support.InSession):
         return self.s.mmread(io.BytesIO(text), **how)
 
     def test_what_the_server_reads(self):
-        text = text_of('coordinate integer symmetric', '% a comment', '', '3 3 2', '2 1 +007', ' 3\t3 -1 ')
+        text = text_of('coordinate integer symmetric', '% a comment', '', '3 3 2', '2 1 +007',
+                       ' 3\t3 -1 ')
         self.assertEqual(self.read(text).to_dict(), {(0, 1): 7, (1, 0): 7, (2, 2): -1})
-        self.assertEqual(self.read(text_of('COORDINATE Pattern general', '2 3 1', '2 3')).to_dict(), {(1, 2): 1})
+        self.assertEqual(self.read(text_of('COORDINATE Pattern general', '2 3 1', '2 3')).to_dict(),
+                         {(1, 2): 1})
 
     def test_real(self):
-        text = text_of('coordinate real general', '% c', '2 2 3', '1 1 1.0', '', '1 2 -2.5e1', '2 2 3E+2', '% the end')
+        text = text_of('coordinate real general', '% c', '2 2 3', '1 1 1.0', '', '1 2 -2.5e1',
+                       '2 2 3E+2', '% the end')
         self.assertEqual(self.read(text).to_dict(), {(0, 0): 1, (0, 1): -25, (1, 1): 300})
-        big = text_of('coordinate double symmetric', '2 2 2', '1 1 9223372036854775807', '1 2 -9223372036854775808.0')
-        self.assertEqual(self.read(big).to_dict(), {(0, 0): 2 ** 63 - 1, (0, 1): -2 ** 63, (1, 0): -2 ** 63})
+        big = text_of('coordinate double symmetric', '2 2 2', '1 1 9223372036854775807',
+                      '1 2 -9223372036854775808.0')
+        self.assertEqual(self.read(big).to_dict(),
+                         {(0, 0): 2 ** 63 - 1, (0, 1): -2 ** 63, (1, 0): -2 ** 63})
         unsigned = text_of('coordinate unsigned-integer general', '1 1 1', '1 1 7')
         self.assertEqual(self.read(unsigned).to_dict(), {(0, 0): 7})
 
     def test_array(self):
         self.assertEqual(self.read(text_of('array integer general', '2 3', *'123456')).to_dict(),
                          {(0, 0): 1, (1, 0): 2, (0, 1): 3, (1, 1): 4, (0, 2): 5, (1, 2): 6})
-        self.assertEqual(self.read(text_of('array real general', '2 1', '1.0', '0')).to_dict(), {(0, 0): 1, (1, 0): 0})
-        self.assertEqual(self.read(text_of('array integer symmetric', '2 2', '1', '2', '3')).to_dict(),
+        self.assertEqual(self.read(text_of('array real general', '2 1', '1.0', '0')).to_dict(),
+                         {(0, 0): 1, (1, 0): 0})
+        self.assertEqual(self.read(text_of('array integer symmetric', '2 2', '1', '2',
+                                           '3')).to_dict(),
                          {(0, 0): 1, (1, 0): 2, (0, 1): 2, (1, 1): 3})
-        self.assertEqual(self.read(text_of('array integer skew-symmetric', '3 3', '1', '2', '3')).to_dict(),
+        self.assertEqual(self.read(text_of('array integer skew-symmetric', '3 3', '1', '2',
+                                           '3')).to_dict(),
                          {(1, 0): 1, (0, 1): -1, (2, 0): 2, (0, 2): -2, (2, 1): 3, (1, 2): -3})
         self.assertEqual(self.read(text_of('array integer general', '0 5')).shape, (0, 5))
 
@@ -53,10 +63,13 @@ class Files(support.InSession):
         self.assertEqual(self.read(text).to_dict(), {(1, 0): 5, (0, 1): -5})
 
     def test_repeated_positions(self):
-        text = text_of('coordinate integer general', '2 2 5', '1 1 10', '1 2 1', '1 1 3', '2 2 2', '1 1 4')
-        for op, want in (('plus', 17), ('minus', 3), ('first', 10), ('second', 4), ('max', 10), ('times', 120)):
+        text = text_of('coordinate integer general', '2 2 5', '1 1 10', '1 2 1', '1 1 3', '2 2 2',
+                       '1 1 4')
+        for op, want in (('plus', 17), ('minus', 3), ('first', 10), ('second', 4), ('max', 10),
+                         ('times', 120)):
             before = self.s.jobs, self.s.runs
-            self.assertEqual(self.read(text, dup_op=op).to_dict(), {(0, 0): want, (0, 1): 1, (1, 1): 2}, op)
+            self.assertEqual(self.read(text, dup_op=op).to_dict(),
+                             {(0, 0): want, (0, 1): 1, (1, 1): 2}, op)
             self.assertEqual((self.s.jobs, self.s.runs), (before[0] + 1, before[1] + 1))
         own = spmat.asm('binary', 'mov64 r0, r1\nmul64 r0, 100\nadd64 r0, r2\nexit')
         self.assertEqual(self.read(text, dup_op=own).to_dict()[0, 0], 100304)
@@ -67,7 +80,8 @@ class Files(support.InSession):
         pattern = text_of('coordinate pattern general', '2 2 3', '1 1', '2 2', '1 1')
         self.assertEqual(self.read(pattern, dup_op='plus').to_dict(), {(0, 0): 2, (1, 1): 1})
         before = self.s.jobs
-        self.assertEqual(self.read(text_of('coordinate integer general', '1 1 1', '1 1 4'), dup_op='plus').nvals, 1)
+        self.assertEqual(self.read(text_of('coordinate integer general', '1 1 1', '1 1 4'),
+                                   dup_op='plus').nvals, 1)
         self.assertEqual(self.s.jobs, before)
         with self.assertRaises(spmat.DomainMismatch):
             self.read(text, dup_op=spmat.unary.abs)
@@ -78,36 +92,41 @@ class Files(support.InSession):
             self.assertIn('dup_op= folds', str(said.exception))
 
     def test_refused_with_their_line(self):
-        real, array, skew = 'coordinate real general', 'array integer general', 'coordinate integer skew-symmetric'
+        real, array, skew = ('coordinate real general', 'array integer general',
+                             'coordinate integer skew-symmetric')
         for rule, at, line, text in (
-                ('M1', 1, 'hello', b'hello\n1 1 0\n'),
-                *(('M2', 1, '%%MatrixMarket matrix ' + head, text_of(head, '1 1 1', '1 1 2 3')) for head in (
-                    'coordinate complex general', 'array real hermitian', 'array pattern general', 'vector real general')),
-                ('M3', 3, '1 1', text_of(real, '% c', '1 1')),
-                ('M3', 2, '1 1 x', text_of(real, '1 1 x')),
-                ('M3', 2, '', text_of(real)),
-                ('M4', 2, '16777217 1 0', text_of(real, '16777217 1 0')),
-                ('M4', 2, '5000 5000', text_of(array, '5000 5000')),
-                ('M5', 3, '1 1', text_of(real, '1 1 1', '1 1')),
-                ('M5', 4, '1 1 2.5', text_of(real, '2 2 2', '2 2 1.0', '1 1 2.5')),
-                ('M5', 3, '1 1 x', text_of(real, '1 1 1', '1 1 x')),
-                ('M5', 3, '1 -1 5', text_of(real, '1 1 1', '1 -1 5')),
-                ('M5', 3, '1 1 1_0', text_of(real, '1 1 1', '1 1 1_0')),
-                ('M5', 4, '1 2', text_of(array, '2 1', '1', '1 2')),
-                ('M5', 3, '1.0', text_of(array, '1 1', '1.0')),
-                ('M6', 3, '2 1 5', text_of(real, '1 1 1', '2 1 5')),
-                ('M6', 3, '2 2 5', text_of(skew, '2 2 1', '2 2 5')),
-                ('M7', 3, '1 1 1e300', text_of(real, '1 1 1', '1 1 1e300')),
-                ('M7', 3, '1 1 inf', text_of(real, '1 1 1', '1 1 inf')),
-                ('M7', 3, '1 1 9223372036854775808', text_of(real, '1 1 1', '1 1 9223372036854775808')),
-                ('M7', 3, '2 1 -9223372036854775808', text_of(skew, '2 2 1', '2 1 -9223372036854775808')),
-                ('M8', 6, '1 1 3.0', text_of(real, '% c', '2 2 3', '1 1 1.0', '2 1 1.0', '1 1 3.0')),
-                ('M8', 4, '1 2 3.0', text_of('coordinate real symmetric', '2 2 2', '2 1 1.0', '1 2 3.0')),
-                ('M8', 4, '1 2 3', text_of('coordinate integer symmetric', '2 2 2', '2 1 1', '1 2 3')),
-                ('M9', 4, '', text_of(real, '2 2 2', '1 1 1')),
-                ('M9', 4, '', text_of(array, '2 1', '1')),
-                ('M10', 4, '2 2 2', text_of(real, '2 2 1', '1 1 1', '2 2 2')),
-                ('M12', 2, '2 3 0', text_of('coordinate real symmetric', '2 3 0'))):
+            ('M1', 1, 'hello', b'hello\n1 1 0\n'),
+            *(('M2', 1, '%%MatrixMarket matrix ' + head, text_of(head, '1 1 1', '1 1 2 3'))
+              for head in (
+                  'coordinate complex general', 'array real hermitian', 'array pattern general',
+                  'vector real general')),
+            ('M3', 3, '1 1', text_of(real, '% c', '1 1')),
+            ('M3', 2, '1 1 x', text_of(real, '1 1 x')),
+            ('M3', 2, '', text_of(real)),
+            ('M4', 2, '16777217 1 0', text_of(real, '16777217 1 0')),
+            ('M4', 2, '5000 5000', text_of(array, '5000 5000')),
+            ('M5', 3, '1 1', text_of(real, '1 1 1', '1 1')),
+            ('M5', 4, '1 1 2.5', text_of(real, '2 2 2', '2 2 1.0', '1 1 2.5')),
+            ('M5', 3, '1 1 x', text_of(real, '1 1 1', '1 1 x')),
+            ('M5', 3, '1 -1 5', text_of(real, '1 1 1', '1 -1 5')),
+            ('M5', 3, '1 1 1_0', text_of(real, '1 1 1', '1 1 1_0')),
+            ('M5', 4, '1 2', text_of(array, '2 1', '1', '1 2')),
+            ('M5', 3, '1.0', text_of(array, '1 1', '1.0')),
+            ('M6', 3, '2 1 5', text_of(real, '1 1 1', '2 1 5')),
+            ('M6', 3, '2 2 5', text_of(skew, '2 2 1', '2 2 5')),
+            ('M7', 3, '1 1 1e300', text_of(real, '1 1 1', '1 1 1e300')),
+            ('M7', 3, '1 1 inf', text_of(real, '1 1 1', '1 1 inf')),
+            ('M7', 3, '1 1 9223372036854775808', text_of(real, '1 1 1', '1 1 9223372036854775808')),
+            ('M7', 3, '2 1 -9223372036854775808',
+             text_of(skew, '2 2 1', '2 1 -9223372036854775808')),
+            ('M8', 6, '1 1 3.0', text_of(real, '% c', '2 2 3', '1 1 1.0', '2 1 1.0', '1 1 3.0')),
+            ('M8', 4, '1 2 3.0', text_of('coordinate real symmetric', '2 2 2', '2 1 1.0',
+                                         '1 2 3.0')),
+            ('M8', 4, '1 2 3', text_of('coordinate integer symmetric', '2 2 2', '2 1 1', '1 2 3')),
+            ('M9', 4, '', text_of(real, '2 2 2', '1 1 1')),
+            ('M9', 4, '', text_of(array, '2 1', '1')),
+            ('M10', 4, '2 2 2', text_of(real, '2 2 1', '1 1 1', '2 2 2')),
+            ('M12', 2, '2 3 0', text_of('coordinate real symmetric', '2 3 0'))):
             with self.assertRaises(ValueError, msg=text) as said:
                 self.read(text)
             fault = said.exception
@@ -136,7 +155,8 @@ class Files(support.InSession):
 
 @support.needs('numpy')
 class Quick(unittest.TestCase):
-    """Large files are read by numpy all at once; what it takes is what the slow way takes, line by line."""
+    """Large files are read by numpy all at once; what it takes is what the slow way takes, line by
+    line."""
 
     def pair(self, text):
         """What both ways give: triples, or the refusal's words."""
@@ -160,8 +180,10 @@ class Quick(unittest.TestCase):
             symmetry = r.choice(('general', 'symmetric', 'skew-symmetric'))
             n, m = r.randrange(1, 4), r.randrange(1, 4)
             m = m if symmetry == 'general' else n
-            values = {'real': ('1.0', '2', '-3e1', '+4.', '0.5', 'nan', '1e17', '-.0'), 'pattern': ('',),
-                      'integer': ('1', '-22', '+3', '0', '9223372036854775807', '1.0', '9223372036854775808')}[field]
+            values = {'real': ('1.0', '2', '-3e1', '+4.', '0.5', 'nan', '1e17', '-.0'),
+                      'pattern': ('',),
+                      'integer': ('1', '-22', '+3', '0', '9223372036854775807', '1.0',
+                                  '9223372036854775808')}[field]
             lines = []
             count = r.randrange(0, 4)
             for _ in range(count):
@@ -169,31 +191,38 @@ class Quick(unittest.TestCase):
                 lines.append(('' if form == 'array' else '%d %d ' % (i, j)) + r.choice(values))
             head = '%d %d' % (n, m) if form == 'array' else '%d %d %d' % (n, m, count)
             for _ in range(r.choice((0, 0, 1))):
-                line = r.choice(('', '% c', '1 1', '1 1 1 1', '0 1 1', '4 1 1', '1 1 1', '1\t1\r', 'x'))
+                line = r.choice(('', '% c', '1 1', '1 1 1 1', '0 1 1', '4 1 1', '1 1 1', '1\t1\r',
+                                 'x'))
                 lines.insert(r.randrange(len(lines) + 1), line)
-            kept += isinstance(self.pair(text_of(' '.join((form, field, symmetry)), head, *lines)), list)
+            kept += isinstance(self.pair(text_of(' '.join((form, field, symmetry)), head, *lines)),
+                               list)
         self.assertGreater(kept, 500)
 
     def test_taken(self):
         """The quick way is taken for plain files."""
-        for columns, text in ((2, text_of('coordinate real general', '2 2 2', '1 1 1.0', '2 2 -2e0')),
+        for columns, text in ((2, text_of('coordinate real general', '2 2 2', '1 1 1.0',
+                                          '2 2 -2e0')),
                               (1, text_of('array real general', '2 1', '1', '2')),
                               (2, text_of('coordinate pattern symmetric', '2 2 1', '2 1')),
                               (2, text_of('array integer symmetric', '2 2', '1', '2', '3'))):
             file = io.BytesIO(text)
             reader = matrix_market.Reader(file)
-            self.assertIsNotNone(matrix_market.read_quickly(reader.kind, file.read(), text.count(b'\n') - 2, 2, columns))
+            self.assertIsNotNone(matrix_market.read_quickly(reader.kind, file.read(),
+                                                            text.count(b'\n') - 2, 2, columns))
 
     def test_by_pieces(self):
         """Pieces of any size give the same entries, and refuse the same line."""
         lines = ['%d %d %d' % (i % 7 + 1, i // 7 + 1, i) for i in range(40)]
-        for text in (text_of('coordinate integer general', '7 7 40', *lines), text_of('coordinate real symmetric', '7 7 41', *lines),
-                     text_of('coordinate integer general', '7 7 40', *lines[:20], '% c', '', *lines[20:]),
-                     text_of('coordinate integer general', '7 7 39', *lines), text_of('coordinate integer general', '7 7 40', *lines[:-1], '8 1 1')):
+        for text in (text_of('coordinate integer general', '7 7 40', *lines),
+                     text_of('coordinate real symmetric', '7 7 41', *lines),
+                     text_of('coordinate integer general', '7 7 40', *lines[:20], '% c', '',
+                             *lines[20:]), text_of('coordinate integer general', '7 7 39', *lines),
+                     text_of('coordinate integer general', '7 7 40', *lines[:-1], '8 1 1')):
             found = []
             for size in (-1, 1, 30, 100, 1 << 20):
                 try:
-                    entries = [entry for triples in matrix_market.Reader(io.BytesIO(text)).pieces(size)
+                    entries = [entry
+                               for triples in matrix_market.Reader(io.BytesIO(text)).pieces(size)
                                for entry in zip(*(part.tolist() for part in triples[:3]))]
                     found.append(entries)
                 except ValueError as fault:
@@ -207,18 +236,22 @@ class Texts(unittest.TestCase):
         return [*(part.tolist() for part in triples[:3]), *triples[3:]]
 
     def test_there_and_back(self):
-        triples = matrix_text.Triples(*map(numpy.array, ([0, 2], [5, 0], [-2 ** 63, 2 ** 63 - 1])), 3, 6)
+        triples = matrix_text.Triples(*map(numpy.array, ([0, 2], [5, 0], [-2 ** 63, 2 ** 63 - 1])),
+                                      3, 6)
         text = matrix_text.write(triples)
         self.assertEqual(text, b'%%MatrixMarket matrix coordinate integer general\n3 6 2\n'
                                b'1 6 -9223372036854775808\n3 1 9223372036854775807\n')
         self.assertEqual(self.listed(matrix_text.read(text)), self.listed(triples))
-        self.assertEqual(self.listed(matrix_text.read(matrix_text.swapped(text))), [[5, 0], [0, 2], [-2 ** 63, 2 ** 63 - 1], 6, 3])
+        self.assertEqual(self.listed(matrix_text.read(matrix_text.swapped(text))),
+                         [[5, 0], [0, 2], [-2 ** 63, 2 ** 63 - 1], 6, 3])
         self.assertEqual(self.listed(matrix_text.read(matrix_text.EMPTY)), [[], [], [], 0, 0])
-        self.assertEqual(matrix_text.read(text, arrays=False), matrix_text.Triples([0, 2], [5, 0], [-2 ** 63, 2 ** 63 - 1], 3, 6))
+        self.assertEqual(matrix_text.read(text, arrays=False),
+                         matrix_text.Triples([0, 2], [5, 0], [-2 ** 63, 2 ** 63 - 1], 3, 6))
 
     def test_line_at(self):
         text = b'one\n\nthree\r\n' + b'x' * 200
-        self.assertEqual([matrix_text.line_at(text, k) for k in range(1, 7)], ['one', '', 'three', 'x' * 100 + '..', '', ''])
+        self.assertEqual([matrix_text.line_at(text, k) for k in range(1, 7)],
+                         ['one', '', 'three', 'x' * 100 + '..', '', ''])
 
 
 if __name__ == '__main__':

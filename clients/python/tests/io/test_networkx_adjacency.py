@@ -1,4 +1,5 @@
-"""Graphs of networkx as matrices and back: weights, parallel edges, parts, names. Skipped where there is no networkx."""
+"""Graphs of networkx as matrices and back: weights, parallel edges, parts, names. Skipped where
+there is no networkx."""
 import random
 import unittest
 
@@ -12,7 +13,8 @@ class Networkx(InSession):
         import networkx
         G = networkx.Graph([('a', 'b'), ('b', 'c'), ('c', 'c')])
         A = self.s.from_networkx(G)
-        self.assertEqual((A.nodes, A.to_dict()), (['a', 'b', 'c'], {(0, 1): 1, (1, 0): 1, (1, 2): 1, (2, 1): 1, (2, 2): 1}))
+        self.assertEqual((A.nodes, A.to_dict()),
+                         (['a', 'b', 'c'], {(0, 1): 1, (1, 0): 1, (1, 2): 1, (2, 1): 1, (2, 2): 1}))
         self.assertTrue(networkx.is_isomorphic(A.to_networkx(directed=False), G))
         self.assertEqual(set(A.to_networkx(directed=False).edges), set(G.edges))
         D = networkx.gnp_random_graph(20, .2, seed=1, directed=True)
@@ -30,7 +32,8 @@ class Networkx(InSession):
         self.assertEqual(self.s.from_networkx(G, 'cost').to_dict(), {(0, 1): 7, (1, 2): 1})
         self.assertEqual(self.s.from_networkx(G, None).to_dict(), {(0, 1): 1, (1, 2): 1})
         self.assertEqual(self.s.from_networkx(G).to_networkx()[0][1], {'weight': 5})
-        self.assertEqual(self.s.from_networkx(G).to_networkx(weight='w', nodes='xyz')['x']['y'], {'w': 5})
+        self.assertEqual(self.s.from_networkx(G).to_networkx(weight='w', nodes='xyz')['x']['y'],
+                         {'w': 5})
         G.add_edge(2, 0, weight=.5)
         with self.assertRaises(ValueError):
             self.s.from_networkx(G)
@@ -50,15 +53,19 @@ class Networkx(InSession):
         with self.assertRaises(ValueError) as said:
             self.s.from_networkx(G)
         self.assertIn('dup_op=', str(said.exception))
-        self.assertEqual(self.s.from_networkx(G, dup_op='plus').to_dict(), {(0, 1): 12, (1, 0): 12, (1, 1): 5})
-        self.assertEqual(self.s.from_networkx(G, dup_op='min').to_dict(), {(0, 1): 5, (1, 0): 5, (1, 1): 2})
+        self.assertEqual(self.s.from_networkx(G, dup_op='plus').to_dict(),
+                         {(0, 1): 12, (1, 0): 12, (1, 1): 5})
+        self.assertEqual(self.s.from_networkx(G, dup_op='min').to_dict(),
+                         {(0, 1): 5, (1, 0): 5, (1, 1): 2})
 
     def test_multigraphs_without_parallel_edges(self):
         import networkx
         for kind in (networkx.MultiGraph, networkx.MultiDiGraph):
-            G = kind([('a', 'b', {'weight': 3}), ('b', 'c', {'weight': 4}), ('c', 'c', {'weight': 5})])
+            G = kind([('a', 'b', {'weight': 3}), ('b', 'c', {'weight': 4}),
+                      ('c', 'c', {'weight': 5})])
             simple = (networkx.DiGraph if G.is_directed() else networkx.Graph)(G)
-            self.assertEqual(self.s.from_networkx(G).to_dict(), self.s.from_networkx(simple).to_dict())
+            self.assertEqual(self.s.from_networkx(G).to_dict(),
+                             self.s.from_networkx(simple).to_dict())
             G.add_edge('b', 'c')
             with self.assertRaises(ValueError) as said:
                 self.s.from_networkx(G)
@@ -67,7 +74,8 @@ class Networkx(InSession):
     def test_wrong_weights_name_their_edge(self):
         import networkx
         G = networkx.path_graph(200)
-        for value, kind in ((1.5, ValueError), ('x', TypeError), (2 ** 63, ValueError), (None, TypeError), (float('nan'), ValueError)):
+        for value, kind in ((1.5, ValueError), ('x', TypeError), (2 ** 63, ValueError),
+                            (None, TypeError), (float('nan'), ValueError)):
             H = networkx.relabel_nodes(G, {150: 'here', 151: 'there'})
             H['here']['there']['weight'] = value
             with self.assertRaises(kind) as said:
@@ -79,17 +87,21 @@ class Networkx(InSession):
             self.assertIn('set_edge_attributes', str(said.exception))
 
     def test_beside_networkx(self):
-        """Random graphs of each kind, with and without numpy's columns: the entries that networkx lists."""
+        """Random graphs of each kind, with and without numpy's columns: the entries that networkx
+        lists."""
         import networkx
         from spmat.io import networkx_adjacency
         r = random.Random(4)
         for number in range(60):
-            kind = (networkx.Graph, networkx.DiGraph, networkx.MultiGraph, networkx.MultiDiGraph)[number % 4]
+            kind = (networkx.Graph, networkx.DiGraph, networkx.MultiGraph,
+                    networkx.MultiDiGraph)[number % 4]
             G = kind()
-            names = r.choice((list(range(12)), [3 * k - 7 for k in range(12)], ['v%d' % k for k in range(12)]))
+            names = r.choice((list(range(12)), [3 * k - 7 for k in range(12)],
+                              ['v%d' % k for k in range(12)]))
             G.add_nodes_from(r.sample(names, 12))
             for _ in range(r.randrange(40)):
-                G.add_edge(r.choice(names), r.choice(names), **r.choice(({}, {'weight': r.randrange(9)}, {'weight': 2.0})))
+                G.add_edge(r.choice(names), r.choice(names),
+                           **r.choice(({}, {'weight': r.randrange(9)}, {'weight': 2.0})))
             chosen = r.choice((None, r.sample(names, 7)))
             want = {}
             for u, v, value in G.edges(data='weight', default=1):
@@ -102,12 +114,16 @@ class Networkx(InSession):
             self.assertEqual(A.directed, G.is_directed())
 
     def test_views(self):
-        """Views count other neighbours than they give, and some graphs have another adjacency than they keep."""
+        """Views count other neighbours than they give, and some graphs have another adjacency than
+        they keep."""
         import networkx
         G = networkx.MultiGraph([(0, 1), (0, 1), (1, 2), (2, 3)])
         view = networkx.subgraph_view(G, filter_edge=lambda u, v, k: k == 0 and {u, v} != {1, 2})
-        self.assertEqual(set(self.s.from_networkx(view).to_dict()), {(0, 1), (1, 0), (2, 3), (3, 2)})
-        self.assertEqual(set(self.s.from_networkx(networkx.path_graph(4).subgraph([0, 1, 3])).to_edgelist()), {(0, 1, 1), (1, 0, 1)})
+        self.assertEqual(set(self.s.from_networkx(view).to_dict()),
+                         {(0, 1), (1, 0), (2, 3), (3, 2)})
+        self.assertEqual(set(
+            self.s.from_networkx(networkx.path_graph(4).subgraph([0, 1, 3])).to_edgelist()),
+                         {(0, 1, 1), (1, 0, 1)})
 
     def test_there_and_back(self):
         """What comes back is what went: directed or not, with weights or without, by its names."""
@@ -115,14 +131,18 @@ class Networkx(InSession):
         for kind in (networkx.Graph, networkx.DiGraph):
             G = kind([('a', 'b'), ('b', 'c'), ('c', 'c')])
             back = self.s.from_networkx(G).to_networkx()
-            self.assertEqual((type(back), list(back), dict(back.adjacency())), (kind, list(G), dict(G.adjacency())))
+            self.assertEqual((type(back), list(back), dict(back.adjacency())),
+                             (kind, list(G), dict(G.adjacency())))
             networkx.set_edge_attributes(G, 7, 'weight')
             back = self.s.from_networkx(G).to_networkx()
             self.assertEqual(dict(back.adjacency()), dict(G.adjacency()))
             self.assertEqual(self.s.from_networkx(G, None).to_networkx().edges['a', 'b'], {})
             self.assertEqual(self.s.from_networkx(G).to_networkx(weight=None).edges['a', 'b'], {})
-            self.assertIs(type(self.s.from_networkx(G).to_networkx(directed=True)), networkx.DiGraph)
-            self.assertEqual(self.s.from_networkx(G).apply('plus', right=1).to_networkx().edges['a', 'b'], {'weight': 8})
+            self.assertIs(type(self.s.from_networkx(G).to_networkx(directed=True)),
+                          networkx.DiGraph)
+            self.assertEqual(self.s.from_networkx(G).apply('plus',
+                                                           right=1).to_networkx().edges['a', 'b'],
+                             {'weight': 8})
 
     def test_out_of_range(self):
         with self.assertRaises(spmat.DimensionMismatch):

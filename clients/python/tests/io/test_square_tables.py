@@ -8,7 +8,8 @@ import unittest
 import support
 import spmat
 
-TABLES = {                                         # what is written, and the edges of the graph
+# what is written, and the edges of the graph
+TABLES = {
     'without a header': ('0,7,0\n7,0,5\n0,5,0\n', [(0, 1, 7), (1, 0, 7), (1, 2, 5), (2, 1, 5)]),
     'directed': ('0,7,0,0\n0,0,5,0\n0,0,0,1\n0,0,0,0\n', [(0, 1, 7), (1, 2, 5), (2, 3, 1)]),
     'blanks': ('0 7 0 0\n0 0 5 0\n0 0 0 1\n0 0 0 0\n', [(0, 1, 7), (1, 2, 5), (2, 3, 1)]),
@@ -17,13 +18,19 @@ TABLES = {                                         # what is written, and the ed
     'of two vertices': (',a,b\na,0,7\nb,7,0\n', [('a', 'b', 7), ('b', 'a', 7)]),
     'a word in the corner': ('name,a,b\na,0,7\nb,7,0\n', [('a', 'b', 7), ('b', 'a', 7)]),
     'numbers for names': (',4,9\n4,0,7\n9,7,0\n', None),
-    'a header alone': ('a,b,c\n0,7,0\n7,0,5\n0,5,0\n', [('a', 'b', 7), ('b', 'a', 7), ('b', 'c', 5), ('c', 'b', 5)]),
-    'many columns': ('\n'.join([',' + ','.join('v%d' % j for j in range(250))] + ['v%d,' % i + ','.join(
-        '1' if j == i + 1 else '0' for j in range(250)) for i in range(250)]), [('v%d' % i, 'v%d' % (i + 1), 1) for i in range(249)]),
+    'a header alone': ('a,b,c\n0,7,0\n7,0,5\n0,5,0\n', [('a', 'b', 7), ('b', 'a', 7), ('b', 'c', 5),
+                                                        ('c', 'b', 5)]),
+    'many columns': ('\n'.join([',' + ','.join('v%d' % j for j in range(250))]
+                               + ['v%d,' % i + ','.join(
+                                   '1' if j == i + 1 else '0' for j in range(250))
+                                  for i in range(250)]),
+                     [('v%d' % i, 'v%d' % (i + 1), 1) for i in range(249)]),
 }
-LISTS = {                                          # what is no table, and its edges
+# what is no table, and its edges
+LISTS = {
     'three edges': ('0,1,5\n1,2,6\n2,0,7\n', [(0, 1, 5), (1, 2, 6), (2, 0, 7)]),
-    'three edges with a header': ('source,target,weight\n0,1,0\n1,0,1\n2,1,0\n', [(0, 1, 0), (1, 0, 1), (2, 1, 0)]),
+    'three edges with a header': ('source,target,weight\n0,1,0\n1,0,1\n2,1,0\n',
+                                  [(0, 1, 0), (1, 0, 1), (2, 1, 0)]),
     'called by its value': ('x,y,weight\n0,1,0\n1,0,1\n2,1,0\n', [(0, 1, 0), (1, 0, 1), (2, 1, 0)]),
     'two edges both ways': ('0,1\n1,0\n', [(0, 1, 1), (1, 0, 1)]),
 }
@@ -47,8 +54,9 @@ class Tables(support.InSession):
                     line = re.search('for each: (.*?) reads it', str(raised.exception)).group(1)
                     names = {'s': self.s, 'pandas': pandas, 'path': path}
                     *before, last = line.split('; ')
-                    exec('\n'.join(before), names)                        # pylint: disable=exec-used  # as the reader would
-                    found = eval(last, names)                             # pylint: disable=eval-used
+                    # as the reader would
+                    exec('\n'.join(before), names)  # pylint: disable=exec-used
+                    found = eval(last, names)  # pylint: disable=eval-used
                     self.assertEqual(found.shape[0], found.shape[1])
                     if edges is not None:
                         self.assertEqual(found.to_edgelist(), edges)
@@ -61,13 +69,15 @@ class Tables(support.InSession):
 
     def test_a_line_for_excel(self):
         """`sep=;` says what parts the fields, and is no edge."""
-        for text in ('sep=;\nfrom;to;w\na;b;7\n', '"sep=;"\r\nfrom;to;w\r\na;b;7\r\n', 'SEP=,\nfrom,to,w\na,b,7\n', 'sep=\t\na\tb\t7\n',
+        for text in ('sep=;\nfrom;to;w\na;b;7\n', '"sep=;"\r\nfrom;to;w\r\na;b;7\r\n',
+                     'SEP=,\nfrom,to,w\na,b,7\n', 'sep=\t\na\tb\t7\n',
                      '\ufeffsep=|\nfrom|to|w\na|b|7\n'):
             with self.subTest(text=text):
                 self.assertEqual(self.read(text).to_edgelist(), [('a', 'b', 7)])
         with self.assertRaisesRegex(spmat.ReadError, 'line 4'):
             self.read('sep=;\nfrom;to;w\na;b;7\nb;c;x\n')
-        self.assertEqual(self.read('sep=;,b\nc,d\n').to_edgelist(), [('sep=;', 'b', 1), ('c', 'd', 1)])
+        self.assertEqual(self.read('sep=;,b\nc,d\n').to_edgelist(),
+                         [('sep=;', 'b', 1), ('c', 'd', 1)])
 
 
 if __name__ == '__main__':

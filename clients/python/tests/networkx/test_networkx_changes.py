@@ -1,4 +1,5 @@
-"""Graphs of networkx that change after spmat has read them: through a view, or by the dict of an edge, of which networkx notices nothing."""
+"""Graphs of networkx that change after spmat has read them: through a view, or by the dict of an
+edge, of which networkx notices nothing."""
 import unittest
 import warnings
 
@@ -27,19 +28,25 @@ class Changes(unittest.TestCase):
         warnings.simplefilter('ignore')            # networkx tells of its cache
 
     def same(self, function, graph, *args, **more):
-        got, want = function(graph, *args, **more, backend='spmat'), function(graph, *args, **more, backend='networkx')
+        got, want = function(graph, *args, **more,
+                             backend='spmat'), function(graph, *args, **more, backend='networkx')
         self.assertEqual(got, want, (function, graph))
         return got
 
     def test_views(self):
         base, directed = nx.complete_graph(6), nx.gnp_random_graph(9, .5, seed=2, directed=True)
         for view, graph, function in ((base.subgraph([0, 1, 2, 3]), base, nx.triangles),
-                                      (base.edge_subgraph([(0, 1), (1, 2), (0, 2)]), base, nx.transitivity),
-                                      (nx.subgraph_view(base, filter_node=lambda node: node < 5), base, nx.triangles),
+                                      (base.edge_subgraph([(0, 1), (1, 2), (0, 2)]), base,
+                                       nx.transitivity),
+                                      (nx.subgraph_view(base, filter_node=lambda node: node < 5),
+                                       base, nx.triangles),
                                       (nx.restricted_view(base, [5], []), base, nx.triangles),
-                                      (base.to_directed(as_view=True), base, nx.number_strongly_connected_components),
-                                      (directed.reverse(copy=False), directed, nx.in_degree_centrality),
-                                      (directed.to_undirected(as_view=True), directed, nx.triangles)):
+                                      (base.to_directed(as_view=True), base,
+                                       nx.number_strongly_connected_components),
+                                      (directed.reverse(copy=False), directed,
+                                       nx.in_degree_centrality),
+                                      (directed.to_undirected(as_view=True), directed,
+                                       nx.triangles)):
             before = self.same(function, view)
             removed = list(graph.edges(0))
             graph.remove_edges_from(removed)
@@ -94,15 +101,18 @@ class Changes(unittest.TestCase):
         made = list(kept.values())
         nx.dijkstra_path_length(graph, 0, 9, backend='spmat')
         nx.pagerank(graph, backend='spmat')
-        self.assertTrue(any(one is made[0] for one in graph.__networkx_cache__['backends']['spmat'].values()))
+        self.assertTrue(any(one is made[0]
+                            for one in graph.__networkx_cache__['backends']['spmat'].values()))
 
     def test_exceptions(self):
         loop = nx.Graph([(0, 0, {'weight': -1})])
         loop.add_nodes_from([1, 2])
         path = nx.path_graph(3)
         more = {'weight': 'weight', 'method': 'bellman-ford'}
-        for function, args, fault in ((nx.all_shortest_paths, (loop, 1, 2), nx.NetworkXUnbounded), (nx.all_shortest_paths, (loop, 7, 2), nx.NodeNotFound),
-                                      (nx.shortest_path_length, (path, 0, 9), nx.NetworkXNoPath), (nx.shortest_path_length, (path, 9, 0), nx.NodeNotFound),
+        for function, args, fault in ((nx.all_shortest_paths, (loop, 1, 2), nx.NetworkXUnbounded),
+                                      (nx.all_shortest_paths, (loop, 7, 2), nx.NodeNotFound),
+                                      (nx.shortest_path_length, (path, 0, 9), nx.NetworkXNoPath),
+                                      (nx.shortest_path_length, (path, 9, 0), nx.NodeNotFound),
                                       (nx.shortest_path_length, (path, 9, 9), nx.NodeNotFound)):
             for backend in ('spmat', 'networkx'):
                 with self.assertRaises(fault, msg=(function, backend)):

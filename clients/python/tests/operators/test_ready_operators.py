@@ -1,4 +1,5 @@
-"""Each ready operator, through the program, beside what Python says of it; and the table of docs/operators.md beside the files."""
+"""Each ready operator, through the program, beside what Python says of it; and the table of
+docs/operators.md beside the files."""
 import os
 import random
 import re
@@ -18,8 +19,8 @@ FOLDER = os.path.join(os.path.dirname(os.path.abspath(spmat.__file__)), 'operato
 READY = {'unary': spmat.unary, 'binary': spmat.binary, 'index': spmat.indexunary}
 
 
-EDGES = [0, 1, -1, 2, -2, 3, 7, -7, 31, 32, 63, 64, 65, 2 ** 31 - 1, 2 ** 31, -2 ** 31, 2 ** 32, 2 ** 62, -2 ** 63, 1 - 2 ** 63,
-         2 ** 63 - 1]
+EDGES = [0, 1, -1, 2, -2, 3, 7, -7, 31, 32, 63, 64, 65, 2 ** 31 - 1, 2 ** 31, -2 ** 31, 2 ** 32,
+         2 ** 62, -2 ** 63, 1 - 2 ** 63, 2 ** 63 - 1]
 THUNKS = [0, 1, -1, 2, -3, 5, 2 ** 31, 2 ** 63 - 1, -2 ** 63]
 
 
@@ -29,7 +30,8 @@ def file_of(kind, name):
 
 
 def names(kind):
-    return sorted(file[:-4] for file in os.listdir(os.path.join(FOLDER, kind)) if file.endswith('.asm'))
+    return sorted(file[:-4] for file in os.listdir(os.path.join(FOLDER, kind))
+                  if file.endswith('.asm'))
 
 
 def instructions(text):
@@ -40,11 +42,13 @@ class ReadyOperators(unittest.TestCase):
     @classmethod
     def setUpClass(cls):
         cls.session, random_ = spmat.Session(program=support.program()), random.Random(1)
-        word = lambda: random_.choice((random_.randrange(-2 ** 63, 2 ** 63), random_.randrange(-20, 20)))
+        word = lambda: random_.choice((random_.randrange(-2 ** 63, 2 ** 63),
+                                       random_.randrange(-20, 20)))
         pairs = [(x, y) for x in EDGES for y in EDGES] + [(word(), word()) for _ in range(200)]
         cls.x, cls.y = zip(*pairs)
         size = len(pairs)
-        cls.X, cls.Y = (cls.session.from_coo([0] * size, range(size), list(part), 1, size) for part in (cls.x, cls.y))
+        cls.X, cls.Y = (cls.session.from_coo([0] * size, range(size), list(part), 1, size)
+                        for part in (cls.x, cls.y))
 
     @classmethod
     def tearDownClass(cls):
@@ -55,11 +59,13 @@ class ReadyOperators(unittest.TestCase):
             self.assertEqual(names(kind), sorted(meanings))
             self.assertEqual(sorted(READY[kind]), sorted(meanings))
         with open(os.path.join(support.TOP, 'docs', 'operators.md'), encoding='utf-8') as page:
-            self.assertIn('%d operators are [ready]' % sum(map(len, MEANINGS.values())), page.read())
+            self.assertIn('%d operators are [ready]' % sum(map(len, MEANINGS.values())),
+                          page.read())
 
     def test_unary(self):
         for name, meaning in UNARY.items():
-            self.assertEqual(self.X.apply(name).to_list(), [signed(meaning(x)) for x in self.x], name)
+            self.assertEqual(self.X.apply(name).to_list(), [signed(meaning(x)) for x in self.x],
+                             name)
 
     def test_binary(self):
         for name, meaning in BINARY.items():
@@ -67,20 +73,25 @@ class ReadyOperators(unittest.TestCase):
             self.assertEqual(self.X.ewise_mult(self.Y, name).to_list(), want, name)
 
     def test_operands_in_either_order(self):
-        """What is noted to commute does, and each other operator has two words of which it tells the order."""
+        """What is noted to commute does, and each other operator has two words of which it tells
+        the order."""
         for name, meaning in BINARY.items():
-            turned = all(signed(meaning(x, y)) == signed(meaning(y, x)) for x, y in zip(self.x, self.y))
+            turned = all(signed(meaning(x, y)) == signed(meaning(y, x))
+                         for x, y in zip(self.x, self.y))
             self.assertEqual(turned, name in COMMUTE, name)
 
     def test_bound(self):
         """A binary operator whose right or left operand is a thunk."""
         for name, meaning in BINARY.items():
             for t in THUNKS:
-                self.assertEqual(self.X.apply(name, right=t).to_list(), [signed(meaning(x, t)) for x in self.x], (name, t))
-                self.assertEqual(self.X.apply(name, left=t).to_list(), [signed(meaning(t, x)) for x in self.x], (name, t))
+                self.assertEqual(self.X.apply(name, right=t).to_list(),
+                                 [signed(meaning(x, t)) for x in self.x], (name, t))
+                self.assertEqual(self.X.apply(name, left=t).to_list(),
+                                 [signed(meaning(t, x)) for x in self.x], (name, t))
 
     def test_index(self):
-        entries = [(k // 12, k % 12, x) for k, x in enumerate(self.x[:144])] + [(299, 3, 5), (4, 2 ** 24 - 1, 5)]
+        entries = [(k // 12, k % 12, x)
+                   for k, x in enumerate(self.x[:144])] + [(299, 3, 5), (4, 2 ** 24 - 1, 5)]
         A = self.session.from_triples(entries, 300, 2 ** 24)
         entries.sort()
         for name, meaning in INDEX.items():
@@ -91,12 +102,15 @@ class ReadyOperators(unittest.TestCase):
                 self.assertEqual(A.select(name, t).to_triples(), selected, (name, t))
 
     def test_files(self):
-        """Each is a comment with its meaning and its instructions, which are what the server has of it."""
+        """Each is a comment with its meaning and its instructions, which are what the server has of
+        it."""
         for kind in MEANINGS:
             for name in names(kind):
                 text = file_of(kind, name)
-                self.assertRegex(text, r'\A; .{1,100}\n([a-z0-9]+( [^;#\n]+)?\n)*exit\n\Z', (kind, name))
-                self.assertEqual(self.session.dis(READY[kind][name]).strip().split('\n'), instructions(text), (kind, name))
+                self.assertRegex(text, r'\A; .{1,100}\n([a-z0-9]+( [^;#\n]+)?\n)*exit\n\Z',
+                                 (kind, name))
+                self.assertEqual(self.session.dis(READY[kind][name]).strip().split('\n'),
+                                 instructions(text), (kind, name))
 
 
 def tables():
@@ -113,12 +127,14 @@ def tables():
             yield kind, row[1], row[2], int(row[3])
 
 
-@unittest.skipUnless(os.path.exists(os.path.join(support.TOP, 'docs', 'operators.md')), 'the package stands without the repository')
+@unittest.skipUnless(os.path.exists(os.path.join(support.TOP, 'docs', 'operators.md')),
+                     'the package stands without the repository')
 class Table(unittest.TestCase):
     def test_table_is_that_of_the_files(self):
         rows = list(tables())
         files = [(kind, name, file_of(kind, name)) for kind in MEANINGS for name in names(kind)]
-        want = [(kind, name, text.split('\n')[0][2:], len(instructions(text))) for kind, name, text in files]
+        want = [(kind, name, text.split('\n')[0][2:], len(instructions(text)))
+                for kind, name, text in files]
         self.assertEqual(sorted(rows), sorted(want))
 
 
@@ -144,7 +160,8 @@ class Digests(unittest.TestCase):
                    'plus = spmat.binary(lambda x, y: x + y)\n'
                    'print(first, sum(name.endswith(".asm") for name in opened), plus.name)\n')
         done = subprocess.run([sys.executable, '-c', program], stdout=subprocess.PIPE, check=True,
-                              universal_newlines=True, env=dict(os.environ, PYTHONPATH=support.CLIENT))
+                              universal_newlines=True,
+                              env=dict(os.environ, PYTHONPATH=support.CLIENT))
         self.assertEqual(done.stdout, '0 1 plus\n')
 
 

@@ -1,4 +1,5 @@
-"""A server that answers falsely, or what drops, repeats and swaps replies on the way: the client says so and ends the session, or is right."""
+"""A server that answers falsely, or what drops, repeats and swaps replies on the way: the client
+says so and ends the session, or is right."""
 import os
 import re
 import socket
@@ -11,7 +12,8 @@ import spmat
 import support
 
 ENTRIES = [(0, 0, 41), (0, 2, 5), (1, 1, -7)]
-NUMBERS = ('-1', '0', '1', '2', '3', '7', '63', '65', '4097', '16777217', '4294967297', '9' * 19, '9' * 27, '1' * 5000, '+1', '1.0', 'x', '')
+NUMBERS = ('-1', '0', '1', '2', '3', '7', '63', '65', '4097', '16777217', '4294967297', '9' * 19,
+           '9' * 27, '1' * 5000, '+1', '1.0', 'x', '')
 SECONDS = 0.5
 DRIP = 0.2
 AT_ONCE = 16
@@ -23,7 +25,8 @@ def act(s):
     B = A.apply(spmat.asm('unary', 'mov64 r0, r1\nadd64 r0, 1\nexit\n', name='inc'), name='B')
     C = A.ewise_add(B, 'plus', name='C')
     r = C.reduce_rowwise('plus', name='r')
-    return [[list(map(int, part)) for part in matrix.to_coo()] for matrix in (C, r)] + [A.shape, C.shape, r.shape, A.nvals, C.nvals, r.nvals]
+    return [[list(map(int, part)) for part in matrix.to_coo()]
+            for matrix in (C, r)] + [A.shape, C.shape, r.shape, A.nvals, C.nvals, r.nvals]
 
 
 class Recorder:
@@ -31,11 +34,14 @@ class Recorder:
 
     def __init__(self):
         self.replies, self.words = [], []
-        self.child = subprocess.Popen([os.environ['SPMAT'], 'run', '--steps', '1000000', '--workers', '1'], stdin=subprocess.PIPE, stdout=subprocess.PIPE)
+        self.child = subprocess.Popen([os.environ['SPMAT'], 'run', '--steps', '1000000',
+                                       '--workers', '1'], stdin=subprocess.PIPE,
+                                      stdout=subprocess.PIPE)
 
     def answer(self, words, body):
         """The reply to a command."""
-        self.child.stdin.write(' '.join(words).encode() + b'\n' + (body or b'') + (b'\n' if body is not None else b''))
+        self.child.stdin.write(' '.join(words).encode() + b'\n' + (body or b'')
+                               + (b'\n' if body is not None else b''))
         self.child.stdin.flush()
         reply = self.child.stdout.readline()
         said = reply.split()
@@ -54,7 +60,8 @@ class Recorder:
 
 
 def changed(reply):
-    """Replies that are nearly this one: each number and each word another, a word more or less, a line more or less."""
+    """Replies that are nearly this one: each number and each word another, a word more or less, a
+    line more or less."""
     fields = re.split(rb'([ \n])', reply)
     for at in range(0, len(fields), 2):
         if re.fullmatch(rb'-?\d+', fields[at]):
@@ -72,16 +79,19 @@ def changed(reply):
 
 
 def is_matter_of_trust(command, reply, other):
-    """Whether a reply is one that nobody but the server could contradict: what its budget holds, and other entries of the same matrix."""
+    """Whether a reply is one that nobody but the server could contradict: what its budget holds,
+    and other entries of the same matrix."""
     if command == 'budget':
         return re.fullmatch(rb'ok budget( \d{1,19}){3}\n', other) is not None
     if command != 'show' or other.splitlines()[:3] != reply.splitlines()[:3]:
         return False
-    entries = [tuple(map(int, line.split())) for line in other.splitlines()[3:] if re.fullmatch(rb'\d{1,8} \d{1,8} -?\d{1,19}', line)]
+    entries = [tuple(map(int, line.split())) for line in other.splitlines()[3:]
+               if re.fullmatch(rb'\d{1,8} \d{1,8} -?\d{1,19}', line)]
     rows, columns, count = map(int, reply.splitlines()[2].split())
     places = [entry[:2] for entry in entries]
     return (len(entries) == count == len(other.splitlines()) - 3 and places == sorted(set(places))
-            and all(1 <= row <= rows and 1 <= column <= columns and -1 << 63 <= value < 1 << 63 for row, column, value in entries))
+            and all(1 <= row <= rows and 1 <= column <= columns and -1 << 63 <= value < 1 << 63
+                    for row, column, value in entries))
 
 
 def faulty_scripts(replies, words):
@@ -89,12 +99,17 @@ def faulty_scripts(replies, words):
     for at, reply in enumerate(replies):
         for other in changed(reply):
             if not is_matter_of_trust(words[at][0], reply, other):
-                yield 'reply %d, %r for %r' % (at, other[:90], reply[:90]), replies[:at] + [other] + replies[at + 1:]
+                yield 'reply %d, %r for %r' % (at, other[:90],
+                                               reply[:90]), replies[:at] + [
+                                                   other] + replies[at + 1:]
         yield 'reply %d twice' % at, replies[:at] + [reply * 2] + replies[at + 1:]
         if at + 1 < len(replies):
-            yield 'replies %d and %d swapped' % (at, at + 1), replies[:at] + [replies[at + 1], reply] + replies[at + 2:]
+            yield 'replies %d and %d swapped' % (at, at
+                                                 + 1), replies[:at] + [replies[at + 1],
+                                                                       reply] + replies[at + 2:]
         for other in set(replies) - {reply}:
-            yield 'reply %d: %r for %r' % (at, other[:60], reply[:60]), replies[:at] + [other] + replies[at + 1:]
+            yield 'reply %d: %r for %r' % (at, other[:60],
+                                           reply[:60]), replies[:at] + [other] + replies[at + 1:]
 
 
 class False_(unittest.TestCase):
@@ -103,21 +118,24 @@ class False_(unittest.TestCase):
     @classmethod
     def setUpClass(cls):
         recorder = Recorder()
-        with support.Scripted(recorder.answer) as server, spmat.Session.connect('127.0.0.1', server.port, timeout=60) as s:
+        with support.Scripted(recorder.answer) as server, \
+                spmat.Session.connect('127.0.0.1', server.port, timeout=60) as s:
             cls.right = act(s)
         recorder.close()
         quits = [at for at, words in enumerate(recorder.words) if words == ['quit']]
         cls.replies, cls.words = recorder.replies[:quits[0]], recorder.words
 
     def outcome(self, script, timeout=SECONDS):
-        """What the act gives by these replies: its results, or the exception that ended the session."""
+        """What the act gives by these replies: its results, or the exception that ended the
+        session."""
         rest = iter(script)
 
         def answer(words, body):
             return next(rest, b'ok quit\n')
         with support.Scripted(answer) as server:
             try:
-                s = spmat.Session.connect('127.0.0.1', server.port, timeout=timeout, run_timeout=timeout)
+                s = spmat.Session.connect('127.0.0.1', server.port, timeout=timeout,
+                                          run_timeout=timeout)
             except (spmat.Closed, socket.timeout) as fault:
                 return fault
             try:
@@ -157,7 +175,9 @@ class False_(unittest.TestCase):
         at = next(at for at, words in enumerate(self.words) if words[0] == 'matrix')
         got = self.outcome(self.replies[:at] + [b'ok budget 1000000 0 0\n'] + self.replies[at + 1:])
         self.assertIsInstance(got, spmat.ProtocolError)
-        self.assertRegex(str(got), r'`matrix \w+`.*expected `ok matrix ROWS COLUMNS ENTRIES`, got `ok budget 1000000 0 0`')
+        self.assertRegex(str(got),
+                         r'`matrix \w+`.*expected `ok matrix ROWS COLUMNS ENTRIES`, got `ok '
+                         r'budget 1000000 0 0`')
 
 
 class Slow(unittest.TestCase):
@@ -170,7 +190,8 @@ class Slow(unittest.TestCase):
         with support.Scripted(answer) as server:
             began = time.monotonic()
             with self.assertRaises(error):
-                act(spmat.Session.connect('127.0.0.1', server.port, timeout=timeout, run_timeout=timeout))
+                act(spmat.Session.connect('127.0.0.1', server.port, timeout=timeout,
+                                          run_timeout=timeout))
             return time.monotonic() - began
 
     def test_a_drip_is_no_reply(self):
@@ -192,15 +213,19 @@ class Slow(unittest.TestCase):
             self.assertLess(time.monotonic() - began, 20)
 
     def test_more_jobs_than_were_asked_for(self):
-        self.wait_for(spmat.ProtocolError, {'matrix': b'ok matrix 2 3 3\n', 'asm': b'ok op 3 3\n', 'apply': b'ok queued 1 9\n',
+        self.wait_for(spmat.ProtocolError, {'matrix': b'ok matrix 2 3 3\n', 'asm': b'ok op 3 3\n',
+                                            'apply': b'ok queued 1 9\n',
                                             'run': b'ok run 99999999999 1\n' + b'\n' * 100000})
 
     def test_a_text_of_any_length(self):
         def answer(words, body):
-            return {'matrix': b'ok matrix 2 3 3\n', 'show': b'ok show 99999999999999\n' + b'y\n' * 100000}.get(words[0], support.plausible(words, body))
+            return {'matrix': b'ok matrix 2 3 3\n',
+                    'show': b'ok show 99999999999999\n' + b'y\n'
+                    * 100000}.get(words[0], support.plausible(words, body))
         with support.Scripted(answer) as server:
             s = spmat.Session.connect('127.0.0.1', server.port, timeout=5)
-            text = b'%%MatrixMarket matrix coordinate integer general\n2 3 3\n1 1 41\n1 3 5\n2 2 -7\n'
+            text = (
+                b'%%MatrixMarket matrix coordinate integer general\n2 3 3\n1 1 41\n1 3 5\n2 2 -7\n')
             with self.assertRaisesRegex(spmat.ProtocolError, 'BYTES'):
                 s.from_text(text).to_text()
             self.assertIsNotNone(s.connection.ended)

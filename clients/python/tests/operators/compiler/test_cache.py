@@ -1,4 +1,5 @@
-"""An operator from a function follows what the function reaches: whatever changes between two uses changes the operator."""
+"""An operator from a function follows what the function reaches: whatever changes between two uses
+changes the operator."""
 import builtins
 import dataclasses
 import decimal
@@ -91,10 +92,14 @@ class Changes(support.InSession):
 
     def test_attributes_of_classes(self):
         table = {'c': Settings}
-        for function, where, name in [(lambda x: x + Settings.toll, Settings, 'toll'), (lambda x: x + table['c'].toll, Settings, 'toll'),
-                                      (lambda x: x + helper(), Settings, 'toll'), (lambda x: x + Record.toll, Record, 'toll'),
-                                      (lambda x: x + WithMeta.toll, Meta, 'value'), (lambda x: x + Methods.fixed(), Methods, 'base'),
-                                      (lambda x: x + Methods.own(), Methods, 'base'), (lambda x: x + Methods().shown, Methods, 'base')]:
+        for function, where, name in [(lambda x: x + Settings.toll, Settings, 'toll'),
+                                      (lambda x: x + table['c'].toll, Settings, 'toll'),
+                                      (lambda x: x + helper(), Settings, 'toll'),
+                                      (lambda x: x + Record.toll, Record, 'toll'),
+                                      (lambda x: x + WithMeta.toll, Meta, 'value'),
+                                      (lambda x: x + Methods.fixed(), Methods, 'base'),
+                                      (lambda x: x + Methods.own(), Methods, 'base'),
+                                      (lambda x: x + Methods().shown, Methods, 'base')]:
             with self.subTest(where=where):
                 self.follows(function, functools.partial(setattr, where, name, 100))
                 setattr(where, name, 5)
@@ -105,7 +110,8 @@ class Changes(support.InSession):
 
     def test_methods_that_are_replaced(self):
         self.addCleanup(setattr, Methods, 'fixed', Methods.__dict__['fixed'])
-        self.follows(lambda x: x + Methods.fixed(), lambda: setattr(Methods, 'fixed', staticmethod(lambda: 100)))
+        self.follows(lambda x: x + Methods.fixed(),
+                     lambda: setattr(Methods, 'fixed', staticmethod(lambda: 100)))
 
     def test_modules(self):
         module = types.ModuleType('outer')
@@ -129,7 +135,8 @@ class Changes(support.InSession):
         globals()['TOLL'] = 5
         self.follows(lambda x: x + eval('TOLL'), lambda: globals().__setitem__('TOLL', 100))
         self.addCleanup(setattr, Settings, 'toll', 5)
-        self.follows(lambda x: x + getattr(Settings, 'toll'), lambda: setattr(Settings, 'toll', 100))
+        self.follows(lambda x: x + getattr(Settings, 'toll'),
+                     lambda: setattr(Settings, 'toll', 100))
 
     def test_subclasses_and_objects(self):
         row = Row([1])
@@ -141,13 +148,15 @@ class Changes(support.InSession):
     def test_builtins(self):
         builtins.spmat_toll = 5
         self.addCleanup(delattr, builtins, 'spmat_toll')
-        self.follows(lambda x: x + spmat_toll, lambda: setattr(builtins, 'spmat_toll', 100))  # noqa: F821
+        # noqa: F821
+        self.follows(lambda x: x + spmat_toll, lambda: setattr(builtins, 'spmat_toll', 100))
 
     def test_what_stays_is_compiled_once(self):
         from unittest import mock
         from spmat.operators.compiler import cache
         pure = functools.partial(lambda y, x: max(x, y) + Settings.toll + Level.LOW * 0, 5)
-        for function, times in ((lambda x: x + Settings.toll + abs(x), 1), (lambda x: max(x, 3) % 7, 1), (pure, 3)):
+        for function, times in ((lambda x: x + Settings.toll + abs(x), 1),
+                                (lambda x: max(x, 3) % 7, 1), (pure, 3)):
             with mock.patch.object(cache, 'compile_function', wraps=cache.compile_function) as made:
                 for _ in range(3):
                     self.A.apply(function)
@@ -155,7 +164,8 @@ class Changes(support.InSession):
 
 
 class Comparisons(support.InSession):
-    """An operand beside what is no plain number: what Python says of it, or an error; never unequal without a word."""
+    """An operand beside what is no plain number: what Python says of it, or an error; never unequal
+    without a word."""
 
     def setUp(self):
         self.A = self.s.from_triples([(0, 0, 77), (1, 1, 3)], 2, 2)
@@ -179,7 +189,8 @@ class Comparisons(support.InSession):
     def test_arrays(self):
         import numpy
         import pandas
-        for several in (numpy.array([77, 88]), numpy.array([20]), pandas.Series([77]), pandas.Index([77]), numpy.timedelta64(77, 's')):
+        for several in (numpy.array([77, 88]), numpy.array([20]), pandas.Series([77]),
+                        pandas.Index([77]), numpy.timedelta64(77, 's')):
             for function in (lambda x: x == several, lambda x: x != several):
                 with self.assertRaises((CompileError, TypeError)):
                     self.A.select(function)

@@ -1,4 +1,5 @@
-"""docs/operators.md on Python: its blocks print what stands below them, and each row of its table says what operators give."""
+"""docs/operators.md on Python: its blocks print what stands below them, and each row of its table
+says what operators give."""
 import contextlib
 import io
 import os
@@ -22,8 +23,10 @@ def page():
 @unittest.skipUnless(os.path.exists(PAGE), 'the package stands without the repository')
 class Page(unittest.TestCase):
     def test_blocks(self):
-        blocks = [re.sub('^    ', '', block, flags=re.M) for block in re.findall(r'(?:^    .*\n)+', page(), re.M)]
-        found = [(block, blocks[at + 1]) for at, block in enumerate(blocks) if block.startswith('import spmat')]
+        blocks = [re.sub('^    ', '', block, flags=re.M)
+                  for block in re.findall(r'(?:^    .*\n)+', page(), re.M)]
+        found = [(block, blocks[at + 1]) for at, block in enumerate(blocks)
+                 if block.startswith('import spmat')]
         self.assertGreaterEqual(len(found), 2)
         for block, printed in found:
             said = io.StringIO()
@@ -39,9 +42,11 @@ class Page(unittest.TestCase):
             for operands, expected in CALL.findall(examples):
                 numbers = [int(number) for number in operands.split(',')]
                 make = spmat.unary if len(numbers) == 1 else spmat.binary
-                op = make(eval('lambda %s: %s' % ('x, y'[:1 if len(numbers) == 1 else 4], expression), {'spmat': spmat}))
+                op = make(eval('lambda %s: %s' % ('x, y'[:1 if len(numbers) == 1 else 4],
+                                                  expression), {'spmat': spmat}))
                 with self.subTest(expression=expression, operands=operands):
-                    self.assertEqual((Plain(op).run(numbers)[0], op(*numbers)), (int(expected), int(expected)))
+                    self.assertEqual((Plain(op).run(numbers)[0], op(*numbers)),
+                                     (int(expected), int(expected)))
                 calls += 1
         self.assertGreaterEqual(calls, 35)
 

@@ -1,4 +1,5 @@
-"""Random functions beside Python: some, of a seed that `SEED` may name; tests/fuzz/functions.py has as many as one likes."""
+"""Random functions beside Python: some, of a seed that `SEED` may name; tests/fuzz/functions.py has
+as many as one likes."""
 import os
 import unittest
 

@@ -1,7 +1,8 @@
-"""Statements and builtins of Python inside an operator: each means what Python means, or is refused.
+"""Statements and builtins of Python inside an operator: each means what Python means, or is
+refused.
 
-A table of functions, each called on edge words beside its operator. Where Python raises, the operator
-is not asked, but for errors that the function itself catches.
+A table of functions, each called on edge words beside its operator. Where Python raises, the
+operator is not asked, but for errors that the function itself catches.
 """
 import ast
 import contextlib
@@ -260,11 +261,11 @@ REFUSED = [
     ('return bin(x).count("1")', 'expected a number here'),
     ('return math.gcd(x, 6)', 'expected a number here'),
     ('return 1 if x in range(70, 100000) else 0', 'more than 256 questions'),
-    ('return 1 if x == 77.0 else 0', '77.0 is a float'), ('return min(x, math.inf)', 'inf is a float'),
+    ('return 1 if x == 77.0 else 0', '77.0 is a float'),
+    ('return min(x, math.inf)', 'inf is a float'),
     ('return sum([1, 2, 3][x:])', 'expected a number here'),
     ('try: return x + "a"\nexcept TypeError: return 3', 'str is no whole number'),
-    ('return x // 0', 'a division by 0'), ('return x << -1', 'a shift by a negative number'),
-]
+    ('return x // 0', 'a division by 0'), ('return x << -1', 'a shift by a negative number'),]
 
 
 def helper(a, b):
@@ -286,7 +287,8 @@ def function_of(body):
     space = dict(globals())
     with warnings.catch_warnings():
         warnings.simplefilter('ignore')            # Python's own, of `is` beside a number
-        exec('def f(x):\n' + textwrap.indent(body.strip('\n'), '    '), space)  # pylint: disable=exec-used
+        # pylint: disable-next=exec-used
+        exec('def f(x):\n' + textwrap.indent(body.strip('\n'), '    '), space)
     return space['f']
 
 
@@ -341,7 +343,8 @@ class Warned(unittest.TestCase):
         with warnings.catch_warnings(record=True) as caught:
             warnings.simplefilter('always')
             op = kind(function)
-        self.assertEqual([str(each.message) for each in caught if words not in str(each.message)], [])
+        self.assertEqual([str(each.message) for each in caught if words not in str(each.message)],
+                         [])
         self.assertEqual([(each.category, each.filename) for each in caught],
                          [(RuntimeWarning, __file__)])
         for *operands, expected in calls:
@@ -358,14 +361,17 @@ class Warned(unittest.TestCase):
         self.warned(spmat.binary, lambda x, y: x << y if y < 0 else 5,
                     'a shift by a negative number where (y < 0): as an operator x << y is 0',
                     (7, -1, 0), (7, 1, 5))
-        self.warned(spmat.binary, lambda x, y: x >> y if y < 0 else 5, 'the sign of x', (-7, -1, -1))
+        self.warned(spmat.binary, lambda x, y: x >> y if y < 0 else 5, 'the sign of x',
+                    (-7, -1, -1))
 
     def test_numbers_beyond_a_word(self):
         self.warned(spmat.unary, lambda x: 2 ** 64 + 5 >> x,
-                    '18446744073709551621 is not in -2^63 to 2^63 - 1: as an operator it is 5', (1, 2))
+                    '18446744073709551621 is not in -2^63 to 2^63 - 1: as an operator it is 5',
+                    (1, 2))
         self.warned(spmat.unary, lambda x: (2 ** 64 + 5) // x, 'as an operator it is 5', (2, 2))
         self.warned(spmat.unary, lambda x: (2 ** 64 + 5) % x, 'as an operator it is 5', (3, 2))
-        for function in (lambda x: spmat.cdiv(2 ** 64 + 5, x), lambda x: spmat.cmod(2 ** 64 + 5, x)):
+        for function in (lambda x: spmat.cdiv(2 ** 64 + 5, x),
+                         lambda x: spmat.cmod(2 ** 64 + 5, x)):
             self.assertEqual(spmat.unary(function)(3), function(3))
 
 
