@@ -20,8 +20,8 @@ pub record IsPieceOf (jobs : List Job) (p : Piece) : Type 0 where
 abbrev pub recorded : List Piece → List (ℕ × ℕ)
 recorded pieces = map (λ (p : Piece). (p.chunk, p.steps)) pieces
 
--- how a worker stands in the end: it was told the end; or it failed a chunk, with the steps of some of the chunk's calls, each taken
--- at most once
+-- how a worker stands in the end: it was told the end; or it failed a chunk, with the steps of some of the chunk's calls, each
+-- taken at most once
 abbrev pub StandsAfter : List Job → Bool → WorkerState → Type 0
 StandsAfter jobs false state = state ≡ Drained
 StandsAfter jobs true state =

@@ -53,7 +53,8 @@ IsRunOf steps workers old new (Err (failures.Output cause)) = ⊥
 IsRunOf steps workers old new (Err (failures.Binding port cause)) = ⊥
 IsRunOf steps workers old new (Err (failures.Listening fault)) = ⊥
 
--- How a server ended that was to listen on this port: well only where the number of its sessions was given, or by a fault of its own.
+-- How a server ended that was to listen on this port: well only where the number of its sessions was given, or by a fault of its
+-- own.
 abbrev pub IsServed : (port : ℕ) → (sessions : Option ℕ) → Result Done Failure → Type 0
 IsServed port sessions (Ok (done.Session end)) = ⊥
 IsServed port sessions (Ok done.Sessions) = sessions ≢ None
