@@ -1,11 +1,13 @@
 //! The text of a session: what a command line asks for, and what a reply reads like.
 //!
-//! The one contract: a line asks for exactly one request, and a reply is its text, made from names and numbers.
-//! `specs/Requests.antt` and `specs/Words.antt` say which words ask for what, `specs/Replies.antt` which bytes each reply has.
+//! The one contract: a line asks for exactly one request, and a reply is its text, made from names
+//! and numbers. `specs/Requests.antt` and `specs/Words.antt` say which words ask for what,
+//! `specs/Replies.antt` which bytes each reply has.
 //!
-//! Read `request` (the commands) and `submission` (the commands of jobs) over `words` (few words, names and kinds), `line_words`
-//! (the words of a job), `name` (names) and `hexadecimal` (the body of `op`); then `replies` over `reply` (a buffer whose lines
-//! take no further memory), `refusal` (why a command is refused) and `rules` (the names of the rules).
+//! Read `request` (the commands) and `submission` (the commands of jobs) over `words` (few words,
+//! names and kinds), `line_words` (the words of a job), `name` (names) and `hexadecimal` (the body
+//! of `op`); then `replies` over `reply` (a buffer whose lines take no further memory), `refusal`
+//! (why a command is refused) and `rules` (the names of the rules).
 #![tactic(auto)]
 
 mod hexadecimal;

@@ -6,7 +6,8 @@ use bpf_text::AsmFault;
 use job_plan::JobError;
 use matrix_market::MarketRule;
 
-/// Why a command is refused, with the numbers that the reply gives. Each is one line, which begins with `no`.
+/// Why a command is refused, with the numbers that the reply gives. Each is one line, which begins
+/// with `no`.
 #[derive(Clone, Copy)]
 pub enum Refusal {
     /// A rule of the session.

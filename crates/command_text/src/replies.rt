@@ -153,7 +153,8 @@ pub fn show(reply: &mut Reply, text: Vec<u8>)
     reply.attach(text);
 }
 
-/// Says that a list of so many lines follows, with the words that begin it; the reply takes the lines and does not copy them.
+/// Says that a list of so many lines follows, with the words that begin it; the reply takes the
+/// lines and does not copy them.
 pub fn list(reply: &mut Reply, command: &str, lines: u64, text: Vec<u8>)
     requires { length command.now ≤ 16 }
     ensures { whole reply.new ≡ list_text command.now lines text.items }
@@ -175,7 +176,8 @@ pub struct JobLine<'a> {
     pub steps: u64,
 }
 
-/// Says that a batch was run, how many jobs it had and how many steps it took. A line for each job follows, by `add_job`.
+/// Says that a batch was run, how many jobs it had and how many steps it took. A line for each job
+/// follows, by `add_job`.
 pub fn begin_run(reply: &mut Reply, jobs: u64, spent: u64)
     ensures text { reply.new ≡ record { line = run_line jobs spent; text = [] } }
     ensures short { length reply.new.line ≤ 64 }

@@ -145,7 +145,8 @@ fn alone<'a>(command: Command<'a>, rest: &[u8]) -> Result<Command<'a>, SessionRu
     }
 }
 
-/// What a command without a body asks for with the words behind its first, or the rule by which it is refused.
+/// What a command without a body asks for with the words behind its first, or the rule by which it
+/// is refused.
 fn parse_plain<'a>(command: &[u8], rest: &'a [u8]) -> Result<Command<'a>, SessionRule>
     ensures { MatchResult result
         (λ c. spec.plain_asked command.now (text.words rest.now) ≡ Ok (command_of c))
@@ -172,7 +173,8 @@ fn parse_plain<'a>(command: &[u8], rest: &'a [u8]) -> Result<Command<'a>, Sessio
     }
 }
 
-/// What a line asks for. Its first word alone tells the command; then the other words are looked at.
+/// What a line asks for. Its first word alone tells the command; then the other words are looked
+/// at.
 pub fn parse(line: &[u8]) -> Request<'_>
     ensures { request_of result ≡ spec.request (text.words line.now) }
 {

@@ -33,10 +33,12 @@ impl SessionRule {
     }
 }
 
-/// A rule of command lines and bodies after whose refusal no session can go on, since it can't tell where the next command begins.
+/// A rule of command lines and bodies after whose refusal no session can go on, since it can't tell
+/// where the next command begins.
 #[derive(Clone, Copy, Debug, PartialEq, Eq)]
 pub enum FatalRule {
-    /// `S2`: a command with a body has a wrong number of words, or a length that is malformed or out of range.
+    /// `S2`: a command with a body has a wrong number of words, or a length that is malformed or
+    /// out of range.
     MalformedWords,
     /// `S5`: the input ends in a body.
     InputEndsInBody,

@@ -17,7 +17,8 @@ use crate::rules::SessionRule;
 use job_plan::Form;
 use matrix_market::parse_value;
 
-/// A job that is to be queued: the name that it will bind, its form, and the name of its mask, if it has one.
+/// A job that is to be queued: the name that it will bind, its form, and the name of its mask, if
+/// it has one.
 #[derive(Clone, Copy)]
 pub struct Submission<'a> {
     pub output: Name<'a>,
@@ -25,8 +26,8 @@ pub struct Submission<'a> {
     pub mask: Option<Name<'a>>,
 }
 
-/// How a form of job is written: `COMMAND OUT ..`, so many words behind the command, and perhaps `mask M`. Each number in the form is
-/// the place of a word: OUT has place 0.
+/// How a form of job is written: `COMMAND OUT ..`, so many words behind the command, and perhaps
+/// `mask M`. Each number in the form is the place of a word: OUT has place 0.
 struct JobWords {
     command: &'static str,
     count: u8,

@@ -1,4 +1,5 @@
-//! All forms against a slow reference: a map of positions, and one call at a time by the machine with tags.
+//! All forms against a slow reference: a map of positions, and one call at a time by the machine
+//! with tags.
 ghost use Rattle.std.specs.Prelude.{◌≡◌, ◌≤◌, ◌-◌, ◌*◌, [], IsTrue, length, IfSome, IfOk};
 ghost use Rattle.csr_store.specs.Mask.{HasShape, mask_of};
 ghost use Rattle.form_tests.specs.inner.Pieces.{IsPiece};
@@ -148,7 +149,8 @@ fn rows_of<'m>(
     }
 }
 
-/// The whole result of a job, done in two chunks, and its steps; or nothing where something doesn't fit.
+/// The whole result of a job, done in two chunks, and its steps; or nothing where something doesn't
+/// fit.
 fn whole<'m>(
     alloc: Global,
     calls: &mut Calls,
@@ -311,7 +313,8 @@ fn value_under(
     }
 }
 
-/// Each position of a matrix has the value of the reference. How many have one, and the steps that they took.
+/// Each position of a matrix has the value of the reference. How many have one, and the steps that
+/// they took.
 fn assert_values(
     rt: &impl Abort,
     matrix: &Matrix,

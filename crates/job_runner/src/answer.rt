@@ -2,7 +2,8 @@
 
 use csr_store::Version;
 
-/// What a job gave: its matrix, and how many steps its calls took. A contract reads it by `result_of` of `specs/Batch.antt`.
+/// What a job gave: its matrix, and how many steps its calls took. A contract reads it by
+/// `result_of` of `specs/Batch.antt`.
 #[derive(Drop)]
 pub struct JobResult {
     pub version: Version,
@@ -24,7 +25,8 @@ pub enum Cause {
     Thread,
 }
 
-/// A batch that was refused: why, and how many steps its calls had taken by then, those of chunks that failed among them.
+/// A batch that was refused: why, and how many steps its calls had taken by then, those of chunks
+/// that failed among them.
 #[derive(Clone, Copy, Debug, PartialEq, Eq)]
 pub struct BatchFault {
     pub cause: Cause,

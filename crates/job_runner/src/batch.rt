@@ -21,14 +21,15 @@ use std::alloc::{AllocError, Global};
 use std::sync::Wait;
 use std::thread::Threads;
 
-/// Runs a plan on up to so many workers: no more than the plan has chunks, and no more than its price and its rows feed. One of
-/// them is on the calling thread, each other in a thread of its own. They draw chunks from one board, and share the plan's
-/// operators and matrices.
+/// Runs a plan on up to so many workers: no more than the plan has chunks, and no more than its
+/// price and its rows feed. One of them is on the calling thread, each other in a thread of its
+/// own. They draw chunks from one board, and share the plan's operators and matrices.
 ///
 /// # Errors
 ///
-/// There is no memory; or, with more than one worker, a thread could not be started, which takes precedence if a worker also ran
-/// out of memory. The workers that had started run to their ends; the steps are those of all their calls, each made once.
+/// There is no memory; or, with more than one worker, a thread could not be started, which takes
+/// precedence if a worker also ran out of memory. The workers that had started run to their ends;
+/// the steps are those of all their calls, each made once.
 pub fn run_batch<H: Threads + Wait, G: Gate + Sync>(
     rt: &H,
     alloc: Global,
@@ -49,8 +50,8 @@ pub fn run_batch<H: Threads + Wait, G: Gate + Sync>(
     run_batch_with(rt, alloc, plan, workers, gate, &mut kept)
 }
 
-/// As `run_batch`, with what is kept from batch to batch for a worker on the calling thread that is the only one: then no memory is
-/// taken for the worker, and no thread is started.
+/// As `run_batch`, with what is kept from batch to batch for a worker on the calling thread that is
+/// the only one: then no memory is taken for the worker, and no thread is started.
 ///
 /// # Errors
 ///
@@ -94,7 +95,8 @@ impl From<AllocError> for Cause {
     }
 }
 
-/// What each job gives that so many workers compute. The steps of all calls are told, also where the batch is refused.
+/// What each job gives that so many workers compute. The steps of all calls are told, also where
+/// the batch is refused.
 fn results<H: Threads + Wait, G: Gate + Sync>(
     context: BatchContext<'_, H, G>,
     plan: &Plan,

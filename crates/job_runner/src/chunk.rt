@@ -16,7 +16,8 @@ use row_product::{Factors, product_region};
 use std::alloc::{AllocError, Global};
 use std::ops::Range;
 
-/// What a worker keeps from chunk to chunk, so that no call of an operator takes memory: its lanes, and a product's row.
+/// What a worker keeps from chunk to chunk, so that no call of an operator takes memory: its lanes,
+/// and a product's row.
 #[derive(Drop)]
 pub struct Scratch {
     calls: Calls,
@@ -33,10 +34,12 @@ impl Scratch {
     }
 }
 
-/// A product of more columns leaves no room behind for the next batch, so that a session keeps some megabytes at most.
+/// A product of more columns leaves no room behind for the next batch, so that a session keeps some
+/// megabytes at most.
 const KEPT_COLUMNS: u64 = 262_144;
 
-/// What the worker of a batch on one thread works with, kept for the next batch. It is made by the first one.
+/// What the worker of a batch on one thread works with, kept for the next batch. It is made by the
+/// first one.
 #[derive(Drop)]
 pub struct SpareScratch {
     scratch: Option<Scratch>,
@@ -83,8 +86,8 @@ fn is_wide(plan: &Plan) -> bool {
     false
 }
 
-/// The rows of a chunk of a plan, with the steps of the calls that were made for them. Where memory is wanted, the steps are those
-/// of some of these calls.
+/// The rows of a chunk of a plan, with the steps of the calls that were made for them. Where memory
+/// is wanted, the steps are those of some of these calls.
 pub fn compute(alloc: Global, scratch: &mut Scratch, plan: &Plan, chunk: u64) -> Chunk
     requires { chunk < length (plan_chunks plan.now) }
     ensures { IsMade (run_of plan.now chunk) (calls_of plan.now chunk) result }
@@ -95,7 +98,8 @@ pub fn compute(alloc: Global, scratch: &mut Scratch, plan: &Plan, chunk: u64) ->
     compute_rows(alloc, scratch, priced.job(), plan.column(job), range)
 }
 
-/// Some rows of a job's matrix: the six forms, each by its operation. A copy may be lent of the column of a product by one.
+/// Some rows of a job's matrix: the six forms, each by its operation. A copy may be lent of the
+/// column of a product by one.
 fn compute_rows(
     alloc: Global,
     scratch: &mut Scratch,

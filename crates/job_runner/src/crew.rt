@@ -64,7 +64,8 @@ fn work_once<G: Gate>(alloc: Global, task: Task<'_>, seat: BoardSeat, gate: &G) 
     work_at(alloc, &mut kept, task, seat, gate)
 }
 
-/// Starts a thread for each of these seats, and answers whether the start of one was refused, whose seat is then lost.
+/// Starts a thread for each of these seats, and answers whether the start of one was refused, whose
+/// seat is then lost.
 fn start<'s, 'a, H, G: Gate + Sync>(
     context: BatchContext<'a, H, G>,
     scope: &Scope<'s, &'a ()>,
@@ -115,9 +116,10 @@ fn join_all<H: Threads>(
     }
 }
 
-/// A worker at each of these seats: the last on the calling thread, with what is kept, the others in threads of their own. Answers
-/// what they did, and what was refused: the start of a thread, or memory for the threads' handles. Then the workers that had started
-/// went on to their ends, and the calling thread's did nothing.
+/// A worker at each of these seats: the last on the calling thread, with what is kept, the others
+/// in threads of their own. Answers what they did, and what was refused: the start of a thread, or
+/// memory for the threads' handles. Then the workers that had started went on to their ends, and
+/// the calling thread's did nothing.
 fn work_beside<'s, 'a, H: Threads, G: Gate + Sync>(
     context: BatchContext<'a, H, G>,
     scope: &Scope<'s, &'a ()>,
@@ -155,8 +157,9 @@ fn work_beside<'s, 'a, H: Threads, G: Gate + Sync>(
     (outputs, None)
 }
 
-/// A worker at each of these seats: the last on the calling thread, the others in threads of their own. Answers what they did, and
-/// what was refused, as `work_beside` does. One worker starts no thread.
+/// A worker at each of these seats: the last on the calling thread, the others in threads of their
+/// own. Answers what they did, and what was refused, as `work_beside` does. One worker starts no
+/// thread.
 pub(crate) fn work_all<H: Threads + Wait, G: Gate + Sync>(
     context: BatchContext<'_, H, G>,
     task: Task<'_>,

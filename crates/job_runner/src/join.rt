@@ -17,8 +17,8 @@ use std::alloc::{AllocError, Global};
 use std::sync::Arc;
 use std::vec::IntoIter;
 
-/// What each job of a plan gives, from the pieces of all chunks, each at the place of its number. The cells stay where the pieces
-/// have them.
+/// What each job of a plan gives, from the pieces of all chunks, each at the place of its number.
+/// The cells stay where the pieces have them.
 pub(crate) fn join_jobs(
     alloc: Global,
     plan: &Plan,
@@ -97,7 +97,8 @@ fn sizes(job: &Job) -> (u64, u64)
     (form.rows(), form.columns())
 }
 
-/// The first operand of a job. What apply makes of it without a mask has its entries at the same positions.
+/// The first operand of a job. What apply makes of it without a mask has its entries at the same
+/// positions.
 fn first_operand(job: &Job) -> &Matrix {
     let (first, _) = job.form().matrices();
     first

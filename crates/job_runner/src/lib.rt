@@ -1,16 +1,18 @@
 //! Batches of jobs on workers.
 //!
-//! [`run_batch`] runs a plan on workers in threads: they draw chunks from a board, each computes the rows of its chunks
-//! ([`work`]), and the rows are joined.
+//! [`run_batch`] runs a plan on workers in threads: they draw chunks from a board, each computes
+//! the rows of its chunks ([`work`]), and the rows are joined.
 //!
-//! The one contract is the batch theorem, `BatchTheorem` of `specs/Theorem.antt`: operators that were accepted are never stuck, and
-//! a batch of jobs over them gives each job's matrix and its steps, which are no more than its calls' operators' lengths.
-//! `specs/Batch.antt` says what a batch gives, `specs/Chunk.antt` what each chunk gives, by its number, and `specs/Worked.antt`
+//! The one contract is the batch theorem, `BatchTheorem` of `specs/Theorem.antt`: operators that
+//! were accepted are never stuck, and a batch of jobs over them gives each job's matrix and its
+//! steps, which are no more than its calls' operators' lengths. `specs/Batch.antt` says what a
+//! batch gives, `specs/Chunk.antt` what each chunk gives, by its number, and `specs/Worked.antt`
 //! what a worker did at its seat.
 //!
-//! Read `answer` first, then `chunk` (the work on one chunk), `board`, `task` and `worker` (one worker's chunks), `crew` (workers
-//! in threads), `worker_outputs` and `completed_pieces` (what came back of them), `join` (pieces of chunks as matrices of jobs),
-//! `size` (how many workers) and `batch`.
+//! Read `answer` first, then `chunk` (the work on one chunk), `board`, `task` and `worker` (one
+//! worker's chunks), `crew` (workers in threads), `worker_outputs` and `completed_pieces` (what
+//! came back of them), `join` (pieces of chunks as matrices of jobs), `size` (how many workers) and
+//! `batch`.
 #![tactic(auto)]
 
 mod answer;

@@ -6,14 +6,15 @@ ghost use Rattle.job_runner.specs.Crew.{crew_of, work_of, total_work};
 use csr_store::RUN_ROWS;
 use job_plan::{Plan, Priced, price};
 
-/// How many steps each worker of several has to have. By the clock they take it 100 to 560 microseconds, and a thread costs 20 to 25
-/// until it is joined, its buffers included.
+/// How many steps each worker of several has to have. By the clock they take it 100 to 560
+/// microseconds, and a thread costs 20 to 25 until it is joined, its buffers included.
 const STEPS_OF_A_WORKER: u64 = 200_000;
 
 /// How many steps take as long as the rows of a chunk do without any.
 const STEPS_OF_A_CHUNK: u64 = 512;
 
-/// How many of so many workers a plan is given: as many as its work feeds, of which no chunk counts for more than one.
+/// How many of so many workers a plan is given: as many as its work feeds, of which no chunk counts
+/// for more than one.
 pub(crate) fn crew_size(plan: &Plan, workers: u64) -> u64
     requires { 1 ≤ workers }
     ensures size { result ≡ crew_of workers plan.now }

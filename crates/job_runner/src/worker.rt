@@ -15,8 +15,8 @@ use job_plan::Plan;
 use race_board::{Board, BoardSeat};
 use std::alloc::{AllocError, Global};
 
-/// What a worker did: the pieces of the chunks that it completed, in order of its draws, the steps of all its calls, and whether it
-/// failed a chunk for want of memory.
+/// What a worker did: the pieces of the chunks that it completed, in order of its draws, the steps
+/// of all its calls, and whether it failed a chunk for want of memory.
 #[derive(Drop)]
 pub struct Worked {
     pub pieces: Vec<Piece>,
@@ -24,7 +24,8 @@ pub struct Worked {
     pub failed: bool,
 }
 
-/// Draws chunks of a plan, computes them and completes them, until the seat is told the end or a chunk fails for want of memory.
+/// Draws chunks of a plan, computes them and completes them, until the seat is told the end or a
+/// chunk fails for want of memory.
 pub fn work<G: Gate>(
     alloc: Global,
     plan: &Plan,
@@ -123,14 +124,16 @@ fn fail_first<G: Gate>(alloc: Global, task: Task<'_>, seat: &mut BoardSeat, gate
     }
 }
 
-/// How the work on a chunk ended, with the steps of its calls; where there is no memory, of those that were made.
+/// How the work on a chunk ended, with the steps of its calls; where there is no memory, of those
+/// that were made.
 #[derive(Clone, Copy)]
 pub(crate) enum ChunkEnd {
     Completed(u64),
     Failed(u64),
 }
 
-/// Records the chunk that the seat holds, for which this was made: as complete, with its piece behind the others, or as failed.
+/// Records the chunk that the seat holds, for which this was made: as complete, with its piece
+/// behind the others, or as failed.
 fn record_chunk(
     task: Task<'_>,
     seat: &mut BoardSeat,

@@ -18,8 +18,8 @@ pub struct Ended {
     pub worked: Worked,
 }
 
-/// The seats of workers that have ended, the pieces of all chunks that they completed, each at the place of its number, and whether
-/// one of them failed.
+/// The seats of workers that have ended, the pieces of all chunks that they completed, each at the
+/// place of its number, and whether one of them failed.
 #[derive(Drop)]
 pub struct WorkerOutputs {
     pub seats: Vec<BoardSeat>,

@@ -209,7 +209,8 @@ enum Tried {
     Reduce,
 }
 
-/// A form with its matrices, of which the one on the right stands where it takes two, its mask, and its price or its fault.
+/// A form with its matrices, of which the one on the right stands where it takes two, its mask, and
+/// its price or its fault.
 #[derive(Clone, Copy)]
 struct Case {
     tried: Tried,

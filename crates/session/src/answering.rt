@@ -86,7 +86,8 @@ fn say<W: Sink>(
     if last { output.flush(writer) } else { Ok(()) }
 }
 
-/// Answers what was received, says the reply, and counts the command. Tells how the session ends, if it does.
+/// Answers what was received, says the reply, and counts the command. Tells how the session ends,
+/// if it does.
 ///
 /// # Errors
 ///

@@ -48,7 +48,8 @@ fn answer_line<R: Source, W: Sink, T: Steps, H: Threads + Wait>(
     }
 }
 
-/// Reads one command, answers it, and says the reply. Tells how the session ends, if it does: then all that was said is written.
+/// Reads one command, answers it, and says the reply. Tells how the session ends, if it does: then
+/// all that was said is written.
 fn exchange<R: Source, W: Sink, T: Steps, H: Threads + Wait>(
     rt: &H,
     alloc: Global,
@@ -106,8 +107,9 @@ fn converse<R: Source, W: Sink, T: Steps, H: Threads + Wait>(
     }
 }
 
-/// One session, with its memory, made before it begins, so that a server can know that it has it. A contract sees how many reads
-/// the session may make, and how many workers each of its batches may have.
+/// One session, with its memory, made before it begins, so that a server can know that it has it. A
+/// contract sees how many reads the session may make, and how many workers each of its batches may
+/// have.
 #[derive(Drop)]
 pub struct Session {
     alloc: Global,
@@ -181,8 +183,9 @@ impl Session {
         outcome
     }
 
-    /// Serves the session, as `serve` does, and tells how many commands were taken, each of which has a reply: command
-    /// lines with their bodies, and a line that was too long. No contract speaks of that number.
+    /// Serves the session, as `serve` does, and tells how many commands were taken, each of which
+    /// has a reply: command lines with their bodies, and a line that was too long. No contract
+    /// speaks of that number.
     pub fn serve_counting<R: Source, W: Sink, T: Steps, H: Threads + Wait>(
         self,
         rt: &H,
@@ -203,8 +206,8 @@ impl Session {
     }
 }
 
-/// For tests: the program makes a `Session` and calls `Session::serve_counting`. Serves one session as `serve` does, with so many
-/// reads at most.
+/// For tests: the program makes a `Session` and calls `Session::serve_counting`. Serves one session
+/// as `serve` does, with so many reads at most.
 ///
 /// # Errors
 ///
@@ -231,14 +234,15 @@ pub fn serve_turns<R: Source, W: Sink, T: Steps, H: Threads + Wait>(
     room.serve(rt, reader, writer, steps)
 }
 
-/// For tests: the program makes a `Session` and calls `Session::serve_counting`. Serves one session, each of whose batches may have
-/// so many workers: reads commands, and says the reply to each, until `quit`, the end of the input, or a refusal after which a
-/// session can't go on.
+/// For tests: the program makes a `Session` and calls `Session::serve_counting`. Serves one
+/// session, each of whose batches may have so many workers: reads commands, and says the reply to
+/// each, until `quit`, the end of the input, or a refusal after which a session can't go on.
 ///
 /// # Errors
 ///
-/// A device failed, more than 4,294,967,296 reads were needed, or the room that a session needs from its start was refused.
-/// On each end and each fault every reservation that is still held is settled with 0.
+/// A device failed, more than 4,294,967,296 reads were needed, or the room that a session needs
+/// from its start was refused. On each end and each fault every reservation that is still held is
+/// settled with 0.
 pub fn serve<R: Source, W: Sink, T: Steps, H: Threads + Wait>(
     rt: &H,
     alloc: Global,

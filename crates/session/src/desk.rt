@@ -11,7 +11,8 @@ use workspace::Workspace;
 /// Room for a line, with its line end.
 const LINE_ROOM: usize = 1026;
 
-/// What commands are answered at: what the session holds, the reply to the last command, and the replies that are not written yet.
+/// What commands are answered at: what the session holds, the reply to the last command, and the
+/// replies that are not written yet.
 #[derive(Drop)]
 pub struct Bench {
     pub workspace: Workspace,
@@ -31,7 +32,8 @@ pub struct Desk {
 }
 
 impl Desk {
-    /// Nothing read, nothing said, nothing bound, so many reads that may be made, and so many workers for each batch.
+    /// Nothing read, nothing said, nothing bound, so many reads that may be made, and so many
+    /// workers for each batch.
     pub fn new(alloc: Global, workers: u64, reads: u64) -> Result<Desk, AllocError>
         requires some { 1 ≤ workers }
         requires few { workers ≤ 64 }

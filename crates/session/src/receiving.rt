@@ -1,5 +1,5 @@
-//! What a session receives: a command with its body, when it is all there. What was said before is written before more input is
-//! asked for, and before a command that may take long.
+//! What a session receives: a command with its body, when it is all there. What was said before is
+//! written before more input is asked for, and before a command that may take long.
 ghost use Rattle.std.specs.Prelude.{◌≡◌, ◌<◌, ◌≤◌, [], true, Ok, OnOk, is_ok, vec_capacity};
 ghost use Rattle.command_text.specs.Readings.{request_of};
 ghost use Rattle.wire.specs.Fetching.{reach};
@@ -55,7 +55,8 @@ fn fault_of(fault: ReadFault) -> ServeFault
 ///
 /// # Errors
 ///
-/// What waited could not be written; or a read failed, or no more reads may be made, before the line was there.
+/// What waited could not be written; or a read failed, or no more reads may be made, before the
+/// line was there.
 pub fn receive_line<R: Source, W: Sink>(
     input: &mut Input,
     line: &mut Vec<u8>,
@@ -98,7 +99,8 @@ fn flush_where<W: Sink>(due: bool, output: &mut Output, writer: &mut W) -> Resul
 ///
 /// # Errors
 ///
-/// What waited could not be written; or a read failed, or no more reads may be made, before the body was there.
+/// What waited could not be written; or a read failed, or no more reads may be made, before the
+/// body was there.
 pub fn receive<'a, R: Source, W: Sink>(
     alloc: Global,
     request: Request<'a>,

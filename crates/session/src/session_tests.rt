@@ -1,4 +1,5 @@
-//! Whole sessions over memory: what is written, how each ends, and what the budget holds then, on values from outside.
+//! Whole sessions over memory: what is written, how each ends, and what the budget holds then, on
+//! values from outside.
 ghost use Rattle.wire.specs.Devices.{IsNewCount};
 
 mod endings;
@@ -18,7 +19,8 @@ use std::thread::Threads;
 use step_budget::{Steps, Tally, Totals};
 use wire::{FromRead, ToWrite};
 
-/// Commands that bind `A` to a matrix of the one entry 41, and `inc` to an operator of three instructions that adds 1.
+/// Commands that bind `A` to a matrix of the one entry 41, and `inc` to an operator of three
+/// instructions that adds 1.
 const SETUP: &str = "matrix A 62
 %%MatrixMarket matrix coordinate integer general
 1 1 1
@@ -57,8 +59,8 @@ ok show 62
 ok quit
 ";
 
-/// How a device works: it moves so many bytes a call at most, and after so many calls one fails. Then it works again, so that a
-/// session that goes on shows.
+/// How a device works: it moves so many bytes a call at most, and after so many calls one fails.
+/// Then it works again, so that a session that goes on shows.
 #[derive(Clone, Copy)]
 struct Pace {
     piece: usize,
@@ -117,7 +119,8 @@ impl Write for Trickle<'_> {
     }
 }
 
-/// Serves a session over a reader and a writer, whose calls and failures are counted by these blanks.
+/// Serves a session over a reader and a writer, whose calls and failures are counted by these
+/// blanks.
 fn serve_over<C: Ledger, F: Ledger, W: Ledger, D: Ledger, H: Threads + Wait>(
     rt: &H,
     alloc: Global,

@@ -1,6 +1,7 @@
 //! Laws of whole sessions, over the definitions that the session's contract cites.
 //!
-//! Each function does nothing. Its contract states a law, or talks that show that the law isn't empty.
+//! Each function does nothing. Its contract states a law, or talks that show that the law isn't
+//! empty.
 #![tactic(auto)]
 
 ghost use Rattle.std.specs.Prelude.{[], ◌∷◌, ◌++◌, true, false, Some, codes};
@@ -14,8 +15,9 @@ ghost use Rattle.step_purse.specs.declared.dealings.Dealing.TheVariants.{Told};
 ghost use Rattle.step_purse.specs.declared.dealings.Totals.{Totals};
 ghost use Rattle.workspace.specs.State.{empty};
 
-/// The bytes of a session and what the budget replies to it determine its text, its end and its calls of the budget, as long as no
-/// reply tells of want of memory or of a thread. The number of workers has no part in it.
+/// The bytes of a session and what the budget replies to it determine its text, its end and its
+/// calls of the budget, as long as no reply tells of want of memory or of a thread. The number of
+/// workers has no part in it.
 pub fn same_text()
     ensures law { SameText }
 {}
@@ -26,7 +28,8 @@ pub fn budget_told()
         (budget_text totals.left totals.reserved totals.spent ++ quit_text) (Some Quit) (empty 1)) × HasNoWant talk }
 {}
 
-/// The law needs its premise: to one line a session may reply with the rule that it breaks, or that memory is wanting.
+/// The law needs its premise: to one line a session may reply with the rule that it breaks, or that
+/// memory is wanting.
 pub fn want_told()
     ensures rule { (talk : Talk false (empty 1) (codes "op A x 0\n") true [] (refusal_text (no.Session MalformedWords))
         (Some InputEnd) (empty 1)) × HasNoWant talk }

@@ -7,7 +7,8 @@ ghost use Rattle.bpf_insn.specs.declared.insn.EndSize.TheVariants.{B16};
 ghost use Rattle.bpf_insn.specs.declared.insn.Extension.TheVariants.{From8To32, From8To64};
 ghost use Rattle.bpf_insn.specs.declared.insn.Width.TheVariants.{W32, W64};
 
-/// Division of both widths: unsigned, signed, by 0, and of the least number by -1. In 32 bits the low halves are divided.
+/// Division of both widths: unsigned, signed, by 0, and of the least number by -1. In 32 bits the
+/// low halves are divided.
 pub fn divisions()
     ensures unsigned { arithmetic W64 Div (2 ^ 64 - 1) 2 ≡ 2 ^ 63 - 1 }
     ensures signed { arithmetic W64 Sdiv (2 ^ 64 - 13) 3 ≡ 2 ^ 64 - 4 }
@@ -26,7 +27,8 @@ pub fn remainders()
     ensures low_half { arithmetic W32 Mod (2 ^ 32 + 5) 0 ≡ 5 }
 {}
 
-/// A sum that wraps, a shift whose amount is masked, moves that extend the sign, and bytes in reverse.
+/// A sum that wraps, a shift whose amount is masked, moves that extend the sign, and bytes in
+/// reverse.
 pub fn moves()
     ensures wraps { arithmetic W32 Add (2 ^ 32 - 1) 1 ≡ 0 }
     ensures masked { arithmetic W64 Lsh 3 65 ≡ 6 }

@@ -6,7 +6,8 @@ ghost use Rattle.command_text.specs.declared.rules.SessionRule.TheVariants.{Unkn
 ghost use Rattle.job_plan.specs.declared.form.Form.TheVariants.{Apply};
 ghost use Rattle.text_words.specs.Words.{words};
 
-/// Too few or too many words and a malformed number are S2, before a malformed name, S3; an unknown command is S1.
+/// Too few or too many words and a malformed number are S2, before a malformed name, S3; an unknown
+/// command is S1.
 pub fn refusals()
     ensures unknown { request (words (codes "foo B")) ≡ Plain (Refuse UnknownCommand) }
     ensures few { request (words (codes "apply B f")) ≡ Plain (Refuse MalformedWords) }

@@ -6,14 +6,15 @@ ghost use Rattle.job_forms.specs.Forms.{apply_at, select_at, union_at, both_at, 
 ghost use Rattle.job_forms.specs.Product.{product_at, product_calls_at};
 ghost use Rattle.worked_rows.specs.Rows.{inc, sub, mul, on_diagonal, wide, tall, two, three};
 
-/// A product whose terms 10 and 3 are folded in ascending order: 7, and not -7. Two multiplications and one subtraction take three
-/// steps each.
+/// A product whose terms 10 and 3 are folded in ascending order: 7, and not -7. Two multiplications
+/// and one subtraction take three steps each.
 pub fn products()
     ensures entry { product_at sub mul wide tall (0, 0) ≡ Some 7 }
     ensures steps { steps_of (product_calls_at sub mul wide tall (0, 0)) ≡ 9 }
 {}
 
-/// Where one of two matrices stores a word, a union copies it and an intersection stores none; neither makes a call.
+/// Where one of two matrices stores a word, a union copies it and an intersection stores none;
+/// neither makes a call.
 pub fn unions()
     ensures copies { union_at sub (grid 1 2 []) two (0, 1) ≡ Some 4 }
     ensures free { steps_of (joint_calls_at sub (grid 1 2 []) two (0, 1)) ≡ 0 }
@@ -21,7 +22,8 @@ pub fn unions()
     ensures both { both_at sub wide two (0, 1) ≡ Some (2 ^ 64 - 1) }
 {}
 
-/// A row is folded from its first word on, a row without words gives none, and a select keeps the word for which it is asked.
+/// A row is folded from its first word on, a row without words gives none, and a select keeps the
+/// word for which it is asked.
 pub fn rows()
     ensures applied { apply_at inc None two (0, 1) ≡ Some 5 }
     ensures fold { reduce_at sub three (0, 0) ≡ Some 5 }

@@ -4,7 +4,8 @@ ghost use Rattle.bpf_insn.specs.declared.operands.Operands.TheVariants.{Unary, B
 ghost use Rattle.bpf_run.specs.Meaning.{value_of, cost_of};
 ghost use Rattle.worked_rows.specs.Rows.{inc, sub, through_the_stack, on_diagonal};
 
-/// One more than 41, and than the greatest number; through the lowest bytes of the stack; and a jump that is taken or not.
+/// One more than 41, and than the greatest number; through the lowest bytes of the stack; and a
+/// jump that is taken or not.
 pub fn calls()
     ensures one_more { (value_of inc (Unary 41) ≡ 42) × (cost_of inc (Unary 41) ≡ 3) }
     ensures wraps { value_of inc (Unary (2 ^ 64 - 1)) ≡ 0 }

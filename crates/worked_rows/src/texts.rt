@@ -4,7 +4,8 @@ ghost use Rattle.matrix_market.specs.Market.{banner_of, size_of, entries_of, wor
 ghost use Rattle.matrix_market.specs.declared.rule.MarketRule.TheVariants.{PositionGivenTwice, TooFewEntries};
 ghost use Rattle.worked_rows.specs.Rows.{symmetric, symmetric_lines, repeated, short};
 
-/// A symmetric text breaks no rule. Its entry off the diagonal stands for both positions, and the one on it for one.
+/// A symmetric text breaks no rule. Its entry off the diagonal stands for both positions, and the
+/// one on it for one.
 pub fn mirrors()
     ensures banner { banner_of (codes "%%MatrixMarket matrix coordinate integer symmetric")
         ≡ Some (record { pattern = false; symmetric = true }) }
@@ -17,7 +18,8 @@ pub fn mirrors()
     ensures empty { words_at true (entries_of false symmetric_lines) (1, 1) ≡ [] }
 {}
 
-/// The mirror of an entry that was given is M8 at its line, and an entry that is missing is M9 behind the last.
+/// The mirror of an entry that was given is M8 at its line, and an entry that is missing is M9
+/// behind the last.
 pub fn faults()
     ensures twice { rules_at repeated 4 ≡ PositionGivenTwice ∷ [] }
     ensures missing { rules_at short 4 ≡ TooFewEntries ∷ [] }

@@ -86,7 +86,8 @@ fn take_code(
     }
 }
 
-/// `op NAME KIND LEN`: reads the body as the code of a program in hexadecimal digits, and binds the name to it.
+/// `op NAME KIND LEN`: reads the body as the code of a program in hexadecimal digits, and binds the
+/// name to it.
 pub fn operator(
     alloc: Global,
     workspace: &mut Workspace,

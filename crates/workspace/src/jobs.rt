@@ -85,7 +85,8 @@ fn submit_job<T: Steps, H: Wait>(
     }
 }
 
-/// `apply`, `select`, `union`, `both`, `product` and `reduce`: a job, with the operators and matrices that its names stand for now.
+/// `apply`, `select`, `union`, `both`, `product` and `reduce`: a job, with the operators and
+/// matrices that its names stand for now.
 pub fn submit<T: Steps, H: Wait>(
     rt: &H,
     alloc: Global,

@@ -1,5 +1,5 @@
-//! Which commands may take long. What was said before them is to be written first, so that no reply waits for another's work.
-//! No contract speaks of it.
+//! Which commands may take long. What was said before them is to be written first, so that no reply
+//! waits for another's work. No contract speaks of it.
 
 use crate::workspace::Workspace;
 use command_text::Command;
@@ -23,7 +23,8 @@ pub fn takes_long(workspace: &Workspace, command: &Command<'_>) -> bool {
     }
 }
 
-/// How long jobs may take, in steps: their prices, with a step for each row, and for each entry that may be copied with no call.
+/// How long jobs may take, in steps: their prices, with a step for each row, and for each entry
+/// that may be copied with no call.
 fn work(jobs: &[Priced]) -> u64 {
     let mut work = 0u64;
     for job in jobs {

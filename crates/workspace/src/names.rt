@@ -8,7 +8,8 @@ ghost use Rattle.workspace.specs.inner.Names.{is_declared};
 use std::alloc::{AllocError, Global};
 use std::collections::BTreeMap;
 
-/// Values by their names. A name can be declared before its value is there, so that to bind it takes no memory.
+/// Values by their names. A name can be declared before its value is there, so that to bind it
+/// takes no memory.
 #[derive(Drop)]
 pub struct Names<V: Drop> {
     pub declared: BTreeMap<String, Option<V>>,

@@ -1,7 +1,8 @@
 //! The command `run`.
 //!
-//! Before the first job runs, a place is made for each output. So once all jobs have results nothing can fail any more: the prices
-//! are settled, the reply is written and the outputs are bound, with no further memory. A batch that breaks off binds no name.
+//! Before the first job runs, a place is made for each output. So once all jobs have results
+//! nothing can fail any more: the prices are settled, the reply is written and the outputs are
+//! bound, with no further memory. A batch that breaks off binds no name.
 ghost use Rattle.std.specs.Prelude.{◌≡◌, ◌≤◌, ◌+◌, ◌++◌, List, ℕ, map, length, vec_len, []};
 ghost use Rattle.std.specs.Prelude.{IfOk, OnOk, OnErr};
 ghost use Rattle.workspace.specs.Names.{value_at};
@@ -58,7 +59,8 @@ fn settle_all<T: Steps, H: Wait>(rt: &H, steps: &mut T, jobs: &[Priced], results
     }
 }
 
-/// Charges steps to the jobs in order, to each up to its price, and settles each price with the steps charged.
+/// Charges steps to the jobs in order, to each up to its price, and settles each price with the
+/// steps charged.
 fn charge_all<T: Steps, H: Wait>(rt: &H, steps: &mut T, jobs: &[Priced], spent: u64)
     requires owed { total_price jobs.now ≤ T.owes steps.old }
     ensures dealt { Deals T.leads steps.old (charged jobs.now spent) steps.new }
@@ -73,7 +75,8 @@ fn charge_all<T: Steps, H: Wait>(rt: &H, steps: &mut T, jobs: &[Priced], spent: 
     }
 }
 
-/// Binds the output of each job, in order, to its matrix. Each is declared, so that this takes no memory.
+/// Binds the output of each job, in order, to its matrix. Each is declared, so that this takes no
+/// memory.
 fn bind_all(matrices: &mut Names<Version>, jobs: &[Priced], results: Vec<JobResult>)
     requires declared { AreDeclared matrices.old.declared jobs.now }
     requires same { length jobs.now ≡ vec_len results }
@@ -130,7 +133,8 @@ fn add_line(reply: &mut Reply, job: &Priced, what: &JobResult)
     add_job(reply, &line);
 }
 
-/// Ends a batch of which each job came to its end: settles the prices, says so, and binds the outputs.
+/// Ends a batch of which each job came to its end: settles the prices, says so, and binds the
+/// outputs.
 fn finish<T: Steps, H: Wait>(
     rt: &H,
     workspace: &mut Workspace,
@@ -155,7 +159,8 @@ fn finish<T: Steps, H: Wait>(
     bind_all(&mut workspace.matrices, jobs, answer.results);
 }
 
-/// Ends a batch that broke off: charges the steps that were spent to the jobs in order, and says why. No name is bound.
+/// Ends a batch that broke off: charges the steps that were spent to the jobs in order, and says
+/// why. No name is bound.
 fn break_off<T: Steps, H: Wait>(
     rt: &H,
     steps: &mut T,
@@ -183,8 +188,8 @@ fn refusal_of(fault: BatchFault) -> Refusal
     }
 }
 
-/// Ends a batch as it was answered, and in no other way: where it gave results, with these; where it broke off, for its cause and with
-/// its steps.
+/// Ends a batch as it was answered, and in no other way: where it gave results, with these; where
+/// it broke off, for its cause and with its steps.
 fn conclude<T: Steps, H: Wait>(
     rt: &H,
     workspace: &mut Workspace,
@@ -222,9 +227,9 @@ fn begin(workspace: &mut Workspace) -> Result<Plan, AllocError>
     workspace.queue.take()
 }
 
-/// Runs the jobs that wait: each output is bound, in order of submission, each price is settled, and the reply has a line for
-/// each job. Where memory or a thread is refused, no name is bound, and the steps that were taken are charged to the jobs in
-/// order. No job waits any longer.
+/// Runs the jobs that wait: each output is bound, in order of submission, each price is settled,
+/// and the reply has a line for each job. Where memory or a thread is refused, no name is bound,
+/// and the steps that were taken are charged to the jobs in order. No job waits any longer.
 pub fn run<T: Steps, H: Threads + Wait>(
     rt: &H,
     alloc: Global,

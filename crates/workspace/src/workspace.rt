@@ -16,8 +16,8 @@ use job_runner::SpareScratch;
 use std::alloc::{AllocError, Global};
 use std::sync::Arc;
 
-/// Matrices and operators by their names, the jobs that wait, for which there is room from the start, and what runs them: so many
-/// workers, and what is kept for them from batch to batch.
+/// Matrices and operators by their names, the jobs that wait, for which there is room from the
+/// start, and what runs them: so many workers, and what is kept for them from batch to batch.
 #[derive(Drop)]
 pub struct Workspace {
     pub matrices: Names<Version>,

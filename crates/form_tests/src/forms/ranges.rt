@@ -1,5 +1,6 @@
-//! The functions for any range of rows against the slow reference, also where a range crosses runs of 256 rows. A call that was
-//! refused memory has spent no more than the reference, and is asked once more.
+//! The functions for any range of rows against the slow reference, also where a range crosses runs
+//! of 256 rows. A call that was refused memory has spent no more than the reference, and is asked
+//! once more.
 use super::*;
 use entry_ops::{apply_rows, both_rows, reduce_rows, select_rows, union_rows};
 
@@ -48,7 +49,8 @@ fn range_of<'m>(
     }
 }
 
-/// The cells of these rows by the slow reference, row by row, with the steps of its calls added to others.
+/// The cells of these rows by the slow reference, row by row, with the steps of its calls added to
+/// others.
 fn reference_cells(
     alloc: Global,
     job: Job,
@@ -108,7 +110,8 @@ fn assert_all_ranges<'m>(
     Ok(())
 }
 
-/// A matrix of so many columns with a word at all positions but one of so many, and none in rows 400 to 449.
+/// A matrix of so many columns with a word at all positions but one of so many, and none in rows
+/// 400 to 449.
 fn patterned(alloc: Global, columns: u64, one_of: u64) -> Result<Matrix, Fail> {
     let mut entries: Vec<Triple> = Vec::new(alloc);
     for row in 0..ROWS {

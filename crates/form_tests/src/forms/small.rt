@@ -116,8 +116,8 @@ struct Case {
     steps: u64,
 }
 
-/// Jobs on the first matrix. With the thunk 9 the values are (2 (4 + 0) xor 0) + 9, (2 (1 + 0) xor 2) + 9 and
-/// (2 (6 + 1) xor 1) + 9.
+/// Jobs on the first matrix. With the thunk 9 the values are (2 (4 + 0) xor 0) + 9, (2 (1 + 0) xor
+/// 2) + 9 and (2 (6 + 1) xor 1) + 9.
 const APPLIED: [Case; 4] = [
     Case {
         job: Job::Apply(None),
@@ -253,7 +253,8 @@ fn assert_fold(
 
 #[test]
 fn folds_from_the_left(rt: HostRuntime) -> Result<(), Fail> {
-    // 2 * 9 - 5 = 13, and 2 * 13 - 2 = 24; each call takes 5 steps, since its first operand is above the second
+    // 2 * 9 - 5 = 13, and 2 * 13 - 2 = 24; each call takes 5 steps, since its first operand is
+    // above the second
     assert_fold(&rt, rt.alloc(), false, Some(8))?;
     assert_fold(&rt, rt.alloc(), true, None)
 }

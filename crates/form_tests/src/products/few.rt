@@ -1,5 +1,5 @@
-//! Products with few terms beside the columns, against the slow reference at the columns that have any: what stands there, and the
-//! steps. The same in a scratch that has room for all columns.
+//! Products with few terms beside the columns, against the slow reference at the columns that have
+//! any: what stands there, and the steps. The same in a scratch that has room for all columns.
 use super::{Operators, all_operators, assert_count, chunk_of, finished, reference, scattered};
 use crate::masks::passes;
 use bpf_verify::Operator;
@@ -36,7 +36,8 @@ fn sparse(
     Ok(finished(builder)?)
 }
 
-/// The cells of the product by the slow reference, row by row, with the steps of its calls added to others.
+/// The cells of the product by the slow reference, row by row, with the steps of its calls added to
+/// others.
 fn reference_cells(
     rt: &impl Abort,
     alloc: Global,
@@ -86,7 +87,8 @@ fn wide_scratch(rt: &impl Abort, alloc: Global, operators: &Operators) -> Result
     Ok(scratch)
 }
 
-/// The same of several operators, whole and under a mask, in a scratch with no room and in one with room.
+/// The same of several operators, whole and under a mask, in a scratch with no room and in one with
+/// room.
 fn assert_density(
     rt: &impl Abort,
     alloc: Global,

@@ -1,7 +1,8 @@
 //! Sessions in threads that share a purse, of which one's batch is refused memory.
 //!
-//! Run this also with each allocation refused in turn, by `rt try --test --fail-alloc N` for N from 1 on: what is asked for at the
-//! start is asked for once more, and then the test passes whichever allocation was refused.
+//! Run this also with each allocation refused in turn, by `rt try --test --fail-alloc N` for N from
+//! 1 on: what is asked for at the start is asked for once more, and then the test passes whichever
+//! allocation was refused.
 ghost use Rattle.std.specs.Prelude.{◌≡◌, [], IfOk};
 ghost use Rattle.std.specs.Thread.{IsSync};
 ghost use Rattle.step_purse.specs.Passes.{IsPassOf};
@@ -29,7 +30,8 @@ fn steps_of(answer: &Result<BatchAnswer, BatchFault>) -> u64 {
     }
 }
 
-/// What a session did: its pass, the steps that its batch took, and whether the batch came to its end.
+/// What a session did: its pass, the steps that its batch took, and whether the batch came to its
+/// end.
 #[derive(Drop)]
 struct Dealt {
     pass: Pass,
@@ -37,7 +39,8 @@ struct Dealt {
     whole: bool,
 }
 
-/// A session: it reserves the price of its job, runs it on up to two workers, and settles the price with the steps that were taken.
+/// A session: it reserves the price of its job, runs it on up to two workers, and settles the price
+/// with the steps that were taken.
 fn deal<H: Threads + Wait + Abort>(
     rt: &H,
     alloc: Global,

@@ -1,4 +1,5 @@
-//! Workers in threads that share a board, of which one is refused memory, or leaves before the others begin.
+//! Workers in threads that share a board, of which one is refused memory, or leaves before the
+//! others begin.
 ghost use Rattle.std.specs.Prelude.{◌≡◌, ◌≤◌, ◌<◌, vec_len, IfOk, All};
 ghost use Rattle.race_board.specs.Race.{IsSeatOf, MayDrawAt};
 ghost use Rattle.race_board.specs.declared.worker_state.WorkerState.TheVariants.{Holds};
@@ -115,8 +116,8 @@ fn are_right(pieces: &[Piece]) -> bool {
     true
 }
 
-/// Whether a worker ended well: all its steps are those of its pieces. One that failed a chunk may have made some of its calls, of
-/// three steps each.
+/// Whether a worker ended well: all its steps are those of its pieces. One that failed a chunk may
+/// have made some of its calls, of three steps each.
 fn is_ended_well(worked: &Worked) -> bool {
     let mut steps = 0u64;
     for piece in &worked.pieces {
@@ -126,7 +127,8 @@ fn is_ended_well(worked: &Worked) -> bool {
     are_right(&worked.pieces) && beyond % 3 == 0 && (beyond == 0 || worked.failed && beyond <= 768)
 }
 
-/// Whether two workers did all there was to do, or one of them failed one chunk: as the board tells it, and as they do.
+/// Whether two workers did all there was to do, or one of them failed one chunk: as the board tells
+/// it, and as they do.
 fn is_whole_or_refused(totals: Totals, first: &Worked, second: &Worked) -> bool {
     let times = count(count([0; 3], &first.pieces), &second.pieces);
     let done = first.pieces.len().wrapping_add(second.pieces.len());
@@ -141,7 +143,8 @@ fn is_whole_or_refused(totals: Totals, first: &Worked, second: &Worked) -> bool 
         && (failed == 1 || failed == 0 && totals.spent == 1800)
 }
 
-// Run this one also with each allocation refused in turn, by `rt try --test --fail-alloc N` for N from 1 on.
+// Run this one also with each allocation refused in turn, by `rt try --test --fail-alloc N` for N
+// from 1 on.
 
 #[test]
 fn two_threads_with_a_seat_each(rt: HostRuntime) -> Result<(), Fail> {

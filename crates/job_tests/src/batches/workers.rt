@@ -1,4 +1,5 @@
-//! Batches on workers in threads: held and counted by gates, alike for every number of workers, and with memory refused.
+//! Batches on workers in threads: held and counted by gates, alike for every number of workers, and
+//! with memory refused.
 ghost use Rattle.std.specs.Prelude.{◌≡◌, ◌≤◌, [], IfOk, All};
 ghost use Rattle.race_board.specs.Race.{IsSeatOf, MayDrawAt, SeatState};
 ghost use Rattle.job_plan.specs.Chunks.{prices_of};
@@ -133,7 +134,8 @@ impl Gate for Counts {
     }
 }
 
-/// How many instructions the operator of dear increments has. A batch of theirs on two chunks or more is worth several workers.
+/// How many instructions the operator of dear increments has. A batch of theirs on two chunks or
+/// more is worth several workers.
 const DEAR: u64 = 1000;
 
 /// The operator that adds one, by so many instructions.
@@ -288,7 +290,8 @@ fn square(rt: &impl Abort, alloc: Global) -> Result<Plan, AllocError> {
     plan_of(rt, alloc, form)
 }
 
-/// Whether the square is itself the matrix with 1 down its diagonal, in three steps a call of `mul`.
+/// Whether the square is itself the matrix with 1 down its diagonal, in three steps a call of
+/// `mul`.
 fn is_squared(answer: &BatchAnswer) -> bool {
     let Some(square) = answer.results.get(0) else {
         return false;
@@ -317,7 +320,8 @@ fn square_again(rt: &impl Abort, alloc: Global) -> Result<Plan, AllocError> {
     }
 }
 
-// Run this one also with each allocation refused in turn, by `rt try --test --fail-alloc N` for N from 1 on.
+// Run this one also with each allocation refused in turn, by `rt try --test --fail-alloc N` for N
+// from 1 on.
 
 #[test]
 fn failing_chunk(rt: HostRuntime) -> Result<(), Fail> {
@@ -357,8 +361,8 @@ impl Gate for Passed {
     }
 }
 
-/// Whether the square's one chunk was left just where it is complete: once where the batch was answered, and never where it failed
-/// before its last call.
+/// Whether the square's one chunk was left just where it is complete: once where the batch was
+/// answered, and never where it failed before its last call.
 fn is_left_when_complete(gate: &Passed, answer: &Result<BatchAnswer, BatchFault>) -> bool {
     let entered = gate.entered.load(SeqCst);
     let left = gate.left.load(SeqCst);

@@ -98,7 +98,8 @@ fn no_rows_no_chunk(rt: HostRuntime) -> Result<(), Fail> {
     Ok(())
 }
 
-/// The plan of three jobs: an apply, one of no rows, and the product of the first's operand with itself.
+/// The plan of three jobs: an apply, one of no rows, and the product of the first's operand with
+/// itself.
 fn plan_of_three(alloc: Global) -> Result<Plan, Fail> {
     let mut queue = Queue::open(alloc)?;
     let a = diagonal(alloc, 300)?;

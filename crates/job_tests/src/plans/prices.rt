@@ -223,8 +223,8 @@ fn long_operator(alloc: Global, count: u64) -> Result<Arc<Operator>, Fail> {
     operator(alloc, Kind::Binary, &text)
 }
 
-/// A column of so many rows times a row of 4,096 columns, added by an operator of so many instructions before `exit`,
-/// has this price, or this fault.
+/// A column of so many rows times a row of 4,096 columns, added by an operator of so many
+/// instructions before `exit`, has this price, or this fault.
 fn assert_large(
     rt: &impl Abort,
     alloc: Global,

@@ -43,7 +43,8 @@ fn has_room_for_64_jobs(rt: HostRuntime) -> Result<(), Fail> {
     Ok(())
 }
 
-/// The plan of a queue of one job, asked for once more where memory was refused: the job is then still there.
+/// The plan of a queue of one job, asked for once more where memory was refused: the job is then
+/// still there.
 fn take_again(rt: &impl Abort, queue: &mut Queue) -> Result<Plan, AllocError> {
     match queue.take() {
         Ok(plan) => Ok(plan),

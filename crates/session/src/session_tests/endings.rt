@@ -39,8 +39,9 @@ fn pieces_do_not_change_the_text(rt: HostRuntime) -> Result<(), Fail> {
 
 #[test]
 fn a_failing_read_ends_the_session(rt: HostRuntime) -> Result<(), Fail> {
-    // The reads that succeed, each of 17 bytes where a body doesn't end before, the bytes written by then, and the steps spent. The
-    // fifth and the ninth end a body, and after the tenth a job waits. Eleven reads bring the whole input.
+    // The reads that succeed, each of 17 bytes where a body doesn't end before, the bytes written
+    // by then, and the steps spent. The fifth and the ninth end a body, and after the tenth a job
+    // waits. Eleven reads bring the whole input.
     let failing = [
         (0, 0, 0),
         (1, 0, 0),
@@ -81,8 +82,9 @@ fn a_failing_read_ends_the_session(rt: HostRuntime) -> Result<(), Fail> {
 
 #[test]
 fn a_failing_write_ends_the_session(rt: HostRuntime) -> Result<(), Fail> {
-    // The bytes that a read brings and that a write takes at most, the writes that succeed, the bytes written by then, and the steps
-    // spent. All replies to one read are one write. A write that takes none has failed.
+    // The bytes that a read brings and that a write takes at most, the writes that succeed, the
+    // bytes written by then, and the steps spent. All replies to one read are one write. A write
+    // that takes none has failed.
     let failing = [
         (8192, 8192, 0, 0, 3),
         (17, 8192, 0, 0, 0),

@@ -15,7 +15,8 @@ fn a_waiting_job_is_settled_at_the_end(rt: HostRuntime) -> Result<(), Fail> {
     assert_talk(&rt, rt.alloc(), (input.as_bytes(), AMPLE), AMPLE, 100, want)
 }
 
-/// Whether two texts are the same line by line, up to a line of the first that says that there is no memory.
+/// Whether two texts are the same line by line, up to a line of the first that says that there is
+/// no memory.
 fn agrees_until_memory_is_refused(text: &str, ample: &str) -> bool {
     for (line, wanted) in text.lines().zip(ample.lines()) {
         if line != wanted {
@@ -25,8 +26,8 @@ fn agrees_until_memory_is_refused(text: &str, ample: &str) -> bool {
     text == ample
 }
 
-/// This holds whichever allocation is refused: nothing is written, or the text is that of ample memory up to a refusal that
-/// says so, and the session goes on to its end.
+/// This holds whichever allocation is refused: nothing is written, or the text is that of ample
+/// memory up to a refusal that says so, and the session goes on to its end.
 #[test]
 fn first_run_short_of_memory(rt: HostRuntime) -> Result<(), Fail> {
     let Ok(mut text) = Vec::with_capacity(rt.alloc(), 1024) else {
