@@ -1,5 +1,5 @@
 -- How an exchange is made of its parts.
-use Rattle.std.proofs.Common.{◌≡◌, ◌≢◌, ℕ, Bool, true, false, List, [], ◌++◌, Option, None, Some, Result, Ok, Err, inl, inr, refl, sym, ap, ◌∙◌, subst}
+use Rattle.std.proofs.Common.{◌≡◌, ◌≢◌, ℕ, Bool, true, false, List, [], ◌++◌, Option, None, Some, Result, Ok, Err, refl, sym, ap, ◌∙◌, subst}
 use Rattle.std.specs.Bool.{then_some}
 use Rattle.std.specs.Prelude.{MatchBool}
 use Rattle.wire.specs.InputState.{Stream}
@@ -19,7 +19,7 @@ use Rattle.step_purse.specs.declared.dealings.Dealing.{Dealing}
 use Rattle.workspace.specs.State.{State}
 use Rattle.workspace.specs.Turn.{Turn}
 use Rattle.session.specs.NextCommand.{NextCommand, Waits, Ends, Goes, refused, next, next_of, next_plain, next_request}
-use Rattle.session.specs.Exchange.{Touched, Scene, IsLast, Ahead, Went, Final, FinalWhole, Exchanged, behind}
+use Rattle.session.specs.Exchange.{Touched, Scene, IsLast, waiting, ending, stopping, going, leaving, Ahead, Went, Final, FinalWhole, Exchanged, behind}
 use Rattle.session.specs.inner.Exchange.{Receives, IsReceivedOf, IsEmptied, Awaited, Responds, Tells}
 use Rattle.session.specs.declared.end.End.{End}
 use Rattle.session.specs.declared.end.End.TheVariants.{InputEnd}
@@ -33,8 +33,8 @@ use Rattle.session.proofs.Grammar.{next_behind, plain_goes}
 -- what comes of what a command's answer says next
 last_of : (cut : Bool) (is : NextCommand) (rest : List ℕ) (old new : State) (received : Received) (ds : List Dealing) (reply : List ℕ) (end : Option End)
     → cut ≡ true → Responds old received ds reply new end → Receives received rest is → IsLast cut is old ds reply end new
-last_of cut is rest old new received ds reply None c r h = let w = r rest is h in inr (inr (inr (inl (w.0, rest, c, w.1, refl, w.2))))
-last_of cut is rest old new received ds reply (Some e) c r h = let w = r rest is h in inr (inr (inl (w.0, e, w.1, refl, w.2)))
+last_of cut is rest old new received ds reply None c r h = let w = r rest is h in rw c (going is old new w.0 rest ds reply w.1 w.2)
+last_of cut is rest old new received ds reply (Some e) c r h = let w = r rest is h in stopping cut is old new w.0 e ds reply w.1 w.2
 
 module _ {S : Type 0} (leads : S → Dealing → S → Type 0) (ahead : Ahead) (s t : Stream) (o p : Outgoing) (budget : S) (was now : State) (kept : now ≡ was) where
   abbrev before : Scene S
@@ -59,10 +59,10 @@ module _ {S : Type 0} (leads : S → Dealing → S → Type 0) (ahead : Ahead) (
 
   -- the input ended
   pub exchanged_end : Fetched 0 s t (λ bytes. ahead t.held.ended bytes ≡ Ends) → IsEmptied o p → Exchanged ahead leads before after (Ok (Some InputEnd))
-  exchanged_end f e = silent 0 Ends (Some InputEnd) (λ bytes w. inr (inl (w, refl, refl, refl, kept))) f e
+  exchanged_end f e = silent 0 Ends (Some InputEnd) (λ bytes w. rw kept (ending false (ahead t.held.ended bytes) was w)) f e
 
   waits : (n : ℕ) → Fetched n s t (λ bytes. ahead t.held.ended bytes ≡ Waits) → IsEmptied o p → FinalWhole ahead leads n before after None
-  waits n f e = silent n Waits None (λ bytes w. inl (w, refl, refl, refl, kept)) f e
+  waits n f e = silent n Waits None (λ bytes w. rw kept (waiting false (ahead t.held.ended bytes) was w)) f e
 
   -- nothing was said, and a write failed
   pub exchanged_stuck : (P : List ℕ → Type 0) → Fetched 0 s t P → Sent false [] o p → Exchanged ahead leads before after (Err Write)
@@ -71,7 +71,7 @@ module _ {S : Type 0} (leads : S → Dealing → S → Type 0) (ahead : Ahead) (
     record {
       dealings = [];
       text = [];
-      fetched = fetched_map 0 s t P (λ bytes. IsLast true (ahead t.held.ended bytes) was [] [] None now) f (λ bytes w. inr (inr (inr (inr (refl, refl, refl, refl, kept)))));
+      fetched = fetched_map 0 s t P (λ bytes. IsLast true (ahead t.held.ended bytes) was [] [] None now) f (λ bytes w. rw kept (leaving (ahead t.held.ended bytes) was));
       dealt = refl;
       sent = sent;
     },
@@ -111,7 +111,7 @@ module _ {S : Type 0} (leads : S → Dealing → S → Type 0) (ahead : Ahead) (
         record {
           dealings = w.0;
           text = w.1;
-          fetched = record { got = f.got; consumed = f.consumed; follows = f.follows; at_end = f.at_end; told = f.told; reads = f.reads; failures = f.failures; holds = inr (inr (inl (r.0, e, r.1, refl, r.2))) };
+          fetched = record { got = f.got; consumed = f.consumed; follows = f.follows; at_end = f.at_end; told = f.told; reads = f.reads; failures = f.failures; holds = stopping false (ahead t.held.ended (s.held.bytes ++ f.got)) was.state now.state r.0 e w.0 w.1 r.1 r.2 };
           dealt = w.3;
           sent = sent_then true [] w.1 o was.out now.out first w.4;
         },

@@ -25,7 +25,7 @@ use Rattle.workspace.specs.Found.{job_found}
 use Rattle.workspace.specs.Turn.{Turn, TakesMatrix, TakesOperator, TakesDigits, TakesKind, Submits, Prices, Finds, Shows, TellsTypes, TakesProgram, TakesAssembly, TakesKindOfAssembly, TellsAssembly, RunTurn, BatchRefused, batch_refusal, Refuses, Replies, settled, charged, released}
 use Rattle.bpf_insn.specs.declared.insn.Insn.{Insn}
 use Rattle.session.specs.NextCommand.{NextCommand}
-use Rattle.session.specs.Exchange.{IsLast}
+use Rattle.session.specs.Exchange.{IsLast, waiting, ending, stopping, going, leaving}
 use Rattle.session.specs.declared.end.End.{End}
 use Rattle.wire.proofs.Known.{append_nil}
 
@@ -203,21 +203,13 @@ module _ (s t : State) (ds : List Dealing) where
   turn_matched (Refuse rule) reply h = said _ reply h
   turn_matched (Break rule) reply h = said _ reply h
 
-  -- the last thing that is said
-  pub last_matched : (cut : Bool) (is : NextCommand) (text : List ℕ) (end : Option End) → IsLast cut is s ds text end t → IsMatched s ds t
-  last_matched cut is text end l = elim l [
-    | inl w ↦ quiet w.2 (ap (λ (x : State). x.queue) w.4)
-    | inr m ↦ elim m [
-      | inl w ↦ quiet w.2 (ap (λ (x : State). x.queue) w.4)
-      | inr n ↦ elim n [
-        | inl w ↦ turn_matched w.0 text w.4
-        | inr k ↦ elim k [
-          | inl w ↦ turn_matched w.0 text w.5
-          | inr w ↦ quiet w.2 (ap (λ (x : State). x.queue) w.4)
-        ]
-      ]
-    ]
-  ]
+-- the last thing that is said
+pub last_matched : (s t : State) (ds : List Dealing) (cut : Bool) (is : NextCommand) (text : List ℕ) (end : Option End) → IsLast cut is s ds text end t → IsMatched s ds t
+last_matched s t ds cut is text end (waiting k n u w) = quiet s t ds refl refl
+last_matched s t ds cut is text end (ending k n u w) = quiet s t ds refl refl
+last_matched s t ds cut is text end (stopping k n u v c e es reply w turn) = turn_matched s t ds c text turn
+last_matched s t ds cut is text end (going n u v c rest es reply w turn) = turn_matched s t ds c text turn
+last_matched s t ds cut is text end (leaving n u) = quiet s t ds refl refl
 
 -- what was taken and settled so far, and then by one thing more
 pub matched_more : (s t : State) (ds es : List Dealing) → amounts_taken ds ≡ amounts_settled ds ++ map price_of s.queue → IsMatched s es t → amounts_taken (ds ++ es) ≡ amounts_settled (ds ++ es) ++ map price_of t.queue

@@ -1,5 +1,5 @@
 -- What was said so far, and whatever comes.
-use Rattle.std.proofs.Common.{◌≡◌, ◌+◌, ◌&&◌, ◌||◌, not, ℕ, Bool, true, false, List, [], ◌∷◌, ◌++◌, map, Option, None, Some, Result, Ok, Err, inl, inr, refl, sym, ap, ◌∙◌, subst, append_assoc, arith}
+use Rattle.std.proofs.Common.{◌≡◌, ◌+◌, ◌&&◌, ◌||◌, not, ℕ, Bool, true, false, List, [], ◌∷◌, ◌++◌, map, Option, None, Some, Result, Ok, Err, refl, sym, ap, ◌∙◌, subst, append_assoc, arith}
 use Rattle.std.specs.Io.KnownBytes.{Consumes, IsAtEnd}
 use Rattle.wire.specs.Prefixes.{IsPrefixOf}
 use Rattle.wire.specs.Sending.{Sent, IsWritten, failed_writes}
@@ -15,7 +15,7 @@ use Rattle.workspace.specs.Turn.{released}
 use Rattle.session.specs.NextCommand.{next}
 use Rattle.session.specs.Sessions.{SessionState}
 use Rattle.session.specs.Talk.{Talk, leave, wait, finish, stop, go, Outside, Said, SaidAll, Counts, Outcome}
-use Rattle.session.specs.Exchange.{IsLast, Scene, Went, Final, FinalWhole, Exchanged}
+use Rattle.session.specs.Exchange.{IsLast, waiting, ending, stopping, going, leaving, Scene, Went, Final, FinalWhole, Exchanged}
 use Rattle.session.specs.inner.Exchange.{Spoken, SpokenWhole, Conversed}
 use Rattle.session.specs.declared.end.End.{End}
 use Rattle.session.specs.declared.end.ServeFault.{ServeFault}
@@ -25,23 +25,13 @@ use Rattle.session.proofs.Matching.{turn_matched, last_matched, matched_more, ma
 
 -- what is said where the last thing stands next
 last_said : (cut : Bool) (s t : State) (bytes : List ℕ) (ended : Bool) (ds : List Dealing) (text : List ℕ) (end : Option End) → IsLast cut (next ended bytes) s ds text end t → Talk cut s bytes ended ds text end t
-last_said cut s t bytes ended ds text end l =
-    elim l [
-      | inl w ↦ rw (w.1, w.2, w.3, w.4) (wait cut s bytes ended w.0)
-      | inr m ↦ elim m [
-        | inl w ↦ rw (w.1, w.2, w.3, w.4) (finish cut s bytes ended w.0)
-        | inr n ↦ elim n [
-          | inl w ↦ rw w.3 (stop cut s t bytes ended w.0 w.1 ds text w.2 w.4)
-          | inr k ↦ elim k [
-            | inl w ↦
-                let whole = go true s t t bytes w.1 ended w.0 ds [] text [] None w.3 w.5 (leave t w.1 ended) in
-                rw (w.2, w.4)
-                (subst (λ xs. Talk true s bytes ended xs text None t) (append_nil ds) (subst (λ xs. Talk true s bytes ended (ds ++ []) xs None t) (append_nil text) whole))
-            | inr w ↦ rw (w.0, w.1, w.2, w.3, w.4) (leave s bytes ended)
-          ]
-        ]
-      ]
-    ]
+last_said cut s t bytes ended ds text end (waiting k is u w) = wait cut s bytes ended w
+last_said cut s t bytes ended ds text end (ending k is u w) = finish cut s bytes ended w
+last_said cut s t bytes ended ds text end (stopping k is u v c e es reply w turn) = stop cut s t bytes ended c e ds text w turn
+last_said cut s t bytes ended ds text end (going is u v c rest es reply w turn) =
+    let whole = go true s t t bytes rest ended c ds [] text [] None w turn (leave t rest ended) in
+    subst (λ xs. Talk true s bytes ended xs text None t) (append_nil ds) (subst (λ xs. Talk true s bytes ended (ds ++ []) xs None t) (append_nil text) whole)
+last_said cut s t bytes ended ds text end (leaving is u) = leave s bytes ended
 
 -- what the source told, over two stretches
 told_so_far : (t u v a b : Bool) (xs : List ℕ) → Follows a xs b → u ≡ (t || a) → v ≡ (u || (b && not a)) → v ≡ (t || b)

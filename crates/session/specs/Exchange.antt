@@ -1,5 +1,5 @@
 -- One exchange of a session: a command is read, answered, and its reply written (this project's own).
-use Rattle.std.specs.Prelude.{ℕ, ◌≡◌, ◌⊎◌, Bool, true, false, List, [], Option, None, Some, Result, Ok, Err}
+use Rattle.std.specs.Prelude.{ℕ, ◌≡◌, Bool, true, false, List, [], Option, None, Some, Result, Ok, Err}
 use Rattle.wire.specs.InputState.{Stream}
 use Rattle.wire.specs.Fetching.{Fetched}
 use Rattle.wire.specs.Sending.{Outgoing, Sent}
@@ -26,16 +26,15 @@ pub record Scene (S : Type 0) : Type 0 where
   pub stream : Stream
   pub touched : Touched S
 
--- What is said where this stands next: nothing, since more is waited for; nothing, at the end; the turn of a command that ends
--- the session; or, where the talk may break off, the turn of another command, or nothing.
-abbrev pub IsLast : Bool → NextCommand → State → List Dealing → List ℕ → Option End → State → Type 0
-IsLast cut is old dealings reply end new =
-    ((is ≡ Waits) × (end ≡ None) × (dealings ≡ []) × (reply ≡ []) × (new ≡ old))
-    ⊎ (((is ≡ Ends) × (end ≡ Some InputEnd) × (dealings ≡ []) × (reply ≡ []) × (new ≡ old))
-    ⊎ (((c : Command) × (e : End) × (is ≡ Stops c e) × (end ≡ Some e) × Turn old c dealings reply new)
-    ⊎ (((c : Command) × (rest : List ℕ) × (cut ≡ true) × (is ≡ Goes c rest) × (end ≡ None)
-    × Turn old c dealings reply new)
-    ⊎ ((cut ≡ true) × (end ≡ None) × (dealings ≡ []) × (reply ≡ []) × (new ≡ old)))))
+-- The last thing that is said, by what stands next. Where `cut` is true, the talk may break off: after a command, or before it.
+pub data IsLast : Bool → NextCommand → State → List Dealing → List ℕ → Option End → State → Type 0 where
+  waiting : (cut : Bool) (is : NextCommand) (s : State) → is ≡ Waits → IsLast cut is s [] [] None s
+  ending : (cut : Bool) (is : NextCommand) (s : State) → is ≡ Ends → IsLast cut is s [] [] (Some InputEnd) s
+  stopping : (cut : Bool) (is : NextCommand) (s t : State) (c : Command) (e : End) (ds : List Dealing) (reply : List ℕ)
+      → is ≡ Stops c e → Turn s c ds reply t → IsLast cut is s ds reply (Some e) t
+  going : (is : NextCommand) (s t : State) (c : Command) (rest : List ℕ) (ds : List Dealing) (reply : List ℕ)
+      → is ≡ Goes c rest → Turn s c ds reply t → IsLast true is s ds reply None t
+  leaving : (is : NextCommand) (s : State) → IsLast true is s [] [] None s
 
 -- What stands next in bytes that have ended or not:
 abbrev pub Ahead : Type 0
