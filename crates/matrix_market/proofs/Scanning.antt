@@ -44,3 +44,19 @@ pub scanned_next : (xs : List ℕ) (i j v w : ℕ) → i ≤ j → j < length xs
     → is_ascii_digit (get_or xs j 0) ≡ true → w ≡ (v * 10 % 2 ^ 64 + (get_or xs j 0 - 48)) % 2 ^ 64
     → Scanned (slice_range xs i (j + 1)) w
 scanned_next xs i j v w a b s d e = subst (λ (ds : List ℕ). Scanned ds w) (sym (range_more xs i j a b)) (scanned_more (slice_range xs i j) v w (get_or xs j 0) s d e)
+
+-- a part whose end is written otherwise
+pub scanned_at : (xs : List ℕ) (i j k v : ℕ) → j ≡ k → Scanned (slice_range xs i j) v → Scanned (slice_range xs i k) v
+scanned_at xs i j k v e s = subst (λ (n : ℕ). Scanned (slice_range xs i n) v) e s
+
+pub is_digit : (b : ℕ) → b < 256 → (b + 208) % 256 ≤ 9 → is_ascii_digit b ≡ true
+is_digit b f h =
+    let low : 48 ≤ b = omega arith in
+    let high : b ≤ 57 = omega arith in
+    grind (arith, nat_tests)
+
+pub less : (b : ℕ) → b < 256 → (b + 208) % 256 ≤ 9 → (b + 208) % 256 ≡ b - 48
+less b f h = omega arith
+
+pub not_ten : {b : ℕ} → is_ascii_digit b ≡ true → b ≡ 10 → ⊥
+not_ten {b} d e = grind (arith, nat_tests)

@@ -13,6 +13,8 @@ pub struct UsualLine {
 }
 
 /// The digits from a place on: their number in 64 bits, and where they end.
+///
+/// Few numbers have more than eight digits. The compiler unrolls a loop over so many, which then counts no places.
 #[inline(always)]
 fn digits(text: &[u8], from: usize, last: usize) -> (u64, usize)
     requires within { last < length text.now }
@@ -23,7 +25,31 @@ fn digits(text: &[u8], from: usize, last: usize) -> (u64, usize)
     ensures scanned { Scanned (slice_range text.now from result.1) result.0 }
 {
     let mut value = 0u64;
-    let mut at = from;
+    let mut count = 0;
+    while count < 8 {
+        let digit = text[from + count].wrapping_sub(48);
+        if digit > 9 {
+            return (value, from + count);
+        }
+        value = value.wrapping_mul(10).wrapping_add(u64::from(digit));
+        count += 1;
+    }
+    more_digits(text, from, from + count, last, value)
+}
+
+/// The same, where the digits before a place are read. It is no part of the loop over lines, which stays short.
+#[inline(never)]
+fn more_digits(text: &[u8], from: usize, start: usize, last: usize, read: u64) -> (u64, usize)
+    requires within { last < length text.now }
+    requires stop { slice_index text.now last ≡ 10 }
+    requires before { (from ≤ start) × (start ≤ last) }
+    requires scanned { Scanned (slice_range text.now from start) read }
+    ensures stays { from ≤ result.1 }
+    ensures stops { result.1 ≤ last }
+    ensures scanned { Scanned (slice_range text.now from result.1) result.0 }
+{
+    let mut value = read;
+    let mut at = start;
     loop {
         let digit = text[at].wrapping_sub(48);
         if digit > 9 {
@@ -73,20 +99,18 @@ fn value(text: &[u8], from: usize, last: usize) -> Option<(u64, usize)>
     ensures { IfSome result (λ p. (p.1 ≤ last) × IsValue text.now from p.1 p.0) }
 {
     let negative = text[from] == b'-';
-    let start = if negative { from + 1 } else { from };
+    // no processor foresees which values have a sign, so it is added to the place without a branch
+    let start = from + usize::from(negative);
     let (magnitude, to) = digits(text, start, last);
     if !matches!(to - start, 1..=19) {
         return None;
     }
+    if magnitude >= 1 << 63 {
+        return None;
+    }
     if negative {
-        if magnitude > 1 << 63 {
-            return None;
-        }
         Some((magnitude.wrapping_neg(), to))
     } else {
-        if magnitude >= 1 << 63 {
-            return None;
-        }
         Some((magnitude, to))
     }
 }
