@@ -105,7 +105,7 @@ fn value(text: &[u8], from: usize, last: usize) -> Option<(u64, usize)>
     if !matches!(to - start, 1..=19) {
         return None;
     }
-    if magnitude >= 1 << 63 {
+    if magnitude >= (1 << 63) + u64::from(negative) {
         return None;
     }
     if negative {

@@ -6,7 +6,7 @@ use Rattle.matrix_market.specs.inner.Usual.{Scanned}
 use Rattle.matrix_market.proofs.Fields.{plain_value, minus_value}
 use Rattle.matrix_market.proofs.usual.value.Goals as goal
 
-negation : (m r : ℕ) → r < 2 ^ 64 → m < 2 ^ 63 → (r + m) % 2 ^ 64 ≡ 0 → r ≡ (2 ^ 64 - m) % 2 ^ 64
+negation : (m r : ℕ) → r < 2 ^ 64 → m ≤ 2 ^ 63 → (r + m) % 2 ^ 64 ≡ 0 → r ≡ (2 ^ 64 - m) % 2 ^ 64
 negation m r a b e = omega arith
 
 signed : (b n : ℕ) → n ≡ from_bool (nat_eq b 45) → b ≡ 45 → n ≡ 1
@@ -23,9 +23,10 @@ returns-then-negative c =
     let stops = c.digits-magnitude.ensures.stops in
     let one = signed _ _ c.from.ensures c.if-negative.true in
     let scanned = subst (λ (k : ℕ). Scanned (slice_range c.args.text.now (c.args.from + k) c.digits-magnitude.result.1) c.digits-magnitude.result.0) one c.digits-magnitude.ensures.scanned in
-    let small = c.if-magnitude.false in
+    let more = signed _ _ c.from-2.ensures c.if-negative.true in
+    let small : c.digits-magnitude.result.0 ≤ 2 ^ 63 = let m = c.if-magnitude-from.false in omega arith in
     let word = negation c.digits-magnitude.result.0 c.wrapping_neg.result c.wrapping_neg.type_inv small c.wrapping_neg.ensures in
-    (stops, minus_value c.args.text.now c.args.from c.digits-magnitude.result.1 c.digits-magnitude.result.0 c.wrapping_neg.result (omega arith) (omega arith) (omega arith) c.if-negative.true scanned (omega arith) word)
+    (stops, minus_value c.args.text.now c.args.from c.digits-magnitude.result.1 c.digits-magnitude.result.0 c.wrapping_neg.result (omega arith) (omega arith) (omega arith) c.if-negative.true scanned small word)
 
 pub returns-else-negative : goal.returns-else-negative
 returns-else-negative c =
@@ -33,5 +34,7 @@ returns-else-negative c =
     let stops = c.digits-magnitude.ensures.stops in
     let none = plain _ _ c.from.ensures c.if-negative.false in
     let start : c.args.from + c.from.result ≡ c.args.from = omega arith in
+    let more = plain _ _ c.from-2.ensures c.if-negative.false in
+    let small : c.digits-magnitude.result.0 < 2 ^ 63 = let m = c.if-magnitude-from.false in omega arith in
     let scanned = subst (λ (k : ℕ). Scanned (slice_range c.args.text.now k c.digits-magnitude.result.1) c.digits-magnitude.result.0) start c.digits-magnitude.ensures.scanned in
-    (stops, plain_value c.args.text.now c.args.from c.digits-magnitude.result.1 c.digits-magnitude.result.0 (omega arith) (omega arith) (omega arith) scanned c.if-magnitude.false)
+    (stops, plain_value c.args.text.now c.args.from c.digits-magnitude.result.1 c.digits-magnitude.result.0 (omega arith) (omega arith) (omega arith) scanned small)
