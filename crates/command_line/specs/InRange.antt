@@ -14,7 +14,8 @@ HasRoom steps workers = (steps ≤ 2 ^ 62) × (1 ≤ workers) × (workers ≤ 64
 -- these and at most 1000000 seconds, and of a server a port from 1 to 65535, at most 1000000 sessions, and at most 2^62 steps for
 -- each
 abbrev pub IsInRange : Settings → Type 0
-IsInRange (Run steps workers idle) = HasRoom steps workers × IsWithin 1000000 idle
+IsInRange (Run steps workers idle log log_format log_every) =
+    HasRoom steps workers × IsWithin 1000000 idle × IsWithin 1000000 log_every
 IsInRange (Serve port steps workers sessions idle session_steps session_reserve log log_format log_every) =
     HasRoom steps workers × (1 ≤ port) × (port ≤ 65535) × IsWithin 1000000 sessions × IsWithin 1000000 idle
     × IsWithin (2 ^ 62) session_steps × IsWithin (2 ^ 62) session_reserve × IsWithin 1000000 log_every

@@ -1,6 +1,7 @@
 -- The command line of the program, as the parser of command lines reads it (this project's own):
--- `spmat run --steps N --workers W [--idle SECONDS]`, `spmat serve --port P --steps N --workers W [--sessions K] [--idle SECONDS]
--- [--session-steps N] [--session-reserve N] [--log] [--log-format FORMAT] [--log-every SECONDS]`, and `spmat --version`.
+-- `spmat run --steps N --workers W [--idle SECONDS] [LOG]`, `spmat serve --port P --steps N --workers W [--sessions K]
+-- [--idle SECONDS] [--session-steps N] [--session-reserve N] [LOG]`, and `spmat --version`. LOG stands for
+-- `[--log] [--log-format FORMAT] [--log-every SECONDS]`.
 use Rattle.std.specs.Prelude.{ℕ, ◌≡◌, ◌^◌, Bool, true, false, List, [], ◌∷◌, Option, Some, None, codes}
 use Rattle.std.specs.Str.Parse.{digits_value, without_leading_plus, IsNumeral}
 use Rattle.clap.specs.Words.{App, Row, Rule, Shape, Text, new_app, new_rule, with_rule, with_subcommand}
@@ -55,7 +56,9 @@ log_option = record (new_rule (codes "log")) { long = Some (codes "log"); action
 
 -- the command `run`
 abbrev pub run_command : App
-run_command = with_rule (with_rule (with_rule (new_app (codes "run")) steps_option) workers_option) idle_option
+run_command =
+    let app = with_rule (with_rule (with_rule (new_app (codes "run")) steps_option) workers_option) idle_option in
+    with_rule (with_rule (with_rule app log_option) log_format_option) log_every_option
 
 -- the command `serve`
 abbrev pub serve_command : App
@@ -101,9 +104,10 @@ IsFormatIfAny (Some text) (Some formats.Json) = text ≡ codes "json"
 
 -- the settings are of the command of this name, and have the numbers of the options among these rows
 abbrev pub IsAskedIn : Text → List Row → Settings → Type 0
-IsAskedIn name rows (Run steps workers idle) =
+IsAskedIn name rows (Run steps workers idle log log_format log_every) =
     (name ≡ codes "run") × IsNumberOf (one_of (codes "steps") rows) steps × IsNumberOf (one_of (codes "workers") rows) workers
-    × IsNumberIfAny (one_of (codes "idle") rows) idle
+    × IsNumberIfAny (one_of (codes "idle") rows) idle × (log ≡ is_set (first_of (codes "log") rows))
+    × IsFormatIfAny (first_of (codes "log-format") rows) log_format × IsNumberIfAny (one_of (codes "log-every") rows) log_every
 IsAskedIn name rows (Serve port steps workers sessions idle session_steps session_reserve log log_format log_every) =
     (name ≡ codes "serve") × IsNumberOf (one_of (codes "port") rows) port × IsNumberOf (one_of (codes "steps") rows) steps
     × IsNumberOf (one_of (codes "workers") rows) workers × IsNumberIfAny (one_of (codes "sessions") rows) sessions

@@ -10,11 +10,14 @@ use thiserror::Error;
 #[derive(Clone, Copy, Debug, PartialEq, Eq)]
 pub enum Settings {
     /// Serve one session on standard input and output, with a budget of so many steps, and for so many seconds without a word
-    /// of its client, if a number is given.
+    /// of its client, if a number is given. There is a log of it, or none, as of `Serve`.
     Run {
         steps: u64,
         workers: u64,
         idle: Option<u64>,
+        log: bool,
+        log_format: Option<LogFormat>,
+        log_every: Option<u64>,
     },
     /// Serve sessions on a port of this machine, all on one purse of so many steps: so many
     /// sessions, if a number is given, and for so many seconds without a word of its client each, if a number is given. Each

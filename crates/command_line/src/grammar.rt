@@ -124,7 +124,7 @@ fn log_option<'a>(alloc: Global) -> Arg<'a>
     Arg::new(alloc, "log")
         .long("log")
         .help(
-            "Write lines on standard error about the server, sessions that start or end, clients turned away, and refusals",
+            "Write lines on standard error about the process, sessions that start or end, clients turned away, and refusals",
         )
         .action(ArgAction::SetTrue)
 }
@@ -160,7 +160,10 @@ fn run_command<'a>(alloc: Global) -> Result<Command<'a>, AllocError>
         .about("Serves one session on standard input and output")
         .arg(steps_option(alloc, help))?
         .arg(workers_option(alloc))?
-        .arg(idle_option(alloc))
+        .arg(idle_option(alloc))?
+        .arg(log_option(alloc))?
+        .arg(log_format_option(alloc))?
+        .arg(log_every_option(alloc))
 }
 
 /// The command `serve`.

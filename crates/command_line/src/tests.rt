@@ -20,6 +20,9 @@ fn run(steps: u64, workers: u64) -> Settings {
         steps,
         workers,
         idle: None,
+        log: false,
+        log_format: None,
+        log_every: None,
     }
 }
 
@@ -65,6 +68,17 @@ fn words_that_are_taken(rt: HostRuntime) {
         steps: 1,
         workers: 1,
         idle: Some(1_000_000),
+        log: false,
+        log_format: None,
+        log_every: None,
+    };
+    let told = Settings::Run {
+        steps: 1,
+        workers: 1,
+        idle: None,
+        log: true,
+        log_format: Some(LogFormat::Json),
+        log_every: Some(1),
     };
     let cases = [
         ("spmat run --steps 100 --workers 1", run(100, 1)),
@@ -85,6 +99,10 @@ fn words_that_are_taken(rt: HostRuntime) {
             as_text,
         ),
         ("spmat run --idle 1000000 --steps 1 --workers 1", patient),
+        (
+            "spmat run --log --steps 1 --workers 1 --log-every 1 --log-format json",
+            told,
+        ),
     ];
     for (line, settings) in cases {
         let asked = settings_from(rt.alloc(), line);

@@ -123,6 +123,9 @@ fn run_settings(matches: &ArgMatches<'_>) -> Option<Settings>
         steps: number(matches, "steps", 0, MOST_STEPS as u64)?,
         workers: number(matches, "workers", 1, MOST_WORKERS as u64)?,
         idle: number_if_any(matches, "idle", MOST_SECONDS as u64)?,
+        log: is_set(matches, "log"),
+        log_format: format_if_any(matches)?,
+        log_every: number_if_any(matches, "log-every", MOST_SECONDS as u64)?,
     })
 }
 

@@ -8,10 +8,11 @@ ghost use Rattle.listener.specs.Limits.{IsWithin, Meters};
 ghost use Rattle.listener.specs.inner.Speaking.{IsServedBy, beginning};
 
 use crate::acceptor::Caller;
-use crate::entry::{Account, Ending};
+use crate::entry::Ending;
 use crate::journal::Journal;
 use crate::notice::{Notice, Noticing};
-use crate::retrying::{Retrying, Traffic, set_idle};
+use crate::origin::Origin;
+use crate::retrying::{LastCall, Retrying, set_idle};
 use crate::roster::Watch;
 use crate::seats::{Seat, take_seat};
 use crate::server::ServerState;
@@ -20,11 +21,11 @@ use crate::watching::Watching;
 use session::{End, FromRead, ServeFault, Session, Sink, Source, ToWrite};
 use std::io::{Read, Write};
 use std::marker::Brand;
-use std::net::{Shutdown, SocketAddr, TcpStream};
+use std::net::{Shutdown, TcpStream};
 use std::sync::Wait;
 use std::sync::ledger::{Blank, Ledger};
 use std::thread::{Scope, Threads};
-use std::time::{Clock, Duration, Instant};
+use std::time::Clock;
 use step_purse::{Pass, Purse};
 
 /// How many reads of what a client has still sent are made before its connection is closed.
@@ -60,19 +61,10 @@ fn turn_away(stream: &TcpStream) {
 fn note_turned_away<R: Wait + Clock, L: Ledger>(
     rt: &R,
     server: &ServerState<'_, L>,
-    client: SocketAddr,
+    client: Origin,
 ) {
     if let Some(journal) = server.journal {
-        let account = Account {
-            ending: Ending::TurnedAway,
-            time: Some(Duration::ZERO),
-            received: 0,
-            sent: NO_BUSY.len() as u64,
-            commands: 0,
-            spent: 0,
-            refused: 0,
-        };
-        journal.note_end(rt, client, account);
+        journal.note_turned_away(rt, client, NO_BUSY.len() as u64);
     }
 }
 
@@ -169,10 +161,10 @@ fn ending_of(outcome: Result<End, ServeFault>, is_idle: bool) -> Ending
     }
 }
 
-/// Where a session's reservations are noted, if a log tells them.
-fn watch_in<'j>(journal: Option<&'j Journal>, client: SocketAddr) -> Option<Watch<'j>> {
+/// Where it is noted what a session does, if there is a log.
+pub fn watch_in<'j>(journal: Option<&'j Journal>, client: Origin) -> Option<Watch<'j>> {
     match journal {
-        Some(journal) => journal.watch(client),
+        Some(journal) => Some(journal.watch(client)),
         None => None,
     }
 }
@@ -193,18 +185,15 @@ fn attend<'a, R: Threads + Wait + Clock, L: Ledger>(
     ensures { IsServedBy server.now.purse.now pass server.now.terms.limits result }
 {
     let Caller { stream, address } = caller;
-    let began = match server.journal {
-        Some(journal) => {
-            journal.note_start(rt, address);
-            Instant::now(rt).ok()
-        }
-        None => None,
-    };
-    let (mut received, mut sent, mut refused) = (Traffic::none(), Traffic::none(), 0);
-    let watch = watch_in(server.journal, address);
-    let reader = Watching::new(Retrying::new(&stream, &mut received), rt, watch);
-    let notice = Notice::of(rt, server.journal, address);
-    let sending = Watching::new(Retrying::new(&stream, &mut sent), rt, watch);
+    let client = Origin::Address(address);
+    if let Some(journal) = server.journal {
+        journal.note_start(rt, client);
+    }
+    let (mut read, mut wrote, mut refused) = (LastCall::none(), LastCall::none(), 0);
+    let watch = watch_in(server.journal, client);
+    let reader = Watching::new(Retrying::new(&stream, &mut read), rt, watch);
+    let notice = Notice::of(rt, server.journal, client);
+    let sending = Watching::new(Retrying::new(&stream, &mut wrote), rt, watch);
     let writer = Noticing::new(sending, notice, &mut refused);
     let given = Given {
         room,
@@ -213,19 +202,11 @@ fn attend<'a, R: Threads + Wait + Clock, L: Ledger>(
         watch,
     };
     let served = serve_over(rt, server, given, reader, writer);
-    drop(seat);
     if let Some(journal) = server.journal {
-        let account = Account {
-            ending: ending_of(served.outcome, received.is_idle || sent.is_idle),
-            time: began.and_then(|began| began.elapsed(rt).ok()),
-            received: received.bytes,
-            sent: sent.bytes,
-            commands: served.commands,
-            spent: served.spent,
-            refused,
-        };
-        journal.note_end(rt, address, account);
+        let ending = ending_of(served.outcome, read.is_idle || wrote.is_idle);
+        journal.note_end(rt, client, ending, refused);
     }
+    drop(seat);
     hang_up(&stream);
     served
 }
@@ -244,7 +225,7 @@ pub fn admit<'s, 'a, R: Threads + Wait + Clock + Sync, L: Ledger + Send + Sync>(
     requires within { IsWithin (beginning pass server.now.terms.limits) }
     requires full { IfSome room (λ r. r ≡ full_session server.now.terms.workers) }
 {
-    let client = caller.address;
+    let client = Origin::Address(caller.address);
     let _ = caller.stream.set_nodelay(true);
     if set_idle(&caller.stream, server.terms.idle).is_err() {
         turn_away(&caller.stream);

@@ -1,12 +1,12 @@
 //! What the log tells.
 
+use crate::origin::Origin;
 use crate::pace::Untold;
 use crate::refusal::Refusal;
 use crate::roster::Standing;
 use crate::tally::Kind;
 use session::{End, ServeFault};
 use std::fmt;
-use std::net::SocketAddr;
 use std::time::{Clock, Duration, SystemTime};
 
 /// How a session ended, or that there was none.
@@ -50,8 +50,9 @@ pub struct Account {
     /// The bytes that the client sent, and those that it was sent.
     pub received: u64,
     pub sent: u64,
-    /// The commands that were taken, and the steps that their jobs spent.
+    /// The commands that were taken, the jobs that they queued, and the steps that these spent.
     pub commands: u64,
+    pub jobs: u64,
     pub spent: u64,
     /// How often the client was refused something.
     pub refused: u64,
@@ -93,8 +94,8 @@ impl Event {
 pub struct Entry {
     /// When it happened, where the clock could be read.
     pub at: Option<SystemTime>,
-    /// Where the connection came from.
-    pub client: SocketAddr,
+    /// Where the client is.
+    pub client: Origin,
     pub event: Event,
     /// What was counted since the last line of its kind, and has no line.
     pub untold: Untold,
@@ -102,7 +103,7 @@ pub struct Entry {
 
 impl Entry {
     /// An event of this moment.
-    pub fn new<R: Clock>(rt: &R, client: SocketAddr, event: Event) -> Self {
+    pub fn new<R: Clock>(rt: &R, client: Origin, event: Event) -> Self {
         Entry {
             at: SystemTime::now(rt).ok(),
             client,

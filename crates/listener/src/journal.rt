@@ -6,9 +6,11 @@
 ghost use Rattle.std.specs.Prelude.{◌≡◌, ◌+◌, ◌-◌, ◌^◌, ◌++◌, ◌∷◌, [], min, true, false};
 ghost use Rattle.listener.specs.inner.Waiting.{IsTaken};
 
-use crate::entry::{Account, Entry, Event};
+use crate::entry::{Account, Ending, Entry, Event};
 use crate::fault::ListenFault;
 use crate::line::{Closing, Line, Opening, Place};
+use crate::origin::Origin;
+use crate::pace::Pace;
 use crate::refusal::Refusal;
 use crate::roster::{Roster, Row, Watch};
 use crate::seats::SEATS;
@@ -16,7 +18,6 @@ use crate::server::ServerTerms;
 use crate::tally::Tally;
 use std::alloc::{AllocError, Global};
 use std::collections::VecDeque;
-use std::net::SocketAddr;
 use std::sync::{Condvar, Mutex, Wait};
 use std::time::{Clock, Duration, Instant, SystemTime};
 use step_purse::Totals;
@@ -106,14 +107,6 @@ fn this_second<R: Clock>(rt: &R) -> u64 {
     }
 }
 
-/// What is told of a session that runs.
-fn runs<R: Clock>(rt: &R, row: &Row) -> Event {
-    Event::Runs {
-        time: row.began.and_then(|began| began.elapsed(rt).ok()),
-        standing: row.standing,
-    }
-}
-
 /// The log of a server. Sessions leave lines in it, and `write_out` writes them.
 #[derive(Drop)]
 pub struct Journal {
@@ -122,17 +115,24 @@ pub struct Journal {
     tally: Mutex<Tally>,
     format: LogFormat,
     every: Option<u64>,
+    /// How many lines tell of batches that have ended, if any do.
+    batches: Option<Mutex<Pace>>,
     roster: Roster,
 }
 
 impl Journal {
     /// A log in which no line waits, with the room for all that may. It has lines of this format. Where a number of seconds is
-    /// given, it tells so often how each session stands.
+    /// given, it tells so often how each session stands, and also at the end of each batch, where it is to.
     ///
     /// # Errors
     ///
     /// There is no memory for it.
-    pub fn new(alloc: Global, format: LogFormat, every: Option<u64>) -> Result<Self, AllocError> {
+    pub fn new(
+        alloc: Global,
+        format: LogFormat,
+        every: Option<u64>,
+        tells_batches: bool,
+    ) -> Result<Self, AllocError> {
         let entries = VecDeque::with_capacity(alloc, MOST_WAITING)?;
         let waiting = Waiting {
             entries,
@@ -145,6 +145,11 @@ impl Journal {
             tally: Mutex::new(Tally::new()),
             format,
             every,
+            batches: if tells_batches && every.is_some() {
+                Some(Mutex::new(Pace::many()))
+            } else {
+                None
+            },
             roster: Roster::new(alloc, SEATS as usize)?,
         })
     }
@@ -157,7 +162,7 @@ impl Journal {
     }
 
     /// Leaves a line of an event, or counts the event alone, where this second has had the lines of its kind.
-    fn note<R: Wait + Clock>(&self, rt: &R, client: SocketAddr, event: Event) {
+    fn note<R: Wait + Clock>(&self, rt: &R, client: Origin, event: Event) {
         let mut entry = Entry::new(rt, client, event);
         let Some((kind, steps)) = event.kind() else {
             self.add(rt, entry);
@@ -173,33 +178,76 @@ impl Journal {
     }
 
     /// Leaves a line that a session starts.
-    pub fn note_start<R: Wait + Clock>(&self, rt: &R, client: SocketAddr) {
-        if self.every.is_some() {
-            self.roster.enter(rt, client);
-        }
+    pub fn note_start<R: Wait + Clock>(&self, rt: &R, client: Origin) {
+        self.roster.enter(rt, client);
         self.note(rt, client, Event::Start);
     }
 
-    /// Leaves a line of how a session ended, or that a client was turned away.
-    pub fn note_end<R: Wait + Clock>(&self, rt: &R, client: SocketAddr, account: Account) {
-        if self.every.is_some() {
-            self.roster.leave(rt, client);
-        }
+    /// Leaves a line that a client was turned away, which was sent so many bytes.
+    pub fn note_turned_away<R: Wait + Clock>(&self, rt: &R, client: Origin, sent: u64) {
+        let account = Account {
+            ending: Ending::TurnedAway,
+            time: Some(Duration::ZERO),
+            received: 0,
+            sent,
+            commands: 0,
+            jobs: 0,
+            spent: 0,
+            refused: 0,
+        };
         self.note(rt, client, Event::End(account));
     }
 
+    /// Leaves a line of how a session ended that was refused something so often.
+    pub fn note_end<R: Wait + Clock>(&self, rt: &R, client: Origin, ending: Ending, refused: u64) {
+        let Some(row) = self.roster.leave(rt, client) else {
+            return;
+        };
+        let standing = row.standing;
+        let account = Account {
+            ending,
+            time: row.time(rt),
+            received: standing.received,
+            sent: standing.sent,
+            commands: standing.commands,
+            jobs: standing.jobs_in_all,
+            spent: standing.spent,
+            refused,
+        };
+        self.note(rt, client, Event::End(account));
+    }
+
+    /// Leaves a line of how a session stands whose batch has ended, if that is told, and this second hasn't had too many.
+    pub fn note_batch<R: Wait + Clock>(&self, rt: &R, client: Origin) {
+        let Some(batches) = &self.batches else {
+            return;
+        };
+        let Some(row) = self.roster.spender(rt, client) else {
+            return;
+        };
+        let told = batches.lock(rt).tell(this_second(rt), 0);
+        if told.is_some() {
+            let (time, standing) = (row.time(rt), row.standing);
+            self.add(rt, Entry::new(rt, client, Event::Runs { time, standing }));
+        }
+    }
+
+    /// The steps that the sessions spent which have ended.
+    pub fn spent<R: Wait>(&self, rt: &R) -> u64 {
+        self.tally.lock(rt).counts.steps
+    }
+
     /// Leaves a line of a refusal.
-    pub fn note_refusal<R: Wait + Clock>(&self, rt: &R, client: SocketAddr, refusal: Refusal) {
+    pub fn note_refusal<R: Wait + Clock>(&self, rt: &R, client: Origin, refusal: Refusal) {
         self.note(rt, client, Event::Refused(refusal));
     }
 
-    /// Where what a session has reserved and spent is noted, if that is told.
-    pub fn watch(&self, client: SocketAddr) -> Option<Watch<'_>> {
-        let _seconds = self.every?;
-        Some(Watch {
+    /// Where it is noted what a session does.
+    pub fn watch(&self, client: Origin) -> Watch<'_> {
+        Watch {
             roster: &self.roster,
             client,
-        })
+        }
     }
 
     /// Tells that no more lines come.
@@ -236,7 +284,7 @@ impl Journal {
     }
 
     /// Where a line of the server stands that is written now.
-    fn place<R: Clock>(&self, rt: &R, address: SocketAddr) -> Place {
+    fn place<R: Clock>(&self, rt: &R, address: Origin) -> Place {
         Place {
             at: SystemTime::now(rt).ok(),
             address,
@@ -244,11 +292,11 @@ impl Journal {
         }
     }
 
-    /// Writes that a server of these steps and terms listens on an address, and of which version its program is.
+    /// Writes that a server of these steps and terms begins, whose clients come in there, and of which version its program is.
     pub fn write_opening<R: Clock + Eprint>(
         &self,
         rt: &R,
-        address: SocketAddr,
+        address: Origin,
         version: &str,
         steps: u64,
         terms: ServerTerms,
@@ -262,11 +310,11 @@ impl Journal {
         });
     }
 
-    /// Writes why the server that listened on an address has closed, and its totals. To be called once all else is written.
+    /// Writes why the server whose clients came in there has closed, and its totals. To be called once all else is written.
     pub fn write_closing<R: Wait + Clock + Eprint>(
         &self,
         rt: &R,
-        address: SocketAddr,
+        address: Origin,
         served: &Result<(), ListenFault>,
         totals: Totals,
     ) {
@@ -294,7 +342,11 @@ impl Journal {
     fn write_roster<R: Wait + Clock + Eprint>(&self, rt: &R) {
         for nth in 0..SEATS as usize {
             if let Some(row) = self.roster.at(rt, nth) {
-                self.write(rt, &Entry::new(rt, row.client, runs(rt, &row)));
+                let (time, standing) = (row.time(rt), row.standing);
+                self.write(
+                    rt,
+                    &Entry::new(rt, row.client, Event::Runs { time, standing }),
+                );
             }
         }
     }

@@ -3,6 +3,7 @@
 use crate::entry::{Account, Entry, Event};
 use crate::fault::ListenFault;
 use crate::journal::LogFormat;
+use crate::origin::Origin;
 use crate::pace::Untold;
 use crate::refusal::Refusal;
 use crate::roster::Standing;
@@ -10,14 +11,13 @@ use crate::server::ServerTerms;
 use crate::tally::Counts;
 use jiff::Timestamp;
 use std::fmt;
-use std::net::SocketAddr;
 use std::time::{Duration, SystemTime};
 
-/// Where a line of a server stands: when it is written, at which address the server listens, and in which format.
+/// Where a line of a server stands: when it is written, where the clients of the server come in, and in which format.
 #[derive(Clone, Copy)]
 pub struct Place {
     pub at: Option<SystemTime>,
-    pub address: SocketAddr,
+    pub address: Origin,
     pub format: LogFormat,
 }
 
@@ -171,6 +171,7 @@ fn end<W: fmt::Write>(
     number(f, format, "in", account.received)?;
     number(f, format, "out", account.sent)?;
     number(f, format, "commands", account.commands)?;
+    number(f, format, "jobs", account.jobs)?;
     number(f, format, "steps", account.spent)?;
     number(f, format, "refused", account.refused)
 }

@@ -3,10 +3,10 @@
 ghost use Rattle.std.specs.Prelude.{◌≡◌};
 
 use crate::journal::Journal;
+use crate::origin::Origin;
 use crate::refusal::{LONGEST, Refusal};
 use std::io;
 use std::io::Write;
-use std::net::SocketAddr;
 use std::sync::Wait;
 use std::time::Clock;
 
@@ -15,12 +15,12 @@ use std::time::Clock;
 pub struct Notice<'s, R> {
     pub rt: &'s R,
     pub journal: &'s Journal,
-    pub client: SocketAddr,
+    pub client: Origin,
 }
 
 impl<'s, R> Notice<'s, R> {
     /// What is told to a log of a client, if there is one.
-    pub fn of(rt: &'s R, journal: Option<&'s Journal>, client: SocketAddr) -> Option<Self> {
+    pub fn of(rt: &'s R, journal: Option<&'s Journal>, client: Origin) -> Option<Self> {
         match journal {
             Some(journal) => Some(Notice {
                 rt,
@@ -89,8 +89,8 @@ fn look<R: Wait + Clock>(
     }
 }
 
-/// The written side of a connection: each line that refuses something is counted, and told to the log. No line of
-/// a text that follows a reply begins as a refusal does. Its bytes are those of the side below.
+/// The written side of a connection: each line that refuses something is counted, and told to the log; so is a batch, before its
+/// reply is sent. No line of a text that follows a reply begins as a refusal does. Its bytes are those of the side below.
 #[derive(Drop)]
 pub struct Noticing<'s, W: Drop, R> {
     side: W,
@@ -117,6 +117,16 @@ impl<W: Write + Drop, R: Wait + Clock> Write for Noticing<'_, W, R> {
     ghost contents = { λ s. W.contents s.side };
 
     fn write(&mut self, buf: &[u8]) -> io::Result<usize> {
+        if let Some(
+            Notice {
+                rt,
+                journal,
+                client,
+            },
+        ) = &self.notice
+        {
+            journal.note_batch(*rt, *client);
+        }
         let outcome = self.side.write(buf);
         if let (Ok(count), Some(notice)) = (&outcome, &self.notice) {
             look(notice, &mut self.line, self.refused, &buf[..*count]);

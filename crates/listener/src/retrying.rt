@@ -1,5 +1,5 @@
-//! For how long a session waits for its client, and how much goes over its connection.
-ghost use Rattle.std.specs.Prelude.{◌≡◌, ◌+◌, ◌-◌, ◌^◌, ◌↔◌, min, false, IsTrue, IfOk, IfErr, OnOk, OnErr};
+//! For how long a session waits for its client.
+ghost use Rattle.std.specs.Prelude.{◌≡◌, ◌↔◌, false, IsTrue, IfErr, OnOk};
 ghost use Rattle.std.specs.IoError.{error_kind};
 
 use std::io;
@@ -19,36 +19,28 @@ pub fn set_idle(stream: &TcpStream, idle: Option<u64>) -> io::Result<()> {
     stream.set_write_timeout(longest)
 }
 
-/// What went over one side of a connection.
+/// The last call of one side of a connection.
 #[derive(Clone, Copy, Debug, PartialEq, Eq)]
-pub struct Traffic {
-    /// How many bytes.
-    pub bytes: u64,
-    /// Whether the last call waited for as long as it may.
+pub struct LastCall {
+    /// Whether it failed since it waited for as long as it may.
     pub is_idle: bool,
 }
 
-impl Traffic {
-    /// Nothing yet.
+impl LastCall {
+    /// None yet.
     pub fn none() -> Self
-        ensures { result ≡ record { bytes = 0; is_idle = false } }
+        ensures { result ≡ record { is_idle = false } }
     {
-        Traffic {
-            bytes: 0,
-            is_idle: false,
-        }
+        LastCall { is_idle: false }
     }
 
-    /// Notes what a call of the side gave.
+    /// Notes how a call of the side ended.
     fn note(&mut self, outcome: &io::Result<usize>)
-        ensures counted { IfOk outcome.now (λ count. self.new.bytes ≡ min (self.old.bytes + count) (2 ^ 64 - 1)) }
-        ensures uncounted { OnErr outcome.now (self.new.bytes ≡ self.old.bytes) }
         ensures idle { IfErr outcome.now (λ error. IsTrue self.new.is_idle ↔ (error_kind error ≡ ErrorKind.WouldBlock)) }
         ensures same { OnOk outcome.now (self.new.is_idle ≡ self.old.is_idle) }
     {
-        match outcome {
-            Ok(count) => self.bytes = self.bytes.saturating_add(*count as u64),
-            Err(error) => self.is_idle = error.kind() == ErrorKind::WouldBlock,
+        if let Err(error) = outcome {
+            self.is_idle = error.kind() == ErrorKind::WouldBlock;
         }
     }
 }
@@ -58,15 +50,15 @@ impl Traffic {
 #[derive(Drop)]
 pub struct Retrying<'t, D: Drop> {
     device: D,
-    traffic: &'t mut Traffic,
+    last: &'t mut LastCall,
 }
 
 impl<'t, D: Drop> Retrying<'t, D> {
-    /// A side over this device, whose traffic is noted.
-    pub fn new(device: D, traffic: &'t mut Traffic) -> Self
+    /// A side over this device, whose last call is noted.
+    pub fn new(device: D, last: &'t mut LastCall) -> Self
         ensures { result.device ≡ device }
     {
-        Retrying { device, traffic }
+        Retrying { device, last }
     }
 }
 
@@ -88,7 +80,7 @@ impl<R: Read + Drop> Read for Retrying<'_, R> {
         for _ in 0..u64::MAX {
             let outcome = self.device.read(buf);
             if !is_cut_short(&outcome) {
-                self.traffic.note(&outcome);
+                self.last.note(&outcome);
                 return outcome;
             }
         }
@@ -103,7 +95,7 @@ impl<W: Write + Drop> Write for Retrying<'_, W> {
         for _ in 0..u64::MAX {
             let outcome = self.device.write(buf);
             if !is_cut_short(&outcome) {
-                self.traffic.note(&outcome);
+                self.last.note(&outcome);
                 return outcome;
             }
         }

@@ -1,10 +1,10 @@
 //! What the sessions that run have reserved and spent, and what they wait for, for a log that tells it now and then.
 
+use crate::origin::Origin;
 use std::alloc::{AllocError, Global};
 use std::fmt;
-use std::net::SocketAddr;
 use std::sync::{Mutex, Wait};
-use std::time::{Clock, Instant};
+use std::time::{Clock, Duration, Instant};
 use step_purse::Reply;
 
 /// What a session is at.
@@ -43,22 +43,27 @@ pub struct Standing {
     /// The bytes that the client sent, and those that it was sent.
     pub received: u64,
     pub sent: u64,
+    /// The jobs that were queued in all, and the commands that were taken, once it has ended.
+    pub jobs_in_all: u64,
+    pub commands: u64,
 }
 
 /// A session that runs.
 #[derive(Clone, Copy)]
 pub struct Row {
-    pub client: SocketAddr,
+    pub client: Origin,
     /// When it started, where the clock could be read.
-    pub began: Option<Instant>,
+    began: Option<Instant>,
     pub standing: Standing,
+    /// The steps that a line at the end of a batch has told.
+    told: u64,
     /// Whether the client has sent something behind the last reply.
     is_amid: bool,
 }
 
 impl Row {
     /// A session that starts at a moment.
-    fn new(client: SocketAddr, began: Option<Instant>) -> Self {
+    fn new(client: Origin, began: Option<Instant>) -> Self {
         Row {
             client,
             began,
@@ -69,9 +74,17 @@ impl Row {
                 spent: 0,
                 received: 0,
                 sent: 0,
+                jobs_in_all: 0,
+                commands: 0,
             },
+            told: 0,
             is_amid: false,
         }
+    }
+
+    /// How long the session has run, where the clock can be read.
+    pub fn time<R: Clock>(&self, rt: &R) -> Option<Duration> {
+        self.began.and_then(|began| began.elapsed(rt).ok())
     }
 
     /// Notes something of the session.
@@ -81,6 +94,7 @@ impl Row {
             Note::Reserved { reply, reserved } => {
                 if let Reply::Took(_) = reply {
                     standing.jobs = standing.jobs.saturating_add(1);
+                    standing.jobs_in_all = standing.jobs_in_all.saturating_add(1);
                 }
                 standing.reserved = reserved;
             }
@@ -89,6 +103,7 @@ impl Row {
                 standing.reserved = reserved;
                 standing.spent = spent;
             }
+            Note::Took(commands) => standing.commands = commands,
             Note::Reads if self.is_amid => standing.state = State::Reading,
             Note::Reads => standing.state = State::Waiting,
             Note::Read(count) => {
@@ -113,6 +128,8 @@ pub enum Note {
     Reserved { reply: Reply, reserved: u64 },
     /// It settled a job. It has so many steps reserved now, and spent.
     Settled { reserved: u64, spent: u64 },
+    /// It has ended, and took so many commands.
+    Took(u64),
     /// It waits for bytes of its client, or has so many.
     Reads,
     Read(u64),
@@ -141,13 +158,13 @@ impl Roster {
     }
 
     /// Adds a session that starts now. Where there is no memory for it, it isn't told of.
-    pub fn enter<R: Wait + Clock>(&self, rt: &R, client: SocketAddr) {
+    pub fn enter<R: Wait + Clock>(&self, rt: &R, client: Origin) {
         let row = Row::new(client, Instant::now(rt).ok());
         let _ = self.rows.lock(rt).push(row);
     }
 
     /// Notes something of a session.
-    fn note<R: Wait>(&self, rt: &R, client: SocketAddr, note: Note) {
+    fn note<R: Wait>(&self, rt: &R, client: Origin, note: Note) {
         let mut rows = self.rows.lock(rt);
         for row in rows.iter_mut() {
             if row.client == client {
@@ -156,13 +173,24 @@ impl Roster {
         }
     }
 
-    /// Takes a session out that has ended.
-    pub fn leave<R: Wait>(&self, rt: &R, client: SocketAddr) {
+    /// A session that has spent steps since this was last asked, and has no job queued.
+    pub fn spender<R: Wait>(&self, rt: &R, client: Origin) -> Option<Row> {
         let mut rows = self.rows.lock(rt);
-        let nth = rows.iter().position(|row| row.client == client);
-        if let Some(nth) = nth {
-            rows.swap_remove(nth);
+        for row in rows.iter_mut() {
+            let standing = row.standing;
+            if row.client == client && standing.jobs == 0 && standing.spent != row.told {
+                row.told = standing.spent;
+                return Some(*row);
+            }
         }
+        None
+    }
+
+    /// Takes a session out that has ended.
+    pub fn leave<R: Wait>(&self, rt: &R, client: Origin) -> Option<Row> {
+        let mut rows = self.rows.lock(rt);
+        let nth = rows.iter().position(|row| row.client == client)?;
+        Some(rows.swap_remove(nth))
     }
 
     /// The session at a place, if there is one.
@@ -175,7 +203,7 @@ impl Roster {
 #[derive(Clone, Copy)]
 pub struct Watch<'r> {
     pub(crate) roster: &'r Roster,
-    pub(crate) client: SocketAddr,
+    pub(crate) client: Origin,
 }
 
 impl Watch<'_> {

@@ -5,12 +5,12 @@ ghost use Rattle.step_purse.specs.Histories.{own_calls};
 ghost use Rattle.step_purse.specs.Passes.{IsPassOf};
 ghost use Rattle.step_purse.specs.declared.dealings.Dealing.{Dealing};
 ghost use Rattle.session.specs.Talk.{Outcome};
-ghost use Rattle.listener.specs.Limits.{IsWithin, Meters};
+ghost use Rattle.listener.specs.Limits.{IsWithin, Meters, unbounded};
 ghost use Rattle.listener.specs.Metering.{told_steps, spent_by};
 
 use crate::limits::Limits;
 use crate::meter::Meter;
-use crate::roster::Watch;
+use crate::roster::{Note, Watch};
 use session::{End, ServeFault, Session, Sink, Source, Wallet};
 use std::sync::Wait;
 use std::thread::Threads;
@@ -80,6 +80,9 @@ pub fn serve_within<I: Source, O: Sink, H: Threads + Wait>(
     } = given;
     let mut meter = Meter::new(Wallet::new(purse, pass), limits, watch);
     let (outcome, commands) = room.serve_counting(rt, source, sink, &mut meter);
+    if let Some(watch) = &watch {
+        watch.note(rt, Note::Took(commands));
+    }
     let spent = meter.spent();
     Served {
         pass: meter.into_pass(),
@@ -87,6 +90,32 @@ pub fn serve_within<I: Source, O: Sink, H: Threads + Wait>(
         commands,
         spent,
     }
+}
+
+/// As `serve_pass`, where it is noted what the session does, if it is.
+///
+/// # Errors
+///
+/// As those of `serve_pass`.
+pub fn serve_unlimited<I: Source, O: Sink, H: Threads + Wait>(
+    rt: &H,
+    given: Given<'_>,
+    source: &mut I,
+    sink: &mut O,
+    purse: &Purse,
+) -> Served
+    requires own { IsPassOf purse.now given.pass }
+    requires unlimited { given.limits ≡ unbounded }
+    ensures said { Outcome Draws given.entry.room
+        (record { budget = given.entry.pass; source = I.state source.old; sink = O.state sink.old })
+        (record { budget = result.pass; source = I.state source.new; sink = O.state sink.new }) result.outcome }
+    ensures own { IsPassOf purse.now result.pass }
+    ensures owed { result.pass.known.owes ≡ given.entry.pass.known.owes }
+    ensures begun { result.outcome ≢ Err ServeFault.Memory }
+    ensures spent { (ds : List Dealing) → own_calls result.pass.known ≡ own_calls given.entry.pass.known ++ ds →
+        result.spent ≡ told_steps (spent_by ds) }
+{
+    serve_within(rt, given, source, sink, purse)
 }
 
 /// Serves one session within a purse that others draw on too, by a pass of it, which is handed back. What the session called of
@@ -118,5 +147,5 @@ pub fn serve_pass<I: Source, O: Sink, H: Threads + Wait>(
         limits: Limits::none(),
         watch: None,
     };
-    serve_within(rt, given, source, sink, purse)
+    serve_unlimited(rt, given, source, sink, purse)
 }

@@ -18,10 +18,11 @@ pub enum Kind {
     Refused,
 }
 
-/// How many sessions ended, how many clients were turned away, and how many refusals there were.
+/// How many sessions ended, how many steps they spent, how many clients were turned away, and how many refusals there were.
 #[derive(Clone, Copy, Debug, PartialEq, Eq)]
 pub struct Counts {
     pub sessions: u64,
+    pub steps: u64,
     pub turned_away: u64,
     pub refused: u64,
 }
@@ -39,11 +40,12 @@ pub struct Tally {
 impl Tally {
     /// Nothing yet.
     pub fn new() -> Self
-        ensures { result.counts ≡ record { sessions = 0; turned_away = 0; refused = 0 } }
+        ensures { result.counts ≡ record { sessions = 0; steps = 0; turned_away = 0; refused = 0 } }
     {
         Tally {
             counts: Counts {
                 sessions: 0,
+                steps: 0,
                 turned_away: 0,
                 refused: 0,
             },
@@ -57,13 +59,14 @@ impl Tally {
     /// Counts something of this second that took so many steps: whether it has a line, and what of its kind had none before.
     pub fn tell(&mut self, kind: Kind, second: u64, steps: u64) -> Option<Untold>
         ensures told { IfSome result (λ u. u ≡ untold_of self.old kind) }
-        ensures counted { self.new.counts ≡ counts_after self.old.counts kind }
+        ensures counted { self.new.counts ≡ counts_after self.old.counts kind steps }
     {
         let counts = &mut self.counts;
         match kind {
             Kind::Start => self.starts.tell(second, steps),
             Kind::Session => {
                 counts.sessions = counts.sessions.saturating_add(1);
+                counts.steps = counts.steps.saturating_add(steps);
                 self.sessions.tell(second, steps)
             }
             Kind::TurnedAway => {

@@ -1,7 +1,7 @@
 //! `spmat`, a server for jobs over sparse matrices whose operators are BPF code.
 //!
 //! The program is thin: `command_line` reads its words and tells its end; `solo` has one session on any two devices, `standard`
-//! makes sides of standard input and output, and `serving` has sessions over TCP.
+//! makes sides of standard input and output, `logged` has the log of such a session, and `serving` has sessions over TCP.
 //!
 //! What the words ask for is done by `answer`, over two devices that it is lent; its contract says what they gave and took
 //! (`specs/inner/Running.antt`). The functions above it make these devices of the standard streams, which no contract sees. For one
@@ -16,14 +16,16 @@ ghost use Rattle.command_line.specs.Endings.{code_of, status_of};
 ghost use Rattle.command_line.specs.InRange.{HasRoom, IsInRange};
 ghost use Rattle.spmat.specs.inner.Running.{IsAnswer, IsDoneAs, IsRunOf, IsVersionTold, MayEnd, explained, idle_in};
 
+mod logged;
 mod serving;
 mod solo;
 mod standard;
 
-use crate::serving::{open_server, serve};
+use crate::logged::{Alone, note_end, run_logged};
+use crate::serving::{log_of, open_server, serve};
 use crate::standard::Side;
 use command_line::{Done, Failure, Settings, SettingsFault, VERSION, ending_of, finish, settings};
-use listener::Cause;
+use listener::{Cause, Journal, Notice, Noticing, Origin, Watch, Watching, watch_in};
 use session::ServeFault;
 use std::io::{ErrorKind, Read, Write};
 use std::marker::Brand;
@@ -61,19 +63,20 @@ fn tell_version<H: Print>(rt: &H) -> Result<Done, Failure>
     }
 }
 
-/// Serves one session on these devices, which know why a call of theirs failed.
+/// Serves one session on these devices, which know why a call of theirs failed. What it does is noted, where a watch is given.
 fn run<I: Source, O: Sink, H: Threads + Wait + AllocGlobal>(
     rt: &H,
     source: &mut I,
     sink: &mut O,
     steps: u64,
     workers: u64,
+    watch: Option<Watch<'_>>,
 ) -> Result<Done, Failure>
     requires { HasRoom steps workers }
     ensures { IsRunOf steps workers (record { source = I.state source.old; sink = O.state sink.old })
         (record { source = I.state source.new; sink = O.state sink.new }) result }
 {
-    match solo::run(rt, source, sink, steps, workers) {
+    match solo::run(rt, source, sink, steps, workers, watch) {
         Ok(end) => Ok(Done::Session(end)),
         Err(fault) => Err(Failure::Session { fault, cause: None }),
     }
@@ -85,6 +88,7 @@ fn perform<I: Source, O: Sink, H>(
     settings: Settings,
     source: &mut I,
     sink: &mut O,
+    watch: Option<Watch<'_>>,
 ) -> Result<Done, Failure>
 where
     H: Clock
@@ -100,11 +104,7 @@ where
         (record { source = I.state source.new; sink = O.state sink.new }) result }
 {
     match settings {
-        Settings::Run {
-            steps,
-            workers,
-            idle: _,
-        } => run(rt, source, sink, steps, workers),
+        Settings::Run { steps, workers, .. } => run(rt, source, sink, steps, workers, watch),
         Settings::Serve { .. } => {
             serve(rt, open_server(rt, settings)?)?;
             Ok(Done::Sessions)
@@ -118,6 +118,7 @@ fn answer<I: Source, O: Sink, H>(
     asked: Result<Settings, SettingsFault>,
     source: &mut I,
     sink: &mut O,
+    watch: Option<Watch<'_>>,
 ) -> Result<Done, Failure>
 where
     H: Clock
@@ -133,7 +134,7 @@ where
         (record { source = I.state source.new; sink = O.state sink.new }) result }
 {
     match asked {
-        Ok(settings) => perform(rt, settings, source, sink),
+        Ok(settings) => perform(rt, settings, source, sink, watch),
         Err(SettingsFault::Version) => tell_version(rt),
         Err(fault) => Err(Failure::Settings(fault)),
     }
@@ -145,6 +146,7 @@ fn answer_counted<R: Read + Drop, W: Write + Drop, H, A: Ledger, B: Ledger, C: L
     asked: Result<Settings, SettingsFault>,
     reader: R,
     writer: W,
+    watch: Option<Watch<'_>>,
     blanks: (Blank, Blank, Blank, Blank),
 ) -> Result<Done, Failure>
 where
@@ -164,7 +166,7 @@ where
     let (reads, failed_reads, writes, failed_writes) = blanks;
     let mut source = FromRead::<R, A, B>::new(reader, reads, failed_reads);
     let mut sink = ToWrite::<W, C, D>::new(writer, writes, failed_writes);
-    answer(rt, asked, &mut source, &mut sink)
+    answer(rt, asked, &mut source, &mut sink, watch)
 }
 
 /// As `answer`, over a reader and a writer, which end with it.
@@ -173,6 +175,7 @@ fn answer_over<R: Read + Drop, W: Write + Drop, H>(
     asked: Result<Settings, SettingsFault>,
     reader: R,
     writer: W,
+    watch: Option<Watch<'_>>,
 ) -> Result<Done, Failure>
 where
     H: Clock
@@ -187,7 +190,7 @@ where
     ensures { MayEnd asked result }
 {
     let blanks = (Blank::new(1), Blank::new(1), Blank::new(1), Blank::new(1));
-    answer_counted::<R, W, H, Brand, Brand, Brand, Brand>(rt, asked, reader, writer, blanks)
+    answer_counted::<R, W, H, Brand, Brand, Brand, Brand>(rt, asked, reader, writer, watch, blanks)
 }
 
 /// How long a call of a standard stream may wait, if a number of seconds is given.
@@ -221,8 +224,12 @@ fn explain(
     }
 }
 
-/// Does what the words of the command line ask for, a session on standard input and output.
-fn respond<H>(rt: &H, asked: Result<Settings, SettingsFault>) -> Result<Done, Failure>
+/// Does what the words of the command line ask for, a session on standard input and output. A log is told of it, if there is one.
+fn respond_on<H>(
+    rt: &H,
+    asked: Result<Settings, SettingsFault>,
+    journal: Option<&Journal>,
+) -> Result<Done, Failure>
 where
     H: Clock
         + Input
@@ -237,11 +244,61 @@ where
     ensures { MayEnd asked result }
 {
     let idle = idle_of(&asked);
-    let (mut unread, mut unwritten) = (None, None);
-    let reader = Side::input(rt.reader(), idle, &mut unread);
-    let writer = Side::output(io::writer(rt), idle, &mut unwritten);
-    let told = answer_over(rt, asked, reader, writer);
-    explain(told, unread, unwritten)
+    let watch = watch_in(journal, Origin::Streams);
+    let notice = Notice::of(rt, journal, Origin::Streams);
+    let (mut unread, mut unwritten, mut refused) = (None, None, 0);
+    let reader = Watching::new(Side::input(rt.reader(), idle, &mut unread), rt, watch);
+    let writing = Watching::new(
+        Side::output(io::writer(rt), idle, &mut unwritten),
+        rt,
+        watch,
+    );
+    let writer = Noticing::new(writing, notice, &mut refused);
+    let told = answer_over(rt, asked, reader, writer, watch);
+    let told = explain(told, unread, unwritten);
+    note_end(rt, journal, &told, refused);
+    told
+}
+
+/// Does what the words of the command line ask for.
+fn respond<H>(rt: &H, asked: Result<Settings, SettingsFault>) -> Result<Done, Failure>
+where
+    H: Clock
+        + Input
+        + Print
+        + Eprint
+        + Net<Listener = TcpListener, Stream = TcpStream>
+        + Threads
+        + Wait
+        + Sync
+        + AllocGlobal,
+    requires { IfOk asked (λ s. IsInRange s) }
+    ensures { MayEnd asked result }
+{
+    match asked {
+        Ok(
+            Settings::Run {
+                steps,
+                workers,
+                idle,
+                log,
+                log_format,
+                log_every,
+            },
+        ) => match log_of(log, log_format, log_every) {
+            Some(log) => run_logged(
+                rt,
+                Alone {
+                    steps,
+                    workers,
+                    idle,
+                },
+                log,
+            ),
+            None => respond_on(rt, asked, None),
+        },
+        asked => respond_on(rt, asked, None),
+    }
 }
 
 /// Says how it ended, and gives the status for the system.

@@ -7,7 +7,7 @@ ghost use Rattle.spmat.specs.inner.Serving.{IsListening, IsOfServer, IsOpened, I
 
 use command_line::{Failure, Settings, VERSION};
 use listener::{
-    Cause, Journal, Limits, ListenFault, LogFormat, ServerTerms, Supply, serve_on_terms,
+    Cause, Journal, Limits, ListenFault, LogFormat, Origin, ServerTerms, Supply, serve_on_terms,
 };
 use std::alloc::{AllocError, Global};
 use std::net::{IpAddr, Ipv4Addr, Net, SocketAddr, TcpListener, TcpStream};
@@ -73,7 +73,7 @@ where
 }
 
 /// The log that the words of the command line ask for: by its flag, or by how it is to be.
-fn log_of(is_asked: bool, format: Option<LogFormat>, every: Option<u64>) -> Option<Log> {
+pub fn log_of(is_asked: bool, format: Option<LogFormat>, every: Option<u64>) -> Option<Log> {
     if is_asked || format.is_some() || every.is_some() {
         let format = match format {
             Some(format) => format,
@@ -88,7 +88,7 @@ fn log_of(is_asked: bool, format: Option<LogFormat>, every: Option<u64>) -> Opti
 /// What a log is gathered in, if there is to be one.
 fn journal_of(alloc: Global, log: Option<Log>) -> Result<Option<Journal>, AllocError> {
     match log {
-        Some(Log { format, every }) => Ok(Some(Journal::new(alloc, format, every)?)),
+        Some(Log { format, every }) => Ok(Some(Journal::new(alloc, format, every, false)?)),
         None => Ok(None),
     }
 }
@@ -132,12 +132,12 @@ where
         served
     };
     let written = || {
-        journal.write_opening(rt, address, VERSION, steps, terms);
+        journal.write_opening(rt, Origin::Address(address), VERSION, steps, terms);
         journal.write_out(rt);
     };
     let ((), served) = join(rt, written, served);
     let totals = purse.totals(rt, &mut own);
-    journal.write_closing(rt, address, &served, totals);
+    journal.write_closing(rt, Origin::Address(address), &served, totals);
     served
 }
 

@@ -7,7 +7,7 @@ ghost use Rattle.step_purse.specs.Shares.{whole};
 ghost use Rattle.session.specs.Sessions.{full_session};
 ghost use Rattle.spmat.specs.inner.Running.{Ran};
 
-use listener::serve_pass;
+use listener::{Given, Limits, Watch, serve_unlimited};
 use session::{End, ServeFault, Session};
 use std::alloc::{AllocError, Global};
 use std::sync::Wait;
@@ -36,7 +36,7 @@ fn prepare(alloc: Global, steps: u64, workers: u64) -> Result<Prepared, AllocErr
 }
 
 /// Serves one session on these devices, within a purse of so many steps, of which nobody else has a pass. Each batch runs on so
-/// many workers.
+/// many workers. What the session does is noted, where a watch is given.
 ///
 /// # Errors
 ///
@@ -48,6 +48,7 @@ pub fn run<I: Source, O: Sink, H: Threads + Wait + AllocGlobal>(
     sink: &mut O,
     steps: u64,
     workers: u64,
+    watch: Option<Watch<'_>>,
 ) -> Result<End, ServeFault>
     requires { HasRoom steps workers }
     ensures { Ran steps workers (record { source = I.state source.old; sink = O.state sink.old })
@@ -57,6 +58,12 @@ pub fn run<I: Source, O: Sink, H: Threads + Wait + AllocGlobal>(
         return Err(ServeFault::Memory);
     };
     let Prepared { purse, pass, room } = prepared;
-    let served = serve_pass(rt, room, source, sink, &purse, pass);
+    let given = Given {
+        room,
+        pass,
+        limits: Limits::none(),
+        watch,
+    };
+    let served = serve_unlimited(rt, given, source, sink, &purse);
     served.outcome
 }

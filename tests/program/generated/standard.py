@@ -1,13 +1,15 @@
-"""What the program does on its standard streams besides a session: its version, and how long `run`
-waits for a silent client."""
+"""What the program does on its standard streams besides a session: its version, how long `run`
+waits for a silent client, and its log."""
+import json
 import os
+import re
 import select
 import socket
 import subprocess
 import time
 from typing import Callable, Dict, List
 
-from tests.lib.commands import matrix_command, matrix_text, run_words
+from tests.lib.commands import assembly_command, matrix_command, matrix_text, run_words
 from tests.lib.paths import TOP
 from tests.lib.patience import FOR_A_SESSION
 from tests.lib.runs import Wrong, expect, started
@@ -131,6 +133,85 @@ def without_idle_silence_is_no_end(program: str) -> None:
         expect('reply', b'ok quit\n', child.stdout.read())
 
 
+def fields_of(line: str) -> Dict[str, str]:
+    """What a line of a log says, with the name of its event."""
+    told = re.fullmatch(
+        r'spmat: time=\d{4}-\d\d-\d\dT\d\d:\d\d:\d\d\.\d{3}Z ([a-z-]+)((?: [a-z_]+=\S+)+)', line)
+    if not told:
+        raise Wrong('no line of a log: %.200r' % line)
+    return dict((field.split('=', 1) for field in told.group(2).split()), event=told.group(1))
+
+
+def expect_fields(line: str, **wanted: object) -> None:
+    fields = fields_of(line)
+    for name, value in wanted.items():
+        expect('%s in %r' % (name, line), str(value), fields.get(name))
+
+
+def log_of_a_session(program: str) -> None:
+    """`run --log` tells on standard error what it was asked for, each refusal, and what the session
+    took."""
+    data = matrix_command('A',
+                          matrix_text(1, 1, [(1, 1, 41)])) + assembly_command(
+                              'f', b'mov64 r0, r1\nadd64 r0, 1\nexit\n', 'unary')
+    data += b'apply B f A\nrun\napply B f A\napply A f B\nfoo\nquit\n'
+    done = subprocess.run([program] + run_words(100) + ['--log'], input=data,
+                          stdout=subprocess.PIPE, stderr=subprocess.PIPE, timeout=FOR_A_SESSION)
+    plain = subprocess.run([program] + run_words(100), input=data, stdout=subprocess.PIPE,
+                           stderr=subprocess.PIPE, timeout=FOR_A_SESSION)
+    expect('status and replies', (plain.returncode, plain.stdout, b''),
+           (done.returncode, done.stdout, plain.stderr))
+    lines = done.stderr.decode().splitlines()
+    expect('events', ['server-start', 'start', 'refused', 'session', 'server-end'],
+           [fields_of(line)['event'] for line in lines])
+    expect_fields(lines[0], address='stdin', steps=100, workers=1, sessions=1, idle='none',
+                  session_steps='none')
+    expect_fields(lines[1], client='stdin', untold=0)
+    expect_fields(lines[2], client='stdin', rule='S1')
+    expect_fields(lines[3], client='stdin', end='quit', commands=8, jobs=3, steps=3, refused=1,
+                  **{'in': len(data), 'out': len(done.stdout)})
+    expect_fields(lines[4], address='stdin', end='sessions', sessions=1, refused=1, steps=3,
+                  left=97)
+
+
+def log_of_each_batch(program: str) -> None:
+    """With `--log-every 1` it also tells how it stands: each second, and before the reply of each
+    batch. One that is killed has told what it had spent; `--idle` is told as the end."""
+    words = [program] + run_words(1000) + ['--log-every', '1', '--log-format', 'json']
+    data = matrix_command('A',
+                          matrix_text(1, 1, [(1, 1, 41)])) + assembly_command(
+                              'f', b'mov64 r0, r1\nadd64 r0, 1\nexit\n', 'unary')
+    with started(words, stdin=subprocess.PIPE, stdout=subprocess.PIPE, stderr=subprocess.PIPE,
+                 bufsize=0) as child:
+        child.stdin.write(data)
+        for _ in range(2):
+            child.stdout.readline()
+        for spent in (3, 6, 9):
+            child.stdin.write(b'apply B f A\nrun\n')
+            for _ in range(3):
+                child.stdout.readline()
+            time.sleep(LITTLE_TIME)
+        child.stdin.write(b'apply B f A\n')
+        child.stdout.readline()
+        time.sleep(1.5)
+        child.kill()
+        told = [json.loads(line) for line in child.stderr.read().splitlines()]
+    runs = [line for line in told if line['event'] == 'runs']
+    steps = [line['steps'] for line in runs]
+    expect('the steps, in order', sorted(steps), steps)
+    expect('what was told of batches', {3, 6, 9}, set(steps) - {0})
+    expect('the last line', (9, 3, 1, 'waiting'),
+           tuple(runs[-1][name] for name in ('steps', 'reserved', 'jobs', 'state')))
+    with started([program] + waiting(1) + ['--log'], stdin=subprocess.PIPE, stdout=subprocess.PIPE,
+                 stderr=subprocess.PIPE) as child:
+        expect('status', 1, child.wait(FOR_A_SESSION))
+        lines = child.stderr.read().decode().splitlines()
+    expect_fields(lines[2], client='stdin', end='idle', steps=0)
+    expect_fields(lines[3], event='server-end', end='sessions')
+    expect('what is said as without a log', 'spmat: read failed' + TIME_IS_OVER[:-1],
+           '\n'.join(lines[4:]))
+
+
 STANDARD_CASES: Dict[str, Callable[[str], None]] = {
     'version-is-told': version_is_told,
     'version-is-not-written': version_is_not_written,
@@ -139,4 +220,6 @@ STANDARD_CASES: Dict[str, Callable[[str], None]] = {
     'run-idle-spares-those-who-send': idle_spares_those_who_send,
     'run-idle-ends-whoever-takes-nothing': idle_ends_whoever_takes_nothing,
     'run-without-idle': without_idle_silence_is_no_end,
+    'run-log-of-a-session': log_of_a_session,
+    'run-log-of-each-batch': log_of_each_batch,
 }

@@ -23,8 +23,8 @@ from tests.program.server.sessions import PRODUCT, UPLOADED, UPLOADS
 
 TIME = r'spmat: time=\d{4}-\d\d-\d\dT\d\d:\d\d:\d\d\.\d{3}Z '
 LINE = re.compile(TIME + r'session client=127\.0\.0\.1:(\d+) end=([a-z-]+|refused-S\d) '
-                  r'seconds=(\d+\.\d{3}) in=(\d+) out=(\d+) commands=(\d+) steps=(\d+) '
-                  r'refused=(\d+) untold=(\d+) untold_steps=(\d+)')
+                  r'seconds=(\d+\.\d{3}) in=(\d+) out=(\d+) commands=(\d+) jobs=\d+ '
+                  r'steps=(\d+) refused=(\d+) untold=(\d+) untold_steps=(\d+)')
 START = re.compile(TIME + r'start client=127\.0\.0\.1:(\d+) untold=(\d+)')
 REFUSED = re.compile(TIME + r'refused client=127\.0\.0\.1:(\d+) rule=([AJMSV]\d+|memory|thread)(?: '
                      r'price=(\d+) left=(\d+))? untold=(\d+)')

@@ -1,5 +1,5 @@
 -- What a log counts (this project's own).
-use Rattle.std.specs.Prelude.{◌+◌, ◌-◌, ◌^◌, min}
+use Rattle.std.specs.Prelude.{ℕ, ◌+◌, ◌-◌, ◌^◌, min}
 use Rattle.listener.specs.declared.pace.Untold.{Untold}
 use Rattle.listener.specs.declared.tally.Counts.{Counts}
 use Rattle.listener.specs.declared.tally.Kind.{Kind}
@@ -13,9 +13,10 @@ untold_of t kinds.Session = t.sessions.untold
 untold_of t kinds.TurnedAway = t.turned_away.untold
 untold_of t kinds.Refused = t.refused.untold
 
--- the counts, once something of a kind has come
-abbrev pub counts_after : Counts → Kind → Counts
-counts_after c kinds.Start = c
-counts_after c kinds.Session = record c { sessions = min (c.sessions + 1) (2 ^ 64 - 1) }
-counts_after c kinds.TurnedAway = record c { turned_away = min (c.turned_away + 1) (2 ^ 64 - 1) }
-counts_after c kinds.Refused = record c { refused = min (c.refused + 1) (2 ^ 64 - 1) }
+-- the counts, once something of a kind has come that took so many steps
+abbrev pub counts_after : Counts → Kind → ℕ → Counts
+counts_after c kinds.Start steps = c
+counts_after c kinds.Session steps =
+    record c { sessions = min (c.sessions + 1) (2 ^ 64 - 1); steps = min (c.steps + steps) (2 ^ 64 - 1) }
+counts_after c kinds.TurnedAway steps = record c { turned_away = min (c.turned_away + 1) (2 ^ 64 - 1) }
+counts_after c kinds.Refused steps = record c { refused = min (c.refused + 1) (2 ^ 64 - 1) }

@@ -1,0 +1,150 @@
+//! The log of a session on standard input and output: an account of it on standard error.
+ghost use Rattle.std.specs.Prelude.{◌≡◌, ◌≤◌, IfSome};
+ghost use Rattle.command_line.specs.InRange.{HasRoom, IsWithin};
+ghost use Rattle.spmat.specs.inner.Running.{IsOfSession};
+
+use crate::respond_on;
+use crate::serving::Log;
+use command_line::{Done, Failure, Settings, VERSION};
+use listener::{Cause, Ending, Journal, Limits, ListenFault, Origin, ServerTerms};
+use session::ServeFault;
+use std::net::{Net, TcpListener, TcpStream};
+use std::sync::Wait;
+use std::thread::{Threads, join};
+use std::time::Clock;
+use step_purse::Totals;
+
+/// What `run` is asked for: the steps of its session, its workers, and for how long it waits for its client, if a number of
+/// seconds is given.
+#[derive(Clone, Copy, Debug, PartialEq, Eq)]
+pub struct Alone {
+    pub steps: u64,
+    pub workers: u64,
+    pub idle: Option<u64>,
+}
+
+/// How a log names the end of a session.
+fn ending_of(told: &Result<Done, Failure>) -> Option<Ending> {
+    match told {
+        Ok(Done::Session(end)) => Some(Ending::Ended(*end)),
+        Err(
+            Failure::Session {
+                fault: _,
+                cause: Some(Cause::Idle),
+            },
+        ) => Some(Ending::Idle),
+        Err(Failure::Session { fault, cause: _ }) => Some(Ending::BrokenOff(*fault)),
+        _ => None,
+    }
+}
+
+/// Leaves a line of how a session ended that was refused something so often, if there is a log.
+pub fn note_end<R: Wait + Clock>(
+    rt: &R,
+    journal: Option<&Journal>,
+    told: &Result<Done, Failure>,
+    refused: u64,
+) {
+    if let (Some(journal), Some(ending)) = (journal, ending_of(told)) {
+        journal.note_end(rt, Origin::Streams, ending, refused);
+    }
+}
+
+/// Why the process takes no other session.
+fn served(told: &Result<Done, Failure>) -> Result<(), ListenFault> {
+    match told {
+        Err(
+            Failure::Session {
+                fault: ServeFault::Memory,
+                cause: _,
+            },
+        ) => Err(ListenFault::Memory),
+        _ => Ok(()),
+    }
+}
+
+/// Serves one session on standard input and output, with a log that another thread writes to standard error meanwhile. Before the
+/// session starts it is written what it was asked for, and last what it took. Where no thread can be made, all is written at
+/// the end.
+pub fn run_logged<H>(rt: &H, alone: Alone, log: Log) -> Result<Done, Failure>
+where
+    H: Clock
+        + Input
+        + Print
+        + Eprint
+        + Net<Listener = TcpListener, Stream = TcpStream>
+        + Threads
+        + Wait
+        + Sync
+        + AllocGlobal,
+    requires room { HasRoom alone.steps alone.workers }
+    requires idle { IsWithin 1000000 alone.idle }
+    ensures { IsOfSession result }
+{
+    let Ok(journal) = Journal::new(rt.alloc(), log.format, log.every, true) else {
+        return Err(Failure::Session {
+            fault: ServeFault::Memory,
+            cause: None,
+        });
+    };
+    let Alone {
+        steps,
+        workers,
+        idle,
+    } = alone;
+    let terms = ServerTerms {
+        workers,
+        sessions: Some(1),
+        idle,
+        limits: Limits::none(),
+    };
+    journal.write_opening(rt, Origin::Streams, VERSION, steps, terms);
+    let told = serve_logged(rt, &journal, alone);
+    let spent = journal.spent(rt);
+    let totals = Totals {
+        left: steps.saturating_sub(spent),
+        reserved: 0,
+        spent,
+    };
+    journal.write_closing(rt, Origin::Streams, &served(&told), totals);
+    told
+}
+
+/// The session, while another thread writes its log.
+fn serve_logged<H>(rt: &H, journal: &Journal, alone: Alone) -> Result<Done, Failure>
+where
+    H: Clock
+        + Input
+        + Print
+        + Eprint
+        + Net<Listener = TcpListener, Stream = TcpStream>
+        + Threads
+        + Wait
+        + Sync
+        + AllocGlobal,
+    requires room { HasRoom alone.steps alone.workers }
+    requires idle { IsWithin 1000000 alone.idle }
+    ensures { IsOfSession result }
+{
+    let session = move || -> Result<Done, Failure>
+        requires room { HasRoom alone.steps alone.workers }
+        requires idle { IsWithin 1000000 alone.idle }
+        ensures { IsOfSession result }
+    {
+        let settings = Settings::Run {
+            steps: alone.steps,
+            workers: alone.workers,
+            idle: alone.idle,
+            log: false,
+            log_format: None,
+            log_every: None,
+        };
+        journal.note_start(rt, Origin::Streams);
+        let told = respond_on(rt, Ok(settings), Some(journal));
+        journal.end(rt);
+        told
+    };
+    let written = || journal.write_out(rt);
+    let ((), told) = join(rt, written, session);
+    told
+}
