@@ -88,7 +88,8 @@ class Engine:
     machine."""
     command: Tuple[str, ...] = ('setpriv', '--pdeathsig', 'KILL', 'prlimit', '--as={memory}',
                                 '--cpu={processor}:', '--core=0', '--', 'spmat', 'run', '--steps',
-                                '{steps}', '--workers', '{workers}', '--idle', '{idle}')
+                                '{steps}', '--workers', '{workers}', '--idle', '{idle}', '--log',
+                                '--log-every', '1')
     stop: Tuple[str, ...] = ()
     environment: Mapping[str, str] = dataclasses.field(default_factory=lambda: {
         'MALLOC_ARENA_MAX': '2', 'MALLOC_TRIM_THRESHOLD_': '1048576',

@@ -4,11 +4,11 @@ from __future__ import annotations
 import os
 import signal
 import subprocess
-import tempfile
 import time
 from typing import Dict, List, Mapping, Optional, Sequence
 
 from .config import Engine as Settings
+from .engine_log import EngineLog
 
 SECONDS_TO_END = 5.0
 SECONDS_TO_STOP = 20.0
@@ -44,15 +44,10 @@ class Engine:
         self._stop = fill_in(settings.stop, values)
         self._environment = {'PATH': os.environ.get('PATH', os.defpath), 'LANG': 'C.UTF-8',
                              **settings.environment}
-        self._errors = tempfile.TemporaryFile()    # pylint: disable=consider-using-with
-        try:
-            self._process = subprocess.Popen(      # pylint: disable=consider-using-with
-                fill_in(settings.command, values), stdin=subprocess.PIPE, stdout=subprocess.PIPE,
-                stderr=self._errors, bufsize=0, env=self._environment, start_new_session=True,
-                cwd='/')
-        except BaseException:
-            self._errors.close()
-            raise
+        self._process = subprocess.Popen(          # pylint: disable=consider-using-with
+            fill_in(settings.command, values), stdin=subprocess.PIPE, stdout=subprocess.PIPE,
+            stderr=subprocess.PIPE, bufsize=0, env=self._environment, start_new_session=True,
+            cwd='/')
         self._status: Optional[int] = None
         self.processor = 0.0
 
@@ -61,13 +56,16 @@ class Engine:
         """The number of the process."""
         return self._process.pid
 
-    def take_streams(self) -> 'tuple[int, int]':
-        """Its standard input and output as descriptors, which are the caller's from now on."""
-        streams = (self._process.stdin, self._process.stdout)
-        assert streams[0] is not None and streams[1] is not None
-        found = (os.dup(streams[0].fileno()), os.dup(streams[1].fileno()))
-        for stream in streams:
-            stream.close()                         # type: ignore[union-attr]
+    def take_streams(self) -> 'tuple[int, int, int]':
+        """Its standard input, output and error as descriptors, which are the caller's from now
+        on."""
+        process = self._process
+        assert process.stdin is not None and process.stdout is not None
+        assert process.stderr is not None
+        found = (os.dup(process.stdin.fileno()), os.dup(process.stdout.fileno()),
+                 os.dup(process.stderr.fileno()))
+        for stream in (process.stdin, process.stdout, process.stderr):
+            stream.close()
         return found
 
     def signal(self, number: int) -> None:
@@ -94,26 +92,18 @@ class Engine:
         if self._stop:
             try:
                 subprocess.run(self._stop, stdin=subprocess.DEVNULL, stdout=subprocess.DEVNULL,
-                               stderr=self._errors, env=self._environment, timeout=SECONDS_TO_STOP,
-                               check=False, cwd='/')
+                               stderr=subprocess.DEVNULL, env=self._environment,
+                               timeout=SECONDS_TO_STOP, check=False, cwd='/')
             except (OSError, subprocess.TimeoutExpired):
                 pass
 
-    def cause(self) -> str:
+    def cause(self, told: EngineLog) -> str:
         """Why it has ended by itself: `end`, `refused`, `idle`, `processor`, or `engine` for a
         fault."""
         assert self._status is not None
-        if self._status == 1 and 'idle' in self.errors():
+        if self._status == 1 and told.end == 'idle':
             return 'idle'
         return BY_STATUS.get(self._status, 'engine')
-
-    def errors(self) -> str:
-        """The beginning of what it wrote to standard error."""
-        return os.pread(self._errors.fileno(), 2_000, 0).decode('utf-8', 'replace').strip()
-
-    def close(self) -> None:
-        """Forgets what it has written."""
-        self._errors.close()
 
     def _wait(self, seconds: Optional[float]) -> bool:
         until = None if seconds is None else time.monotonic() + seconds

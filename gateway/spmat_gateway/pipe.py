@@ -11,11 +11,14 @@ import select
 import socket
 import ssl
 import time
-from typing import Callable, Optional, Union
+from typing import Callable, Optional, Tuple, Union
+
+from .engine_log import EngineLog
 
 Client = Union[socket.socket, ssl.SSLSocket]
 PIECE = 1 << 18
 PIPE_SIZE = 1 << 20
+SECONDS_TO_TELL = 5.0  # for an engine that answers, to tell that it has begun
 SET_PIPE_SIZE = 1031                               # F_SETPIPE_SZ, which Python names from 3.10 on
 BROKEN = select.POLLERR | select.POLLNVAL
 WANTS = (ssl.SSLWantReadError, ssl.SSLWantWriteError, BlockingIOError)
@@ -23,6 +26,11 @@ WANTS = (ssl.SSLWantReadError, ssl.SSLWantWriteError, BlockingIOError)
 
 class ClientGone(Exception):
     """The client's connection has broken, or ended without the word that TLS has for it."""
+
+
+class NoAccount(Exception):
+    """An engine answers that tells nothing of what it takes: its command starts another program, or
+    has no `--log`."""
 
 
 class _Way:
@@ -43,21 +51,28 @@ class Pipe:
     ----------
     client
         The connection, after its handshake.
-    standard_input, standard_output
-        The engine's streams, as descriptors that this pipe owns from now on.
+    streams
+        The engine's standard input, output and error, as descriptors that this pipe owns from now
+        on.
+    told
+        What is fed with what the engine writes to standard error.
+    on_told
+        Called where that tells something new.
     on_replies
         Called with each piece before it is sent to the client.
     """
 
-    def __init__(self, client: Client, standard_input: int, standard_output: int,
-                 on_replies: Callable[[memoryview], None]) -> None:
-        self._client, self._input, self._output = client, standard_input, standard_output
-        self._on_replies = on_replies
+    def __init__(self, client: Client, streams: Tuple[int, int, int], told: EngineLog,
+                 on_told: Callable[[], None], on_replies: Callable[[memoryview], None]) -> None:
+        self._client, self._told = client, told
+        self._input, self._output, self._errors = streams
+        self._on_told, self._on_replies = on_told, on_replies
+        self._errors_ended = False
         self._up, self._down = _Way(), _Way()
         self._poll = select.poll()
-        self._masks = {client.fileno(): -1, standard_input: -1, standard_output: -1}
+        self._masks = {client.fileno(): -1, **dict.fromkeys(streams, -1)}
         client.setblocking(False)
-        for descriptor in (standard_input, standard_output):
+        for descriptor in streams:
             os.set_blocking(descriptor, False)
             try:
                 fcntl.fcntl(descriptor, SET_PIPE_SIZE, PIPE_SIZE)
@@ -101,11 +116,14 @@ class Pipe:
         ------
         ClientGone
             Where nobody is there any more for whom the session goes on.
+        NoAccount
+            Where the engine answers and doesn't tell what it takes.
         """
         self._write_up()
         up, down, client, watched = self._up, self._down, self._client.fileno(), None
         while not self.sent_all:
-            state = (not up.rest, up.ended, not down.rest, down.ended, self._input)
+            state = (not up.rest, up.ended, not down.rest, down.ended, self._input,
+                     self._errors_ended)
             if state != watched:                   # seldom, as each side mostly takes all at once
                 self._watch()
                 watched = state
@@ -119,6 +137,8 @@ class Pipe:
                     self._serve_client(event)
                 elif descriptor == self._output:
                     self._read_down()
+                elif descriptor == self._errors:
+                    self._read_errors()
                 else:
                     self._write_up()
             if pending:
@@ -126,23 +146,35 @@ class Pipe:
         return True
 
     def finish(self, seconds: float) -> None:
-        """Ends the engine's input, and reads its last replies for nobody but who counts them, for
-        so long at most."""
+        """Ends the engine's input, and reads its last replies for nobody, and what it tells at its
+        end, for so long at most."""
         until = time.monotonic() + seconds
         if self._input >= 0:
             os.close(self._input)
             self._input = -1
         poll, down = select.poll(), self._down
-        poll.register(self._output, select.POLLIN)
-        while not down.ended and poll.poll(max(0.0, 1000 * (until - time.monotonic()))):
-            self._fill_down()
+        if not down.ended:
+            poll.register(self._output, select.POLLIN)
+        if not self._errors_ended:
+            poll.register(self._errors, select.POLLIN)
+        while not (down.ended and self._errors_ended):
+            found = poll.poll(max(0.0, 1000 * (until - time.monotonic())))
+            for descriptor, _ in found:
+                if descriptor == self._output:
+                    self._fill_down()
+                else:
+                    self._read_errors()
+                if down.ended if descriptor == self._output else self._errors_ended:
+                    poll.unregister(descriptor)
+            if not found:
+                return
 
     def close(self) -> None:
         """Closes the engine's streams; the client's connection is its owner's."""
-        for descriptor in (self._input, self._output):
+        for descriptor in (self._input, self._output, self._errors):
             if descriptor >= 0:
                 os.close(descriptor)
-        self._input = self._output = -1
+        self._input = self._output = self._errors = -1
 
     def _has_decrypted(self) -> bool:
         return isinstance(self._client, ssl.SSLSocket) and self._client.pending() > 0
@@ -158,6 +190,7 @@ class Pipe:
         if self._input >= 0:
             self._set_mask(self._input, select.POLLOUT if up.rest else None)
         self._set_mask(self._output, select.POLLIN if not down.rest and not down.ended else None)
+        self._set_mask(self._errors, None if self._errors_ended else select.POLLIN)
 
     def _set_mask(self, descriptor: int, mask: Optional[int]) -> None:
         if self._masks.get(descriptor) == mask:
@@ -212,8 +245,33 @@ class Pipe:
             os.close(self._input)
             self._input, up.closed = -1, True
 
+    def _read_errors(self) -> None:
+        try:
+            piece = os.read(self._errors, PIECE)
+        except BlockingIOError:
+            return
+        except OSError:
+            piece = b''
+        self._errors_ended = not piece
+        if self._told.feed(piece or b'\n'):
+            self._on_told()
+
+    def _await_account(self) -> None:
+        """Waits until the engine, which answers, has told that it has begun, or tells no more."""
+        until, poll = time.monotonic() + SECONDS_TO_TELL, select.poll()
+        poll.register(self._errors, select.POLLIN)
+        while not (self._told.begun or self._errors_ended):
+            if not poll.poll(max(0.0, 1000 * (until - time.monotonic()))):
+                return
+            self._read_errors()
+
     def _read_down(self) -> None:
-        self._down.rest = self._fill_down()
+        if not self._told.begun:
+            self._await_account()
+        rest = self._fill_down()
+        if rest and not self._told.begun:
+            raise NoAccount(self._told.words)
+        self._down.rest = rest
         self._write_down()
 
     def _fill_down(self) -> memoryview:

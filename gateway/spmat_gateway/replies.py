@@ -1,5 +1,5 @@
-"""What a session spends, read from the replies that pass: nothing is held back, and nothing is
-changed.
+"""What an operator sees of a session, read from the replies that pass: its runs, and its jobs by
+name. Nothing is held back, nothing is changed, and nothing is charged by it.
 
 The counter follows the lines of docs/protocol.md. The bytes of a `show`, and the lines of `dis` and
 `types`, are passed over by the length that their first line announces.
@@ -38,11 +38,21 @@ class ReplyCounter:
         self._most_jobs = most_jobs
         self._bytes_to_skip = self._lines_to_skip = self._job_lines = 0
         self._begun = b''
+        self._lost = False
 
     @property
     def at_a_boundary(self) -> bool:
         """Whether all replies so far are whole, so that another line would be read as a reply."""
-        return not (self._begun or self._bytes_to_skip or self._lines_to_skip or self._job_lines)
+        return not (self._begun or self._bytes_to_skip or self._lines_to_skip or self._job_lines
+                    or self._lost)
+
+    def look(self, piece: memoryview) -> None:
+        """Takes the next bytes, up to the first that are no reply."""
+        if not self._lost:
+            try:
+                self.feed(piece)
+            except NotAReply:
+                self._lost = True
 
     def feed(self, piece: memoryview) -> bool:
         """Takes the next bytes. Whether jobs were queued or run by what they say.

@@ -14,12 +14,13 @@ from . import tls, users
 from .accounts import Account
 from .config import Config
 from .database import Unavailable
+from .engine_log import EngineLog
 from .engines import Engine, values_of
 from .journal import Entry, Journal
 from .ledger import Ledger, NoQuota, Outcome, Reservation
 from .metrics import Metrics
-from .pipe import Client, ClientGone, Pipe
-from .replies import NotAReply, ReplyCounter
+from .pipe import Client, ClientGone, NoAccount, Pipe
+from .replies import ReplyCounter
 
 MOST_WAITING = 64                                  # connections before their login
 SECONDS_TO_ANSWER = 3.0  # for what is left to say to a client whose session was ended
@@ -63,9 +64,9 @@ class Session:
         self.user, self.changed = '', False
         self._sessions, self._connection = sessions, connection
         self._config = sessions.config
-        self._counter = ReplyCounter(self._config.gateway.jobs_listed)
+        self._told, self._counter = EngineLog(), ReplyCounter(self._config.gateway.jobs_listed)
         self._began = time.monotonic()
-        self._cause, self._asked_at = '', 0.0
+        self._cause, self._asked_at, self._spent = '', 0.0, 0
         self._reservation: Optional[Reservation] = None
         self._engine: Optional[Engine] = None
         self._pipe: Optional[Pipe] = None
@@ -75,19 +76,19 @@ class Session:
     @property
     def status(self) -> Optional[Status]:
         """What it has taken so far; None before its engine has begun."""
-        counter, pipe = self._counter, self._pipe
+        told, counter, pipe = self._told, self._counter, self._pipe
         engine, reservation = self._engine, self._reservation
         if pipe is None or engine is None or reservation is None:
             return None
         return Status(self.id, self.user, self.address, time.monotonic() - self._began,
-                      reservation.steps, counter.spent, counter.queued, counter.runs,
+                      reservation.steps, told.spent, told.queued, counter.runs,
                       counter.job_count, pipe.bytes_in, pipe.bytes_out, engine.process)
 
     @property
     def entry(self) -> Entry:
         """What it has spent so far, for the journal and the ledger."""
-        counter = self._counter
-        return Entry(self.id, counter.spent, counter.runs, counter.job_count, counter.queued)
+        told, counter = self._told, self._counter
+        return Entry(self.id, told.spent, counter.runs, counter.job_count, told.queued)
 
     def end(self, cause: str) -> None:
         """Ends it from outside; its own thread does the rest."""
@@ -177,7 +178,7 @@ class Session:
         assert self._engine is not None
         if self._cause:                            # it was ended before there was an engine
             self._engine.signal(signal.SIGTERM)
-        self._pipe = Pipe(client, *self._engine.take_streams(), on_replies=self._count)
+        self._pipe = Pipe(client, self._engine.take_streams(), self._told, self._charge, self._look)
         self._pipe.begin(first)
         try:
             if not self._pipe.run(self._deadline):
@@ -189,17 +190,21 @@ class Session:
         except OSError as fault:                   # the journal can't be written, as on a full disk
             log.error('session=%s: its steps can\'t be noted: %s', self.id, fault)
             return 'ledger'
-        except NotAReply as fault:
-            log.error('session=%s: the engine\'s command starts another program: %s', self.id,
-                      fault)
+        except NoAccount as fault:
+            log.error('session=%s: the engine\'s command starts another program, or has no --log: '
+                      '%s', self.id, fault)
             return 'engine'
 
-    def _count(self, piece: memoryview) -> None:
-        before = self._counter.spent
-        if self._counter.feed(piece):
-            self._sessions.metrics.spend(self.user, self._counter.spent - before)
-            self._sessions.journal.note(self.entry)
-            self.changed = True
+    def _charge(self) -> None:
+        """Notes what the session has told of its steps."""
+        self._sessions.metrics.spend(self.user, self._told.spent - self._spent)
+        self._spent = self._told.spent
+        self._sessions.journal.note(self.entry)
+        self.changed = True
+
+    def _look(self, piece: memoryview) -> None:
+        """Looks at replies for what an operator wants to see: runs, and jobs by name."""
+        self._counter.look(piece)
 
     def _deadline(self) -> float:
         if self._cause:
@@ -211,35 +216,37 @@ class Session:
         """Ends the engine, settles the account, and tells the client."""
         assert self._engine is not None and self._pipe is not None
         try:
-            if cause == 'client-gone':  # in no batch it ends by itself, and what it took is known
+            if cause == 'client-gone':  # in no batch it ends by itself, and tells what it took
                 self._pipe.finish(SECONDS_AFTER_CLIENT)
             status = self._engine.end(SECONDS_TO_ANSWER if self._pipe.ended else 0.0)
             self._pipe.finish(SECONDS_AFTER_CLIENT)
-        except NotAReply:
+        except OSError as fault:                   # of the journal
+            log.error('session=%s: its steps can\'t be noted: %s', self.id, fault)
             status = self._engine.end()
         finally:
             self._pipe.close()
         self._engine.stop()
-        by_itself = status in (0, 3)
-        own = self._engine.cause()
+        own = self._engine.cause(self._told)
         cause = self._cause or cause or own
-        outcome = self._outcome(cause, by_itself)
-        if own == 'engine' and not self._cause and cause != 'client-gone':
+        outcome = self._outcome(cause)
+        if self._told.is_unknown:
+            log.error('session=%s: the engine\'s program is of an older release, as it doesn\'t '
+                      'know --log', self.id)
+        elif own == 'engine' and not self._cause and cause != 'client-gone':
             log.error('session=%s: the engine ended with status %d: %s', self.id, status,
-                      self._engine.errors() or 'no word')
+                      self._told.words or 'no word')
         self._settle(outcome)
         self._sessions.leave(self)
         if self._pipe.sent_all and cause not in (*ENDED_BY_ITSELF,
                                                  'client-gone') and self._counter.at_a_boundary:
             _say(client, 'no session %s %s %d' % (cause, outcome.basis, outcome.spent))
-        self._engine.close()
 
-    def _outcome(self, cause: str, by_itself: bool) -> Outcome:
+    def _outcome(self, cause: str) -> Outcome:
         assert self._engine is not None and self._pipe is not None and self._reservation is not None
-        counter = self._counter
-        spent, basis = counter.spent, 'exact' if by_itself else 'known'
-        if not by_itself and self._config.gateway.unfinished == 'price' and counter.queued:
-            spent, basis = spent + counter.queued, 'price'
+        told, counter = self._told, self._counter
+        spent, basis = told.spent, 'exact' if told.end else 'known'
+        if not told.end and self._config.gateway.unfinished == 'price' and told.queued:
+            spent, basis = spent + told.queued, 'price'
         return Outcome(min(spent, self._reservation.steps), basis, cause, counter.runs,
                        counter.job_count, self._pipe.bytes_in, self._pipe.bytes_out,
                        self._engine.processor, tuple(counter.jobs))

@@ -4,7 +4,8 @@ ones; and who kills what.
 A good client's session is one of a pool, whose replies by the program itself are known. Whatever is
 killed, what it has read is the beginning of these replies, and perhaps a line `no session ..`
 behind them. What the ledger has charged lies between the steps that the client has read and those
-plus what may have been run since.
+plus what may have been run since. A session that was killed is charged what it had told, which may
+be a batch less than what its client has read.
 """
 import collections
 import contextlib
@@ -266,6 +267,7 @@ def is_right(row, read, most, line):
     """Whether a session of the ledger is one of which a client has read so much, and this line at
     its end."""
     told = line.split()[3:]
-    return (read <= row['charged'] <= most
+    least = read if row['basis'] == 'exact' else 0
+    return (least <= row['charged'] <= most
             and (not told or told == [row['basis'], str(row['charged'])]
                  or row['state'] != 'settled'))

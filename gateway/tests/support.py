@@ -88,7 +88,7 @@ def engine_command(*before):
     space = ['--as={memory}'] if limits_memory() else []
     return [*before, 'setpriv', '--pdeathsig', 'KILL', 'prlimit', *space, '--cpu={processor}:',
             '--core=0', '--', PROGRAM, 'run', '--steps', '{steps}', '--workers', '{workers}',
-            '--idle', '{idle}']
+            '--idle', '{idle}', '--log', '--log-every', '1']
 
 
 def dense(size, name='A'):

@@ -74,6 +74,12 @@ class Counting(unittest.TestCase):
         counter = count([b'ok run 3 6\nA 1 1 1 1\nB 1 1 1 2\nC 1 1 1 3\n'], most_jobs=2)
         self.assertEqual((len(counter.jobs), counter.job_count, counter.spent), (2, 3, 6))
 
+    def test_looking_ends_at_what_is_no_reply(self):
+        counter = ReplyCounter(9)
+        for piece in (b'ok run 1 3\nA 1 1 1 3\n', b'Welcome\n', b'ok run 1 4\nA 1 1 1 4\n'):
+            counter.look(memoryview(piece))
+        self.assertEqual((counter.runs, counter.job_count, counter.at_a_boundary), (1, 1, False))
+
     def test_another_program(self):
         for text in (b'Welcome to HOST\n', b'ok run x y\n', b'ok queued\n', b'a' * 70_000, b'\n',
                      b'ok run 1 %d\n' % (1 << 63)):

@@ -305,7 +305,7 @@ class Limits(WithGateway):
         hal = self.gateway.add('hal')
         self.gateway.command('quota', 'hal', '--idle', '1')
         with self.gateway.client(hal) as client:
-            self.assertEqual(client.rest(), b'no session idle known 0\n')
+            self.assertEqual(client.rest(), b'no session idle exact 0\n')
 
     def test_processor_time(self):
         ida = self.gateway.add('ida')
@@ -378,8 +378,31 @@ class Engines(unittest.TestCase):
 
     def test_another_program(self):
         replies, row, said = self.ended(['sh', '-c', 'echo Welcome; exec cat'])
-        self.assertEqual((replies, row['cause']), (b'no session engine known 0\n', 'engine'))
+        self.assertEqual((replies, row['cause']), (b'', 'engine'))
         self.assertIn('another program', said)
+
+    def test_a_command_without_the_log(self):
+        command = [word for word in engine_command() if word not in ('--log', '--log-every', '1')]
+        replies, row, said = self.ended(command)
+        self.assertEqual((replies, row['cause'], row['charged']), (b'no session engine known 0\n', 'engine', 0))
+        self.assertIn('has no --log', said)
+
+    def test_a_program_of_an_older_release(self):
+        words = "error: unexpected argument '--log' found"
+        replies, row, said = self.ended(['sh', '-c', 'echo "%s" >&2; exit 2' % words])
+        self.assertEqual((replies, row['cause'], row['charged']), (b'no session engine known 0\n', 'engine', 0))
+        self.assertIn("of an older release, as it doesn't know --log", said)
+
+    def test_words_before_the_log(self):
+        """What starts an engine elsewhere may write to standard error, too."""
+        command = ['sh', '-c', 'echo "job 7 waits" >&2; sleep 0.3; exec "$@"', 'sh', *engine_command()]
+        with folder() as where, Gateway(where, command=command) as gateway:
+            anna = gateway.add('anna')
+            with gateway.client(anna) as client:
+                self.assertEqual(client.exchange(FIRST_SESSION), direct(FIRST_SESSION))
+            until('it is settled', lambda: gateway.sessions()[0]['state'] == 'settled')
+            row = gateway.sessions()[0]
+            self.assertEqual((row['charged'], row['basis'], row['cause']), (3, 'exact', 'end'))
 
     def test_an_engine_that_is_killed_is_charged_by_the_price_where_the_file_says_so(self):
         with folder() as where, Gateway(where, gateway_unfinished='price') as gateway:
@@ -391,6 +414,7 @@ class Engines(unittest.TestCase):
                 client.send(b'apply B inc A\napply B inc A\n')
                 client.line()
                 client.line()
+                until('what is queued is told', lambda: gateway.table('sessions')[0]['queued'] == 6)
                 gateway.command('end', gateway.table('sessions')[0]['id'])
                 self.assertEqual(client.line(), 'no session ended price 9')
             row = gateway.sessions()[0]
