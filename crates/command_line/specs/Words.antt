@@ -1,6 +1,6 @@
 -- The command line of the program, as the parser of command lines reads it (this project's own):
 -- `spmat run --steps N --workers W [--idle SECONDS] [LOG]`, `spmat serve --port P --steps N --workers W [--sessions K]
--- [--idle SECONDS] [--session-steps N] [--session-reserve N] [LOG]`, and `spmat --version`. LOG stands for
+-- [--idle SECONDS] [--session-seconds N] [--min-rate BYTES] [--session-steps N] [--session-reserve N] [LOG]`, and `spmat --version`. LOG stands for
 -- `[--log] [--log-format FORMAT] [--log-every SECONDS]`.
 use Rattle.std.specs.Prelude.{ℕ, ◌≡◌, ◌^◌, Bool, true, false, List, [], ◌∷◌, Option, Some, None, codes}
 use Rattle.std.specs.Str.Parse.{digits_value, without_leading_plus, IsNumeral}
@@ -36,6 +36,12 @@ sessions_option = number_option (codes "sessions") (Unsigned 1 1000000) false
 abbrev pub idle_option : Rule
 idle_option = number_option (codes "idle") (Unsigned 1 1000000) false
 
+abbrev pub session_seconds_option : Rule
+session_seconds_option = number_option (codes "session-seconds") (Unsigned 1 1000000) false
+
+abbrev pub min_rate_option : Rule
+min_rate_option = number_option (codes "min-rate") (Unsigned 1 1000000000) false
+
 abbrev pub session_steps_option : Rule
 session_steps_option = number_option (codes "session-steps") (Unsigned 1 (2 ^ 62)) false
 
@@ -65,7 +71,8 @@ abbrev pub serve_command : App
 serve_command =
     let app = with_rule (with_rule (new_app (codes "serve")) port_option) steps_option in
     let all = with_rule (with_rule (with_rule app workers_option) sessions_option) idle_option in
-    let shares = with_rule (with_rule all session_steps_option) session_reserve_option in
+    let times = with_rule (with_rule all session_seconds_option) min_rate_option in
+    let shares = with_rule (with_rule times session_steps_option) session_reserve_option in
     with_rule (with_rule (with_rule shares log_option) log_format_option) log_every_option
 
 -- the program, which has a version, and of which a command has to be given
@@ -108,10 +115,11 @@ IsAskedIn name rows (Run steps workers idle log log_format log_every) =
     (name ≡ codes "run") × IsNumberOf (one_of (codes "steps") rows) steps × IsNumberOf (one_of (codes "workers") rows) workers
     × IsNumberIfAny (one_of (codes "idle") rows) idle × (log ≡ is_set (first_of (codes "log") rows))
     × IsFormatIfAny (first_of (codes "log-format") rows) log_format × IsNumberIfAny (one_of (codes "log-every") rows) log_every
-IsAskedIn name rows (Serve port steps workers sessions idle session_steps session_reserve log log_format log_every) =
+IsAskedIn name rows (Serve port steps workers sessions idle session_seconds min_rate session_steps session_reserve log log_format log_every) =
     (name ≡ codes "serve") × IsNumberOf (one_of (codes "port") rows) port × IsNumberOf (one_of (codes "steps") rows) steps
     × IsNumberOf (one_of (codes "workers") rows) workers × IsNumberIfAny (one_of (codes "sessions") rows) sessions
-    × IsNumberIfAny (one_of (codes "idle") rows) idle × IsNumberIfAny (one_of (codes "session-steps") rows) session_steps
+    × IsNumberIfAny (one_of (codes "idle") rows) idle × IsNumberIfAny (one_of (codes "session-seconds") rows) session_seconds
+    × IsNumberIfAny (one_of (codes "min-rate") rows) min_rate × IsNumberIfAny (one_of (codes "session-steps") rows) session_steps
     × IsNumberIfAny (one_of (codes "session-reserve") rows) session_reserve × (log ≡ is_set (first_of (codes "log") rows))
     × IsFormatIfAny (first_of (codes "log-format") rows) log_format × IsNumberIfAny (one_of (codes "log-every") rows) log_every
 

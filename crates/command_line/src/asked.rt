@@ -21,6 +21,7 @@ pub enum Settings {
     },
     /// Serve sessions on a port of this machine, all on one purse of so many steps: so many
     /// sessions, if a number is given, and for so many seconds without a word of its client each, if a number is given. Each
+    /// session may last so many seconds, and each command has to arrive with so many bytes a second, if numbers are given. Each
     /// session may spend so many steps, and reserve so many at once, if numbers are given. There is a log of them, or none; its
     /// lines may have a format; and it tells of the sessions that run after so many seconds each, if a number is given.
     Serve {
@@ -29,6 +30,8 @@ pub enum Settings {
         workers: u64,
         sessions: Option<u64>,
         idle: Option<u64>,
+        session_seconds: Option<u64>,
+        min_rate: Option<u64>,
         session_steps: Option<u64>,
         session_reserve: Option<u64>,
         log: bool,

@@ -24,6 +24,9 @@ pub const MOST_SESSIONS: i64 = 1_000_000;
 /// The most seconds that a session can be told to wait for its client.
 pub const MOST_SECONDS: i64 = 1_000_000;
 
+/// The most bytes a second that a command can have to arrive with.
+pub const MOST_RATE: i64 = 1_000_000_000;
+
 /// An option `--NAME N`, which may have to be given.
 fn number_option<'a>(
     alloc: Global,
@@ -92,6 +95,28 @@ fn idle_option<'a>(alloc: Global) -> Arg<'a>
         "End a session that waits so long for its client: 1 to 1000000; without it there is no end";
     let numbers = value_parser!(u64).range(1..MOST_SECONDS + 1);
     number_option(alloc, "idle", "SECONDS", help, numbers, false)
+}
+
+/// The option `--session-seconds N`.
+fn session_seconds_option<'a>(alloc: Global) -> Arg<'a>
+    ensures rule { rule_of result ≡ line.session_seconds_option }
+    ensures local { result.global ≡ false }
+{
+    let help =
+        "End a session that has lasted so long, once its batch has ended: 1 to 1000000; without it there is no end";
+    let numbers = value_parser!(u64).range(1..MOST_SECONDS + 1);
+    number_option(alloc, "session-seconds", "N", help, numbers, false)
+}
+
+/// The option `--min-rate BYTES`.
+fn min_rate_option<'a>(alloc: Global) -> Arg<'a>
+    ensures rule { rule_of result ≡ line.min_rate_option }
+    ensures local { result.global ≡ false }
+{
+    let help =
+        "End a session whose command arrives with fewer bytes a second: 1 to 1000000000; without it any rate will do";
+    let numbers = value_parser!(u64).range(1..MOST_RATE + 1);
+    number_option(alloc, "min-rate", "BYTES", help, numbers, false)
 }
 
 /// The option `--session-steps N`.
@@ -178,6 +203,8 @@ fn serve_command<'a>(alloc: Global) -> Result<Command<'a>, AllocError>
         .arg(workers_option(alloc))?
         .arg(sessions_option(alloc))?
         .arg(idle_option(alloc))?
+        .arg(session_seconds_option(alloc))?
+        .arg(min_rate_option(alloc))?
         .arg(session_steps_option(alloc))?
         .arg(session_reserve_option(alloc))?
         .arg(log_option(alloc))?

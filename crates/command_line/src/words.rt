@@ -8,7 +8,9 @@ ghost use Rattle.listener.specs.declared.journal.LogFormat.{LogFormat};
 ghost use Rattle.command_line.specs.InRange.{IsInRange, IsWithin};
 
 use crate::asked::{Settings, SettingsFault};
-use crate::grammar::{LAST_PORT, MOST_SECONDS, MOST_SESSIONS, MOST_STEPS, MOST_WORKERS, program};
+use crate::grammar::{
+    LAST_PORT, MOST_RATE, MOST_SECONDS, MOST_SESSIONS, MOST_STEPS, MOST_WORKERS, program,
+};
 use clap::ArgMatches;
 use clap::error::ErrorKind;
 use listener::LogFormat;
@@ -144,6 +146,8 @@ fn serve_settings(matches: &ArgMatches<'_>) -> Option<Settings>
         workers,
         sessions: number_if_any(matches, "sessions", MOST_SESSIONS as u64)?,
         idle: number_if_any(matches, "idle", MOST_SECONDS as u64)?,
+        session_seconds: number_if_any(matches, "session-seconds", MOST_SECONDS as u64)?,
+        min_rate: number_if_any(matches, "min-rate", MOST_RATE as u64)?,
         session_steps: number_if_any(matches, "session-steps", MOST_STEPS as u64)?,
         session_reserve: number_if_any(matches, "session-reserve", MOST_STEPS as u64)?,
         log: is_set(matches, "log"),

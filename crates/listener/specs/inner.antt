@@ -1,4 +1,5 @@
 -- What serves this crate's own modules: contracts between them, invariants and proofs. No public contract reaches it.
+pub mod Patience
 pub mod Speaking
 pub mod Starting
 pub mod Telling

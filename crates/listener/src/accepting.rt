@@ -251,6 +251,8 @@ pub fn serve_listener<N: OpenListener<Stream = TcpStream>, R: Threads + Wait + C
         workers,
         sessions,
         idle: None,
+        session_seconds: None,
+        min_rate: None,
         limits: Limits::none(),
     };
     serve_on_terms(rt, listener, supply, terms, None)

@@ -12,11 +12,13 @@ use crate::entry::Ending;
 use crate::journal::Journal;
 use crate::notice::{Notice, Noticing};
 use crate::origin::Origin;
+use crate::patience::Cut;
 use crate::retrying::{LastCall, Retrying, set_idle};
 use crate::roster::Watch;
 use crate::seats::{Seat, take_seat};
 use crate::server::ServerState;
 use crate::streams::{Given, Served, serve_within};
+use crate::timed::{Timed, Timer, Timing};
 use crate::watching::Watching;
 use session::{End, FromRead, ServeFault, Session, Sink, Source, ToWrite};
 use std::io::{Read, Write};
@@ -146,17 +148,17 @@ fn serve_over<R: Read + Drop, W: Write + Drop, H: Threads + Wait, L: Ledger>(
     )
 }
 
-/// How a session ended, by its outcome, where a call that failed had waited for too long or not.
-fn ending_of(outcome: Result<End, ServeFault>, is_idle: bool) -> Ending
+/// How a session ended, by its outcome, where a call that failed had waited for too long by this bound, or not.
+fn ending_of(outcome: Result<End, ServeFault>, is_idle: bool, cut: Cut) -> Ending
     ensures ended { IfOk outcome (λ end. result ≡ Ending.Ended end) }
     ensures idle { is_idle ≡ true → (outcome ≡ Err ServeFault.Read) ⊎ (outcome ≡ Err ServeFault.Write)
-        → result ≡ Ending.Idle }
+        → result ≡ Ending.Cut cut }
     ensures broken { IfErr outcome (λ fault. (is_idle ≡ false) ⊎ (fault ≡ ServeFault.Turns) ⊎ (fault ≡ ServeFault.Memory)
         → result ≡ Ending.BrokenOff fault) }
 {
     match outcome {
         Ok(end) => Ending::Ended(end),
-        Err(ServeFault::Read | ServeFault::Write) if is_idle => Ending::Idle,
+        Err(ServeFault::Read | ServeFault::Write) if is_idle => Ending::Cut(cut),
         Err(fault) => Ending::BrokenOff(fault),
     }
 }
@@ -191,9 +193,12 @@ fn attend<'a, R: Threads + Wait + Clock, L: Ledger>(
     }
     let (mut read, mut wrote, mut refused) = (LastCall::none(), LastCall::none(), 0);
     let watch = watch_in(server.journal, client);
-    let reader = Watching::new(Retrying::new(&stream, &mut read), rt, watch);
+    let timing = Timing::new(rt, server.terms.patience());
+    let incoming = Timed::new(&stream, Timer::of(rt, &stream, &timing));
+    let outgoing = Timed::new(&stream, Timer::of(rt, &stream, &timing));
+    let reader = Watching::new(Retrying::new(incoming, &mut read), rt, watch);
     let notice = Notice::of(rt, server.journal, client);
-    let sending = Watching::new(Retrying::new(&stream, &mut wrote), rt, watch);
+    let sending = Watching::new(Retrying::new(outgoing, &mut wrote), rt, watch);
     let writer = Noticing::new(sending, notice, &mut refused);
     let given = Given {
         room,
@@ -203,7 +208,11 @@ fn attend<'a, R: Threads + Wait + Clock, L: Ledger>(
     };
     let served = serve_over(rt, server, given, reader, writer);
     if let Some(journal) = server.journal {
-        let ending = ending_of(served.outcome, read.is_idle || wrote.is_idle);
+        let ending = ending_of(
+            served.outcome,
+            read.is_idle || wrote.is_idle,
+            timing.cut(rt),
+        );
         journal.note_end(rt, client, ending, refused);
     }
     drop(seat);

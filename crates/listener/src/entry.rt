@@ -2,6 +2,7 @@
 
 use crate::origin::Origin;
 use crate::pace::Untold;
+use crate::patience::Cut;
 use crate::refusal::Refusal;
 use crate::roster::Standing;
 use crate::tally::Kind;
@@ -16,8 +17,8 @@ pub enum Ending {
     Ended(End),
     /// It broke off.
     BrokenOff(ServeFault),
-    /// Its client sent nothing, or took nothing, for as long as `--idle` says.
-    Idle,
+    /// It waited for its client for as long as it may.
+    Cut(Cut),
     /// There was no seat, no room or no thread for it: the client was told `no busy`.
     TurnedAway,
 }
@@ -35,7 +36,9 @@ impl fmt::Display for Ending {
             Ending::BrokenOff(ServeFault::Write) => f.write_str("write-failed"),
             Ending::BrokenOff(ServeFault::Turns) => f.write_str("too-many-reads"),
             Ending::BrokenOff(ServeFault::Memory) => f.write_str("no-memory"),
-            Ending::Idle => f.write_str("idle"),
+            Ending::Cut(Cut::Idle) => f.write_str("idle"),
+            Ending::Cut(Cut::Seconds) => f.write_str("seconds"),
+            Ending::Cut(Cut::Slow) => f.write_str("slow"),
             Ending::TurnedAway => f.write_str("no-busy"),
         }
     }

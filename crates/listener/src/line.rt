@@ -250,6 +250,8 @@ impl fmt::Display for Opening<'_> {
         number(f, format, "workers", terms.workers)?;
         number_if_any(f, format, "sessions", terms.sessions)?;
         number_if_any(f, format, "idle", terms.idle)?;
+        number_if_any(f, format, "session_seconds", terms.session_seconds)?;
+        number_if_any(f, format, "min_rate", terms.min_rate)?;
         number_if_any(f, format, "session_steps", terms.limits.steps)?;
         number_if_any(f, format, "session_reserve", terms.limits.reserve)?;
         finish(f, format)

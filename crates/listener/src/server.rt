@@ -4,6 +4,7 @@ ghost use Rattle.session.specs.Sessions.{full_session};
 
 use crate::journal::Journal;
 use crate::limits::Limits;
+use crate::patience::Patience;
 use crate::seats::Seats;
 use session::Session;
 use std::alloc::Global;
@@ -21,10 +22,28 @@ pub struct ServerTerms {
     /// For how many seconds a session waits for its client to send something, or to take something of a reply, one at
     /// least. Without a number there is no end.
     pub idle: Option<u64>,
+    /// For how many seconds a session lasts: then it is ended as soon as it waits for its client. Without a number there is no
+    /// end.
+    pub session_seconds: Option<u64>,
+    /// How many bytes of a command have to arrive in a second, once it has taken a while. Without a number any will do.
+    pub min_rate: Option<u64>,
     /// What each session may take of the purse.
     pub limits: Limits,
     ghost some: { 1 ≤ workers },
     ghost few: { workers ≤ 64 },
+}
+
+impl ServerTerms {
+    /// For how long a session waits for its client.
+    pub fn patience(&self) -> Patience
+        ensures { result ≡ record { idle = self.now.idle; seconds = self.now.session_seconds; rate = self.now.min_rate } }
+    {
+        Patience {
+            idle: self.idle,
+            seconds: self.session_seconds,
+            rate: self.min_rate,
+        }
+    }
 }
 
 /// What all sessions of a listener share.

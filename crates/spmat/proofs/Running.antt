@@ -60,7 +60,7 @@ of_session steps workers old new (Err (failures.Listening fault)) said = said
 pub may_end : (asked : Result Settings SettingsFault) (old new : Devices) (told : Result Done Failure) → IsAnswer asked old new told
     → MayEnd asked told
 may_end (Ok (Run steps workers idle log log_format log_every)) old new told said = of_session steps workers old new told said
-may_end (Ok (Serve port steps workers sessions idle session_steps session_reserve log log_format log_every)) old new told said = said.1
+may_end (Ok (Serve port steps workers sessions idle session_seconds min_rate session_steps session_reserve log log_format log_every)) old new told said = said.1
 may_end (Err fault) old new told said = said.1
 
 -- nor does the cause of a device matter for how it may end
@@ -102,6 +102,6 @@ module _ (unread unwritten : Option Cause) where
   pub may_end_explained : (asked : Result Settings SettingsFault) (told : Result Done Failure) → MayEnd asked told
       → MayEnd asked (explained unread unwritten told)
   may_end_explained (Ok (Run steps workers idle log log_format log_every)) told said = explained_session told said
-  may_end_explained (Ok (Serve port steps workers sessions idle session_steps session_reserve log log_format log_every)) told said =
+  may_end_explained (Ok (Serve port steps workers sessions idle session_seconds min_rate session_steps session_reserve log log_format log_every)) told said =
       explained_server port sessions told said
   may_end_explained (Err fault) told said = explained_refusal fault told said

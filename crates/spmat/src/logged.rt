@@ -6,7 +6,7 @@ ghost use Rattle.spmat.specs.inner.Running.{IsOfSession};
 use crate::respond_on;
 use crate::serving::Log;
 use command_line::{Done, Failure, Settings, VERSION};
-use listener::{Cause, Ending, Journal, Limits, ListenFault, Origin, ServerTerms};
+use listener::{Cause, Cut, Ending, Journal, Limits, ListenFault, Origin, ServerTerms};
 use session::ServeFault;
 use std::net::{Net, TcpListener, TcpStream};
 use std::sync::Wait;
@@ -32,7 +32,7 @@ fn ending_of(told: &Result<Done, Failure>) -> Option<Ending> {
                 fault: _,
                 cause: Some(Cause::Idle),
             },
-        ) => Some(Ending::Idle),
+        ) => Some(Ending::Cut(Cut::Idle)),
         Err(Failure::Session { fault, cause: _ }) => Some(Ending::BrokenOff(*fault)),
         _ => None,
     }
@@ -96,6 +96,8 @@ where
         workers,
         sessions: Some(1),
         idle,
+        session_seconds: None,
+        min_rate: None,
         limits: Limits::none(),
     };
     journal.write_opening(rt, Origin::Streams, VERSION, steps, terms);

@@ -162,6 +162,8 @@ where
             workers,
             sessions,
             idle,
+            session_seconds,
+            min_rate,
             session_steps,
             session_reserve,
             log,
@@ -172,6 +174,8 @@ where
                 workers,
                 sessions,
                 idle,
+                session_seconds,
+                min_rate,
                 limits: Limits {
                     steps: session_steps,
                     reserve: session_reserve,

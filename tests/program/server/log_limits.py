@@ -52,7 +52,8 @@ def server_starts_and_ends(program: str) -> None:
         quick_sessions(server.port, 1)
         last = last_of(server)
         expect('the first line', {'version': version(), 'steps': '100', 'workers': '1',
-                                  'sessions': '2', 'idle': '60', 'session_steps': '50',
+                                  'sessions': '2', 'idle': '60', 'session_seconds': 'none',
+                                  'min_rate': 'none', 'session_steps': '50',
                                   'session_reserve': 'none'}, fields_of(server.lines[0]))
         expect('the last line', {'end': 'sessions', 'sessions': '2', 'turned_away': '0',
                                  'refused': '1', 'steps': '9', 'left': '91',

@@ -43,10 +43,13 @@ REFUSED_WORDS = [
     changed('--workers', '65'), changed('--sessions', '0'),
     changed('--sessions', str(MOST_NUMBER + 1)), changed('--idle', '0'),
     changed('--idle', str(MOST_NUMBER + 1)), changed('--idle', '0.5'),
+    serve_words(1, session_seconds=0), serve_words(1, session_seconds=MOST_NUMBER + 1),
+    serve_words(1, min_rate=0), serve_words(1, min_rate=10 ** 9 + 1),
     serve_words(1, session_steps=0), serve_words(1, session_steps=MOST_STEPS + 1),
     serve_words(1, session_reserve=0), serve_words(1) + ['--session-reserve', 'all'],
     serve_words(1) + ['--log-format', 'xml'], serve_words(1) + ['--log-every', '0'],
     ['run', '--steps', '1', '--workers', '1', '--session-steps', '1'],
+    ['run', '--steps', '1', '--workers', '1', '--session-seconds', '1'],
     serve_words(1, log=True) + ['--log'], serve_words(1) + ['--log=yes'],
     serve_words(1) + ['--version'],]
 
