@@ -18,7 +18,8 @@ from .support import (FIRST_SESSION, LINES, PROGRAM, Certificates, Client, Gatew
 
 ASKED = bool(os.environ.get('SPMAT_GATEWAY_ALL'))
 PATH = os.pathsep.join([os.environ.get('PATH', ''), '/usr/sbin', '/sbin'])
-SESSION = ' '.join([PROGRAM, 'run --steps {steps} --workers {workers} --idle {idle} --log --log-every 1'])
+SESSION = ' '.join([PROGRAM,
+                    'run --steps {steps} --workers {workers} --idle {idle} --log --log-every 1'])
 
 
 def needs(*names):

@@ -384,18 +384,21 @@ class Engines(unittest.TestCase):
     def test_a_command_without_the_log(self):
         command = [word for word in engine_command() if word not in ('--log', '--log-every', '1')]
         replies, row, said = self.ended(command)
-        self.assertEqual((replies, row['cause'], row['charged']), (b'no session engine known 0\n', 'engine', 0))
+        self.assertEqual((replies, row['cause'], row['charged']),
+                         (b'no session engine known 0\n', 'engine', 0))
         self.assertIn('has no --log', said)
 
     def test_a_program_of_an_older_release(self):
         words = "error: unexpected argument '--log' found"
         replies, row, said = self.ended(['sh', '-c', 'echo "%s" >&2; exit 2' % words])
-        self.assertEqual((replies, row['cause'], row['charged']), (b'no session engine known 0\n', 'engine', 0))
+        self.assertEqual((replies, row['cause'], row['charged']),
+                         (b'no session engine known 0\n', 'engine', 0))
         self.assertIn("of an older release, as it doesn't know --log", said)
 
     def test_words_before_the_log(self):
         """What starts an engine elsewhere may write to standard error, too."""
-        command = ['sh', '-c', 'echo "job 7 waits" >&2; sleep 0.3; exec "$@"', 'sh', *engine_command()]
+        command = ['sh', '-c', 'echo "job 7 waits" >&2; sleep 0.3; exec "$@"', 'sh',
+                   *engine_command()]
         with folder() as where, Gateway(where, command=command) as gateway:
             anna = gateway.add('anna')
             with gateway.client(anna) as client:

@@ -9,8 +9,9 @@ use thiserror::Error;
 /// What the program is asked to do.
 #[derive(Clone, Copy, Debug, PartialEq, Eq)]
 pub enum Settings {
-    /// Serve one session on standard input and output, with a budget of so many steps, and for so many seconds without a word
-    /// of its client, if a number is given. There is a log of it, or none, as of `Serve`.
+    /// Serve one session on standard input and output, with a budget of so many steps, and for so
+    /// many seconds without a word of its client, if a number is given. There is a log of it, or
+    /// none, as of `Serve`.
     Run {
         steps: u64,
         workers: u64,
@@ -20,10 +21,12 @@ pub enum Settings {
         log_every: Option<u64>,
     },
     /// Serve sessions on a port of this machine, all on one purse of so many steps: so many
-    /// sessions, if a number is given, and for so many seconds without a word of its client each, if a number is given. Each
-    /// session may last so many seconds, and each command has to arrive with so many bytes a second, if numbers are given. Each
-    /// session may spend so many steps, and reserve so many at once, if numbers are given. There is a log of them, or none; its
-    /// lines may have a format; and it tells of the sessions that run after so many seconds each, if a number is given.
+    /// sessions, if a number is given, and for so many seconds without a word of its client each,
+    /// if a number is given. Each session may last so many seconds, and each command has to arrive
+    /// with so many bytes a second, if numbers are given. Each session may spend so many steps, and
+    /// reserve so many at once, if numbers are given. There is a log of them, or none; its lines
+    /// may have a format; and it tells of the sessions that run after so many seconds each, if a
+    /// number is given.
     Serve {
         port: u16,
         steps: u64,

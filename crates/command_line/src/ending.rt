@@ -101,7 +101,8 @@ impl fmt::Display for Detail {
     }
 }
 
-/// A fault as it is printed: its words, alone on a line, and a second line with its cause, where the system tells one.
+/// A fault as it is printed: its words, alone on a line, and a second line with its cause, where
+/// the system tells one.
 #[derive(Clone, Copy, Debug, PartialEq, Eq)]
 pub struct Fault {
     pub words: &'static str,
@@ -232,7 +233,8 @@ pub fn ending_of(outcome: Result<Done, Failure>) -> Ending
     Ending { status, message }
 }
 
-/// Says what there is to say, and gives the status for the system. Where standard error takes nothing, the status alone tells.
+/// Says what there is to say, and gives the status for the system. Where standard error takes
+/// nothing, the status alone tells.
 pub fn finish<H: Eprint>(rt: &H, ending: Ending) -> ExitCode
     ensures { exit_status result ≡ code_of ending.status }
 {

@@ -1,4 +1,5 @@
-//! The command line as `clap` reads it: its two commands, their options, and what `--help` says of them.
+//! The command line as `clap` reads it: its two commands, their options, and what `--help` says of
+//! them.
 ghost use Rattle.std.specs.Prelude.{◌≡◌, false, IfOk};
 ghost use Rattle.clap.specs.Words.{app_of, rule_of};
 ghost use Rattle.clap.specs.declared.builder.command.Command.TheViews.{out-Command};

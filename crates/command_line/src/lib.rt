@@ -1,8 +1,10 @@
 //! What the words of the command line ask for, and how the program tells its end.
 //!
-//! The contracts: `settings` gives the settings that words ask for, exactly where the parser of command lines takes them and
-//! their numbers are in range, and tells where they ask for the version (`specs/Words.antt`, `specs/InRange.antt`); `ending_of`
-//! and `finish` give the exit status of each end, the words on standard error, and the cause behind them (`specs/Endings.antt`).
+//! The contracts: `settings` gives the settings that words ask for, exactly where the parser of
+//! command lines takes them and their numbers are in range, and tells where they ask for the
+//! version (`specs/Words.antt`, `specs/InRange.antt`); `ending_of` and `finish` give the exit
+//! status of each end, the words on standard error, and the cause behind them
+//! (`specs/Endings.antt`).
 //!
 //! Its modules in reading order:
 //!

@@ -239,7 +239,8 @@ fn help_names_the_ranges(rt: HostRuntime) {
     }
 }
 
-/// A failure ends the program with status 1, and names itself by these words, with this behind them.
+/// A failure ends the program with status 1, and names itself by these words, with this behind
+/// them.
 fn assert_named<H: Abort>(rt: &H, failure: Failure, words: &'static str, detail: Detail) {
     let failed = Ending {
         status: Status::Failed,

@@ -17,7 +17,8 @@ use listener::LogFormat;
 use std::alloc::Global;
 use std::convert::AsStr;
 
-/// The text where a format is none, or an option has no number, which `clap` would have to let pass.
+/// The text where a format is none, or an option has no number, which `clap` would have to let
+/// pass.
 const NO_VALUES: &str =
     "error: --log-format is `text` or `json`; numbers are in their ranges, as `--help` of the command tells them\n";
 
@@ -25,7 +26,8 @@ const NO_VALUES: &str =
 const OTHER_COMMANDS: &str =
     "\nAlgorithms on graphs, as pagerank, are commands of spmat-graph (python3 -m spmat).\n";
 
-/// The fault that an error of `clap` is: memory ran out, the version is asked for, or the words are refused with its text.
+/// The fault that an error of `clap` is: memory ran out, the version is asked for, or the words are
+/// refused with its text.
 fn fault_of(alloc: Global, error: &clap::Error) -> SettingsFault
     ensures memory { kind_of error.now ≡ ErrorKind.OutOfMemory → result ≡ SettingsFault.Memory }
     ensures version { kind_of error.now ≡ ErrorKind.DisplayVersion → result ≡ SettingsFault.Version }
@@ -174,8 +176,9 @@ fn settings_in(name: &str, matches: &ArgMatches<'_>) -> Option<Settings>
 ///
 /// # Errors
 ///
-/// `Words` with the text of `clap`, where it refuses them or they ask for help, `Version`, where they ask for the version, and
-/// `Memory`. Words that `clap` takes, with numbers in their ranges, are refused only where memory runs out.
+/// `Words` with the text of `clap`, where it refuses them or they ask for help, `Version`, where
+/// they ask for the version, and `Memory`. Words that `clap` takes, with numbers in their ranges,
+/// are refused only where memory runs out.
 pub fn settings<'a, S: AsStr>(alloc: Global, words: &'a [S]) -> Result<Settings, SettingsFault>
     ensures asked { IfOk result (λ s. IsAsked (map S.text words.now) s) }
     ensures range { IfOk result (λ s. IsInRange s) }

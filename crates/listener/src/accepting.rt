@@ -23,14 +23,16 @@ use std::thread::{Scope, Threads};
 use std::time::Clock;
 use step_purse::{Pass, Purse};
 
-/// What the next session is started with: a pass, of which its own is split off, and its room, if there was memory for it.
+/// What the next session is started with: a pass, of which its own is split off, and its room, if
+/// there was memory for it.
 #[derive(Drop)]
 struct Ready {
     pass: Pass,
     room: Option<Session>,
 }
 
-/// Accepts connections until a session was started for one. Answers with what the one after it is started.
+/// Accepts connections until a session was started for one. Answers with what the one after it is
+/// started.
 ///
 /// # Errors
 ///
@@ -149,9 +151,9 @@ fn start<'s, 'a, E: Acceptor + Drop, R: Threads + Wait + Clock + Sync, L: Ledger
     }
 }
 
-/// Serves what comes in by an entrance, and hands it back: up to sixteen sessions at once, each in a thread of its own, with a
-/// pass of the house's purse. A connection for which there is no seat, no room or no thread is told so and doesn't count. It
-/// ends once all sessions have ended.
+/// Serves what comes in by an entrance, and hands it back: up to sixteen sessions at once, each in
+/// a thread of its own, with a pass of the house's purse. A connection for which there is no seat,
+/// no room or no thread is told so and doesn't count. It ends once all sessions have ended.
 ///
 /// # Errors
 ///
@@ -197,7 +199,8 @@ pub struct Supply<'p> {
     pub pass: Pass,
 }
 
-/// As `serve_on_terms`, with the counts by ledgers of the caller's: of seats, of accepted connections and of failures.
+/// As `serve_on_terms`, with the counts by ledgers of the caller's: of seats, of accepted
+/// connections and of failures.
 fn serve_counted<
     N: OpenListener<Stream = TcpStream>,
     R: Threads + Wait + Clock + Sync,
@@ -225,14 +228,15 @@ fn serve_counted<
     ended
 }
 
-/// Serves the connections of a listener: up to sixteen sessions at once, each in a thread of its own, with a pass of one purse.
-/// A further connection, and one for which there is no room or no thread, gets `no busy` and is closed. With a number of
-/// sessions it ends once so many were started and have ended.
+/// Serves the connections of a listener: up to sixteen sessions at once, each in a thread of its
+/// own, with a pass of one purse. A further connection, and one for which there is no room or no
+/// thread, gets `no busy` and is closed. With a number of sessions it ends once so many were
+/// started and have ended.
 ///
 /// # Errors
 ///
-/// `Memory` where the room of the first session was refused, before any connection was accepted. `Network` where a connection
-/// could not be accepted; sessions that run go on to their ends first.
+/// `Memory` where the room of the first session was refused, before any connection was accepted.
+/// `Network` where a connection could not be accepted; sessions that run go on to their ends first.
 pub fn serve_listener<N: OpenListener<Stream = TcpStream>, R: Threads + Wait + Clock + Sync>(
     rt: &R,
     alloc: Global,
@@ -258,7 +262,8 @@ pub fn serve_listener<N: OpenListener<Stream = TcpStream>, R: Threads + Wait + C
     serve_on_terms(rt, listener, supply, terms, None)
 }
 
-/// As `serve_listener`, on terms that may also bound how long a session waits and what it may take, and with a log or without.
+/// As `serve_listener`, on terms that may also bound how long a session waits and what it may take,
+/// and with a log or without.
 ///
 /// # Errors
 ///

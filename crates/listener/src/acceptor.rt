@@ -23,7 +23,8 @@ pub struct Caller {
     pub address: SocketAddr,
 }
 
-/// What connections come in by: calls of `accept` and those that failed are counted, for contracts alone.
+/// What connections come in by: calls of `accept` and those that failed are counted, for contracts
+/// alone.
 pub trait Acceptor {
     // the counts
     ghost state: { Self → AcceptorState };
@@ -46,8 +47,8 @@ pub struct FromListener<'l, N: OpenListener<Stream = TcpStream>, C: Ledger, F: L
 }
 
 impl<'l, N: OpenListener<Stream = TcpStream>, C: Ledger, F: Ledger> FromListener<'l, N, C, F> {
-    /// An acceptor by this listener. `accepted` and `failures` are new ledgers of at least one part (`Blank::new(1)`), and the
-    /// types `C` and `F` stand for them.
+    /// An acceptor by this listener. `accepted` and `failures` are new ledgers of at least one part
+    /// (`Blank::new(1)`), and the types `C` and `F` stand for them.
     pub fn new(listener: &'l N, accepted: Blank, failures: Blank) -> Self
         requires accepted_blank { IsNewCount accepted C.name C.parts }
         requires failures_blank { IsNewCount failures F.name F.parts }

@@ -36,8 +36,9 @@ const LAST_READS: u64 = 64;
 /// What a client is sent when no session can be started for it.
 const NO_BUSY: &[u8] = b"no busy\n";
 
-/// Ends a connection: tells the client that nothing more comes, and takes what it has sent already, since the system takes back
-/// the last replies of a connection that is closed with something unread. It never waits.
+/// Ends a connection: tells the client that nothing more comes, and takes what it has sent already,
+/// since the system takes back the last replies of a connection that is closed with something
+/// unread. It never waits.
 fn hang_up(stream: &TcpStream) {
     if stream.shutdown(Shutdown::Write).is_err() || stream.set_nonblocking(true).is_err() {
         return;
@@ -70,8 +71,8 @@ fn note_turned_away<R: Wait + Clock, L: Ledger>(
     }
 }
 
-/// Serves a session of a server over these devices: by a pass of its purse, in the room of each of its sessions, and within the
-/// limits of its terms.
+/// Serves a session of a server over these devices: by a pass of its purse, in the room of each of
+/// its sessions, and within the limits of its terms.
 fn serve_sides<I: Source, O: Sink, H: Threads + Wait, L: Ledger>(
     rt: &H,
     server: &ServerState<'_, L>,
@@ -148,7 +149,8 @@ fn serve_over<R: Read + Drop, W: Write + Drop, H: Threads + Wait, L: Ledger>(
     )
 }
 
-/// How a session ended, by its outcome, where a call that failed had waited for too long by this bound, or not.
+/// How a session ended, by its outcome, where a call that failed had waited for too long by this
+/// bound, or not.
 fn ending_of(outcome: Result<End, ServeFault>, is_idle: bool, cut: Cut) -> Ending
     ensures ended { IfOk outcome (λ end. result ≡ Ending.Ended end) }
     ensures idle { is_idle ≡ true → (outcome ≡ Err ServeFault.Read) ⊎ (outcome ≡ Err ServeFault.Write)
@@ -171,8 +173,9 @@ pub fn watch_in<'j>(journal: Option<&'j Journal>, client: Origin) -> Option<Watc
     }
 }
 
-/// A session from its start to its end, in a thread of its own, by this pass and in this room; what it leaves is answered. Its seat
-/// is free before its connection is closed, so that a client that saw the end finds it.
+/// A session from its start to its end, in a thread of its own, by this pass and in this room; what
+/// it leaves is answered. Its seat is free before its connection is closed, so that a client that
+/// saw the end finds it.
 fn attend<'a, R: Threads + Wait + Clock, L: Ledger>(
     rt: &'a R,
     server: &'a ServerState<'a, L>,
@@ -220,8 +223,8 @@ fn attend<'a, R: Threads + Wait + Clock, L: Ledger>(
     served
 }
 
-/// Starts a session for a connection, or tells the client that there is none, where there is no room, no seat or no thread.
-/// Answers whether one was started.
+/// Starts a session for a connection, or tells the client that there is none, where there is no
+/// room, no seat or no thread. Answers whether one was started.
 pub fn admit<'s, 'a, R: Threads + Wait + Clock + Sync, L: Ledger + Send + Sync>(
     scope: &Scope<'s, &'a ()>,
     rt: &'a R,

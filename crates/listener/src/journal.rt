@@ -1,8 +1,9 @@
 //! The log of a server: lines that sessions leave, and one thread that writes them.
 //!
-//! A session never waits for the writer: it leaves its line in a queue, under a lock that nobody holds while it writes. Where the
-//! queue is full, since standard error takes nothing, the line is dropped and counted, and the count is written once there is room.
-//! Of each kind of line a second has only so many, and the others are counted (`Pace`).
+//! A session never waits for the writer: it leaves its line in a queue, under a lock that nobody
+//! holds while it writes. Where the queue is full, since standard error takes nothing, the line is
+//! dropped and counted, and the count is written once there is room. Of each kind of line a second
+//! has only so many, and the others are counted (`Pace`).
 ghost use Rattle.std.specs.Prelude.{◌≡◌, ◌+◌, ◌-◌, ◌^◌, ◌++◌, ◌∷◌, [], min, true, false};
 ghost use Rattle.listener.specs.inner.Waiting.{IsTaken};
 
@@ -54,7 +55,8 @@ enum NextLine {
 }
 
 impl Waiting {
-    /// Adds a line behind those that wait, or counts it as dropped, where they are too many. Tells which.
+    /// Adds a line behind those that wait, or counts it as dropped, where they are too many. Tells
+    /// which.
     fn add(&mut self, entry: Entry) -> bool
         ensures kept { result ≡ true → (self.new.entries.items ≡ self.old.entries.items ++ entry ∷ [])
             × (self.new.dropped ≡ self.old.dropped) }
@@ -74,7 +76,8 @@ impl Waiting {
         false
     }
 
-    /// Takes what is to be written next: the first line that waits, then how many were dropped. None, where there is nothing yet.
+    /// Takes what is to be written next: the first line that waits, then how many were dropped.
+    /// None, where there is nothing yet.
     fn take(&mut self) -> Option<NextLine>
         ensures taken { IsTaken result self.old self.new }
         ensures same { self.new.is_over ≡ self.old.is_over }
@@ -121,8 +124,9 @@ pub struct Journal {
 }
 
 impl Journal {
-    /// A log in which no line waits, with the room for all that may. It has lines of this format. Where a number of seconds is
-    /// given, it tells so often how each session stands, and also at the end of each batch, where it is to.
+    /// A log in which no line waits, with the room for all that may. It has lines of this format.
+    /// Where a number of seconds is given, it tells so often how each session stands, and also at
+    /// the end of each batch, where it is to.
     ///
     /// # Errors
     ///
@@ -154,14 +158,16 @@ impl Journal {
         })
     }
 
-    /// Leaves a line to be written, or counts it as dropped, and tells which. It doesn't wait for the writer.
+    /// Leaves a line to be written, or counts it as dropped, and tells which. It doesn't wait for
+    /// the writer.
     fn add<R: Wait>(&self, rt: &R, entry: Entry) -> bool {
         let is_kept = self.waiting.lock(rt).add(entry);
         self.change.notify_one();
         is_kept
     }
 
-    /// Leaves a line of an event, or counts the event alone, where this second has had the lines of its kind.
+    /// Leaves a line of an event, or counts the event alone, where this second has had the lines of
+    /// its kind.
     fn note<R: Wait + Clock>(&self, rt: &R, client: Origin, event: Event) {
         let mut entry = Entry::new(rt, client, event);
         let Some((kind, steps)) = event.kind() else {
@@ -217,7 +223,8 @@ impl Journal {
         self.note(rt, client, Event::End(account));
     }
 
-    /// Leaves a line of how a session stands whose batch has ended, if that is told, and this second hasn't had too many.
+    /// Leaves a line of how a session stands whose batch has ended, if that is told, and this
+    /// second hasn't had too many.
     pub fn note_batch<R: Wait + Clock>(&self, rt: &R, client: Origin) {
         let Some(batches) = &self.batches else {
             return;
@@ -256,7 +263,8 @@ impl Journal {
         self.change.notify_one();
     }
 
-    /// What is to be written next, once there is something. None, where there is nothing for so long, if a time is given.
+    /// What is to be written next, once there is something. None, where there is nothing for so
+    /// long, if a time is given.
     fn next<R: Wait + Clock>(&self, rt: &R, longest: Option<Duration>) -> Option<NextLine> {
         let mut waiting = self.waiting.lock(rt);
         for _ in rt.forever() {
@@ -292,7 +300,8 @@ impl Journal {
         }
     }
 
-    /// Writes that a server of these steps and terms begins, whose clients come in there, and of which version its program is.
+    /// Writes that a server of these steps and terms begins, whose clients come in there, and of
+    /// which version its program is.
     pub fn write_opening<R: Clock + Eprint>(
         &self,
         rt: &R,
@@ -310,7 +319,8 @@ impl Journal {
         });
     }
 
-    /// Writes why the server whose clients came in there has closed, and its totals. To be called once all else is written.
+    /// Writes why the server whose clients came in there has closed, and its totals. To be called
+    /// once all else is written.
     pub fn write_closing<R: Wait + Clock + Eprint>(
         &self,
         rt: &R,
@@ -360,8 +370,8 @@ impl Journal {
         }
     }
 
-    /// Writes the lines to standard error, each as it comes, until `end` was called and all are written. A line that standard
-    /// error doesn't take is lost, and the next one is tried.
+    /// Writes the lines to standard error, each as it comes, until `end` was called and all are
+    /// written. A line that standard error doesn't take is lost, and the next one is tried.
     pub fn write_out<R: Wait + Clock + Eprint>(&self, rt: &R) {
         let mut written = Instant::now(rt).ok();
         for _ in rt.forever() {

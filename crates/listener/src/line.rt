@@ -13,7 +13,8 @@ use jiff::Timestamp;
 use std::fmt;
 use std::time::{Duration, SystemTime};
 
-/// Where a line of a server stands: when it is written, where the clients of the server come in, and in which format.
+/// Where a line of a server stands: when it is written, where the clients of the server come in,
+/// and in which format.
 #[derive(Clone, Copy)]
 pub struct Place {
     pub at: Option<SystemTime>,
@@ -30,7 +31,8 @@ pub struct Opening<'o> {
     pub terms: ServerTerms,
 }
 
-/// A server whose sessions have all ended: why it takes no more, what it served and spent, what is left, and what had no line.
+/// A server whose sessions have all ended: why it takes no more, what it served and spent, what is
+/// left, and what had no line.
 #[derive(Clone, Copy)]
 pub struct Closing {
     pub place: Place,

@@ -9,8 +9,8 @@ use std::marker::Model;
 use std::sync::Wait;
 use step_purse::{Pass, Reply, Totals};
 
-/// A budget that counts the steps that are spent of it, and refuses what its limits don't allow. A contract sees its pass, the
-/// count and the limits.
+/// A budget that counts the steps that are spent of it, and refuses what its limits don't allow. A
+/// contract sees its pass, the count and the limits.
 #[derive(Drop)]
 pub struct Meter<'p> {
     wallet: Wallet<'p>,
@@ -30,8 +30,8 @@ impl<'p> Model for Meter<'p> {
 }
 
 impl<'p> Meter<'p> {
-    /// A budget that is this wallet, within these limits, of which nothing was spent yet. Where a watch is given, it is told what
-    /// is reserved and spent.
+    /// A budget that is this wallet, within these limits, of which nothing was spent yet. Where a
+    /// watch is given, it is told what is reserved and spent.
     pub fn new(wallet: Wallet<'p>, limits: Limits, watch: Option<Watch<'p>>) -> Self
         requires { IsWithin (record { pass = wallet; spent = 0; limits = limits }) }
         ensures { result ≡ record { pass = wallet.entry; spent = 0; limits = limits } }
@@ -66,7 +66,8 @@ impl<'p> Meter<'p> {
         }
     }
 
-    /// Tells the watch, if there is one, that a job was settled, and what is reserved and spent now.
+    /// Tells the watch, if there is one, that a job was settled, and what is reserved and spent
+    /// now.
     fn tell_settled<H: Wait>(&self, rt: &H) {
         if let Some(watch) = &self.watch {
             let (reserved, spent) = (self.wallet.owed(), self.spent);

@@ -89,8 +89,9 @@ fn look<R: Wait + Clock>(
     }
 }
 
-/// The written side of a connection: each line that refuses something is counted, and told to the log; so is a batch, before its
-/// reply is sent. No line of a text that follows a reply begins as a refusal does. Its bytes are those of the side below.
+/// The written side of a connection: each line that refuses something is counted, and told to the
+/// log; so is a batch, before its reply is sent. No line of a text that follows a reply begins as a
+/// refusal does. Its bytes are those of the side below.
 #[derive(Drop)]
 pub struct Noticing<'s, W: Drop, R> {
     side: W,

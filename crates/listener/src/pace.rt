@@ -34,7 +34,8 @@ impl Untold {
     }
 }
 
-/// How many lines of one kind a second may have, how many the last second had, and what had none since the last that was written.
+/// How many lines of one kind a second may have, how many the last second had, and what had none
+/// since the last that was written.
 #[derive(Clone, Copy, Debug, PartialEq, Eq)]
 pub struct Pace {
     most: u64,
@@ -72,7 +73,8 @@ impl Pace {
         }
     }
 
-    /// Notes something of this second that took so many steps: whether it has a line, and what before it had none.
+    /// Notes something of this second that took so many steps: whether it has a line, and what
+    /// before it had none.
     pub fn tell(&mut self, second: u64, steps: u64) -> Option<Untold>
         ensures told { IfSome result (λ u. (u ≡ self.old.untold) × (self.new.untold ≡ record { lines = 0; steps = 0 })) }
         ensures counted { result ≡ None → self.new.untold ≡ joined self.old.untold (record { lines = 1; steps = steps }) }

@@ -31,16 +31,16 @@ pub struct Patience {
     pub rate: Option<u64>,
 }
 
-/// The command that a client is sending: how many bytes of it have come since the last reply, and for how many thousandths of a
-/// second the session has waited for more of them.
+/// The command that a client is sending: how many bytes of it have come since the last reply, and
+/// for how many thousandths of a second the session has waited for more of them.
 #[derive(Clone, Copy, Debug, PartialEq, Eq)]
 pub struct Arrival {
     pub bytes: u64,
     pub waited: u64,
 }
 
-/// How long a command may take to arrive whatever its rate, and how long a session that has lasted long enough may still write
-/// replies, in thousandths of a second.
+/// How long a command may take to arrive whatever its rate, and how long a session that has lasted
+/// long enough may still write replies, in thousandths of a second.
 const GRACE: u64 = 10_000;
 
 impl Arrival {
@@ -54,7 +54,8 @@ impl Arrival {
         }
     }
 
-    /// So many bytes more, for which the session waited so long. What it waited for the first of them isn't counted.
+    /// So many bytes more, for which the session waited so long. What it waited for the first of
+    /// them isn't counted.
     pub fn and(self, bytes: u64, waited: u64) -> Self
         ensures bytes { result.bytes ≡ min (self.bytes + bytes) (2 ^ 64 - 1) }
         ensures first { self.bytes ≡ 0 → result.waited ≡ self.waited }
@@ -158,7 +159,8 @@ impl Patience {
         }
     }
 
-    /// For how long a session that has lasted so long may wait for bytes, where so much of a command has come.
+    /// For how long a session that has lasted so long may wait for bytes, where so much of a
+    /// command has come.
     pub fn to_read(&self, lasted: u64, arrival: Arrival) -> Option<Bound>
         ensures { result ≡ read_bound self.now lasted arrival }
     {
@@ -166,7 +168,8 @@ impl Patience {
         sooner(usual, rate_bound(self.rate, grace_by(self.idle), arrival))
     }
 
-    /// For how long it may wait until its client takes bytes, where it has waited for so long already past its time.
+    /// For how long it may wait until its client takes bytes, where it has waited for so long
+    /// already past its time.
     pub fn to_write(&self, lasted: u64, late: u64) -> Option<Bound>
         ensures { result ≡ write_bound self.now lasted late }
     {

@@ -7,8 +7,8 @@ use std::io::{ErrorKind, Read, Write};
 use std::net::TcpStream;
 use std::time::Duration;
 
-/// Lets each read and each write of a connection wait for so many seconds at most, or without end. What a session does between
-/// two of them isn't counted.
+/// Lets each read and each write of a connection wait for so many seconds at most, or without end.
+/// What a session does between two of them isn't counted.
 ///
 /// # Errors
 ///
@@ -45,8 +45,9 @@ impl LastCall {
     }
 }
 
-/// A side of a connection whose calls are made again where a signal cut them short, as where the process was stopped and goes on.
-/// The client's time begins anew then. Its bytes are those of the device below.
+/// A side of a connection whose calls are made again where a signal cut them short, as where the
+/// process was stopped and goes on. The client's time begins anew then. Its bytes are those of the
+/// device below.
 #[derive(Drop)]
 pub struct Retrying<'t, D: Drop> {
     device: D,

@@ -1,4 +1,5 @@
-//! What the sessions that run have reserved and spent, and what they wait for, for a log that tells it now and then.
+//! What the sessions that run have reserved and spent, and what they wait for, for a log that tells
+//! it now and then.
 
 use crate::origin::Origin;
 use std::alloc::{AllocError, Global};

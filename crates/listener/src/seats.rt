@@ -7,7 +7,8 @@ use std::sync::{Mutex, Wait};
 /// How many sessions run at once.
 pub const SEATS: u64 = 16;
 
-/// How many seats are free. Those that are taken are counted by a ledger, which takes no memory: a token for each is out.
+/// How many seats are free. Those that are taken are counted by a ledger, which takes no memory: a
+/// token for each is out.
 #[derive(Drop)]
 pub struct Seats<L: Ledger> {
     free: u64,
@@ -67,8 +68,8 @@ impl<L: Ledger> Seats<L> {
     }
 }
 
-/// A seat that is taken. It is free again where this is dropped: at the end of a session, and where no thread could be made for
-/// one.
+/// A seat that is taken. It is free again where this is dropped: at the end of a session, and where
+/// no thread could be made for one.
 pub struct Seat<'h, R: Wait, L: Ledger> {
     rt: &'h R,
     seats: &'h Mutex<Seats<L>>,

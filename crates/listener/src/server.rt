@@ -19,13 +19,14 @@ pub struct ServerTerms {
     pub workers: u64,
     /// How many sessions are started. Without a number there is no end.
     pub sessions: Option<u64>,
-    /// For how many seconds a session waits for its client to send something, or to take something of a reply, one at
-    /// least. Without a number there is no end.
+    /// For how many seconds a session waits for its client to send something, or to take something
+    /// of a reply, one at least. Without a number there is no end.
     pub idle: Option<u64>,
-    /// For how many seconds a session lasts: then it is ended as soon as it waits for its client. Without a number there is no
-    /// end.
+    /// For how many seconds a session lasts: then it is ended as soon as it waits for its client.
+    /// Without a number there is no end.
     pub session_seconds: Option<u64>,
-    /// How many bytes of a command have to arrive in a second, once it has taken a while. Without a number any will do.
+    /// How many bytes of a command have to arrive in a second, once it has taken a while. Without a
+    /// number any will do.
     pub min_rate: Option<u64>,
     /// What each session may take of the purse.
     pub limits: Limits,
@@ -79,7 +80,8 @@ impl<'p, L: Ledger> ServerState<'p, L> {
         }
     }
 
-    /// The next session, if there is memory for it: that of 4,294,967,296 reads, with the workers of the terms.
+    /// The next session, if there is memory for it: that of 4,294,967,296 reads, with the workers
+    /// of the terms.
     pub fn room(&self) -> Option<Session>
         ensures { IfSome result (λ r. r ≡ full_session self.now.terms.workers) }
     {

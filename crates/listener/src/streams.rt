@@ -29,8 +29,8 @@ pub struct Served {
     pub spent: u64,
 }
 
-/// What a session is given: its room, its pass, and within which limits it may draw on the purse; and where it is noted what it
-/// has reserved and spent, if anywhere.
+/// What a session is given: its room, its pass, and within which limits it may draw on the purse;
+/// and where it is noted what it has reserved and spent, if anywhere.
 #[derive(Drop)]
 pub struct Given<'w> {
     pub room: Session,
@@ -39,12 +39,14 @@ pub struct Given<'w> {
     pub watch: Option<Watch<'w>>,
 }
 
-/// Serves one session within a purse that others draw on too, by a pass of it, which is handed back, and within limits of its
-/// own. The calls of the purse that stand behind those of the session are what the pass gained, in order. At no point has the
-/// session spent and reserved more than its limits say.
+/// Serves one session within a purse that others draw on too, by a pass of it, which is handed
+/// back, and within limits of its own. The calls of the purse that stand behind those of the
+/// session are what the pass gained, in order. At no point has the session spent and reserved more
+/// than its limits say.
 ///
-/// The outcome is an error where a device failed, or more reads were needed than a session in this room may make. On each end
-/// and each fault every reservation that is still held is settled with 0.
+/// The outcome is an error where a device failed, or more reads were needed than a session in this
+/// room may make. On each end and each fault every reservation that is still held is settled with
+/// 0.
 pub fn serve_within<I: Source, O: Sink, H: Threads + Wait>(
     rt: &H,
     given: Given<'_>,
@@ -118,11 +120,12 @@ pub fn serve_unlimited<I: Source, O: Sink, H: Threads + Wait>(
     serve_within(rt, given, source, sink, purse)
 }
 
-/// Serves one session within a purse that others draw on too, by a pass of it, which is handed back. What the session called of
-/// the purse is what the pass gained, in order.
+/// Serves one session within a purse that others draw on too, by a pass of it, which is handed
+/// back. What the session called of the purse is what the pass gained, in order.
 ///
-/// The outcome is an error where a device failed, or more reads were needed than a session in this room may make. On each end
-/// and each fault every reservation that is still held is settled with 0.
+/// The outcome is an error where a device failed, or more reads were needed than a session in this
+/// room may make. On each end and each fault every reservation that is still held is settled with
+/// 0.
 pub fn serve_pass<I: Source, O: Sink, H: Threads + Wait>(
     rt: &H,
     room: Session,

@@ -18,7 +18,8 @@ pub enum Kind {
     Refused,
 }
 
-/// How many sessions ended, how many steps they spent, how many clients were turned away, and how many refusals there were.
+/// How many sessions ended, how many steps they spent, how many clients were turned away, and how
+/// many refusals there were.
 #[derive(Clone, Copy, Debug, PartialEq, Eq)]
 pub struct Counts {
     pub sessions: u64,
@@ -56,7 +57,8 @@ impl Tally {
         }
     }
 
-    /// Counts something of this second that took so many steps: whether it has a line, and what of its kind had none before.
+    /// Counts something of this second that took so many steps: whether it has a line, and what of
+    /// its kind had none before.
     pub fn tell(&mut self, kind: Kind, second: u64, steps: u64) -> Option<Untold>
         ensures told { IfSome result (λ u. u ≡ untold_of self.old kind) }
         ensures counted { self.new.counts ≡ counts_after self.old.counts kind steps }

@@ -8,8 +8,8 @@ use std::net::TcpStream;
 use std::sync::{Mutex, Wait};
 use std::time::{Clock, Duration, Instant};
 
-/// What a session has waited for: the command that arrives, how long its client has taken for replies when its time was over,
-/// and which bound its last call had.
+/// What a session has waited for: the command that arrives, how long its client has taken for
+/// replies when its time was over, and which bound its last call had.
 #[derive(Clone, Copy)]
 struct Waited {
     arrival: Arrival,
@@ -65,7 +65,8 @@ pub struct Timer<'t, R> {
 }
 
 impl<'t, R: Wait + Clock> Timer<'t, R> {
-    /// That of a connection, unless only single calls are bounded, which the connection does itself.
+    /// That of a connection, unless only single calls are bounded, which the connection does
+    /// itself.
     pub fn of(rt: &'t R, stream: &'t TcpStream, timing: &'t Timing) -> Option<Self> {
         if timing.patience.is_plain() {
             return None;
@@ -129,8 +130,8 @@ impl<'t, R: Wait + Clock> Timer<'t, R> {
         Ok(Instant::now(self.rt).ok())
     }
 
-    /// Notes that a write ended which began then: no command is under way any more, and what it took past the time of the session
-    /// counts.
+    /// Notes that a write ended which began then: no command is under way any more, and what it
+    /// took past the time of the session counts.
     fn after_write(&self, began: Option<Instant>) {
         let time = since(self.rt, began);
         let over = self.timing.patience.over(self.lasted());
@@ -140,7 +141,8 @@ impl<'t, R: Wait + Clock> Timer<'t, R> {
     }
 }
 
-/// A side of a connection whose calls are bounded, where there is a timer. Its bytes are those of the device below.
+/// A side of a connection whose calls are bounded, where there is a timer. Its bytes are those of
+/// the device below.
 #[derive(Drop)]
 pub struct Timed<'t, D: Drop, R> {
     device: D,

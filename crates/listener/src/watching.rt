@@ -7,8 +7,8 @@ use std::io;
 use std::io::{Read, Write};
 use std::sync::Wait;
 
-/// A side of a connection: that a call of it waits, and how many bytes it moved, is noted, where there is a watch. Its bytes are
-/// those of the side below.
+/// A side of a connection: that a call of it waits, and how many bytes it moved, is noted, where
+/// there is a watch. Its bytes are those of the side below.
 #[derive(Drop)]
 pub struct Watching<'s, D: Drop, R> {
     side: D,

@@ -1,4 +1,5 @@
-//! Entries gathered in any order, up to the first line that breaks a rule, where a position that is given again breaks none.
+//! Entries gathered in any order, up to the first line that breaks a rule, where a position that is
+//! given again breaks none.
 ghost use Rattle.std.specs.Prelude.{◌≡◌, ◌<◌, ◌≤◌, ◌+◌, ◌++◌, ◌∷◌, [], None, length, drop, IfErr, IfOk, OnErr, OnOk};
 ghost use Rattle.csr_store.specs.Listed.{push_fault};
 ghost use Rattle.matrix_market.specs.inner.Gathering.{Adds, HasRoom, IsEnd, IsFaultAt, IsRead, Takes, Tells};
@@ -11,7 +12,8 @@ use crate::usual::{behind_feeds, entry_line, feed_before};
 use csr_store::{EntryList, StoreError};
 use std::alloc::{AllocError, Global};
 
-/// The entries of a text in their order, and its first fault, where a position that is given again is none.
+/// The entries of a text in their order, and its first fault, where a position that is given again
+/// is none.
 #[derive(Drop)]
 pub struct Gathering {
     pub list: EntryList,
@@ -47,7 +49,8 @@ fn room_for(header: Header, bytes: usize) -> usize {
     }
 }
 
-/// Gathers the entry lines into a list that has none, and tells the fault of the first line that breaks a rule.
+/// Gathers the entry lines into a list that has none, and tells the fault of the first line that
+/// breaks a rule.
 fn gather_lines(
     list: &mut EntryList,
     header: Header,
@@ -83,12 +86,14 @@ fn gather_lines(
     Ok(fault_behind(cursor))
 }
 
-/// Gathers the entries of the lines that a text begins with, so many at most, up to the first line that has not the usual form.
+/// Gathers the entries of the lines that a text begins with, so many at most, up to the first line
+/// that has not the usual form.
 ///
-/// The text ends with so many bytes behind its last LF, that LF among them. It is not looked for again here: a long last line would
-/// be gone over anew behind each line of another form.
+/// The text ends with so many bytes behind its last LF, that LF among them. It is not looked for
+/// again here: a long last line would be gone over anew behind each line of another form.
 ///
-/// It is a function of its own in the program too, so that the loop over bytes has the registers to itself.
+/// It is a function of its own in the program too, so that the loop over bytes has the registers to
+/// itself.
 #[inline(never)]
 fn gather_run(
     list: &mut EntryList,
@@ -126,8 +131,8 @@ fn gather_run(
     Ok(Run { given, next })
 }
 
-/// Gathers the next entry line, whatever its form, and says what follows it. Where it breaks a rule, nothing is added, and its
-/// fault is told.
+/// Gathers the next entry line, whatever its form, and says what follows it. Where it breaks a
+/// rule, nothing is added, and its fault is told.
 fn gather_line<'a>(
     list: &mut EntryList,
     header: Header,
@@ -176,7 +181,8 @@ fn push_entry(list: &mut EntryList, header: Header, found: Found) -> Result<(), 
     Ok(())
 }
 
-/// Adds a word at a position inside the sizes of a list that isn't full. Nothing but memory can be refused.
+/// Adds a word at a position inside the sizes of a list that isn't full. Nothing but memory can be
+/// refused.
 #[inline(always)]
 fn push_word(list: &mut EntryList, row: u64, column: u64, word: u64) -> Result<(), AllocError>
     requires { push_fault list.old (row, column) ≡ None }

@@ -1,4 +1,5 @@
-//! Lines of entries, written from the last to the first, so that each digit is written once and in its place.
+//! Lines of entries, written from the last to the first, so that each digit is written once and in
+//! its place.
 ghost use Rattle.std.specs.Prelude.{◌≡◌, ◌<◌, ◌≤◌, ◌+◌, ◌++◌, ◌∷◌, [], All, decimal, drop, length};
 ghost use Rattle.csr_store.specs.Grid.{Cell, at_row, limit};
 ghost use Rattle.matrix_market.specs.CanonicalText.{entry_lines, value_text};
@@ -16,7 +17,8 @@ pub const ROOM: usize = MOST_LINES * 40 + LABEL;
 /// The bytes of a label: a row has at most eight digits.
 const LABEL: usize = 16;
 
-/// What each line of a row begins with: the row's number, which counts from 1, and a space. They end the bytes.
+/// What each line of a row begins with: the row's number, which counts from 1, and a space. They
+/// end the bytes.
 #[derive(Clone, Copy)]
 pub struct Label {
     row: u64,
@@ -77,7 +79,8 @@ fn write_rest(column: u64, word: u64, room: &mut [u8], end: usize) -> usize
     write_digits(column + 1, room, space)
 }
 
-/// Writes the lines of some cells of a row so that they end with the room, and says where they start.
+/// Writes the lines of some cells of a row so that they end with the room, and says where they
+/// start.
 pub fn write_lines(label: &Label, cells: &[Cell], room: &mut [u8; ROOM]) -> usize
     requires few { length cells.now ≤ 64 }
     requires columns { All (λ (c : Cell). c.0 < limit) cells.now }

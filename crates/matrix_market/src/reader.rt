@@ -18,9 +18,9 @@ use text_words::first_line;
 
 /// The matrix that a text stands for.
 ///
-/// A text that breaks a rule is refused by the rule and the number of the first line that breaks one;
-/// on that line `LineTooLong` is looked at first, and then the rules in their order. `Memory` is
-/// answered where a growth was refused.
+/// A text that breaks a rule is refused by the rule and the number of the first line that breaks
+/// one; on that line `LineTooLong` is looked at first, and then the rules in their order. `Memory`
+/// is answered where a growth was refused.
 pub fn read(alloc: Global, text: &[u8]) -> Result<Matrix, MarketError>
     ensures text { IfOk result (λ m. IsTextOf text.now m) }
     ensures only { IfOk result (λ m. IsOnlyMatrix text.now m) }
@@ -82,8 +82,8 @@ fn read_header(text: &[u8]) -> Result<(Header, Cursor<'_>), MarketError>
     }
 }
 
-/// Reads the entries that a size line says. A fault that is found is told without further memory, and so is a position that is
-/// given again before it.
+/// Reads the entries that a size line says. A fault that is found is told without further memory,
+/// and so is a position that is given again before it.
 fn read_entries(alloc: Global, header: Header, start: Cursor<'_>) -> Result<Matrix, MarketError>
     ensures { IsAnswer header start.entry result }
 {
@@ -100,7 +100,8 @@ fn read_entries(alloc: Global, header: Header, start: Cursor<'_>) -> Result<Matr
     }
 }
 
-/// The fault of the first line that gives a position again. A list was read from here on, of which these positions repeat.
+/// The fault of the first line that gives a position again. A list was read from here on, of which
+/// these positions repeat.
 fn fault_of_repeat(header: Header, start: Cursor<'_>, repeats: RepeatedPositions) -> MarketError
     requires { IsRepeating header start repeats }
     ensures { (text : List ℕ) → Begun text header start.entry → NamesFault text result }

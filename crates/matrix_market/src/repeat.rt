@@ -12,8 +12,8 @@ use crate::lines::{Content, next_content};
 use crate::usual::{behind_feeds, entry_line, feed_before};
 use csr_store::RepeatedPositions;
 
-/// The number of the first line that gives a position again. A list of entries was read from here on, of which these positions
-/// repeat.
+/// The number of the first line that gives a position again. A list of entries was read from here
+/// on, of which these positions repeat.
 ///
 /// Reads the lines once more, up to that one, and takes no memory.
 pub fn line_of_repeat(header: Header, start: Cursor<'_>, repeats: RepeatedPositions) -> u64
@@ -34,8 +34,8 @@ pub fn line_of_repeat(header: Header, start: Cursor<'_>, repeats: RepeatedPositi
     }
 }
 
-/// Meets the entry of a line and, in a symmetric matrix, its mirror, and tells whether one of them has a position that was met
-/// before.
+/// Meets the entry of a line and, in a symmetric matrix, its mirror, and tells whether one of them
+/// has a position that was met before.
 #[inline(always)]
 fn meets(repeats: &mut RepeatedPositions, header: Header, found: Found) -> bool
     requires row { found.row < header.size.rows }

@@ -1,4 +1,5 @@
-//! Entry lines in their usual form, read fast: what has another form is left to the reader that knows all rules.
+//! Entry lines in their usual form, read fast: what has another form is left to the reader that
+//! knows all rules.
 ghost use Rattle.std.specs.Prelude.{true, false, ◌≡◌, ◌<◌, ◌≤◌, ◌+◌, length, slice_index, slice_range, drop};
 ghost use Rattle.std.specs.Prelude.{IfSome};
 ghost use Rattle.matrix_market.specs.inner.Usual.{Scanned, IsIndex, IsNumber, IsValue, IsLineEnd, IsEntryLine};
@@ -14,7 +15,8 @@ pub struct UsualLine {
 
 /// The digits from a place on: their number in 64 bits, and where they end.
 ///
-/// Few numbers have more than eight digits. The compiler unrolls a loop over so many, which then counts no places.
+/// Few numbers have more than eight digits. The compiler unrolls a loop over so many, which then
+/// counts no places.
 #[inline(always)]
 fn digits(text: &[u8], from: usize, last: usize) -> (u64, usize)
     requires within { last < length text.now }
@@ -37,7 +39,8 @@ fn digits(text: &[u8], from: usize, last: usize) -> (u64, usize)
     more_digits(text, from, from + count, last, value)
 }
 
-/// The same, where the digits before a place are read. It is no part of the loop over lines, which stays short.
+/// The same, where the digits before a place are read. It is no part of the loop over lines, which
+/// stays short.
 #[inline(never)]
 fn more_digits(text: &[u8], from: usize, start: usize, last: usize, read: u64) -> (u64, usize)
     requires within { last < length text.now }

@@ -1,5 +1,6 @@
-//! Each call once with ample memory, the refusals in their order, and full builders. Every test but the full ones also
-//! passes where any one allocation is refused: it then asks again, and finds what was put before.
+//! Each call once with ample memory, the refusals in their order, and full builders. Every test but
+//! the full ones also passes where any one allocation is refused: it then asks again, and finds
+//! what was put before.
 use csr_store::{Builder, Matrix, StoreError, Version};
 use std::alloc::{AllocError, Global};
 use std::process::Abort;
@@ -272,7 +273,8 @@ fn builder_in(alloc: Global, order: Order) -> Result<Builder, StoreError> {
     Ok(builder)
 }
 
-/// A builder that was given the entries in an order refuses one of their positions, and makes this matrix.
+/// A builder that was given the entries in an order refuses one of their positions, and makes this
+/// matrix.
 fn assert_equal_in(
     rt: &impl Abort,
     alloc: Global,

@@ -54,7 +54,8 @@ pub fn quit(stream: &TcpStream) -> io::Result<bool> {
     Ok(ask(stream, "quit\n", "ok quit\n")? && is_over(stream)?)
 }
 
-/// Serves so many sessions over a purse of 12, each batch on two workers, beside a client, and says how both ended.
+/// Serves so many sessions over a purse of 12, each batch on two workers, beside a client, and says
+/// how both ended.
 pub fn serve_beside<
     N: OpenListener<Stream = TcpStream> + Sync,
     R: Threads + Wait + Clock + Sync + AllocGlobal,

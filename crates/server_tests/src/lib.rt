@@ -1,7 +1,8 @@
-//! Tests of sessions over the loopback and of sessions within a purse that others draw on too, through the public functions of
-//! `listener`.
+//! Tests of sessions over the loopback and of sessions within a purse that others draw on too,
+//! through the public functions of `listener`.
 //!
-//! What no contract says is shown here: what a connection is given, that several run at once, that each ends alone.
+//! What no contract says is shown here: what a connection is given, that several run at once, that
+//! each ends alone.
 #![tactic(auto)]
 
 #[cfg(test)]

@@ -8,7 +8,8 @@ use std::net::{Net, OpenListener, Shutdown, SocketAddr, TcpListener, TcpStream};
 use std::sync::atomic::{AtomicU64, Ordering};
 use std::test::Fail;
 
-/// A batch of one session, and a second one that sees its reservation, is refused what is not left, and sees what it spent.
+/// A batch of one session, and a second one that sees its reservation, is refused what is not left,
+/// and sees what it spent.
 fn two_on_one_purse<N: Net<Listener = TcpListener, Stream = TcpStream>>(
     rt: &N,
     at: SocketAddr,
@@ -37,7 +38,8 @@ fn two_sessions_share_a_purse(rt: HostRuntime) -> Result<(), Fail> {
     Ok(())
 }
 
-/// Sixteen clients that hold their seats, one that is turned away, and one that comes after one of the sixteen left.
+/// Sixteen clients that hold their seats, one that is turned away, and one that comes after one of
+/// the sixteen left.
 fn full_house<N: Net<Listener = TcpListener, Stream = TcpStream> + AllocGlobal>(
     rt: &N,
     at: SocketAddr,
@@ -80,8 +82,8 @@ fn half_closed<N: Net<Listener = TcpListener, Stream = TcpStream>>(
     Ok(hears(&stream, "ok budget 12 0 0\nok budget 12 0 0\n")? && is_over(&stream)?)
 }
 
-/// A client that holds a reservation and goes with a reply unread, which resets its connection. Then a half-closed one, which
-/// finds all steps left, and so came behind the end of the first.
+/// A client that holds a reservation and goes with a reply unread, which resets its connection.
+/// Then a half-closed one, which finds all steps left, and so came behind the end of the first.
 fn reset_and_next<N: Net<Listener = TcpListener, Stream = TcpStream>>(
     rt: &N,
     at: SocketAddr,

@@ -1,4 +1,5 @@
-//! Sessions within a purse that another pass draws on too, over memory: what the other finds after each end and each fault.
+//! Sessions within a purse that another pass draws on too, over memory: what the other finds after
+//! each end and each fault.
 ghost use Rattle.std.specs.Prelude.{◌≡◌, ◌<◌};
 ghost use Rattle.step_purse.specs.Passes.{IsPassOf};
 
@@ -90,7 +91,8 @@ fn serve_over<H: Threads + Wait>(
     serve_counted::<Brand, Brand, Brand, Brand, H>(rt, reader, writer, purse, given, blanks)
 }
 
-/// A way by which a session ends while it holds a job of 12 steps: what it reads last, and which of its devices fail.
+/// A way by which a session ends while it holds a job of 12 steps: what it reads last, and which of
+/// its devices fail.
 #[derive(Clone, Copy)]
 struct Last<'a> {
     text: &'a str,
@@ -103,7 +105,8 @@ struct Last<'a> {
     commands: u64,
 }
 
-/// A session that has run the product once, queued it again, and then ends so, leaves nothing reserved to another pass.
+/// A session that has run the product once, queued it again, and then ends so, leaves nothing
+/// reserved to another pass.
 fn assert_settled<H: Threads + Wait + Abort>(
     rt: &H,
     alloc: Global,

@@ -14,8 +14,8 @@ use std::thread::{Threads, join};
 use std::time::Clock;
 use step_purse::Totals;
 
-/// What `run` is asked for: the steps of its session, its workers, and for how long it waits for its client, if a number of
-/// seconds is given.
+/// What `run` is asked for: the steps of its session, its workers, and for how long it waits for
+/// its client, if a number of seconds is given.
 #[derive(Clone, Copy, Debug, PartialEq, Eq)]
 pub struct Alone {
     pub steps: u64,
@@ -63,9 +63,9 @@ fn served(told: &Result<Done, Failure>) -> Result<(), ListenFault> {
     }
 }
 
-/// Serves one session on standard input and output, with a log that another thread writes to standard error meanwhile. Before the
-/// session starts it is written what it was asked for, and last what it took. Where no thread can be made, all is written at
-/// the end.
+/// Serves one session on standard input and output, with a log that another thread writes to
+/// standard error meanwhile. Before the session starts it is written what it was asked for, and
+/// last what it took. Where no thread can be made, all is written at the end.
 pub fn run_logged<H>(rt: &H, alone: Alone, log: Log) -> Result<Done, Failure>
 where
     H: Clock

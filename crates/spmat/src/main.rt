@@ -1,12 +1,15 @@
 //! `spmat`, a server for jobs over sparse matrices whose operators are BPF code.
 //!
-//! The program is thin: `command_line` reads its words and tells its end; `solo` has one session on any two devices, `standard`
-//! makes sides of standard input and output, `logged` has the log of such a session, and `serving` has sessions over TCP.
+//! The program is thin: `command_line` reads its words and tells its end; `solo` has one session on
+//! any two devices, `standard` makes sides of standard input and output, `logged` has the log of
+//! such a session, and `serving` has sessions over TCP.
 //!
-//! What the words ask for is done by `answer`, over two devices that it is lent; its contract says what they gave and took
-//! (`specs/inner/Running.antt`). The functions above it make these devices of the standard streams, which no contract sees. For one
-//! of many sessions that is the contract of `listener::serve_within`. Which server settings ask for is the contract of `open_server`
-//! (`specs/inner/Serving.antt`), and how serving a listener ends that of `listener::serve_acceptor`.
+//! What the words ask for is done by `answer`, over two devices that it is lent; its contract says
+//! what they gave and took (`specs/inner/Running.antt`). The functions above it make these devices
+//! of the standard streams, which no contract sees. For one of many sessions that is the contract
+//! of `listener::serve_within`. Which server settings ask for is the contract of `open_server`
+//! (`specs/inner/Serving.antt`), and how serving a listener ends that of
+//! `listener::serve_acceptor`.
 #![tactic(auto)]
 
 ghost use Rattle.std.specs.Prelude.{◌≡◌, IfOk};
@@ -63,7 +66,8 @@ fn tell_version<H: Print>(rt: &H) -> Result<Done, Failure>
     }
 }
 
-/// Serves one session on these devices, which know why a call of theirs failed. What it does is noted, where a watch is given.
+/// Serves one session on these devices, which know why a call of theirs failed. What it does is
+/// noted, where a watch is given.
 fn run<I: Source, O: Sink, H: Threads + Wait + AllocGlobal>(
     rt: &H,
     source: &mut I,
@@ -224,7 +228,8 @@ fn explain(
     }
 }
 
-/// Does what the words of the command line ask for, a session on standard input and output. A log is told of it, if there is one.
+/// Does what the words of the command line ask for, a session on standard input and output. A log
+/// is told of it, if there is one.
 fn respond_on<H>(
     rt: &H,
     asked: Result<Settings, SettingsFault>,

@@ -16,15 +16,16 @@ use std::thread::{Threads, join};
 use std::time::Clock;
 use step_purse::{Pass, Purse};
 
-/// How a log is written: in which format, and after how many seconds each it tells of the sessions that run, if it does.
+/// How a log is written: in which format, and after how many seconds each it tells of the sessions
+/// that run, if it does.
 #[derive(Clone, Copy, Debug, PartialEq, Eq)]
 pub struct Log {
     pub format: LogFormat,
     pub every: Option<u64>,
 }
 
-/// A server that listens: its listener with the address that it was bound to, its purse with the one pass, the terms of its
-/// sessions, and what their log is gathered in, if there is one.
+/// A server that listens: its listener with the address that it was bound to, its purse with the
+/// one pass, the terms of its sessions, and what their log is gathered in, if there is one.
 #[derive(Drop)]
 pub struct Server {
     listener: TcpListener,
@@ -100,8 +101,9 @@ struct Listening<'l> {
     address: SocketAddr,
 }
 
-/// As `serve_on_terms`, with a log that another thread writes to standard error meanwhile: first that the server opens, then what
-/// sessions leave. Last it is written why the server closed. Where no thread can be made, all is written at the end.
+/// As `serve_on_terms`, with a log that another thread writes to standard error meanwhile: first
+/// that the server opens, then what sessions leave. Last it is written why the server closed. Where
+/// no thread can be made, all is written at the end.
 fn serve_logged<H>(
     rt: &H,
     journal: &Journal,
@@ -141,12 +143,13 @@ where
     served
 }
 
-/// The server that settings of `serve` ask for, which listens on a port of this machine and has said so.
+/// The server that settings of `serve` ask for, which listens on a port of this machine and has
+/// said so.
 ///
 /// # Errors
 ///
-/// In this order: there is no memory for the purse, or the log; the port can't be bound; the line `listening P` can't be
-/// written.
+/// In this order: there is no memory for the purse, or the log; the port can't be bound; the line
+/// `listening P` can't be written.
 pub fn open_server<H>(rt: &H, settings: Settings) -> Result<Server, Failure>
 where
     H: Net<Listener = TcpListener, Stream = TcpStream> + Print + AllocGlobal,

@@ -23,7 +23,8 @@ struct Prepared {
     room: Session,
 }
 
-/// A purse of so many steps, and the room of a session each of whose batches runs on so many workers.
+/// A purse of so many steps, and the room of a session each of whose batches runs on so many
+/// workers.
 fn prepare(alloc: Global, steps: u64, workers: u64) -> Result<Prepared, AllocError>
     requires { HasRoom steps workers }
     ensures own { IfOk result (λ p. IsPassOf p.purse p.pass × (p.purse.allowance ≡ steps)) }
@@ -35,13 +36,14 @@ fn prepare(alloc: Global, steps: u64, workers: u64) -> Result<Prepared, AllocErr
     Ok(Prepared { purse, pass, room })
 }
 
-/// Serves one session on these devices, within a purse of so many steps, of which nobody else has a pass. Each batch runs on so
-/// many workers. What the session does is noted, where a watch is given.
+/// Serves one session on these devices, within a purse of so many steps, of which nobody else has a
+/// pass. Each batch runs on so many workers. What the session does is noted, where a watch is
+/// given.
 ///
 /// # Errors
 ///
-/// There was no memory for the purse or the room, and then nothing was read or written; a device failed; or more than
-/// 4,294,967,296 reads were needed.
+/// There was no memory for the purse or the room, and then nothing was read or written; a device
+/// failed; or more than 4,294,967,296 reads were needed.
 pub fn run<I: Source, O: Sink, H: Threads + Wait + AllocGlobal>(
     rt: &H,
     source: &mut I,

@@ -20,7 +20,8 @@ struct Patience {
 }
 
 impl Patience {
-    /// Waits until the descriptor is ready, for so many seconds at most. Without a number it doesn't wait here.
+    /// Waits until the descriptor is ready, for so many seconds at most. Without a number it
+    /// doesn't wait here.
     ///
     /// # Errors
     ///
@@ -50,8 +51,8 @@ impl Patience {
     }
 }
 
-/// A standard stream as a side of a session: a call waits for so many seconds at most, if a number is given, and the cause of
-/// the last one that failed is kept. Its bytes are those of its device.
+/// A standard stream as a side of a session: a call waits for so many seconds at most, if a number
+/// is given, and the cause of the last one that failed is kept. Its bytes are those of its device.
 #[derive(Drop)]
 pub struct Side<'c, D: Drop> {
     device: D,

@@ -1,4 +1,5 @@
-"""How long a session lasts with --session-seconds, and how slowly a command may arrive with --min-rate."""
+"""How long a session lasts with --session-seconds, and how slowly a command may arrive with
+--min-rate."""
 import threading
 import time
 from typing import Callable, Dict, List
@@ -9,7 +10,8 @@ from tests.lib.runs import Wrong, expect
 from tests.program.server.hostile import LITTLE_ROOM, full_house, large_matrix, leave
 from tests.program.server.logs import Logging
 from tests.program.server.server import BUSY, Client, Server, until
-from tests.program.server.sessions import LONG_PRICE, LONG_SECONDS, PRODUCT, UPLOADS, long_uploads, queue_long_jobs, ran_long_jobs
+from tests.program.server.sessions import (LONG_PRICE, LONG_SECONDS, PRODUCT, UPLOADS, long_uploads,
+                                           queue_long_jobs, ran_long_jobs)
 
 LARGE = b'matrix A 200000000\n'
 
@@ -23,7 +25,8 @@ def expect_end_after(client: Client, began: float, least: float, most: float) ->
 
 
 def time_is_over(program: str) -> None:
-    """With `--session-seconds 2` a silent session ends then, and one that goes on asking; what is queued is lost, and the log says why."""
+    """With `--session-seconds 2` a silent session ends then, and one that goes on asking; what is
+    queued is lost, and the log says why."""
     with Logging(program, steps=12, session_seconds=2) as server:
         began = time.monotonic()
         with server.seated() as silent, server.seated() as asking:
@@ -35,13 +38,15 @@ def time_is_over(program: str) -> None:
                 time.sleep(0.1)
             expect_end_after(silent, began, 1.9, 12)
             expect_end_after(asking, began, 1.9, 12)
-            expect('ends', ['seconds', 'seconds'], [server.entry(client).end for client in (silent, asking)])
+            expect('ends', ['seconds', 'seconds'],
+                   [server.entry(client).end for client in (silent, asking)])
         with server.seated() as other:
             expect('the budget', [12, 0, 0], other.budget())
 
 
 def a_batch_ends_first(program: str) -> None:
-    """A batch that is at work when the time of its session is over ends, and its reply comes; then the session ends."""
+    """A batch that is at work when the time of its session is over ends, and its reply comes; then
+    the session ends."""
     seconds, jobs = 6, 32
     with Logging(program, session_seconds=seconds) as server, server.client() as client:
         began = time.monotonic()
@@ -58,7 +63,8 @@ def a_batch_ends_first(program: str) -> None:
 
 
 def whoever_reads_slowly_is_ended(program: str) -> None:
-    """Whoever takes a reply byte by byte keeps its seat no more than ten seconds beyond the time of its session."""
+    """Whoever takes a reply byte by byte keeps its seat no more than ten seconds beyond the time of
+    its session."""
     with Logging(program, session_seconds=1) as server, server.client(LITTLE_ROOM) as slow:
         began = time.monotonic()
         slow.send(matrix_command('A', large_matrix()) + b'show A\n' * 8)
@@ -81,7 +87,8 @@ def drip(clients: List[Client], stop: threading.Event, pause: float) -> None:
 
 
 def slow_senders_are_cut(program: str) -> None:
-    """With `--idle 2 --min-rate 1000`, sixteen that send a byte of a text now and then lose their seats, and others get them."""
+    """With `--idle 2 --min-rate 1000`, sixteen that send a byte of a text now and then lose their
+    seats, and others get them."""
     with Logging(program, idle=2, min_rate=1000) as server:
         clients = full_house(server)
         with server.client() as late:
@@ -93,9 +100,11 @@ def slow_senders_are_cut(program: str) -> None:
         dripping.start()
         try:
             for client in clients:
-                until('its end', lambda: server.entry(client), 30)  # pylint: disable=cell-var-from-loop
+                # pylint: disable-next=cell-var-from-loop
+                until('its end', lambda: server.entry(client), 30)
             waited = time.monotonic() - began
-            expect('ends', ['slow'] * MOST_SESSIONS, [server.entry(client).end for client in clients])
+            expect('ends', ['slow'] * MOST_SESSIONS,
+                   [server.entry(client).end for client in clients])
             if waited < 1.8:
                 raise Wrong('cut after %.2f s' % waited)
             with server.seated() as other:
@@ -110,7 +119,8 @@ def slow_senders_are_cut(program: str) -> None:
 
 def slow_lines_are_cut(program: str) -> None:
     """So is one that sends a line so; one that sends whole commands now and then is not."""
-    with Logging(program, idle=2, min_rate=1000) as server, server.client() as dripping, server.client() as patient:
+    with Logging(program, idle=2, min_rate=1000) as server, server.client() as dripping, \
+            server.client() as patient:
         began, end = time.monotonic(), None
         while time.monotonic() - began < 6:
             try:
@@ -125,7 +135,8 @@ def slow_lines_are_cut(program: str) -> None:
 
 
 def fast_senders_are_spared(program: str) -> None:
-    """A large text that arrives at some 400,000 bytes a second for longer than the grace, and has to come with 20,000, is taken."""
+    """A large text that arrives at some 400,000 bytes a second for longer than the grace, and has
+    to come with 20,000, is taken."""
     command = matrix_command('A', large_matrix())
     with Server(program, idle=2, min_rate=20_000) as server, server.client() as client:
         piece = len(command) // 50 + 1

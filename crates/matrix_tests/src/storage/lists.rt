@@ -69,7 +69,8 @@ fn list_refuses_indices(rt: HostRuntime) -> Result<(), Fail> {
     Ok(())
 }
 
-/// A list of these entries makes no matrix of 3 rows and 4 columns, since a position is given twice.
+/// A list of these entries makes no matrix of 3 rows and 4 columns, since a position is given
+/// twice.
 fn assert_twice(rt: &impl Abort, alloc: Global, entries: &[Triple]) {
     let answer = match listed(alloc, (3, 4), entries) {
         Ok(_) => Ok(()),
@@ -87,7 +88,8 @@ fn list_refuses_a_position_given_twice(rt: HostRuntime) {
     assert_twice(&rt, rt.alloc(), &[(0, 0, 1), (0, 0, 1)]);
 }
 
-/// The place, from 0, of the first of these entries of a matrix of 4 rows and 4 columns that has the position of an earlier one.
+/// The place, from 0, of the first of these entries of a matrix of 4 rows and 4 columns that has
+/// the position of an earlier one.
 fn first_repeat(alloc: Global, entries: &[Triple]) -> Result<Option<usize>, StoreError> {
     let mut list = EntryList::new(alloc, 4, 4);
     for (row, column, value) in entries {
@@ -118,7 +120,8 @@ fn assert_first_repeat(
     Ok(())
 }
 
-/// Entries of which three positions repeat. The first that does is the last of them by rows and columns.
+/// Entries of which three positions repeat. The first that does is the last of them by rows and
+/// columns.
 const THREE_AGAIN: [Triple; 7] = [
     (3, 3, 1),
     (1, 1, 2),

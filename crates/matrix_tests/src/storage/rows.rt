@@ -1,4 +1,5 @@
-//! Runs of rows: joined, cells many at a time, rows copied from a matrix, and entries that get other values.
+//! Runs of rows: joined, cells many at a time, rows copied from a matrix, and entries that get
+//! other values.
 ghost use Rattle.std.specs.Prelude.{◌≡◌, ◌≤◌, ◌+◌, ◌∷◌, [], length, IfOk, OnOk};
 
 use super::{Triple, assert_count, assert_holds, assert_starts, finish_again, put_again};
@@ -166,7 +167,8 @@ fn odd_columns(alloc: Global, matrix: &Matrix, from: u64, to: u64) -> Result<Row
     Rows::kept(alloc, matrix, from..to, &answers)
 }
 
-/// A run of rows has from a place on those cells of a row that stand in odd columns. The place behind them.
+/// A run of rows has from a place on those cells of a row that stand in odd columns. The place
+/// behind them.
 fn assert_odd_at(rt: &impl Abort, rows: &Rows, place: u64, cells: &[(u64, u64)]) -> u64 {
     let mut next = place;
     for (column, value) in cells {
