@@ -200,8 +200,8 @@ fn words_that_are_refused(rt: HostRuntime) {
             "unexpected value 'yes'",
         ),
         (
-            "spmat run --steps 1 --workers 1 --log",
-            "unexpected argument '--log'",
+            "spmat run --steps 1 --workers 1 --session-seconds 1",
+            "unexpected argument '--session-seconds'",
         ),
         ("spmat run --version", "unexpected argument '--version'"),
     ];
