@@ -56,16 +56,14 @@ class Engine:
         """The number of the process."""
         return self._process.pid
 
-    def take_streams(self) -> 'tuple[int, int, int]':
+    def take_streams(self) -> List[int]:
         """Its standard input, output and error as descriptors, which are the caller's from now
         on."""
-        process = self._process
-        assert process.stdin is not None and process.stdout is not None
-        assert process.stderr is not None
-        found = (os.dup(process.stdin.fileno()), os.dup(process.stdout.fileno()),
-                 os.dup(process.stderr.fileno()))
-        for stream in (process.stdin, process.stdout, process.stderr):
-            stream.close()
+        found = []
+        for stream in (self._process.stdin, self._process.stdout, self._process.stderr):
+            assert stream is not None
+            with stream:
+                found.append(os.dup(stream.fileno()))
         return found
 
     def signal(self, number: int) -> None:
@@ -78,12 +76,11 @@ class Engine:
 
     def end(self, seconds: float = 0.0) -> int:
         """Waits, then ends what is left of it; the status, negative for a signal."""
-        for number, patience in ((None, seconds), (signal.SIGTERM, SECONDS_TO_END), (signal.SIGKILL,
-                                                                                     None)):
-            if number is not None and self._status is None:
-                self.signal(number)
-            if self._wait(patience):
-                break
+        if not self._wait(seconds):
+            self.signal(signal.SIGTERM)
+            if not self._wait(SECONDS_TO_END):
+                self.signal(signal.SIGKILL)
+                self._wait(float('inf'))
         assert self._status is not None
         return self._status
 
@@ -105,21 +102,16 @@ class Engine:
             return 'idle'
         return BY_STATUS.get(self._status, 'engine')
 
-    def _wait(self, seconds: Optional[float]) -> bool:
-        until = None if seconds is None else time.monotonic() + seconds
-        pause = 0.0005
+    def _wait(self, seconds: float) -> bool:
+        until, pause = time.monotonic() + seconds, 0.0005
         while self._status is None:
-            found, status, usage = os.wait4(self._process.pid, 0 if until is None else os.WNOHANG)
+            found, status, usage = os.wait4(self._process.pid, os.WNOHANG)
             if found:
-                self._status = self._process.returncode = _status_of(status)
+                self._status = self._process.returncode = os.waitstatus_to_exitcode(status)
                 self.processor = usage.ru_utime + usage.ru_stime
-            elif until is not None and time.monotonic() >= until:
+            elif time.monotonic() >= until:
                 return False
             else:
                 time.sleep(pause)
                 pause = min(2 * pause, 0.05)
         return True
-
-
-def _status_of(status: int) -> int:
-    return -os.WTERMSIG(status) if os.WIFSIGNALED(status) else os.WEXITSTATUS(status)

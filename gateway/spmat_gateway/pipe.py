@@ -11,7 +11,7 @@ import select
 import socket
 import ssl
 import time
-from typing import Callable, Optional, Tuple, Union
+from typing import Callable, Iterable, List, Sequence, Tuple, Union
 
 from .engine_log import EngineLog
 
@@ -62,7 +62,7 @@ class Pipe:
         Called with each piece before it is sent to the client.
     """
 
-    def __init__(self, client: Client, streams: Tuple[int, int, int], told: EngineLog,
+    def __init__(self, client: Client, streams: Sequence[int], told: EngineLog,
                  on_told: Callable[[], None], on_replies: Callable[[memoryview], None]) -> None:
         self._client, self._told = client, told
         self._input, self._output, self._errors = streams
@@ -70,7 +70,6 @@ class Pipe:
         self._errors_ended = False
         self._up, self._down = _Way(), _Way()
         self._poll = select.poll()
-        self._masks = {client.fileno(): -1, **dict.fromkeys(streams, -1)}
         client.setblocking(False)
         for descriptor in streams:
             os.set_blocking(descriptor, False)
@@ -90,14 +89,9 @@ class Pipe:
         return self._down.ended and not self._down.rest
 
     @property
-    def bytes_in(self) -> int:
-        """How many bytes the client has sent."""
-        return self._up.count
-
-    @property
-    def bytes_out(self) -> int:
-        """How many bytes the engine has sent."""
-        return self._down.count
+    def counts(self) -> Tuple[int, int]:
+        """How many bytes the client has sent, and how many the engine."""
+        return self._up.count, self._down.count
 
     def begin(self, first: bytes) -> None:
         """Takes what came before, behind the login."""
@@ -148,24 +142,16 @@ class Pipe:
     def finish(self, seconds: float) -> None:
         """Ends the engine's input, and reads its last replies for nobody, and what it tells at its
         end, for so long at most."""
-        until = time.monotonic() + seconds
-        if self._input >= 0:
-            os.close(self._input)
-            self._input = -1
-        poll, down = select.poll(), self._down
-        if not down.ended:
-            poll.register(self._output, select.POLLIN)
-        if not self._errors_ended:
-            poll.register(self._errors, select.POLLIN)
+        until, down = time.monotonic() + seconds, self._down
+        self._close_input()
         while not (down.ended and self._errors_ended):
-            found = poll.poll(max(0.0, 1000 * (until - time.monotonic())))
-            for descriptor, _ in found:
-                if descriptor == self._output:
-                    self._fill_down()
-                else:
-                    self._read_errors()
-                if down.ended if descriptor == self._output else self._errors_ended:
-                    poll.unregister(descriptor)
+            found = _readable([stream for stream, ended in ((self._output, down.ended),
+                                                            (self._errors, self._errors_ended))
+                               if not ended], until)
+            if self._output in found:
+                self._fill_down()
+            if self._errors in found:
+                self._read_errors()
             if not found:
                 return
 
@@ -182,25 +168,17 @@ class Pipe:
     def _watch(self) -> None:
         """Registers what each side waits for. Who waits for nothing isn't registered, as a hang-up
         would wake for ever; the client always is, to see that it has gone."""
-        up, down = self._up, self._down
+        up, down, self._poll = self._up, self._down, select.poll()
         client = select.POLLOUT if down.rest else 0
         if not up.rest and not up.ended:
             client |= select.POLLIN
-        self._set_mask(self._client.fileno(), client)
-        if self._input >= 0:
-            self._set_mask(self._input, select.POLLOUT if up.rest else None)
-        self._set_mask(self._output, select.POLLIN if not down.rest and not down.ended else None)
-        self._set_mask(self._errors, None if self._errors_ended else select.POLLIN)
-
-    def _set_mask(self, descriptor: int, mask: Optional[int]) -> None:
-        if self._masks.get(descriptor) == mask:
-            return
-        if mask is None:
-            if self._masks.get(descriptor, -1) != -1:
-                self._poll.unregister(descriptor)
-        else:
-            self._poll.register(descriptor, mask)
-        self._masks[descriptor] = mask if mask is not None else -1
+        self._poll.register(self._client.fileno(), client)
+        if self._input >= 0 and up.rest:
+            self._poll.register(self._input, select.POLLOUT)
+        if not down.rest and not down.ended:
+            self._poll.register(self._output, select.POLLIN)
+        if not self._errors_ended:
+            self._poll.register(self._errors, select.POLLIN)
 
     def _serve_client(self, event: int) -> None:
         if event & BROKEN:
@@ -239,11 +217,14 @@ class Pipe:
             up.closed = up.ended = True
         if up.closed:
             up.rest = up.buffer[:0]
-        if up.ended and not up.rest and self._input >= 0:
-            self._set_mask(self._input, None)
-            del self._masks[self._input]
+        if up.ended and not up.rest:
+            self._close_input()
+            up.closed = True
+
+    def _close_input(self) -> None:
+        if self._input >= 0:
             os.close(self._input)
-            self._input, up.closed = -1, True
+            self._input = -1
 
     def _read_errors(self) -> None:
         try:
@@ -258,11 +239,8 @@ class Pipe:
 
     def _await_account(self) -> None:
         """Waits until the engine, which answers, has told that it has begun, or tells no more."""
-        until, poll = time.monotonic() + SECONDS_TO_TELL, select.poll()
-        poll.register(self._errors, select.POLLIN)
-        while not (self._told.begun or self._errors_ended):
-            if not poll.poll(max(0.0, 1000 * (until - time.monotonic()))):
-                return
+        until = time.monotonic() + SECONDS_TO_TELL
+        while not (self._told.begun or self._errors_ended) and _readable([self._errors], until):
             self._read_errors()
 
     def _read_down(self) -> None:
@@ -298,3 +276,11 @@ class Pipe:
             return
         except OSError as fault:
             raise ClientGone(str(fault)) from None
+
+
+def _readable(streams: Iterable[int], until: float) -> List[int]:
+    """Which of these can be read, or have ended; none where the time passed before."""
+    poll = select.poll()
+    for stream in streams:
+        poll.register(stream, select.POLLIN)
+    return [stream for stream, _ in poll.poll(max(0.0, 1000 * (until - time.monotonic())))]

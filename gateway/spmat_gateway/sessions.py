@@ -82,7 +82,7 @@ class Session:
             return None
         return Status(self.id, self.user, self.address, time.monotonic() - self._began,
                       reservation.steps, told.spent, told.queued, counter.runs,
-                      counter.job_count, pipe.bytes_in, pipe.bytes_out, engine.process)
+                      counter.job_count, *pipe.counts, engine.process)
 
     @property
     def entry(self) -> Entry:
@@ -178,7 +178,8 @@ class Session:
         assert self._engine is not None
         if self._cause:                            # it was ended before there was an engine
             self._engine.signal(signal.SIGTERM)
-        self._pipe = Pipe(client, self._engine.take_streams(), self._told, self._charge, self._look)
+        self._pipe = Pipe(client, self._engine.take_streams(), self._told, self._charge,
+                          self._counter.look)
         self._pipe.begin(first)
         try:
             if not self._pipe.run(self._deadline):
@@ -201,10 +202,6 @@ class Session:
         self._spent = self._told.spent
         self._sessions.journal.note(self.entry)
         self.changed = True
-
-    def _look(self, piece: memoryview) -> None:
-        """Looks at replies for what an operator wants to see: runs, and jobs by name."""
-        self._counter.look(piece)
 
     def _deadline(self) -> float:
         if self._cause:
@@ -248,8 +245,8 @@ class Session:
         if not told.end and self._config.gateway.unfinished == 'price' and told.queued:
             spent, basis = spent + told.queued, 'price'
         return Outcome(min(spent, self._reservation.steps), basis, cause, counter.runs,
-                       counter.job_count, self._pipe.bytes_in, self._pipe.bytes_out,
-                       self._engine.processor, tuple(counter.jobs))
+                       counter.job_count, *self._pipe.counts, self._engine.processor,
+                       tuple(counter.jobs))
 
     def _settle(self, outcome: Outcome) -> None:
         log.info('end session=%s user=%s cause=%s spent=%d basis=%s runs=%d jobs=%d in=%d out=%d '

@@ -2,7 +2,6 @@
 from __future__ import annotations
 
 import hashlib
-import select
 import socket
 import ssl
 import time
@@ -96,21 +95,11 @@ def close(client: Client) -> None:
             except (OSError, ValueError):          # ours is sent; the client's may come later
                 pass
         client.shutdown(socket.SHUT_WR)
-        _read_to_the_end(client, deadline)
-    except OSError:
+        while (left := deadline - time.monotonic()) > 0:
+            client.settimeout(left)
+            if not client.recv(1 << 16):
+                break
+    except OSError:                                # also where the time passes
         pass
     finally:
         client.close()
-
-
-def _read_to_the_end(client: Client, deadline: float) -> None:
-    poll = select.poll()
-    poll.register(client.fileno(), select.POLLIN)
-    while time.monotonic() < deadline:
-        if not poll.poll(1000 * max(0.0, deadline - time.monotonic())):
-            return
-        try:
-            if not client.recv(1 << 16):
-                return
-        except BlockingIOError:
-            continue

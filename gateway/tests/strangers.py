@@ -11,6 +11,7 @@ import collections
 import contextlib
 import os
 import random
+import re
 import signal
 import socket
 import ssl
@@ -18,12 +19,11 @@ import struct
 import threading
 import time
 
-from spmat_gateway.replies import ReplyCounter
-
 from .support import LINES, OPERATORS, Client, dense, direct
 
 STEPS = 10 ** 9
 OPEN_FOR = 30.0
+SPENT = re.compile(rb'^(?:ok run \d+|no memory|no thread) (\d+)\n', re.M)
 
 
 def make_scripts(many, seed, size=30):
@@ -62,6 +62,11 @@ class Report:
             self.faults.append(words)
 
 
+def spent_by(replies):
+    """The steps of the runs that replies tell of, also of those that were refused."""
+    return sum(int(run[1]) for run in SPENT.finditer(replies))
+
+
 class Good(threading.Thread):
     """Opens a session after another."""
 
@@ -97,9 +102,7 @@ class Good(threading.Thread):
                 report.fault('other bytes at %s: %r' % (address, replies[-200:]))
                 return
             replies = body
-        read, most = ReplyCounter(), ReplyCounter()
-        read.feed(memoryview(replies))
-        most.feed(memoryview(expected))
+        read, most = spent_by(replies), spent_by(expected)
         with report.lock:
             report.bytes += len(replies)
             report.whole += replies == expected
@@ -108,8 +111,8 @@ class Good(threading.Thread):
             report.refused += line in (b'no busy', b'no ledger')
             if replies or line.startswith(b'no session') or not line:
                 client = (self._login.split()[0], address)
-                report.sessions.append((client, read.spent, read.spent if replies == expected
-                                        else most.spent, line.decode()))
+                report.sessions.append((client, read, read if replies == expected else most,
+                                        line.decode()))
 
 
 class Hostile(threading.Thread):

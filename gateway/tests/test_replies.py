@@ -3,7 +3,7 @@ bytes are cut."""
 import random
 import unittest
 
-from spmat_gateway.replies import NotAReply, ReplyCounter
+from spmat_gateway.replies import ReplyCounter
 
 from .support import FIRST_SESSION, LINES, OPERATORS, dense, direct
 
@@ -16,7 +16,7 @@ MANY = LINES + OPERATORS + dense(8) + b''.join((
 def count(pieces, most_jobs=100):
     counter = ReplyCounter(most_jobs)
     for piece in pieces:
-        counter.feed(memoryview(piece))
+        counter.look(memoryview(piece))
     return counter
 
 
@@ -24,16 +24,12 @@ class Counting(unittest.TestCase):
     def test_what_a_session_says_of_itself(self):
         replies = direct(MANY)
         counter = count([replies])
-        left, reserved, spent = map(int,
-                                    [line for line in replies.split(b'\n')
-                                     if line.startswith(b'ok budget')][-1].split()[2:])
-        self.assertEqual((counter.spent, counter.runs, counter.job_count, counter.queued),
-                         (spent, 4, 4, reserved))
-        self.assertEqual(left, 10 ** 12 - spent)
+        spent = int([line for line in replies.split(b'\n')
+                     if line.startswith(b'ok budget')][-1].split()[4])
+        self.assertEqual((counter.runs, counter.job_count), (4, 4))
         self.assertEqual([job.name for job in counter.jobs], ['B', 'C', 'D', 'E'])
         self.assertEqual(sum(job.steps for job in counter.jobs), spent)
         self.assertEqual(counter.jobs[2].entries, 64)
-        self.assertEqual(counter.refusals, 1)
         self.assertTrue(counter.at_a_boundary)
 
     def test_however_it_is_cut(self):
@@ -43,15 +39,15 @@ class Counting(unittest.TestCase):
             cuts = sorted(draw.randrange(len(replies)) for _ in range(draw.choice((1, 3, 40, 400))))
             counter = count([replies[start:end]
                              for start, end in zip([0, *cuts], [*cuts, len(replies)])])
-            self.assertEqual((counter.spent, counter.jobs, counter.queued),
-                             (whole.spent, whole.jobs, whole.queued))
-        self.assertEqual(count([bytes([byte]) for byte in replies]).spent, whole.spent)
+            self.assertEqual((counter.runs, counter.jobs, counter.at_a_boundary),
+                             (whole.runs, whole.jobs, True))
+        self.assertEqual(count([bytes([byte]) for byte in replies]).jobs, whole.jobs)
 
     def test_a_boundary_is_where_a_line_would_be_read_as_a_reply(self):
         replies = direct(FIRST_SESSION)
         counter, bounds = ReplyCounter(), set()
         for at, byte in enumerate(replies):
-            counter.feed(memoryview(bytes([byte])))
+            counter.look(memoryview(bytes([byte])))
             if counter.at_a_boundary:
                 bounds.add(at + 1)
         ends = [replies.index(end) + len(end) for end in (b'ok matrix 1 1 1\n', b'ok op 3 3\n',
@@ -62,17 +58,16 @@ class Counting(unittest.TestCase):
     def test_text_that_looks_like_replies(self):
         counter = count([b'ok show 14\nok run 1 1000\n'
                          + b'ok dis 2\nok run 1 9\nok run 1 9\nok run 0 5\n'])
-        self.assertEqual((counter.spent, counter.runs), (5, 1))
+        self.assertEqual((counter.runs, counter.at_a_boundary), (1, True))
 
     def test_a_refused_run_counts(self):
         counter = count(
             [b'ok queued 1 50\nno memory 7\nno memory\nok queued 1 20\nno thread 3\nno S8 100 4\n'])
-        self.assertEqual((counter.spent, counter.runs, counter.queued, counter.refusals),
-                         (10, 2, 0, 4))
+        self.assertEqual((counter.runs, counter.at_a_boundary), (2, True))
 
     def test_only_so_many_jobs_are_listed(self):
         counter = count([b'ok run 3 6\nA 1 1 1 1\nB 1 1 1 2\nC 1 1 1 3\n'], most_jobs=2)
-        self.assertEqual((len(counter.jobs), counter.job_count, counter.spent), (2, 3, 6))
+        self.assertEqual((len(counter.jobs), counter.job_count), (2, 3))
 
     def test_looking_ends_at_what_is_no_reply(self):
         counter = ReplyCounter(9)
@@ -81,10 +76,9 @@ class Counting(unittest.TestCase):
         self.assertEqual((counter.runs, counter.job_count, counter.at_a_boundary), (1, 1, False))
 
     def test_another_program(self):
-        for text in (b'Welcome to HOST\n', b'ok run x y\n', b'ok queued\n', b'a' * 70_000, b'\n',
-                     b'ok run 1 %d\n' % (1 << 63)):
-            with self.assertRaises(NotAReply, msg=text[:40]):
-                count([text])
+        for text in (b'Welcome to HOST\n', b'ok run x y\n', b'ok\n', b'a' * 70_000, b'\n'):
+            counter = count([text, b'ok run 0 0\n'])
+            self.assertEqual((counter.runs, counter.at_a_boundary), (0, False), text[:40])
 
 
 if __name__ == '__main__':
