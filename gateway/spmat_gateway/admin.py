@@ -68,15 +68,14 @@ def make_app(server: 'Server', writable: bool) -> web.Application:
     """The pages, and on the socket the questions and commands of `spmat-gateway`."""
     answers = Answers(server)
     app = web.Application(middlewares=[_guard])
-    app.router.add_get('/healthz', _health)
-    app.router.add_get('/readyz', functools.partial(_ready, server))
-    app.router.add_get('/metrics', functools.partial(_metrics, server))
-    app.router.add_get('/', functools.partial(_page, answers, writable))
+    app.router.add_get('/healthz', answers.health)
+    app.router.add_get('/readyz', answers.ready)
+    app.router.add_get('/metrics', answers.metrics)
+    app.router.add_get('/', functools.partial(answers.page, writable))
     if writable:
-        app.router.add_post('/sessions/{id}/end', functools.partial(_end_by_page, answers))
-        for name in ('sessions', 'users', 'ledger', 'status'):
-            app.router.add_get('/api/' + name, functools.partial(_answer, getattr(answers, name)))
-        for name in ('end', 'change_user', 'quota', 'drain', 'reload'):
+        app.router.add_post('/sessions/{id}/end', answers.end_by_page)
+        for name in ('sessions', 'users', 'ledger', 'status', 'end', 'change_user', 'quota',
+                     'drain', 'reload'):
             app.router.add_post('/api/' + name, functools.partial(_answer, getattr(answers, name)))
     return app
 
@@ -97,8 +96,7 @@ class Answers:
 
     async def sessions(self, _: Dict[str, str]) -> List[Dict[str, Any]]:
         """The sessions that run here."""
-        return [status._asdict() for status in sorted(self._server.sessions.running(),
-                                                      key=lambda status: -status.seconds)]
+        return sorted(self._server.sessions.running(), key=lambda status: -float(status['seconds']))
 
     async def end(self, asked: Dict[str, str]) -> Dict[str, Any]:
         """Ends a session."""
@@ -110,7 +108,8 @@ class Answers:
     async def users(self, _: Dict[str, str]) -> List[Dict[str, Any]]:
         """The accounts, with what they may take and have taken."""
         ledger = self._server.ledger
-        accounts, today = await _in_thread(lambda: (ledger.accounts.all(), ledger.spent_today()))
+        accounts, today = await asyncio.to_thread(lambda: (ledger.accounts.all(),
+                                                           ledger.spent_today()))
         return [self._describe(account, *today.get(account.name, (0, 0))) for account in accounts]
 
     async def change_user(self, asked: Dict[str, str]) -> Dict[str, Any]:
@@ -124,11 +123,11 @@ class Answers:
             'enable': lambda: accounts.enable(name, True),
             'disable': lambda: accounts.enable(name, False),
             'join': lambda: accounts.join(name, group)}
-        token = await _in_thread(actions[action])
+        token = await asyncio.to_thread(actions[action])
         if action == 'disable':
             for session in self._server.sessions.running():
-                if session.user == name:
-                    self._server.sessions.end(session.id, 'disabled')
+                if session['user'] == name:
+                    self._server.sessions.end(session['id'], 'disabled')
         return {'token': token or ''}
 
     async def quota(self, asked: Dict[str, str]) -> Dict[str, Any]:
@@ -137,10 +136,10 @@ class Answers:
         quotas = {quota: None if asked[quota] == 'default' else int(asked[quota])
                   for quota in QUOTAS if quota in asked}
         if quotas:
-            await _in_thread(lambda: accounts.set_quotas(name, quotas))
+            await asyncio.to_thread(accounts.set_quotas, name, quotas)
         if asked.get('refill'):
             default = self._server.sessions.config.limits.steps_in_all
-            await _in_thread(lambda: accounts.refill(name, int(asked['refill']), default))
+            await asyncio.to_thread(accounts.refill, name, int(asked['refill']), default)
         found = [user for user in await self.users({}) if user['name'] == name]
         if not found:
             raise Failed('there is no account %s' % name)
@@ -150,11 +149,11 @@ class Answers:
         """The last sessions, or one with its jobs, or what a check finds."""
         ledger, session = self._server.ledger, asked.get('session', '')
         if asked.get('check'):
-            return {'faults': await _in_thread(ledger.faults)}
-        rows = await _in_thread(lambda: ledger.report(asked.get('account', ''), session,
-                                                      int(asked.get('most', '50'))))
-        return {'sessions': rows, 'jobs': await _in_thread(lambda: ledger.jobs(session)) if session
-                else []}
+            return {'faults': await asyncio.to_thread(ledger.faults)}
+        rows = await asyncio.to_thread(ledger.report, asked.get('account', ''), session,
+                                       int(asked.get('most', '50')))
+        jobs = await asyncio.to_thread(ledger.jobs, session) if session else []
+        return {'sessions': rows, 'jobs': jobs}
 
     async def drain(self, asked: Dict[str, str]) -> Dict[str, Any]:
         """Begins the end."""
@@ -165,15 +164,40 @@ class Answers:
         """Reads the file again."""
         return {'words': self._server.reload()}
 
-    async def snapshot(self) -> page.Snapshot:
-        """What the page shows."""
+    async def page(self, writable: bool, _: web.Request) -> web.Response:
+        """The page, also while the ledger doesn't answer."""
         metrics = self._server.metrics
         try:
             users = await self.users({})
         except Unavailable:
             users = []
-        return page.Snapshot(await self.status({}), await self.sessions({}), users,
-                             metrics.last_hour(), metrics.refusals())
+        shown = page.Snapshot(await self.status({}), await self.sessions({}), users,
+                              metrics.last_hour(), metrics.refusals())
+        return web.Response(text=page.render(shown, writable, time.time()),
+                            content_type='text/html')
+
+    async def end_by_page(self, request: web.Request) -> web.Response:
+        """Ends a session by a button of the page, which is shown again."""
+        try:
+            await self.end({'id': request.match_info['id']})
+        except Failed as fault:
+            raise web.HTTPNotFound(text=str(fault)) from None
+        raise web.HTTPSeeOther('/')
+
+    async def health(self, _: web.Request) -> web.Response:
+        """Whether the process lives."""
+        return web.Response(text='ok\n')
+
+    async def ready(self, _: web.Request) -> web.Response:
+        """Whether a client would be served."""
+        is_ready = self._server.is_ready
+        return web.Response(text='ok\n' if is_ready else 'not now\n',
+                            status=200 if is_ready else 503)
+
+    async def metrics(self, _: web.Request) -> web.Response:
+        """What is counted."""
+        return web.Response(body=self._server.metrics.text(),
+                            headers={'Content-Type': 'text/plain; version=0.0.4; charset=utf-8'})
 
     def _describe(self, account: Account, spent_today: int, reserved_today: int) -> Dict[str, Any]:
         limits = self._server.sessions.config.limits
@@ -190,17 +214,12 @@ class Answers:
         return described
 
 
-async def _in_thread(work: Callable[[], Any]) -> Any:
-    return await asyncio.get_running_loop().run_in_executor(None, work)
-
-
 async def _answer(answer: Callable[[Dict[str, str]], Awaitable[Any]],
                   request: web.Request) -> web.StreamResponse:
     """One question of `spmat-gateway`."""
     try:
-        asked = dict(request.query) if request.method == 'GET' else await request.json()
-        return web.json_response(await answer({str(key): str(value) for key,
-                                               value in asked.items()}))
+        asked = await request.json()
+        return web.json_response(await answer({key: str(value) for key, value in asked.items()}))
     except (Failed, Unknown, ValueError, KeyError) as fault:
         words = 'missing: %s' % fault if isinstance(fault, KeyError) else str(fault)
         return web.json_response({'fault': words}, status=400)
@@ -220,30 +239,3 @@ async def _guard(request: web.Request, handler: Handler) -> web.StreamResponse:
     response.headers['X-Content-Type-Options'] = 'nosniff'
     response.headers['Cache-Control'] = 'no-store'
     return response
-
-
-async def _health(_: web.Request) -> web.Response:
-    return web.Response(text='ok\n')
-
-
-async def _ready(server: 'Server', _: web.Request) -> web.Response:
-    return web.Response(text='ok\n') if server.is_ready else web.Response(text='not now\n',
-                                                                          status=503)
-
-
-async def _metrics(server: 'Server', _: web.Request) -> web.Response:
-    return web.Response(body=server.metrics.text(),
-                        headers={'Content-Type': 'text/plain; version=0.0.4; charset=utf-8'})
-
-
-async def _page(answers: Answers, writable: bool, _: web.Request) -> web.Response:
-    return web.Response(text=page.render(await answers.snapshot(), writable, time.time()),
-                        content_type='text/html')
-
-
-async def _end_by_page(answers: Answers, request: web.Request) -> web.Response:
-    try:
-        await answers.end({'id': request.match_info['id']})
-    except Failed as fault:
-        raise web.HTTPNotFound(text=str(fault)) from None
-    raise web.HTTPSeeOther('/')

@@ -8,13 +8,18 @@ import logging
 import socket
 import sys
 import time
-import urllib.parse
 from typing import Any, Dict, List, Optional, Sequence
 
 from . import config as configuration
 from .config import DEFAULT_ADMIN, DEFAULT_PATH, QUOTAS, ConfigError
 from .page import duration, short
 
+USER_COLUMNS = ('name', 'group', 'enabled', 'running', 'sessions', 'spent_today', 'left_today',
+                'left_in_all')
+SESSION_COLUMNS = ('id', 'user', 'address', 'seconds', 'spent', 'reserved', 'queued', 'runs',
+                   'jobs', 'bytes_in', 'bytes_out', 'process')
+LEDGER_COLUMNS = ('id', 'account', 'began', 'state', 'cause', 'basis', 'reserved', 'spent',
+                  'charged', 'jobs')
 FORMAT = '%(asctime)s.%(msecs)03dZ %(levelname)s %(message)s'
 
 
@@ -35,7 +40,7 @@ class _FileConnection(http.client.HTTPConnection):
         self.sock.connect(self._path)
 
 
-def ask(path: str, name: str, asked: Optional[Dict[str, Any]] = None, change: bool = False) -> Any:
+def ask(path: str, question: str, **asked: Any) -> Any:
     """What the gateway at a socket file answers.
 
     Raises
@@ -44,13 +49,10 @@ def ask(path: str, name: str, asked: Optional[Dict[str, Any]] = None, change: bo
         Where nobody listens there, or the gateway refuses.
     """
     connection = _FileConnection(path)
-    words = {key: str(value) for key, value in (asked or {}).items() if value is not None}
+    words = {key: str(value) for key, value in asked.items() if value is not None}
     try:
-        if change:
-            connection.request('POST', '/api/' + name, json.dumps(words),
-                               {'Content-Type': 'application/json'})
-        else:
-            connection.request('GET', '/api/%s?%s' % (name, urllib.parse.urlencode(words)))
+        connection.request('POST', '/api/' + question, json.dumps(words),
+                           {'Content-Type': 'application/json'})
         response = connection.getresponse()
         text = response.read().decode()
     except OSError as fault:
@@ -162,9 +164,7 @@ def _check(options: argparse.Namespace) -> None:
 
 def _users(options: argparse.Namespace) -> None:
     if options.action == 'list':
-        users = ask(options.admin, 'users')
-        _print(options, users, ['name', 'group', 'enabled', 'running', 'sessions', 'spent_today',
-                                'left_today', 'left_in_all'])
+        _print(options, ask(options.admin, 'users'), USER_COLUMNS)
         return
     if not options.name:
         raise Failed('users %s wants a name' % options.action)
@@ -175,41 +175,37 @@ def _users(options: argparse.Namespace) -> None:
                 asked['certificate'] = file.read()
         except (OSError, UnicodeDecodeError) as fault:
             raise Failed('%s: %s' % (options.certificate, fault)) from None
-    token = ask(options.admin, 'change_user', asked, change=True)['token']
+    token = ask(options.admin, 'change_user', **asked)['token']
     if token:
         print(json.dumps({'token': token}) if options.json else token)
 
 
 def _sessions(options: argparse.Namespace) -> None:
-    _print(options, ask(options.admin, 'sessions'), ['id', 'user', 'address', 'seconds', 'spent',
-                                                     'reserved', 'queued', 'runs', 'jobs',
-                                                     'bytes_in', 'bytes_out', 'process'])
+    _print(options, ask(options.admin, 'sessions'), SESSION_COLUMNS)
 
 
 def _end(options: argparse.Namespace) -> None:
-    ask(options.admin, 'end', {'id': options.id}, change=True)
+    ask(options.admin, 'end', id=options.id)
 
 
 def _quota(options: argparse.Namespace) -> None:
-    asked = {quota: getattr(options, quota) for quota in QUOTAS}
-    account = ask(options.admin, 'quota', {'name': options.name, 'refill': options.refill, **asked},
-                  change=True)
+    account = ask(options.admin, 'quota', name=options.name, refill=options.refill,
+                  **{quota: getattr(options, quota) for quota in QUOTAS})
     if options.json:
         print(json.dumps(account, indent=1))
         return
     for key, value in account.items():
-        shown = value if not isinstance(value, int) or isinstance(value, bool) else format(value,
-                                                                                           ',')
+        shown = format(value, ',') if type(value) is int else value
         print('%-16s %s' % (key.replace('_', '-'), 'no limit' if value is None and key in QUOTAS
                             else shown))
 
 
 def _drain(options: argparse.Namespace) -> None:
-    ask(options.admin, 'drain', {'seconds': options.seconds}, change=True)
+    ask(options.admin, 'drain', seconds=options.seconds)
 
 
 def _reload(options: argparse.Namespace) -> int:
-    words = ask(options.admin, 'reload', change=True)['words']
+    words = ask(options.admin, 'reload')['words']
     print(words)
     return 1 if words.startswith('not') else 0
 
@@ -222,31 +218,29 @@ def _status(options: argparse.Namespace) -> int:
 
 
 def _ledger(options: argparse.Namespace) -> int:
-    found = ask(options.admin, 'ledger', {'account': options.account, 'session': options.session,
-                                          'most': options.most, 'check': '1' if options.check
-                                          else None})
+    found = ask(options.admin, 'ledger', account=options.account, session=options.session,
+                most=options.most, check=options.check or None)
     if options.check:
         print('\n'.join(found['faults']) or 'all sums are those of the sessions')
         return 1 if found['faults'] else 0
     if options.json:
         print(json.dumps(found, indent=1))
         return 0
-    _print(options, found['sessions'], ['id', 'account', 'began', 'state', 'cause', 'basis',
-                                        'reserved', 'spent', 'charged', 'jobs'])
+    _print(options, found['sessions'], LEDGER_COLUMNS)
     for number, name, entries, steps in found['jobs']:
         print('job %d: %s, %d entries, %d steps' % (number, name, entries, steps))
     return 0
 
 
-def _print(options: argparse.Namespace, rows: List[Dict[str, Any]], columns: List[str]) -> None:
+def _print(options: argparse.Namespace, rows: List[Dict[str, Any]],
+           columns: Sequence[str]) -> None:
     """Prints rows as a table, or as JSON with all that they have."""
     if options.json:
         print(json.dumps(rows, indent=1))
         return
-    cells = [[column.replace('_', '-') for column in columns]] + [[_shown(column, row[column])
-                                                                   for column in columns]
-                                                                  for row in rows]
-    widths = [max(len(line[number]) for line in cells) for number in range(len(columns))]
+    cells = [[column.replace('_', '-') for column in columns],
+             *([_shown(column, row[column]) for column in columns] for row in rows)]
+    widths = [max(map(len, column)) for column in zip(*cells)]
     for line in cells:
         print('  '.join(cell.ljust(width) for cell, width in zip(line, widths)).rstrip())
 
@@ -260,8 +254,8 @@ def _shown(column: str, value: Any) -> str:
         return time.strftime('%Y-%m-%dT%H:%M:%SZ', time.gmtime(value or 0))
     if isinstance(value, bool) or value is None:
         return {True: 'yes', False: 'no', None: '-'}[value]
-    return short(value) if isinstance(value, int) and column not in ('process', 'running',
-                                                                     'sessions') else str(value)
+    is_plain = column in ('process', 'running', 'sessions') or not isinstance(value, int)
+    return str(value) if is_plain else short(value)
 
 
 COMMANDS = {'serve': _serve, 'check': _check, 'users': _users, 'sessions': _sessions, 'end': _end,

@@ -44,13 +44,10 @@ class Metrics:
         self._processor = counter('processor_seconds', 'Processor time of sessions that ended',
                                   'user')
         self._faults = counter('ledger_faults', 'Times that the ledger did not answer')
-        self._gauges: List[Gauge] = []
 
     def watch(self, name: str, words: str, value: Callable[[], float]) -> None:
         """Adds a number that is asked for when it is wanted."""
-        gauge = Gauge('spmat_gateway_' + name, words, registry=self.registry)
-        gauge.set_function(value)
-        self._gauges.append(gauge)
+        Gauge('spmat_gateway_' + name, words, registry=self.registry).set_function(value)
 
     def begin(self, user: str) -> None:
         """A session has begun."""

@@ -8,7 +8,7 @@ import socket
 import threading
 import time
 import uuid
-from typing import Dict, List, NamedTuple, Optional, Tuple
+from typing import Any, Dict, List, Optional, Tuple
 
 from . import tls, users
 from .accounts import Account
@@ -40,30 +40,13 @@ class Refused(Exception):
         self.reply, self.why = reply, why
 
 
-class Status(NamedTuple):
-    """A session that runs, as an operator sees it."""
-    id: str
-    user: str
-    address: str
-    seconds: float
-    reserved: int
-    spent: int
-    queued: int
-    runs: int
-    jobs: int
-    bytes_in: int
-    bytes_out: int
-    process: int
-
-
 class Session:
     """One connection. `serve` is called in a thread of its own."""
 
-    def __init__(self, sessions: 'Sessions', connection: socket.socket, address: str) -> None:
+    def __init__(self, sessions: 'Sessions', address: str) -> None:
         self.id, self.address = uuid.uuid4().hex, address
-        self.user, self.changed = '', False
-        self._sessions, self._connection = sessions, connection
-        self._config = sessions.config
+        self.user = ''
+        self._sessions, self._config = sessions, sessions.config
         self._told, self._counter = EngineLog(), ReplyCounter(self._config.gateway.jobs_listed)
         self._began = time.monotonic()
         self._cause, self._asked_at, self._spent = '', 0.0, 0
@@ -74,15 +57,18 @@ class Session:
     # -- for others
 
     @property
-    def status(self) -> Optional[Status]:
-        """What it has taken so far; None before its engine has begun."""
+    def status(self) -> Optional[Dict[str, Any]]:
+        """What it has taken so far, as an operator sees it; None before its engine has begun."""
         told, counter, pipe = self._told, self._counter, self._pipe
         engine, reservation = self._engine, self._reservation
         if pipe is None or engine is None or reservation is None:
             return None
-        return Status(self.id, self.user, self.address, time.monotonic() - self._began,
-                      reservation.steps, told.spent, told.queued, counter.runs,
-                      counter.job_count, *pipe.counts, engine.process)
+        bytes_in, bytes_out = pipe.counts
+        return {'id': self.id, 'user': self.user, 'address': self.address,
+                'seconds': time.monotonic() - self._began, 'reserved': reservation.steps,
+                'spent': told.spent, 'queued': told.queued, 'runs': counter.runs,
+                'jobs': counter.job_count, 'bytes_in': bytes_in, 'bytes_out': bytes_out,
+                'process': engine.process}
 
     @property
     def entry(self) -> Entry:
@@ -99,11 +85,11 @@ class Session:
 
     # -- its thread
 
-    def serve(self) -> None:
+    def serve(self, connection: socket.socket) -> None:
         """Serves the connection until it ends."""
-        client: Client = self._connection
+        client: Client = connection
         try:
-            client = tls.shake_hands(self._connection, self._sessions.context,
+            client = tls.shake_hands(connection, self._sessions.context,
                                      self._config.gateway.login_seconds)
             account, first = self._admit(client)
             self._reserve(account)
@@ -200,8 +186,7 @@ class Session:
         """Notes what the session has told of its steps."""
         self._sessions.metrics.spend(self.user, self._told.spent - self._spent)
         self._spent = self._told.spent
-        self._sessions.journal.note(self.entry)
-        self.changed = True
+        self._sessions.note_soon(self)
 
     def _deadline(self) -> float:
         if self._cause:
@@ -267,6 +252,7 @@ class Sessions:
         self._all: Dict[str, Session] = {}
         self._seated: Dict[str, Session] = {}
         self._unsettled: List[Tuple[str, Outcome]] = []
+        self._changed: Dict[str, Session] = {}
         self._second = self._lines = self._untold = 0
 
     def reload(self, config: Config) -> None:
@@ -277,7 +263,7 @@ class Sessions:
 
     def accept(self, connection: socket.socket, address: Tuple[str, int]) -> None:
         """Serves a connection, unless it is one too many."""
-        session = Session(self, connection, '%s:%d' % address[:2])
+        session = Session(self, '%s:%d' % address[:2])
         with self._lock:
             near = sum(other.address.rpartition(':')[0] == address[0]
                        for other in self._all.values())
@@ -288,7 +274,8 @@ class Sessions:
                 return
             self._all[session.id] = session
         try:
-            threading.Thread(target=session.serve, name=session.id[:12], daemon=True).start()
+            threading.Thread(target=session.serve, args=(connection,), name=session.id[:12],
+                             daemon=True).start()
         except RuntimeError:                       # no thread more is to be had
             self.metrics.refuse('no connection')
             self.forget(session)
@@ -327,7 +314,7 @@ class Sessions:
             self._all.pop(session.id, None)
             self._seated.pop(session.id, None)
 
-    def running(self) -> List[Status]:
+    def running(self) -> List[Dict[str, Any]]:
         """The sessions that run."""
         with self._lock:
             sessions = list(self._seated.values())
@@ -389,18 +376,22 @@ class Sessions:
                 session, outcome = self._unsettled.pop(0)
             self._settle(session, outcome)
 
+    def note_soon(self, session: Session) -> None:
+        """Notes what a session has spent in the journal now, and in the ledger within a second."""
+        self.journal.note(session.entry)
+        with self._lock:
+            self._changed[session.id] = session
+
     def note(self) -> None:
         """Tells the ledger what the sessions that run have spent since the last time."""
         with self._lock:
-            changed = [session for session in self._seated.values() if session.changed]
-        for session in changed:
-            session.changed = False
+            changed, self._changed = self._changed, {}
         try:
             self.ledger.note([(entry.spent, entry.runs, entry.jobs, entry.session)
-                              for entry in (session.entry for session in changed)])
+                              for entry in (session.entry for session in changed.values())])
         except Unavailable:
-            for session in changed:
-                session.changed = True
+            with self._lock:
+                self._changed = {**changed, **self._changed}
             raise
 
 
