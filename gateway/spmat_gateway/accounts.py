@@ -133,9 +133,8 @@ def bounds(defaults: Limits, accounts: List[Account]) -> Dict[str, Optional[int]
     """What one session may take: of each quota the least among the user's and its group's."""
     found: Dict[str, Optional[int]] = {}
     for quota in PER_SESSION:
-        limits = [limit for account in accounts if (limit := account.limit(quota,
-                                                                           defaults)) is not None]
-        found[quota] = min(limits) if limits else None
+        limits = (account.limit(quota, defaults) for account in accounts)
+        found[quota] = min((limit for limit in limits if limit is not None), default=None)
     return found
 
 

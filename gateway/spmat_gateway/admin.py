@@ -125,9 +125,7 @@ class Answers:
             'join': lambda: accounts.join(name, group)}
         token = await asyncio.to_thread(actions[action])
         if action == 'disable':
-            for session in self._server.sessions.running():
-                if session['user'] == name:
-                    self._server.sessions.end(session['id'], 'disabled')
+            self._server.sessions.end_all('disabled', name)
         return {'token': token or ''}
 
     async def quota(self, asked: Dict[str, str]) -> Dict[str, Any]:

@@ -8,20 +8,21 @@ from __future__ import annotations
 import re
 from typing import Dict
 
+from .config import MOST_STEPS
+
 LINE = re.compile(r'spmat: (?:time=\S+ )?(server-start|start|refused|session|runs|server-end)'
                   r'((?: [a-z_]+=\S+)+)|spmat: \d+ lines of the log were dropped')
 LONGEST_LINE = 4_096
 LONGEST_WORDS = 2_000
-MOST_STEPS = 1 << 62
 UNKNOWN_OPTION = re.compile(r"unexpected argument '--log")
 
 
 class EngineLog:
-    """What a session has told so far: `spent` steps, `queued` ones that its jobs have reserved, and
-    its `jobs`, `commands` and refusals. `end` says how it ended, once it has."""
+    """What a session has told so far: `spent` steps, and `queued` ones that its jobs have reserved.
+    `end` says how it ended, once it has."""
 
     def __init__(self) -> None:
-        self.spent = self.queued = self.jobs = self.commands = self.refusals = 0
+        self.spent = self.queued = 0
         self.begun = False
         self.end = ''
         self._begun_line, self._words = b'', ''
@@ -58,8 +59,6 @@ class EngineLog:
             self.queued = _number(fields, 'reserved')
         if event == 'session':
             self.end = fields.get('end', '')
-            self.jobs, self.commands = _number(fields, 'jobs'), _number(fields, 'commands')
-            self.refusals = _number(fields, 'refused')
 
 
 def _number(fields: Dict[str, str], name: str) -> int:

@@ -49,12 +49,7 @@ class Engine:
             stderr=subprocess.PIPE, bufsize=0, env=self._environment, start_new_session=True,
             cwd='/')
         self._status: Optional[int] = None
-        self.processor = 0.0
-
-    @property
-    def process(self) -> int:
-        """The number of the process."""
-        return self._process.pid
+        self.process, self.processor = self._process.pid, 0.0
 
     def take_streams(self) -> List[int]:
         """Its standard input, output and error as descriptors, which are the caller's from now
@@ -70,7 +65,7 @@ class Engine:
         """Sends a signal to the process and its children, if it hasn't been waited for."""
         if self._status is None:
             try:
-                os.killpg(self._process.pid, number)
+                os.killpg(self.process, number)
             except (ProcessLookupError, PermissionError):
                 pass
 
@@ -105,7 +100,7 @@ class Engine:
     def _wait(self, seconds: float) -> bool:
         until, pause = time.monotonic() + seconds, 0.0005
         while self._status is None:
-            found, status, usage = os.wait4(self._process.pid, os.WNOHANG)
+            found, status, usage = os.wait4(self.process, os.WNOHANG)
             if found:
                 self._status = self._process.returncode = os.waitstatus_to_exitcode(status)
                 self.processor = usage.ru_utime + usage.ru_stime

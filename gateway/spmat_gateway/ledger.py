@@ -33,8 +33,6 @@ class NoQuota(Exception):
 
 class Reservation(NamedTuple):
     """What a session may take."""
-    session: str
-    account: str
     steps: int
     bounds: Dict[str, Optional[int]]
 
@@ -99,7 +97,7 @@ class Ledger:
             limits = bounds(defaults, accounts)
             before = t.row('SELECT reserved FROM sessions WHERE id = ?', session)
             if before:
-                return Reservation(session, name, before[0], limits)
+                return Reservation(before[0], limits)
             day = today()
             most = limits['session_steps']
             steps = min([MOST_STEPS if most is None else most,
@@ -111,7 +109,7 @@ class Ledger:
             t.run('INSERT INTO sessions (id, account, parent, gateway, address, day, began, state, '
                   "reserved) VALUES (?, ?, ?, ?, ?, ?, %s, 'open', ?)" % self.database.now, session,
                   name, accounts[0].parent, self.instance, address, day, steps)
-            return Reservation(session, name, steps, limits)
+            return Reservation(steps, limits)
         return self.database.transact(work)
 
     def note(self, spent: Iterable[Tuple[int, int, int, str]]) -> None:

@@ -8,14 +8,13 @@ from __future__ import annotations
 import fcntl
 import os
 import select
-import socket
 import ssl
 import time
-from typing import Callable, Iterable, List, Sequence, Tuple, Union
+from typing import Callable, Iterable, List, Sequence, Tuple
 
 from .engine_log import EngineLog
+from .tls import Client
 
-Client = Union[socket.socket, ssl.SSLSocket]
 PIECE = 1 << 18
 PIPE_SIZE = 1 << 20
 SECONDS_TO_TELL = 5.0  # for an engine that answers, to tell that it has begun

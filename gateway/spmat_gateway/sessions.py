@@ -19,8 +19,9 @@ from .engines import Engine, values_of
 from .journal import Entry, Journal
 from .ledger import Ledger, NoQuota, Outcome, Reservation
 from .metrics import Metrics
-from .pipe import Client, ClientGone, NoAccount, Pipe
+from .pipe import ClientGone, NoAccount, Pipe
 from .replies import ReplyCounter
+from .tls import Client
 
 MOST_WAITING = 64                                  # connections before their login
 SECONDS_TO_ANSWER = 3.0  # for what is left to say to a client whose session was ended
@@ -339,13 +340,12 @@ class Sessions:
             found[0].end(cause)
         return len(found) == 1
 
-    def end_all(self, cause: str) -> int:
-        """Ends all sessions; how many they were."""
+    def end_all(self, cause: str, user: str = '') -> None:
+        """Ends all sessions, or all of a user."""
         with self._lock:
-            found = list(self._seated.values())
+            found = [session for session in self._seated.values() if user in ('', session.user)]
         for session in found:
             session.end(cause)
-        return len(found)
 
     # -- the ledger
 
