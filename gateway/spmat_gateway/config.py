@@ -7,7 +7,7 @@ import os
 import socket
 import string
 import sys
-from typing import Any, Dict, Mapping, Optional, Tuple, Type, TypeVar
+from typing import Any, Dict, Mapping, Optional, Tuple
 
 if sys.version_info >= (3, 11):
     import tomllib
@@ -21,7 +21,6 @@ MOST_OF_SESSION = 1 << 48                          # so that sums of ten thousan
 MOST_SECONDS = 1_000_000
 WORDS = ('steps', 'workers', 'memory', 'processor', 'idle', 'seconds', 'user', 'session')
 UNTIL_RESTART = ('name', 'state', 'listen', 'ledger', 'admin', 'page')
-Section = TypeVar('Section')
 
 
 class ConfigError(ValueError):
@@ -30,6 +29,10 @@ class ConfigError(ValueError):
 
 def _number(default: Optional[int], least: int, most: int) -> Any:
     return dataclasses.field(default=default, metadata={'least': least, 'most': most})
+
+
+def _choice(*words: str) -> Any:
+    return dataclasses.field(default=words[0], metadata={'choices': words})
 
 
 @dataclasses.dataclass(frozen=True)
@@ -69,7 +72,7 @@ class Gateway:
     drain_seconds: int = _number(60, 0, MOST_SECONDS)
     lease_seconds: int = _number(120, 2, MOST_SECONDS)
     jobs_listed: int = _number(256, 0, 100_000)
-    unfinished: str = dataclasses.field(default='known', metadata={'choices': ('known', 'price')})
+    unfinished: str = _choice('known', 'price')
 
 
 @dataclasses.dataclass(frozen=True)
@@ -78,8 +81,7 @@ class Tls:
     certificate: str = ''
     key: str = ''
     clients: str = ''
-    names: str = dataclasses.field(default='fingerprint', metadata={'choices': ('fingerprint',
-                                                                                'common-name')})
+    names: str = _choice('fingerprint', 'common-name')
 
 
 @dataclasses.dataclass(frozen=True)
@@ -110,6 +112,9 @@ class Config:
         return self.gateway.ledger or os.path.join(self.gateway.state, 'ledger.db')
 
 
+SECTIONS: Dict[str, Any] = {'gateway': Gateway, 'tls': Tls, 'engine': Engine, 'limits': Limits}
+
+
 def read(path: str) -> Config:
     """Reads a file.
 
@@ -129,12 +134,11 @@ def read(path: str) -> Config:
 
 def parse(tables: Mapping[str, Any]) -> Config:
     """A file's tables, checked."""
-    unknown = set(tables) - {field.name for field in dataclasses.fields(Config)}
+    unknown = set(tables) - set(SECTIONS)
     if unknown:
-        raise ConfigError('no table is called [%s]; there are [gateway], [tls], [engine], [limits]'
-                          % min(unknown))
-    config = Config(_section(Gateway, tables, 'gateway'), _section(Tls, tables, 'tls'),
-                    _section(Engine, tables, 'engine'), _section(Limits, tables, 'limits'))
+        raise ConfigError('no table is called [%s]; there are [%s]' % (min(unknown),
+                                                                       '], ['.join(SECTIONS)))
+    config = Config(**{name: _section(kind, tables, name) for name, kind in SECTIONS.items()})
     host, _ = parse_address('listen', config.gateway.listen)
     if config.gateway.page:
         parse_address('page', config.gateway.page)
@@ -162,7 +166,7 @@ def needs_restart(old: Config, new: Config) -> Tuple[str, ...]:
                                                                                       key))
 
 
-def _section(kind: Type[Section], tables: Mapping[str, Any], name: str) -> Section:
+def _section(kind: Any, tables: Mapping[str, Any], name: str) -> Any:
     table = tables.get(name, {})
     if not isinstance(table, dict):
         raise ConfigError('%s is a table, [%s], not %r' % (name, name, table))

@@ -189,10 +189,11 @@ class Ledger:
 
     def report(self, account: str = '', session: str = '', most: int = 50) -> List[Dict[str, Any]]:
         """The last sessions, of all or of one account."""
-        where, values = ('WHERE account = ? OR parent = ?', (account, account)) if account else ('',
-                                                                                                 ())
+        where, values = '', []
         if session:
-            where, values = 'WHERE id = ?', (session,)
+            where, values = 'WHERE id = ?', [session]
+        elif account:
+            where, values = 'WHERE account = ? OR parent = ?', [account, account]
         rows = self.database.rows('SELECT %s FROM sessions %s ORDER BY began DESC LIMIT ?'
                                   % (', '.join(REPORTED), where), *values, most)
         return [dict(zip(REPORTED, row)) for row in rows]

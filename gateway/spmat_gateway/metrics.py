@@ -43,7 +43,7 @@ class Metrics:
         self._bytes = counter('bytes', 'Bytes of sessions that ended', 'direction')
         self._processor = counter('processor_seconds', 'Processor time of sessions that ended',
                                   'user')
-        self._faults = counter('ledger_faults', 'Times that the ledger did not answer')
+        self.ledger_faults = counter('ledger_faults', 'Times that the ledger did not answer')
 
     def watch(self, name: str, words: str, value: Callable[[], float]) -> None:
         """Adds a number that is asked for when it is wanted."""
@@ -71,10 +71,6 @@ class Metrics:
         self._refusals.labels(reply.partition(' ')[2]).inc()
         with self._lock:
             self._minute().refusals += 1
-
-    def miss_ledger(self) -> None:
-        """The ledger didn't answer."""
-        self._faults.inc()
 
     def sample(self, sessions: int) -> None:
         """So many sessions run."""

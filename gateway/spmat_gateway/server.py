@@ -167,7 +167,7 @@ class Server:
             except Unavailable as fault:
                 if self.ledger_is_up or not self.is_prepared:
                     log.error('the ledger doesn\'t answer: %s', fault)
-                self.metrics.miss_ledger()
+                self.metrics.ledger_faults.inc()
                 self.ledger_is_up = False
                 beats.miss()
                 if self.ledger.database.is_shared and beats.is_late:

@@ -28,20 +28,15 @@ def make_context(tls: Tls) -> Optional[ssl.SSLContext]:
     context.minimum_version = ssl.TLSVersion.TLSv1_2
     # an end without TLS' own word for it is a client that has gone, and no end of its input
     context.options &= ~getattr(ssl, 'OP_IGNORE_UNEXPECTED_EOF', 0)
+    what = 'certificate %s with its key %s' % (tls.certificate, tls.key or 'in the same file')
     try:
         context.load_cert_chain(tls.certificate, tls.key or None)
-    except OSError as fault:
-        raise ConfigError('[tls] certificate %s with its key %s: %s' % (tls.certificate, tls.key
-                                                                        or 'in the same file',
-                                                                        fault.strerror
-                                                                        or fault)) from None
-    if tls.clients:
-        context.verify_mode = ssl.CERT_OPTIONAL
-        try:
+        if tls.clients:
+            what = 'clients ' + tls.clients
+            context.verify_mode = ssl.CERT_OPTIONAL
             context.load_verify_locations(tls.clients)
-        except OSError as fault:
-            raise ConfigError('[tls] clients %s: %s' % (tls.clients, fault.strerror
-                                                        or fault)) from None
+    except OSError as fault:
+        raise ConfigError('[tls] %s: %s' % (what, fault.strerror or fault)) from None
     return context
 
 
