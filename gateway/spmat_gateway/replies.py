@@ -1,5 +1,5 @@
-"""What an operator sees of a session, read from the replies that pass: its runs, and its jobs by
-name. Nothing is held back, nothing is changed, and nothing is charged by it.
+"""What the replies that pass say of a session: its runs, what these spent, and its jobs by name.
+Nothing is held back, and nothing is changed.
 
 The counter follows the lines of docs/protocol.md. The bytes of a `show`, and the lines of `dis` and
 `types`, are passed over by the length that their first line announces.
@@ -20,7 +20,7 @@ class Job(NamedTuple):
 
 
 class ReplyCounter:
-    """Counts runs and jobs, up to the first bytes that are no reply.
+    """Counts runs, jobs and steps, up to the first bytes that are no reply.
 
     Parameters
     ----------
@@ -29,7 +29,7 @@ class ReplyCounter:
     """
 
     def __init__(self, most_jobs: int = 0) -> None:
-        self.runs = self.job_count = 0
+        self.runs = self.job_count = self.spent = 0
         self.jobs: List[Job] = []
         self._most_jobs = most_jobs
         self._bytes_to_skip = self._lines_to_skip = self._job_lines = 0
@@ -71,16 +71,21 @@ class ReplyCounter:
         if self._job_lines:
             self._take_job(words)
         elif words[0] == b'no':
-            self.runs += words[1] in RUNS_REFUSED and len(words) == 3
+            if words[1] in RUNS_REFUSED and len(words) == 3:
+                self._take_run(int(words[2]))
         elif words[0] != b'ok':
             raise ValueError
         elif words[1] == b'show':
             self._bytes_to_skip = int(words[2])
         elif words[1] == b'run':
             self._job_lines = int(words[2])
-            self.runs += 1
+            self._take_run(int(words[3]))
         elif words[1] in (b'dis', b'types'):
             self._lines_to_skip = int(words[2])
+
+    def _take_run(self, spent: int) -> None:
+        self.runs += 1
+        self.spent += spent
 
     def _take_job(self, words: List[bytes]) -> None:
         """Takes a line `OUT ROWS COLUMNS ENTRIES STEPS` behind `ok run`."""

@@ -50,7 +50,7 @@ class Session:
         self._sessions, self._config = sessions, sessions.config
         self._told, self._counter = EngineLog(), ReplyCounter(self._config.gateway.jobs_listed)
         self._began = time.monotonic()
-        self._cause, self._asked_at, self._spent = '', 0.0, 0
+        self._cause, self._asked_at, self._noted = '', 0.0, 0
         self._reservation: Optional[Reservation] = None
         self._engine: Optional[Engine] = None
         self._pipe: Optional[Pipe] = None
@@ -67,15 +67,20 @@ class Session:
         bytes_in, bytes_out = pipe.counts
         return {'id': self.id, 'user': self.user, 'address': self.address,
                 'seconds': time.monotonic() - self._began, 'reserved': reservation.steps,
-                'spent': told.spent, 'queued': told.queued, 'runs': counter.runs,
+                'spent': self.spent, 'queued': told.queued, 'runs': counter.runs,
                 'jobs': counter.job_count, 'bytes_in': bytes_in, 'bytes_out': bytes_out,
                 'process': engine.process}
+
+    @property
+    def spent(self) -> int:
+        """The steps that it has told of, or that runs took whose replies have passed."""
+        return max(self._told.spent, self._counter.spent)
 
     @property
     def entry(self) -> Entry:
         """What it has spent so far, for the journal and the ledger."""
         told, counter = self._told, self._counter
-        return Entry(self.id, told.spent, counter.runs, counter.job_count, told.queued)
+        return Entry(self.id, self.spent, counter.runs, counter.job_count, told.queued)
 
     def end(self, cause: str) -> None:
         """Ends it from outside; its own thread does the rest."""
@@ -166,7 +171,7 @@ class Session:
         if self._cause:                            # it was ended before there was an engine
             self._engine.signal(signal.SIGTERM)
         self._pipe = Pipe(client, self._engine.take_streams(), self._told, self._charge,
-                          self._counter.look)
+                          self._look)
         self._pipe.begin(first)
         try:
             if not self._pipe.run(self._deadline):
@@ -184,10 +189,18 @@ class Session:
             return 'engine'
 
     def _charge(self) -> None:
-        """Notes what the session has told of its steps."""
-        self._sessions.metrics.spend(self.user, self._told.spent - self._spent)
-        self._spent = self._told.spent
+        """Notes what the session has spent so far."""
+        spent = self.spent
+        self._sessions.metrics.spend(self.user, spent - self._noted)
+        self._noted = spent
         self._sessions.note_soon(self)
+
+    def _look(self, piece: memoryview) -> None:
+        """Notes the runs of replies before they go on, so that what a client reads is charged."""
+        before = self.spent
+        self._counter.look(piece)
+        if self.spent > before:
+            self._charge()
 
     def _deadline(self) -> float:
         if self._cause:
@@ -227,7 +240,7 @@ class Session:
     def _outcome(self, cause: str) -> Outcome:
         assert self._engine is not None and self._pipe is not None and self._reservation is not None
         told, counter = self._told, self._counter
-        spent, basis = told.spent, 'exact' if told.end else 'known'
+        spent, basis = self.spent, 'exact' if told.end else 'known'
         if not told.end and self._config.gateway.unfinished == 'price' and told.queued:
             spent, basis = spent + told.queued, 'price'
         return Outcome(min(spent, self._reservation.steps), basis, cause, counter.runs,

@@ -270,7 +270,6 @@ def is_right(row, read, most, line):
     """Whether a session of the ledger is one of which a client has read so much, and this line at
     its end."""
     told = line.split()[3:]
-    least = read if row['basis'] == 'exact' else 0
-    return (least <= row['charged'] <= most
+    return (read <= row['charged'] <= most
             and (not told or told == [row['basis'], str(row['charged'])]
                  or row['state'] != 'settled'))

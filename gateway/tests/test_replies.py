@@ -26,7 +26,7 @@ class Counting(unittest.TestCase):
         counter = count([replies])
         spent = int([line for line in replies.split(b'\n')
                      if line.startswith(b'ok budget')][-1].split()[4])
-        self.assertEqual((counter.runs, counter.job_count), (4, 4))
+        self.assertEqual((counter.runs, counter.job_count, counter.spent), (4, 4, spent))
         self.assertEqual([job.name for job in counter.jobs], ['B', 'C', 'D', 'E'])
         self.assertEqual(sum(job.steps for job in counter.jobs), spent)
         self.assertEqual(counter.jobs[2].entries, 64)
