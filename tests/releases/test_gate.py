@@ -66,9 +66,8 @@ class Gate(unittest.TestCase):
     def test_steps_side_by_side(self) -> None:
         """What each says stands together, and after a fault nothing begins."""
         run = gate.Run()
-        slow, quick = gate.Command('slow',
-                                   ['sh', '-c', 'echo a; sleep 1; echo b']), gate.Command(
-                                       'quick', ['echo', 'c'])
+        slow = gate.Command('slow', ['sh', '-c', 'echo a; sleep 1; echo b'])
+        quick = gate.Command('quick', ['echo', 'c'])
         with contextlib.redirect_stdout(io.StringIO()) as told:
             run.side_by_side([slow, quick])
         self.assertEqual(told.getvalue().splitlines(),
@@ -77,10 +76,11 @@ class Gate(unittest.TestCase):
         self.assertEqual([step.name for step in run.steps], ['quick', 'slow'])
         with contextlib.redirect_stdout(io.StringIO()) as told, \
                 self.assertRaisesRegex(gate.Failed, 'bad: status 3'):
-            run.side_by_side([gate.Command('bad', ['sh', '-c', 'echo why >&2; exit 3']), slow,
-                              quick, quick])
+            # it fails once the next one has begun
+            bad = gate.Command('bad', ['sh', '-c', 'sleep 0.5; echo why >&2; exit 3'])
+            run.side_by_side([bad, slow, quick, quick])
         self.assertEqual([step.name for step in run.steps], ['quick', 'slow', 'slow'])
-        self.assertIn('== bad: sh -c echo why >&2; exit 3\nwhy\n', told.getvalue())
+        self.assertIn('== bad: sh -c sleep 0.5; echo why >&2; exit 3\nwhy\n', told.getvalue())
 
     def test_packages(self) -> None:
         """One that is here is seen, and one that isn't, by program or by module."""
