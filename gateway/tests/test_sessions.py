@@ -272,11 +272,12 @@ class Limits(WithGateway):
                              '--workers', '3')
         erik, fay = (self.gateway.add(name, '--group', '@lab') for name in ('erik', 'fay'))
         self.gateway.command('quota', 'erik', '--session-steps', '6')
-        with self.gateway.client(erik) as one, self.gateway.client(fay) as other:
+        with self.gateway.client(erik) as one:
             self.assertEqual(one.ask('budget'), 'ok budget 6 0 0')
-            self.assertEqual(other.ask('budget'), 'ok budget 4 0 0')
-            with self.gateway.client(fay) as third:
-                self.assertEqual(third.rest(), b'no busy\n')
+            with self.gateway.client(fay) as other:  # only now, as it takes all that is left
+                self.assertEqual(other.ask('budget'), 'ok budget 4 0 0')
+                with self.gateway.client(fay) as third:
+                    self.assertEqual(third.rest(), b'no busy\n')
         until('both are settled',
               lambda: all(row['state'] == 'settled' for row in self.gateway.sessions('@lab')))
         self.assertEqual(self.gateway.command('ledger', '--check').strip(),
