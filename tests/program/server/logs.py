@@ -376,16 +376,14 @@ def log_in_json(program: str) -> None:
     sent = sum(map(len, UPLOADED)) + len(b'ok queued 1 12\nno S8 12 0\nok quit\n')
     expect('the log',
            [{'event': 'server-start', 'version': version(), 'steps': 12, 'workers': 1,
-             'sessions': 1, 'idle': None,
+             'sessions': 1, 'idle': None, 'session_seconds': None, 'min_rate': None,
              'session_steps': None, 'session_reserve': None},
-            {'event': 'start', 'untold': 0}, {'event': 'refused', 'rule': 'S8', 'price': 12,
-                                              'left': 0, 'untold': 0},
+            {'event': 'start', 'untold': 0},
+            {'event': 'refused', 'rule': 'S8', 'price': 12, 'left': 0, 'untold': 0},
             {'event': 'session', 'end': 'quit', 'in': received, 'out': sent, 'commands': 7,
-             'steps': 0, 'refused': 1,
-             'untold': 0, 'untold_steps': 0},
+             'jobs': 1, 'steps': 0, 'refused': 1, 'untold': 0, 'untold_steps': 0},
             {'event': 'server-end', 'end': 'sessions', 'sessions': 1, 'turned_away': 0,
-             'refused': 1, 'steps': 0, 'left': 12,
-             'untold': 0, 'untold_steps': 0}], objects)
+             'refused': 1, 'steps': 0, 'left': 12, 'untold': 0, 'untold_steps': 0}], objects)
 
 
 def version() -> str:
