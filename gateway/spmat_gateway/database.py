@@ -77,7 +77,7 @@ class Database:
                 if self._connection is None:
                     self._connection = self._connect()
                 return self._attempt(work)
-            except self._faults as fault:
+            except (self._faults, OSError) as fault:  # OSError: SQLite's file can't be opened
                 self._drop()
                 raise Unavailable(str(fault).strip() or type(fault).__name__) from None
 

@@ -164,7 +164,7 @@ class Server:
                 if stopping and not self.sessions.unsettled:
                     self.ledger.settle_all(self.instance, 'drained')
                     return
-            except Unavailable as fault:
+            except (Unavailable, OSError) as fault:  # OSError: the journal can't be written
                 if self.ledger_is_up or not self.is_prepared:
                     log.error('the ledger doesn\'t answer: %s', fault)
                 self.metrics.ledger_faults.inc()

@@ -140,6 +140,8 @@ class NotReady(unittest.TestCase):
             try:
                 until('it lives', lambda: self._status(gateway, '/healthz') == 200)
                 self.assertEqual(self._status(gateway, '/readyz'), 503)
+                # a folder that comes before the first try is no fault that the gateway outlives
+                until('it has tried', lambda: "the ledger doesn't answer" in gateway.said())
                 os.mkdir(os.path.join(where, 'none'))
                 until('it is ready', gateway.is_ready)
                 with gateway.client(gateway.add('anna')) as client:
