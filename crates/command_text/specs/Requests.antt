@@ -1,11 +1,10 @@
 -- What a command line asks for (this project's own).
-use Rattle.std.specs.Prelude.{ℕ, ◌+◌, ◌&&◌, nat_le, nat_lt, Bool, true, false, if◌then◌else◌, List, [], ◌∷◌, length, drop, codes}
+use Rattle.std.specs.Prelude.{ℕ, nat_lt, if◌then◌else◌, List, [], ◌∷◌, codes}
 use Rattle.std.specs.Prelude.{Option, None, Some, Result, Ok, Err, ok_or}
-use Rattle.std.specs.List.{find, list_any, slice_get}
-use Rattle.std.specs.Option.{option_map, option_and_then}
+use Rattle.std.specs.Option.{option_map, option_or}
 use Rattle.std.specs.Str.{bytes_eq}
 use Rattle.matrix_market.specs.Values.{value_word}
-use Rattle.job_plan.specs.Form.{found, mapped, mask_found}
+use Rattle.job_plan.specs.Form.{found, mask_found}
 use Rattle.job_plan.specs.declared.form.Form as forms
 use Rattle.job_plan.specs.declared.form.Form.TheVariants.{Apply, Select, Union, Both, Product, Reduce}
 use Rattle.command_text.specs.Words.{is_name, length_of}
@@ -88,43 +87,52 @@ operator_asked header _ = Fatal fatal.MalformedWords
 
 -- ---- jobs
 
--- How a form of job is written: `COMMAND OUT ..`, so many words behind the command, and perhaps `mask M`. Each number in the form
--- is the place of a word: OUT has place 0.
-pub record JobWords : Type 0 where
-  pub command : List ℕ
-  pub count : ℕ
-  pub form : forms.Form ℕ ℕ
+-- What stands behind the words of a form: nothing, or `mask M`. The names are still any words.
+abbrev pub with_mask : List ℕ → Option Form → List (List ℕ) → Option Submission
+with_mask output (Some form) [] = Some (record { output = output; form = form; mask = None })
+with_mask output (Some form) (word ∷ mask ∷ []) =
+    if bytes_eq word (codes "mask") then Some (record { output = output; form = form; mask = Some mask }) else None
+with_mask output form rest = None
 
-abbrev pub all_forms : List JobWords
-all_forms =
-    record { command = codes "apply"; count = 3; form = Apply 1 None 2 }
-    ∷ record { command = codes "apply"; count = 4; form = Apply 1 (Some 3) 2 }
-    ∷ record { command = codes "select"; count = 4; form = Select 1 3 2 }
-    ∷ record { command = codes "union"; count = 4; form = Union 1 2 3 }
-    ∷ record { command = codes "both"; count = 4; form = Both 1 2 3 }
-    ∷ record { command = codes "product"; count = 5; form = Product 1 2 3 4 }
-    ∷ record { command = codes "reduce"; count = 3; form = Reduce 1 2 }
-    ∷ []
+-- `apply OUT F A`
+abbrev pub apply_words : List (List ℕ) → Option Submission
+apply_words (out ∷ f ∷ a ∷ rest) = with_mask out (Some (Apply f None a)) rest
+apply_words _ = None
 
--- nothing, or `mask` and one more word
-abbrev pub is_mask : List (List ℕ) → Bool
-is_mask [] = true
-is_mask (word ∷ name ∷ []) = bytes_eq word (codes "mask")
-is_mask _ = false
+-- `apply OUT F A THUNK`
+abbrev pub thunk_words : List (List ℕ) → Option Submission
+thunk_words (out ∷ f ∷ a ∷ thunk ∷ rest) = with_mask out (option_map (λ value. Apply f (Some value) a) (value_word thunk)) rest
+thunk_words _ = None
 
--- so many words, and perhaps a mask behind them
-abbrev pub has_words : ℕ → List (List ℕ) → Bool
-has_words count words = nat_le count (length words) && is_mask (drop count words)
+-- `select OUT F A THUNK`
+abbrev pub select_words : List (List ℕ) → Option Submission
+select_words (out ∷ f ∷ a ∷ thunk ∷ rest) = with_mask out (option_map (λ value. Select f value a) (value_word thunk)) rest
+select_words _ = None
 
--- whether a command and the words behind it are of a form
-abbrev pub is_of : List ℕ → List (List ℕ) → JobWords → Bool
-is_of command words form = bytes_eq form.command command && has_words form.count words
+-- `union OUT F A B` and `both OUT F A B`
+abbrev pub pair_words : (List ℕ → List ℕ → List ℕ → Form) → List (List ℕ) → Option Submission
+pair_words form (out ∷ f ∷ a ∷ b ∷ rest) = with_mask out (Some (form f a b)) rest
+pair_words form _ = None
 
--- the form, with the value that is written at the place of its thunk, if it has one
-abbrev pub with_thunk : (ℕ → Option ℕ) → forms.Form ℕ ℕ → Option (forms.Form ℕ ℕ)
-with_thunk value (Apply f (Some place) a) = option_map (λ thunk. Apply f (Some thunk) a) (value place)
-with_thunk value (Select f place a) = option_map (λ thunk. Select f thunk a) (value place)
-with_thunk value form = Some form
+-- `product OUT ADD MUL A B`
+abbrev pub product_words : List (List ℕ) → Option Submission
+product_words (out ∷ add ∷ mul ∷ a ∷ b ∷ rest) = with_mask out (Some (Product add mul a b)) rest
+product_words _ = None
+
+-- `reduce OUT F A`
+abbrev pub reduce_words : List (List ℕ) → Option Submission
+reduce_words (out ∷ f ∷ a ∷ rest) = with_mask out (Some (Reduce f a)) rest
+reduce_words _ = None
+
+-- how the words behind a command of jobs are read
+abbrev pub words_of : List ℕ → Option (List (List ℕ) → Option Submission)
+words_of command =
+    if bytes_eq command (codes "apply") then Some (λ words. option_or (apply_words words) (thunk_words words)) else
+    (if bytes_eq command (codes "select") then Some select_words else
+    (if bytes_eq command (codes "union") then Some (pair_words Union) else
+    (if bytes_eq command (codes "both") then Some (pair_words Both) else
+    (if bytes_eq command (codes "product") then Some product_words else
+    (if bytes_eq command (codes "reduce") then Some reduce_words else None)))))
 
 abbrev pub joined : Option (List ℕ) → Option Form → Option (Option (List ℕ)) → Option Submission
 joined (Some output) (Some form) (Some mask) = Some (record { output = output; form = form; mask = mask })
@@ -132,30 +140,21 @@ joined (Some output) (Some form) None = None
 joined (Some output) None mask = None
 joined None form mask = None
 
--- the name that a word is, if it is there
-abbrev pub name_in : Option (List ℕ) → Option (List ℕ)
-name_in = option_and_then named
+-- the job, if each of its words is a name
+abbrev pub job_named : Submission → Option Submission
+job_named job = joined (named job.output) (found named named job.form) (mask_found named job.mask)
 
--- the job, if each of its words is a name; the mask's name is the second word behind the form's
-abbrev pub job_named : List (List ℕ) → ℕ → forms.Form ℕ ℕ → Option Submission
-job_named words count form =
-    joined (name_in (slice_get words 0)) (found name_in name_in (mapped (slice_get words) (slice_get words) form))
-    (mask_found named (slice_get words (count + 1)))
+-- the words of a form, or another number of words, or a thunk that is no value
+abbrev pub job_written : Option Submission → Result Command SessionRule
+job_written None = Err MalformedWords
+job_written (Some job) = ok_or (option_map Submit (job_named job)) MalformedName
 
-abbrev pub job_valued : List (List ℕ) → ℕ → Option (forms.Form ℕ ℕ) → Result Command SessionRule
-job_valued words count None = Err MalformedWords
-job_valued words count (Some form) = ok_or (option_map Submit (job_named words count form)) MalformedName
-
-abbrev pub job_written : List (List ℕ) → Option JobWords → Result Command SessionRule
-job_written words None = Err MalformedWords
-job_written words (Some form) =
-    job_valued words form.count (with_thunk (λ place. option_and_then value_word (slice_get words place)) form.form)
+abbrev pub job_read : Option (List (List ℕ) → Option Submission) → List (List ℕ) → Result Command SessionRule
+job_read None words = Err UnknownCommand
+job_read (Some read) words = job_written (read words)
 
 abbrev pub job_asked : List ℕ → List (List ℕ) → Result Command SessionRule
-job_asked command words =
-    if list_any (λ form. bytes_eq form.command command) all_forms
-    then job_written words (find (is_of command words) all_forms)
-    else Err UnknownCommand
+job_asked command = job_read (words_of command)
 
 -- ---- all commands
 

@@ -1,27 +1,31 @@
 -- What stands beside specs/Words.antt and specs/Requests.antt for this crate's own modules and proofs.
-use denote.Ref.{Bor}
-use Rattle.std.specs.Prelude.{ℕ, List, [], ◌∷◌, map, take, Result}
-use Rattle.std.specs.List.{find}
+use Rattle.std.specs.Prelude.{ℕ, List, [], ◌∷◌, map, take, Option}
+use Rattle.std.specs.Option.{option_map, option_or}
+use Rattle.job_plan.specs.Form.{mapped}
+use Rattle.job_plan.specs.declared.form.Form.TheVariants as forms
 use Rattle.command_text.specs.Requests as is
 use Rattle.command_text.specs.declared.line_words.LineWords.{LineWords}
 use Rattle.command_text.specs.declared.submission.JobWords.{JobWords}
-use Rattle.command_text.specs.declared.rules.SessionRule.{SessionRule}
+use Rattle.command_text.specs.declared.submission.Verb.{Verb}
+use Rattle.command_text.specs.declared.submission.Verb.TheVariants as verb
 use Rattle.command_text.specs.inner.Lent.{lent}
 
 -- the words behind a command, as they were read
 abbrev pub words_read : LineWords → List (List ℕ)
 words_read line = map lent (take line.count line.room)
 
--- a row of the table of forms
-abbrev pub job_words_of : JobWords → is.JobWords
-job_words_of form = record { command = form.command.now; count = form.count; form = form.form }
+-- the words of a job, as they were read
+abbrev pub words_of_job : JobWords → is.Submission
+words_of_job job = record { output = job.output.now; form = mapped lent lent job.form; mask = option_map lent job.mask }
 
-abbrev pub lent_job_words : Bor JobWords → is.JobWords
-lent_job_words form = job_words_of form.now
-
--- what a command of jobs asks for with the words behind it
-abbrev pub job_of_words : List ℕ → List (List ℕ) → Result is.Command SessionRule
-job_of_words command words = is.job_written words (find (is.is_of command words) is.all_forms)
+-- how the words behind a verb are read
+abbrev pub words_of_verb : Verb → List (List ℕ) → Option is.Submission
+words_of_verb verb.Apply words = option_or (is.apply_words words) (is.thunk_words words)
+words_of_verb verb.Select words = is.select_words words
+words_of_verb verb.Union words = is.pair_words forms.Union words
+words_of_verb verb.Both words = is.pair_words forms.Both words
+words_of_verb verb.Product words = is.product_words words
+words_of_verb verb.Reduce words = is.reduce_words words
 
 -- no word, or more than one
 abbrev pub IsNotOne : List (List ℕ) → Type 0
