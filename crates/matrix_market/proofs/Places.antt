@@ -1,5 +1,5 @@
 -- Where a reader stands in a text.
-use Rattle.std.proofs.Common.{◌≡◌, ◌+◌, ◌-◌, ℕ, zero, suc, List, [], ◌∷◌, ◌++◌, false, nat_lt, cond, not, Some, None, length, take, refl, sym, ap, ◌∙◌, arith, append_assoc, append-nil, length-append, inl, inr}
+use Rattle.std.proofs.Common.{◌≡◌, ◌+◌, ◌-◌, ℕ, zero, suc, List, [], ◌∷◌, ◌++◌, true, false, nat_lt, cond, not, Option, Some, None, length, take, refl, sym, ap, ◌∙◌, arith, append_assoc, append-nil, length-append, inl, inr}
 use Rattle.std.specs.Prelude.{slice_get}
 use Rattle.std.proofs.lemmas.List.{take_at}
 use Rattle.std.proofs.lemmas.List.Elements.{filter-append}
@@ -7,9 +7,12 @@ use Rattle.std.proofs.lemmas.Bool.{cases_lt}
 use Rattle.std.specs.List.{AllByRecursion}
 use Rattle.std.specs.Str.Lines.{lines}
 use Rattle.matrix_market.specs.declared.rule.MarketRule.{MarketRule}
-use Rattle.matrix_market.specs.declared.rule.MarketRule.TheVariants.{LineTooLong}
+use Rattle.matrix_market.specs.declared.rule.MarketRule.TheVariants.{LineAfterLastEntry, LineTooLong, TooFewEntries}
 use Rattle.matrix_market.specs.declared.kinds.Banner.{Banner}
-use Rattle.matrix_market.specs.Market.{is_skipped, content, rules_behind, rules_at, later_rules, end_rules, first_rule, when, IsFault}
+use Rattle.matrix_market.specs.declared.kinds.Size.{Size}
+use Rattle.text_words.specs.Words.{words}
+use Rattle.matrix_market.specs.Market.{EntryLine, PastEntries, banner_of, tail, is_skipped, content, rules_at, first_rule, when, IsFault, role_after, role_sized, rules_in, size_words, entries_of, entry_rules, entry_words}
+use Rattle.matrix_market.specs.inner.Rules.{rules_behind, sized_rules, later_rules, sized_end, end_rules}
 use Rattle.matrix_market.specs.inner.Answers.{IsIdle}
 use Rattle.matrix_market.specs.inner.Filling.{Clean, At}
 
@@ -42,17 +45,53 @@ clean_more ls n m h e r k a b = elim (cases_lt n k) [
   | inl g ↦ (let s : k ≡ m = omega arith in rw s r)
 ]
 
+-- ---- the rules by roles are those by what a reader knows
+sized_same : (b : Banner) (ls : List (List ℕ)) (line : List ℕ) (o : Option Size)
+    → rules_in (role_sized b ls o) (Some line) ≡ when (nat_lt 1024 (length line)) LineTooLong ++ cond (is_skipped line) [] (sized_rules b ls line o)
+sized_same b ls line None = refl
+sized_same b ls line (Some s) = elim (nat_lt (length (tail ls)) s.entries) as (λ t.
+    rules_in (cond t (EntryLine b s (entries_of b.pattern ls)) PastEntries) (Some line)
+    ≡ when (nat_lt 1024 (length line)) LineTooLong ++ cond (is_skipped line) [] (cond t (entry_rules b s (entries_of b.pattern ls) (entry_words b.pattern (words line))) (LineAfterLastEntry ∷ []))) [
+      | true ↦ refl
+      | false ↦ refl
+    ]
+
+later_same : (o : Option Banner) (ls : List (List ℕ)) (line : List ℕ)
+    → rules_in (role_after o ls) (Some line) ≡ when (nat_lt 1024 (length line)) LineTooLong ++ later_rules o ls line
+later_same None ls line = elim (is_skipped line) as (λ t.
+    when (nat_lt 1024 (length line)) LineTooLong ++ cond t [] [] ≡ when (nat_lt 1024 (length line)) LineTooLong ++ []) [
+      | true ↦ refl
+      | false ↦ refl
+    ]
+later_same (Some b) [] line = refl
+later_same (Some b) (l ∷ ls) line = sized_same b (l ∷ ls) line (size_words (words l))
+
+sized_end_same : (b : Banner) (ls : List (List ℕ)) (o : Option Size) → rules_in (role_sized b ls o) None ≡ sized_end ls o
+sized_end_same b ls None = refl
+sized_end_same b ls (Some s) = elim (nat_lt (length (tail ls)) s.entries) as (λ t.
+    rules_in (cond t (EntryLine b s (entries_of b.pattern ls)) PastEntries) None ≡ when t TooFewEntries) [
+      | true ↦ refl
+      | false ↦ refl
+    ]
+
+end_same : (o : Option Banner) (ls : List (List ℕ)) → rules_in (role_after o ls) None ≡ end_rules o ls
+end_same None ls = refl
+end_same (Some b) [] = refl
+end_same (Some b) (l ∷ ls) = sized_end_same b (l ∷ ls) (size_words (words l))
+
 pub next_rules : (ls : List (List ℕ)) (b : Banner) (cs rest : List (List ℕ)) (line : List ℕ) (n m : ℕ) → At ls b cs (line ∷ rest) n → m ≡ n + 1
     → rules_at ls m ≡ when (nat_lt 1024 (length line)) LineTooLong ++ later_rules (Some b) cs line
 next_rules ls b cs rest line n m h e =
     let c = h.counts in
     rules_here ls (h.first ∷ h.done) rest line m h.split (omega arith)
+    ∙ later_same (banner_of h.first) (content h.done) line
     ∙ (ap (λ o. when (nat_lt 1024 (length line)) LineTooLong ++ later_rules o (content h.done) line) h.banner_is ∙ ap (λ ds. when (nat_lt 1024 (length line)) LineTooLong ++ later_rules (Some b) ds line) h.content_is)
 
 pub last_rules : (ls : List (List ℕ)) (b : Banner) (cs : List (List ℕ)) (n m : ℕ) → At ls b cs [] n → m ≡ n + 1 → rules_at ls m ≡ end_rules (Some b) cs
 last_rules ls b cs n m h e =
     let c = h.counts in
     rules_end ls (h.first ∷ h.done) m (h.split ∙ append-nil (h.first ∷ h.done)) (omega arith)
+    ∙ end_same (banner_of h.first) (content h.done)
     ∙ (ap (λ o. end_rules o (content h.done)) h.banner_is ∙ ap (λ ds. end_rules (Some b) ds) h.content_is)
 
 -- one line on

@@ -12,7 +12,7 @@ use Rattle.matrix_market.specs.declared.kinds.Banner.{Banner}
 use Rattle.matrix_market.specs.declared.kinds.Size.{Size}
 use Rattle.matrix_market.specs.declared.kinds.Found.{Found}
 use Rattle.text_words.specs.Words.{words}
-use Rattle.matrix_market.specs.Market.{WrittenEntry, IsFault, IsTextOf, is_skipped, is_banner, banner_words, tail, content_rules, size_rules, size_words, entry_rules, entry_words, end_rules, entries_of, option_list, is_large, word_of, is_repeated, places, words_at, at_most, rules_at, first_rule, when}
+use Rattle.matrix_market.specs.Market.{WrittenEntry, IsFault, IsTextOf, is_skipped, is_banner, banner_words, tail, size_rules, size_words, entry_rules, entry_words, entries_of, option_list, is_large, word_of, is_repeated, places, words_at, at_most, rules_at, first_rule, when}
 use Rattle.matrix_market.specs.inner.Answers.{
   Passes,
   banner_answer,
@@ -24,6 +24,7 @@ use Rattle.matrix_market.specs.inner.Answers.{
   some_given,
 }
 use Rattle.matrix_market.specs.inner.Filling.{At, Filled}
+use Rattle.matrix_market.specs.inner.Rules.{content_rules, end_rules}
 use Rattle.matrix_market.proofs.Places.{rules_here, next_rules, last_rules, idle_lines, content_line, fault_next, clean_more}
 use Rattle.matrix_market.proofs.Puts.{cells_more, repeated_is}
 

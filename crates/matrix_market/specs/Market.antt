@@ -173,51 +173,66 @@ entry_rules b s es (Some e) =
     ++ when (not (is_word e.value)) ValueOutOfRange
     ++ when (is_repeated b.symmetric e es) PositionGivenTwice
 
--- the line behind these lines of content
-abbrev pub content_rules : Banner → List (List ℕ) → List ℕ → List MarketRule
-content_rules b [] line = size_rules b.symmetric (size_words (words line))
-content_rules b (l ∷ ls) line = after_size (size_words (words l))
-  where
-    after_size : Option Size → List MarketRule
-    after_size None = []
-    after_size (Some s) =
-        if nat_lt (length ls) s.entries then entry_rules b s (entries_of b.pattern (l ∷ ls)) (entry_words b.pattern (words line))
-        else LineAfterLastEntry ∷ []
+abbrev pub is_known : Option Banner → Bool
+is_known None = false
+is_known (Some b) = true
 
 abbrev pub banner_rules : List ℕ → List MarketRule
 banner_rules line =
-    if is_banner (words line) then (if is_known (banner_words (tail (words line))) then [] else OutsideProfile ∷ [])
-    else MalformedBanner ∷ []
-  where
-    is_known : Option Banner → Bool
-    is_known None = false
-    is_known (Some b) = true
+    if is_banner (words line) then when (not (is_known (banner_words (tail (words line))))) OutsideProfile else MalformedBanner ∷ []
 
-abbrev pub later_rules : Option Banner → List (List ℕ) → List ℕ → List MarketRule
-later_rules None ls line = []
-later_rules (Some b) ls line = if is_skipped line then [] else content_rules b ls line
+-- What the lines of a text have a next line to be:
+pub data Role : Type 0 where
+  BannerLine : Role  -- line 1
+  SizeLine : Banner → Role
+  EntryLine : Banner → Size → (before : List WrittenEntry) → Role
+  PastEntries : Role  -- a line behind the last entry
+  Anything : Role  -- a line behind one that breaks a rule
 
--- what the text lacks at its end
-abbrev pub end_rules : Option Banner → List (List ℕ) → List MarketRule
-end_rules None ls = []
-end_rules (Some b) [] = MalformedSize ∷ []
-end_rules (Some b) (l ∷ ls) = short (size_words (words l))
-  where
-    short : Option Size → List MarketRule
-    short None = []
-    short (Some s) = when (nat_lt (length ls) s.entries) TooFewEntries
+-- the role of the next line, behind a size line and entry lines
+abbrev pub role_sized : Banner → List (List ℕ) → Option Size → Role
+role_sized b ls None = Anything
+role_sized b ls (Some s) = if nat_lt (length (tail ls)) s.entries then EntryLine b s (entries_of b.pattern ls) else PastEntries
 
--- the rules that the line behind these lines breaks, and where there is none, those that the end breaks
-abbrev pub rules_behind : List (List ℕ) → Option (List ℕ) → List MarketRule
-rules_behind [] None = MalformedBanner ∷ []
-rules_behind (first ∷ ls) None = end_rules (banner_of first) (content ls)
-rules_behind [] (Some line) = when (nat_lt 1024 (length line)) LineTooLong ++ banner_rules line
-rules_behind (first ∷ ls) (Some line) =
-    when (nat_lt 1024 (length line)) LineTooLong ++ later_rules (banner_of first) (content ls) line
+abbrev pub role_after : Option Banner → List (List ℕ) → Role
+role_after None ls = Anything
+role_after (Some b) [] = SizeLine b
+role_after (Some b) (l ∷ ls) = role_sized b (l ∷ ls) (size_of (l ∷ ls))
+
+-- the role of the line behind these lines
+abbrev pub role_behind : List (List ℕ) → Role
+role_behind [] = BannerLine
+role_behind (first ∷ ls) = role_after (banner_of first) (content ls)
+
+-- the rules that a line breaks in its role, the one that is told first
+abbrev pub rules_of : Role → List ℕ → List MarketRule
+rules_of BannerLine line = banner_rules line
+rules_of (SizeLine b) line = size_rules b.symmetric (size_words (words line))
+rules_of (EntryLine b s before) line = entry_rules b s before (entry_words b.pattern (words line))
+rules_of PastEntries line = LineAfterLastEntry ∷ []
+rules_of Anything line = []
+
+-- the rules that a text breaks which ends where a line of this role would stand
+abbrev pub rules_of_end : Role → List MarketRule
+rules_of_end BannerLine = MalformedBanner ∷ []
+rules_of_end (SizeLine b) = MalformedSize ∷ []
+rules_of_end (EntryLine b s before) = TooFewEntries ∷ []
+rules_of_end PastEntries = []
+rules_of_end Anything = []
+
+-- a comment or a blank line plays no role, but line 1 is the banner whatever it holds
+abbrev pub is_free : Role → List ℕ → Bool
+is_free BannerLine line = false
+is_free role line = is_skipped line
+
+abbrev pub rules_in : Role → Option (List ℕ) → List MarketRule
+rules_in role None = rules_of_end role
+rules_in role (Some line) =
+    when (nat_lt 1024 (length line)) LineTooLong ++ (if is_free role line then [] else rules_of role line)
 
 -- The rules that line n breaks, the one that is told first: lines count from 1, and the one behind the last stands for the end.
 abbrev pub rules_at : List (List ℕ) → ℕ → List MarketRule
-rules_at ls n = rules_behind (take (n - 1) ls) (slice_get ls (n - 1))
+rules_at ls n = rules_in (role_behind (take (n - 1) ls)) (slice_get ls (n - 1))
 
 abbrev pub first_rule : List MarketRule → Option MarketRule
 first_rule [] = None

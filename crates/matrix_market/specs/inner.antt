@@ -5,4 +5,5 @@ pub mod Gathering
 pub mod Labels
 pub mod Refusal
 pub mod Repeating
+pub mod Rules
 pub mod Usual
