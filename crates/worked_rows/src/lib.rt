@@ -9,6 +9,7 @@ pub mod arithmetic;
 pub mod budgets;
 pub mod lines;
 pub mod matrices;
+pub mod meaning;
 pub mod runs;
 pub mod texts;
 pub mod ways;
