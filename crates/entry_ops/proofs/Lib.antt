@@ -10,6 +10,7 @@ pub mod OperandReader
 pub mod Mapped
 pub mod Whole
 pub mod Paired
+pub mod PairCalls
 pub mod Filling
 pub mod Bounds
 pub mod Regions

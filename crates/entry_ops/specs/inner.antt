@@ -4,6 +4,7 @@ pub mod Folding
 pub mod Mapped
 pub mod Masked
 pub mod Paired
+pub mod PairCalls
 pub mod Placing
 pub mod SelectBuffer
 pub mod Standing

@@ -18,10 +18,11 @@ use csr_store::Matrix;
 use job_forms::{Chunk, Region, is_blank_under};
 use std::alloc::Global;
 
-/// What an operator makes of each word of a region: a unary one of the word alone, an index operator of the word, its row, its
-/// column and the thunk.
+/// What an operator makes of each word of a region: a unary one of the word alone, an index
+/// operator of the word, its row, its column and the thunk.
 ///
-/// With a mask calls are made for the positions alone that it stores. `calls` is scratch, kept from region to region.
+/// With a mask calls are made for the positions alone that it stores. `calls` is scratch, kept from
+/// region to region.
 pub fn apply_region<'m>(
     alloc: Global,
     calls: &mut Calls,
@@ -58,7 +59,8 @@ pub fn apply_region<'m>(
 
 /// The words of a region for which the answer of an index operator is not 0.
 ///
-/// With a mask calls are made for the positions alone that it stores. `calls` is scratch, kept from region to region.
+/// With a mask calls are made for the positions alone that it stores. `calls` is scratch, kept from
+/// region to region.
 pub fn select_region<'m>(
     alloc: Global,
     calls: &mut Calls,

@@ -1,4 +1,5 @@
-//! Regions in which nothing is made, since an operand or the mask has no entry in their rows. They are ended at once.
+//! Regions in which nothing is made, since an operand or the mask has no entry in their rows. They
+//! are ended at once.
 ghost use Rattle.std.specs.Prelude.{◌≤◌, ◌-◌, ◌∷◌, []};
 ghost use Rattle.csr_store.specs.Along.{along};
 ghost use Rattle.job_forms.specs.Region.{IsMade};

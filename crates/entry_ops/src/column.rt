@@ -1,4 +1,5 @@
-//! A column reduced: each of its rows comes to the one word that it has, so the rows are copied, and no call is made.
+//! A column reduced: each of its rows comes to the one word that it has, so the rows are copied,
+//! and no call is made.
 ghost use Rattle.std.specs.Prelude.{◌≡◌, ◌<◌, ◌≤◌, ◌-◌, ℕ, [], None, IsTrue, length, slice_index, slice_index_or};
 ghost use Rattle.csr_store.specs.Mask.{mask_of};
 ghost use Rattle.csr_store.specs.Run.{IsInRun};

@@ -1,4 +1,5 @@
-//! Rows whose cells are added at once, and whose values are put in place when gathered calls are made.
+//! Rows whose cells are added at once, and whose values are put in place when gathered calls are
+//! made.
 ghost use Rattle.std.specs.Prelude.{◌≡◌, ◌<◌, ◌+◌, ◌^◌, ◌∷◌, [], length, OnOk, OnErr};
 ghost use Rattle.bpf_insn.specs.Machine.{kind_of};
 ghost use Rattle.bpf_run.specs.Meaning.{value_of};
@@ -17,7 +18,8 @@ use job_forms::{Chunk, Making};
 use std::alloc::{AllocError, Global};
 use std::marker::Model;
 
-/// Rows, the entries whose values are those of calls that wait, and the steps of the calls that were made.
+/// Rows, the entries whose values are those of calls that wait, and the steps of the calls that
+/// were made.
 #[derive(Drop)]
 pub struct Emitter {
     rows: Rows,
@@ -50,7 +52,7 @@ impl Emitter {
         }
     }
 
-    /// Makes room for so many rows and cells.
+    /// Reserves room for as many rows and cells.
     pub fn reserve(&mut self, rows: usize, cells: usize) -> Result<(), AllocError>
         ensures { self.new ≡ self.old }
     {
@@ -58,7 +60,8 @@ impl Emitter {
         self.rows.reserve(cells)
     }
 
-    /// What was made: the rows, unless memory was refused, and the steps. What is left of the room that was made is given back.
+    /// What was made: the rows, unless memory was refused, and the steps. What is left of the room
+    /// that was made is given back.
     pub fn finish(self, filled: Result<(), AllocError>) -> Chunk
         ensures { result ≡ finished (record { rows = self.rows; steps = self.steps }) filled }
     {

@@ -1,4 +1,5 @@
-//! Rows folded many at once: each row that is open has a lane, and a call is made of each together with the others'.
+//! Rows folded many at once: each row that is open has a lane, and a call is made of each together
+//! with the others'.
 ghost use Rattle.std.specs.Prelude.{◌≡◌, ◌<◌, ◌≤◌, ◌+◌, ◌++◌, ◌∷◌, [], ℕ, if◌then◌else◌, length, map, IfOk, OnOk};
 ghost use Rattle.bpf_insn.specs.declared.operands.Kind.TheVariants as kinds;
 ghost use Rattle.bpf_verify.specs.Accepted.{Accepted};
@@ -27,10 +28,12 @@ use csr_store::{Matrix, Rows};
 use std::alloc::{AllocError, Global};
 use std::marker::Model;
 
-/// How many rows follow one another in a block. Its results are all known before the first is added.
+/// How many rows follow one another in a block. Its results are all known before the first is
+/// added.
 pub const BLOCK_ROWS: usize = 256;
 
-/// Fewer lanes are folded to their ends, one after the other. There are so few only where no row is left to begin.
+/// Fewer lanes are folded to their ends, one after the other. There are so few only where no row is
+/// left to begin.
 const FEW_LANES: usize = 20;
 
 /// Rows that follow one another: so many from the first on.
@@ -40,7 +43,8 @@ pub struct Block {
     pub many: usize,
 }
 
-/// The folds of a block of rows, up to 64 of them at once, and the steps of the calls that were made.
+/// The folds of a block of rows, up to 64 of them at once, and the steps of the calls that were
+/// made.
 #[derive(Drop)]
 pub struct Folds<'m> {
     lanes: OpenRows<'m>,

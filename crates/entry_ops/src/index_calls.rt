@@ -1,4 +1,5 @@
-//! The entries of rows that an index operator is called on, 64 at a time, whichever rows they stand in.
+//! The entries of rows that an index operator is called on, 64 at a time, whichever rows they stand
+//! in.
 ghost use Rattle.std.specs.Prelude.{◌≡◌, ◌<◌, ◌≤◌, ◌-◌, ◌++◌, length, nat_lt};
 ghost use Rattle.bpf_insn.specs.declared.operands.Kind.TheVariants as kinds;
 ghost use Rattle.bpf_run.specs.Calls.{entries_of};
@@ -12,8 +13,8 @@ use csr_store::{Matrix, RowReader};
 use std::marker::Model;
 use std::ops::Range;
 
-/// The entries that are to be called, with their positions and a thunk: those that are left of a row, and those of the rows
-/// behind it up to an end. A contract sees the operands of their calls.
+/// The entries that are to be called, with their positions and a thunk: those that are left of a
+/// row, and those of the rows behind it up to an end. A contract sees the operands of their calls.
 #[derive(Drop)]
 pub struct IndexCalls<'m> {
     thunk: u64,
@@ -56,7 +57,8 @@ impl<'m> IndexCalls<'m> {
         }
     }
 
-    /// Gathers the calls on the entries that come next, as many as fit in. Answers whether there are any.
+    /// Gathers the calls on the entries that come next, as many as fit in. Returns whether there
+    /// are any.
     #[inline(always)]
     pub fn gather(&mut self, calls: &mut Calls) -> bool
         requires { NoneWaits kinds.Index calls.old }
@@ -85,7 +87,8 @@ impl<'m> IndexCalls<'m> {
     }
 }
 
-/// Gathers the calls on the entries of rows of one column, up to a row, as many as fit in. Answers whether there are any.
+/// Gathers the calls on the entries of rows of one column, up to a row, as many as fit in. Returns
+/// whether there are any.
 #[inline(always)]
 fn gather_column(reader: &mut RowReader<'_>, end: u64, thunk: u64, calls: &mut Calls) -> bool
     requires column { IsGrid reader.old.grid × (reader.old.grid.columns ≤ 1) × (end ≤ reader.old.grid.rows) }

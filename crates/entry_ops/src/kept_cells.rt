@@ -1,4 +1,5 @@
-//! Cells that are kept or not by answers, in a few places of their own before they are added to rows.
+//! Cells that are kept or not by answers, in a few places of their own before they are added to
+//! rows.
 ghost use Rattle.std.specs.Prelude.{◌≡◌, ◌<◌, ◌≤◌, ◌+◌, ◌++◌, ◌∷◌, [], nat_eq, if◌then◌else◌, take, IfOk, OnOk};
 ghost use Rattle.entry_ops.specs.inner.Standing.{FollowIn, with_cells, with_end};
 
@@ -10,8 +11,8 @@ use std::alloc::AllocError;
 /// How many cells there is room for.
 pub const MOST_KEPT: usize = 64;
 
-/// Puts a cell behind those that are kept, and counts it where its answer is not 0. It is written all the same, so nothing waits for
-/// the answer: which cells are kept can't be foretold.
+/// Puts a cell behind those that are kept, and counts it where its answer is not 0. It is written
+/// all the same, so nothing waits for the answer: which cells are kept can't be foretold.
 #[inline(always)]
 pub fn keep_if(kept: &mut [Cell; MOST_KEPT], many: usize, cell: Cell, answer: u64) -> usize
     requires { many < 64 }
@@ -22,7 +23,8 @@ pub fn keep_if(kept: &mut [Cell; MOST_KEPT], many: usize, cell: Cell, answer: u6
     many + usize::from(answer != 0)
 }
 
-/// Makes a place for one cell more: where there is none, all that are kept are added to the rows. Answers how many wait.
+/// Makes a place for one cell more: where there is none, all that are kept are added to the rows.
+/// Returns how many wait.
 #[inline(always)]
 pub fn make_place(
     rows: &mut Rows,

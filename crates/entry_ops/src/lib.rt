@@ -1,17 +1,23 @@
-//! Operations entry by entry, with operators of the user's own. [`apply_rows`], [`select_rows`], [`union_rows`], [`both_rows`] and
-//! [`reduce_rows`] each make the rows of a range of a result, under a mask if there is one, which are a part of what job_forms
-//! defines (`IsPartOf`). [`apply_region`], [`select_region`], [`union_region`], [`both_region`] and [`reduce_region`] make the same
-//! with room for calls that is kept from region to region, as workers do.
+//! Operations entry by entry, with operators of the user's own. [`apply_rows`], [`select_rows`],
+//! [`union_rows`], [`both_rows`] and [`reduce_rows`] each make the rows of a range of a result,
+//! under a mask if there is one, which are a part of what job_forms defines (`IsPartOf`).
+//! [`apply_region`], [`select_region`], [`union_region`], [`both_region`] and [`reduce_region`]
+//! make the same with room for calls that is kept from region to region, as workers do.
 //!
-//! Calls are gathered across rows and made many together, so a cell stands before its value is known. Without a mask apply copies
-//! rows of one run (`runs`) and gives their entries the values of calls (`mapping`); so do union and both where their operands have
-//! the same positions (`pairs`). Select without a mask makes all calls first (`select_unmasked`). Otherwise rows are filled cell by
-//! cell (`rows`): by two rows read side by side (`merge`), or along the row of a mask (`masked`); `form` says what a form makes of
-//! a position, and `emitter` puts values in their places. Under a mask select's last cells wait for their answers (`select`, over
-//! `select_buffer` and `kept_cells`). A column is reduced by copying it (`column`). Other rows are reduced one after the other by a
-//! short operator (`in_order`), many at once by a longer one (`folds`, over `open_rows`).
+//! Calls are gathered across rows and made many together, so a cell stands before its value is
+//! known. Without a mask apply copies rows of one run (`runs`) and gives their entries the values
+//! of calls (`mapping`); so do union and both where their operands have the same positions
+//! (`pairs`), which an operator that is known by its program is called on in a loop of its own
+//! (`pair_calls`). Select without a mask makes all calls first (`select_unmasked`). Otherwise rows
+//! are filled cell by cell (`rows`): by two rows read side by side (`merge`), or along the row of a
+//! mask (`masked`); `form` says what a form makes of a position, and `emitter` puts values in their
+//! places. Under a mask select's last cells wait for their answers
+//! (`select`, over `select_buffer` and `kept_cells`). A column is reduced by copying it (`column`).
+//! Other rows are reduced one after the other by a short operator (`in_order`), many at once by a
+//! longer one (`folds`, over `open_rows`).
 //!
-//! Read `ranges`, `apply`, `union` and `reduce` first, then `rows` with `specs/inner/Walking.antt` and `specs/inner/Placing.antt`.
+//! Read `ranges`, `apply`, `union` and `reduce` first, then `rows` with `specs/inner/Walking.antt`
+//! and `specs/inner/Placing.antt`.
 #![tactic(auto)]
 
 mod apply;
@@ -28,6 +34,7 @@ mod masked;
 mod merge;
 mod open_rows;
 mod operand_rows;
+mod pair_calls;
 mod pairs;
 mod ranges;
 mod reduce;

@@ -1,5 +1,5 @@
-//! Apply, and union and both of rows that are alike, without a mask: rows are copied with the values of calls, 64 at a time,
-//! whichever row their entries stand in.
+//! Apply, and union and both of rows that are alike, without a mask: rows are copied with the
+//! values of calls, 64 at a time, whichever row their entries stand in.
 ghost use Rattle.std.specs.Prelude.{◌≡◌, ◌<◌, ◌≤◌, ◌+◌, ◌-◌, ◌^◌, None, Ok};
 ghost use Rattle.bpf_insn.specs.declared.operands.Kind.TheVariants as kinds;
 ghost use Rattle.bpf_run.specs.Calls.{calls_on, steps_of, words_of};
@@ -11,12 +11,15 @@ ghost use Rattle.entry_ops.specs.inner.Forms as forms;
 ghost use Rattle.job_forms.specs.Forms.{apply_kind};
 ghost use Rattle.entry_ops.specs.inner.IndexCalls.{NoneWaits};
 ghost use Rattle.entry_ops.specs.inner.Mapped.{range_operands, HasRoom, IsCopied, IsFurther};
+ghost use Rattle.entry_ops.specs.inner.PairCalls.{ArePairs};
+ghost use Rattle.entry_ops.specs.inner.Paired.{pairs_in};
 ghost use Rattle.entry_ops.specs.inner.Walking.{Joins, HaveRows, IsFormMade};
 
 use crate::form::EntryForm;
 use crate::index_calls::IndexCalls;
 use crate::operand_rows::Sources;
-use crate::pairs::Pairs;
+use crate::pair_calls::{CellPairs, call_known_pairs};
+use crate::pairs::{Pairs, gather_each};
 use crate::rows::fill_region;
 use bpf_run::{Calls, MOST_CALLS};
 use bpf_verify::Operator;
@@ -73,6 +76,34 @@ impl Mapping<'_> {
         }
     }
 
+    /// Makes the calls on the pairs that come next, and writes the next entries with their values.
+    #[inline(always)]
+    fn add_next(
+        &mut self,
+        operator: &Operator,
+        calls: &mut Calls,
+        next: CellPairs,
+        values: &mut [u64; MOST_CALLS],
+    )
+        requires kind { operator.now.kind ≡ kinds.Binary }
+        requires waits { NoneWaits kinds.Binary calls.old }
+        requires pairs { ArePairs next }
+        requires room { HasRoom operator.now (pairs_in next.left.now next.right.now) self.old }
+        ensures waits { NoneWaits kinds.Binary calls.new }
+        ensures further { IsFurther operator.now (pairs_in next.entry.left.now next.entry.right.now) self.old self.new }
+    {
+        match call_known_pairs(operator, &next, values) {
+            Some(steps) => {
+                self.steps += steps;
+                self.rows.write_values(&values[..next.left.len()]);
+            }
+            None => {
+                gather_each(calls, next.left, next.right);
+                self.make(operator, calls);
+            }
+        }
+    }
+
     /// Makes the calls on all pairs.
     fn add_pairs(&mut self, operator: &Operator, calls: &mut Calls, mut pairs: Pairs)
         requires kind { operator.now.kind ≡ kinds.Binary }
@@ -80,8 +111,9 @@ impl Mapping<'_> {
         requires room { HasRoom operator.now pairs self.old }
         ensures { IsFurther operator.now pairs.entry self.old self.new }
     {
-        while pairs.gather(calls) {
-            self.make(operator, calls);
+        let mut values = [0; MOST_CALLS];
+        while let Some(next) = pairs.next_pairs() {
+            self.add_next(operator, calls, next, &mut values);
         }
     }
 
@@ -119,8 +151,8 @@ impl Mapping<'_> {
     }
 }
 
-/// The rows of a range, all of one run, of what an operator makes of each word, without a mask. Their memory is taken first, so that
-/// on want of it no call was made.
+/// The rows of a range, all of one run, of what an operator makes of each word, without a mask.
+/// Their memory is taken first, so that on want of it no call was made.
 pub fn map_region(
     alloc: Global,
     calls: &mut Calls,
@@ -146,9 +178,9 @@ pub fn map_region(
     mapping.finish()
 }
 
-/// The rows of a range of a union, or of where both have a word. Where these rows are of one run and alike in both operands, and
-/// there is no mask, they are copied with the values of calls, and their memory is taken first, so that on want of it no call was
-/// made.
+/// The rows of a range of a union, or of where both have a word. Where these rows are of one run
+/// and alike in both operands, and there is no mask, they are copied with the values of calls, and
+/// their memory is taken first, so that on want of it no call was made.
 pub fn merge_region(
     alloc: Global,
     calls: &mut Calls,

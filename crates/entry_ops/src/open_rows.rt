@@ -1,5 +1,5 @@
-//! The open rows of a block of a reduction, up to 64 of them, in columns: a fold and a next word stand beside those of the others,
-//! so that a call of each is gathered at once.
+//! The open rows of a block of a reduction, up to 64 of them, in columns: a fold and a next word
+//! stand beside those of the others, so that a call of each is gathered at once.
 ghost use Rattle.std.specs.Prelude.{◌≡◌, ◌<◌, ◌≤◌, ◌++◌, ◌∷◌, [], length, take, IfOk};
 ghost use Rattle.bpf_insn.specs.declared.operands.Kind.TheVariants as kinds;
 ghost use Rattle.bpf_verify.specs.Accepted.{Accepted, IsAccepted};
@@ -12,7 +12,8 @@ use bpf_verify::Operator;
 use std::alloc::{AllocError, Global};
 use std::marker::Model;
 
-/// A row that is open: its number in the block, its fold so far, its next word, and the cells behind that.
+/// A row that is open: its number in the block, its fold so far, its next word, and the cells
+/// behind that.
 #[derive(Clone, Copy)]
 pub struct OpenRow<'m> {
     pub number: usize,
@@ -119,7 +120,8 @@ impl<'m> OpenRows<'m> {
         self.next.truncate(left);
     }
 
-    /// Makes the next call of each row, all of them together. Rows that end have their results then, and no lane.
+    /// Makes the next call of each row, all of them together. Rows that end have their results
+    /// then, and no lane.
     pub fn call(
         &mut self,
         operator: &Operator,
@@ -147,8 +149,8 @@ impl<'m> OpenRows<'m> {
     }
 }
 
-/// Takes the next word of each row that has one. The others have their results, and the rows that are left come first then, and are
-/// counted.
+/// Takes the next word of each row that has one. The others have their results, and the rows that
+/// are left come first then, and are counted.
 fn take_next<'m>(
     lanes: &mut [Lane<'m>],
     so_far: &mut [u64],

@@ -109,7 +109,8 @@ impl<'a> OperandReader<'a> {
     }
 }
 
-/// The most cells for which room is made before it is known that they come. More is made as they come.
+/// The most cells for which room is made before it is known that they come. More is made as they
+/// come.
 pub const MOST_ROOM: usize = 65_536;
 
 /// How many entries the rows of a matrix have from one on up to another.

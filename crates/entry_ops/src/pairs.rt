@@ -1,21 +1,23 @@
-//! The entries of two matrices that a binary operator is called on where both have the same positions, 64 at a time, whichever rows
-//! they stand in.
-ghost use Rattle.std.specs.Prelude.{◌≡◌, ◌<◌, ◌≤◌, ◌+◌, ◌-◌, ◌++◌, ℕ, length, nat_lt, IfSome, IsTrue};
+//! The entries of two matrices that a binary operator is called on where both have the same
+//! positions, 64 at a time, whichever rows they stand in.
+ghost use Rattle.std.specs.Prelude.{◌≡◌, ◌<◌, ◌≤◌, ◌+◌, ◌-◌, ◌++◌, ℕ, [], None, length, IfSome, IsTrue};
 ghost use Rattle.bpf_insn.specs.declared.operands.Kind.TheVariants as kinds;
 ghost use Rattle.csr_store.specs.Grid.{row_of};
 ghost use Rattle.csr_store.specs.Run.{IsInRun};
-ghost use Rattle.entry_ops.specs.inner.IndexCalls.{NoneWaits, Gathers};
 ghost use Rattle.entry_ops.specs.inner.Paired.{columns_of, pairs_in, ArePaired};
+ghost use Rattle.entry_ops.specs.inner.PairCalls.{ArePairs};
 ghost use Rattle.entry_ops.specs.inner.Walking.{HaveRows};
 
 use crate::operand_rows::{Cell, Sources};
+use crate::pair_calls::CellPairs;
 use crate::runs::is_in_run;
 use bpf_run::{Calls, MOST_CALLS};
 use csr_store::Matrix;
 use std::marker::Model;
 use std::ops::Range;
 
-/// Cells that are still to be called, each with that in its place among others. A contract sees the operands of their calls.
+/// Cells that are still to be called, each with that in its place among others. A contract sees the
+/// operands of their calls.
 #[derive(Drop)]
 pub struct Pairs<'m> {
     left: &'m [Cell],
@@ -35,8 +37,9 @@ impl<'m> Model for Pairs<'m> {
 }
 
 impl<'m> Pairs<'m> {
-    /// The entries of a range of rows, where there is no mask, and these rows are of one run and alike in both operands: each has
-    /// entries at the same columns. They are compared as two lists, and no row is looked up.
+    /// The entries of a range of rows, where there is no mask, and these rows are of one run and
+    /// alike in both operands: each has entries at the same columns. They are compared as two
+    /// lists, and no row is looked up.
     pub fn of_rows(sources: Sources<'m>, range: Range<u64>) -> Option<Self>
         requires { HaveRows sources range.start range.end }
         ensures pairs { IfSome result (λ p. ArePaired sources.entry range.start (range.end - range.start) p) }
@@ -62,26 +65,27 @@ impl<'m> Pairs<'m> {
         Some(Pairs { left, right })
     }
 
-    /// Gathers the calls on the pairs that come next, as many as fit in. Answers whether there are any.
+    /// Takes off the pairs that come next, up to 64 of them, if there are any.
     #[inline(always)]
-    pub fn gather(&mut self, calls: &mut Calls) -> bool
-        requires { NoneWaits kinds.Binary calls.old }
-        ensures gathers { Gathers self.old calls.old self.new calls.new result }
-        ensures some { result ≡ nat_lt 0 (length calls.new.operands) }
+    pub fn next_pairs(&mut self) -> Option<CellPairs<'m>>
+        ensures some { IfSome result (λ p. ArePairs p × (0 < length p.left.now)
+            × (self.old ≡ pairs_in p.left.now p.right.now ++ self.new)) }
+        ensures none { result ≡ None → self.old ≡ [] }
     {
         let many = self.left.len().min(MOST_CALLS);
+        if many == 0 {
+            return None;
+        }
         let (left, lefts) = self.left.split_at(many);
         let (right, rights) = self.right.split_at(many);
-        gather_each(calls, left, right);
         self.left = lefts;
         self.right = rights;
-        many > 0
+        Some(CellPairs { left, right })
     }
 }
 
 /// Gathers the words of cells, each with that in its place among others.
-#[inline(always)]
-fn gather_each(calls: &mut Calls, left: &[Cell], right: &[Cell])
+pub fn gather_each(calls: &mut Calls, left: &[Cell], right: &[Cell])
     requires same { length right.now ≡ length left.now }
     requires room { length calls.old.operands + length left.now ≤ 64 }
     requires kind { calls.old.kind ≡ kinds.Binary }
@@ -94,7 +98,8 @@ fn gather_each(calls: &mut Calls, left: &[Cell], right: &[Cell])
     }
 }
 
-/// Whether each row of a range has as many entries in one matrix as in another. All are compared, in a loop without a way out.
+/// Whether each row of a range has as many entries in one matrix as in another. All are compared,
+/// in a loop without a way out.
 fn are_as_long(a: &Matrix, b: &Matrix, range: Range<u64>) -> bool
     requires { (range.end ≤ a.now.rows) × (range.end ≤ b.now.rows) }
     ensures { IsTrue result → (i : ℕ) → range.start ≤ i → i < range.end → length (row_of a.now i) ≡ length (row_of b.now i) }

@@ -55,7 +55,8 @@ pub fn apply_rows<'m>(
     )
 }
 
-/// The words of a range of rows for which the answer of an index operator is not 0, as [`select_region`] does.
+/// The words of a range of rows for which the answer of an index operator is not 0, as
+/// [`select_region`] does.
 pub fn select_rows<'m>(
     alloc: Global,
     a: &'m Matrix,

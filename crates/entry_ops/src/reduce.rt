@@ -16,8 +16,9 @@ use csr_store::Matrix;
 use job_forms::{Chunk, Making, Region, is_blank_under};
 use std::alloc::{AllocError, Global};
 
-/// The rows of an operator of up to so many instructions are folded one after the other: by the clock a call of one that has more
-/// is dearer than its share of a call in lanes, where the next words of many rows are gathered for each.
+/// The rows of an operator of up to so many instructions are folded one after the other: by the
+/// clock a call of one that has more is dearer than its share of a call in lanes, where the next
+/// words of many rows are gathered for each.
 const MOST_IN_ORDER: u64 = 5;
 
 /// Adds the reductions of the rows of a region, block by block.
@@ -51,9 +52,10 @@ fn fill_in_blocks<'m>(
 
 /// The reduction of each row of a region to one value, in the one column of the result.
 ///
-/// A row is folded by ascending column, beginning with its first word. So without a mask a column comes to itself, and is copied. With a mask, of one column, calls are made for the rows
-/// alone at which it stores something. By a short operator rows are folded one after the other; by a longer one up to 64 of them
-/// at once, a call of each made together with the others', in the scratch.
+/// A row is folded by ascending column, beginning with its first word. So without a mask a column
+/// comes to itself, and is copied. With a mask, of one column, calls are made for the rows alone at
+/// which it stores something. By a short operator rows are folded one after the other; by a longer
+/// one up to 64 of them at once, a call of each made together with the others', in the scratch.
 pub fn reduce_region<'m>(
     alloc: Global,
     calls: &mut Calls,

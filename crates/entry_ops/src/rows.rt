@@ -81,8 +81,8 @@ fn fill(
     Ok(())
 }
 
-/// For how many cells room is made at once: for all that there may be, where these are not very many. A union without a mask has at
-/// least half of them.
+/// For how many cells room is made at once: for all that there may be, where these are not very
+/// many. A union without a mask has at least half of them.
 fn room_for(form: EntryForm, sources: Sources, first: u64, end: u64) -> usize {
     let left = entries_between(sources.left, first, end);
     let right = match sources.right {

@@ -24,7 +24,8 @@ pub struct Masked<'a> {
     pub mask: &'a Matrix,
 }
 
-/// Adds the words of a row that the operator keeps, of those at positions that the mask's row stores.
+/// Adds the words of a row that the operator keeps, of those at positions that the mask's row
+/// stores.
 fn keep_row(
     thunk: u64,
     operator: &Operator,

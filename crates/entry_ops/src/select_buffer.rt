@@ -133,7 +133,8 @@ impl SelectBuffer {
     }
 }
 
-/// Adds what is marked to rows, each call with its value. Cells that are kept wait for the end of their row.
+/// Adds what is marked to rows, each call with its value. Cells that are kept wait for the end of
+/// their row.
 fn put_values(marks: &[Mark], values: &[u64], rows: &mut Rows) -> Result<(), AllocError>
     requires fits { Fits marks.now values.now rows.old }
     requires few { length marks.now ≤ 256 }

@@ -15,8 +15,8 @@ use job_forms::Chunk;
 use std::alloc::{AllocError, Global};
 use std::ops::Range;
 
-/// The answers of an operator on all entries that come, in their order. Room for so many is taken first. Counts the steps of
-/// the calls that were made.
+/// The answers of an operator on all entries that come, in their order. Room for so many is taken
+/// first. Counts the steps of the calls that were made.
 fn answers_of(
     alloc: Global,
     calls: &mut Calls,
@@ -39,7 +39,8 @@ fn answers_of(
     Ok(answers)
 }
 
-/// The rows of a range of what an operator keeps, without a mask. On want of memory for the answers no call was made.
+/// The rows of a range of what an operator keeps, without a mask. On want of memory for the answers
+/// no call was made.
 pub fn keep_region(
     alloc: Global,
     calls: &mut Calls,

@@ -14,9 +14,11 @@ use csr_store::Matrix;
 use job_forms::{Chunk, Region, is_blank_under};
 use std::alloc::Global;
 
-/// A region of the union of two matrices: the operator where both have a word, and a copy where one has.
+/// A region of the union of two matrices: the operator where both have a word, and a copy where one
+/// has.
 ///
-/// With a mask calls are made for the positions alone that it stores. `calls` is scratch, kept from region to region.
+/// With a mask calls are made for the positions alone that it stores. `calls` is scratch, kept from
+/// region to region.
 pub fn union_region<'m>(
     alloc: Global,
     calls: &mut Calls,
@@ -53,7 +55,8 @@ pub fn union_region<'m>(
 
 /// The operator where two matrices both have a word, in a region.
 ///
-/// With a mask calls are made for the positions alone that it stores. `calls` is scratch, kept from region to region.
+/// With a mask calls are made for the positions alone that it stores. `calls` is scratch, kept from
+/// region to region.
 pub fn both_region<'m>(
     alloc: Global,
     calls: &mut Calls,

@@ -1,5 +1,4 @@
 use Rattle.std.proofs.Common.{◌≡◌, ◌≤◌, ◌-◌}
-use Rattle.csr_store.specs.Valued.{entries_of}
 use Rattle.entry_ops.proofs.column.write_all.Given as goal
 
 abbrev pub invariant-loop-words : goal.invariant-loop-words
