@@ -165,10 +165,14 @@ fn ending_of(outcome: Result<End, ServeFault>, is_idle: bool, cut: Cut) -> Endin
     }
 }
 
-/// Where it is noted what a session does, if there is a log.
-pub fn watch_in<'j>(journal: Option<&'j Journal>, client: Origin) -> Option<Watch<'j>> {
+/// Where it is noted what a session does that starts now, if there is a log. This has a line then.
+pub fn watch_in<'j, R: Wait + Clock>(
+    rt: &R,
+    journal: Option<&'j Journal>,
+    client: Origin,
+) -> Option<Watch<'j>> {
     match journal {
-        Some(journal) => Some(journal.watch(client)),
+        Some(journal) => Some(journal.note_start(rt, client)),
         None => None,
     }
 }
@@ -191,16 +195,13 @@ fn attend<'a, R: Threads + Wait + Clock, L: Ledger>(
 {
     let Caller { stream, address } = caller;
     let client = Origin::Address(address);
-    if let Some(journal) = server.journal {
-        journal.note_start(rt, client);
-    }
+    let watch = watch_in(rt, server.journal, client);
     let (mut read, mut wrote, mut refused) = (LastCall::none(), LastCall::none(), 0);
-    let watch = watch_in(server.journal, client);
     let timing = Timing::new(rt, server.terms.patience());
     let incoming = Timed::new(&stream, Timer::of(rt, &stream, &timing));
     let outgoing = Timed::new(&stream, Timer::of(rt, &stream, &timing));
     let reader = Watching::new(Retrying::new(incoming, &mut read), rt, watch);
-    let notice = Notice::of(rt, server.journal, client);
+    let notice = Notice::of(rt, server.journal, watch);
     let sending = Watching::new(Retrying::new(outgoing, &mut wrote), rt, watch);
     let writer = Noticing::new(sending, notice, &mut refused);
     let given = Given {
@@ -210,13 +211,13 @@ fn attend<'a, R: Threads + Wait + Clock, L: Ledger>(
         watch,
     };
     let served = serve_over(rt, server, given, reader, writer);
-    if let Some(journal) = server.journal {
+    if let (Some(journal), Some(watch)) = (server.journal, watch) {
         let ending = ending_of(
             served.outcome,
             read.is_idle || wrote.is_idle,
             timing.cut(rt),
         );
-        journal.note_end(rt, client, ending, refused);
+        journal.note_end(rt, watch, ending, refused);
     }
     drop(seat);
     hang_up(&stream);

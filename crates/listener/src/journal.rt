@@ -183,10 +183,11 @@ impl Journal {
         }
     }
 
-    /// Leaves a line that a session starts.
-    pub fn note_start<R: Wait + Clock>(&self, rt: &R, client: Origin) {
-        self.roster.enter(rt, client);
+    /// Leaves a line that a session starts. Answers where it is noted what the session does.
+    pub fn note_start<R: Wait + Clock>(&self, rt: &R, client: Origin) -> Watch<'_> {
+        let watch = Watch::start(rt, &self.roster, client);
         self.note(rt, client, Event::Start);
+        watch
     }
 
     /// Leaves a line that a client was turned away, which was sent so many bytes.
@@ -205,8 +206,14 @@ impl Journal {
     }
 
     /// Leaves a line of how a session ended that was refused something so often.
-    pub fn note_end<R: Wait + Clock>(&self, rt: &R, client: Origin, ending: Ending, refused: u64) {
-        let Some(row) = self.roster.leave(rt, client) else {
+    pub fn note_end<R: Wait + Clock>(
+        &self,
+        rt: &R,
+        watch: Watch<'_>,
+        ending: Ending,
+        refused: u64,
+    ) {
+        let Some(row) = self.roster.leave(rt, watch.number) else {
             return;
         };
         let standing = row.standing;
@@ -220,22 +227,23 @@ impl Journal {
             spent: standing.spent,
             refused,
         };
-        self.note(rt, client, Event::End(account));
+        self.note(rt, watch.client, Event::End(account));
     }
 
     /// Leaves a line of how a session stands whose batch has ended, if that is told, and this
     /// second hasn't had too many.
-    pub fn note_batch<R: Wait + Clock>(&self, rt: &R, client: Origin) {
+    pub fn note_batch<R: Wait + Clock>(&self, rt: &R, watch: Watch<'_>) {
         let Some(batches) = &self.batches else {
             return;
         };
-        let Some(row) = self.roster.spender(rt, client) else {
+        let Some(row) = self.roster.spender(rt, watch.number) else {
             return;
         };
         let told = batches.lock(rt).tell(this_second(rt), 0);
         if told.is_some() {
             let (time, standing) = (row.time(rt), row.standing);
-            self.add(rt, Entry::new(rt, client, Event::Runs { time, standing }));
+            let runs = Event::Runs { time, standing };
+            self.add(rt, Entry::new(rt, watch.client, runs));
         }
     }
 
@@ -247,14 +255,6 @@ impl Journal {
     /// Leaves a line of a refusal.
     pub fn note_refusal<R: Wait + Clock>(&self, rt: &R, client: Origin, refusal: Refusal) {
         self.note(rt, client, Event::Refused(refusal));
-    }
-
-    /// Where it is noted what a session does.
-    pub fn watch(&self, client: Origin) -> Watch<'_> {
-        Watch {
-            roster: &self.roster,
-            client,
-        }
     }
 
     /// Tells that no more lines come.

@@ -3,31 +3,27 @@
 ghost use Rattle.std.specs.Prelude.{◌≡◌};
 
 use crate::journal::Journal;
-use crate::origin::Origin;
 use crate::refusal::{LONGEST, Refusal};
+use crate::roster::Watch;
 use std::io;
 use std::io::Write;
 use std::sync::Wait;
 use std::time::Clock;
 
-/// A log, and of which client it is told.
+/// A log, and of which session it is told.
 #[derive(Drop)]
 pub struct Notice<'s, R> {
     pub rt: &'s R,
     pub journal: &'s Journal,
-    pub client: Origin,
+    pub watch: Watch<'s>,
 }
 
 impl<'s, R> Notice<'s, R> {
-    /// What is told to a log of a client, if there is one.
-    pub fn of(rt: &'s R, journal: Option<&'s Journal>, client: Origin) -> Option<Self> {
-        match journal {
-            Some(journal) => Some(Notice {
-                rt,
-                journal,
-                client,
-            }),
-            None => None,
+    /// What is told to a log of a session, if there is one.
+    pub fn of(rt: &'s R, journal: Option<&'s Journal>, watch: Option<Watch<'s>>) -> Option<Self> {
+        match (journal, watch) {
+            (Some(journal), Some(watch)) => Some(Notice { rt, journal, watch }),
+            _ => None,
         }
     }
 }
@@ -82,7 +78,7 @@ fn look<R: Wait + Clock>(
                 *refused = refused.saturating_add(1);
                 notice
                     .journal
-                    .note_refusal(notice.rt, notice.client, refusal);
+                    .note_refusal(notice.rt, notice.watch.client, refusal);
             }
             *line = SentLine::new();
         }
@@ -118,15 +114,8 @@ impl<W: Write + Drop, R: Wait + Clock> Write for Noticing<'_, W, R> {
     ghost contents = { λ s. W.contents s.side };
 
     fn write(&mut self, buf: &[u8]) -> io::Result<usize> {
-        if let Some(
-            Notice {
-                rt,
-                journal,
-                client,
-            },
-        ) = &self.notice
-        {
-            journal.note_batch(*rt, *client);
+        if let Some(Notice { rt, journal, watch }) = &self.notice {
+            journal.note_batch(*rt, *watch);
         }
         let outcome = self.side.write(buf);
         if let (Ok(count), Some(notice)) = (&outcome, &self.notice) {

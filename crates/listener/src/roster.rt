@@ -1,5 +1,7 @@
 //! What the sessions that run have reserved and spent, and what they wait for, for a log that tells
 //! it now and then.
+ghost use Rattle.std.specs.Prelude.{◌≡◌, ◌≢◌, ℕ, None, Some, IfSome, IfNone, slice_get};
+ghost use Rattle.listener.specs.inner.Standing.{noted};
 
 use crate::origin::Origin;
 use std::alloc::{AllocError, Global};
@@ -52,20 +54,26 @@ pub struct Standing {
 /// A session that runs.
 #[derive(Clone, Copy)]
 pub struct Row {
+    /// What tells this row from the others. A client's address doesn't: a client that resets its
+    /// connection may come again from the same port while its old batch is at work.
+    number: u64,
     pub client: Origin,
     /// When it started, where the clock could be read.
     began: Option<Instant>,
     pub standing: Standing,
-    /// The steps that a line at the end of a batch has told.
-    told: u64,
-    /// Whether the client has sent something behind the last reply.
+    /// The steps that the last line at the end of a batch reported.
+    reported: u64,
+    /// Whether the client has sent something since the last reply.
     is_amid: bool,
 }
 
 impl Row {
     /// A session that starts at a moment.
-    fn new(client: Origin, began: Option<Instant>) -> Self {
+    fn new(number: u64, client: Origin, began: Option<Instant>) -> Self
+        ensures { result.number ≡ number }
+    {
         Row {
+            number,
             client,
             began,
             standing: Standing {
@@ -78,7 +86,7 @@ impl Row {
                 jobs_in_all: 0,
                 commands: 0,
             },
-            told: 0,
+            reported: 0,
             is_amid: false,
         }
     }
@@ -89,7 +97,9 @@ impl Row {
     }
 
     /// Notes something of the session.
-    fn note(&mut self, note: Note) {
+    fn note(&mut self, note: Note)
+        ensures { self.new ≡ noted self.old note }
+    {
         let standing = &mut self.standing;
         match note {
             Note::Reserved { reply, reserved } => {
@@ -139,77 +149,126 @@ pub enum Note {
     Wrote(u64),
 }
 
+/// The rows of the sessions that run, and the number of the next one.
+#[derive(Drop)]
+struct Rows {
+    rows: Vec<Row>,
+    next: u64,
+}
+
+impl Rows {
+    /// Adds a session that starts at a moment, and answers the number of its row. Where there is no
+    /// memory for the row, nothing is found under that number.
+    fn enter(&mut self, client: Origin, began: Option<Instant>) -> u64
+        ensures number { result ≡ self.old.next }
+        ensures same { (k : ℕ) (r : Row) → slice_get self.old.rows.items k ≡ Some r → slice_get self.new.rows.items k ≡ Some r }
+    {
+        let number = self.next;
+        // It wraps after 2^64 sessions, of which at most sixteen have rows at once.
+        self.next = number.wrapping_add(1);
+        let _ = self.rows.push(Row::new(number, client, began));
+        number
+    }
+
+    /// Notes something of the session with this number, and of no other.
+    fn note(&mut self, number: u64, note: Note)
+        ensures { (k : ℕ) (r : Row) → slice_get self.old.rows.items k ≡ Some r → r.number ≢ number → slice_get self.new.rows.items k ≡ Some r }
+    {
+        if let Some(nth) = self.rows.iter().position(|row| row.number == number) {
+            self.rows[nth].note(note);
+        }
+    }
+
+    /// The session with this number, where it has spent steps since this was last asked, and has no
+    /// job queued.
+    fn spender(&mut self, number: u64) -> Option<Row>
+        ensures { IfSome result (λ r. (r.number ≡ number) × (r.standing.jobs ≡ 0) × (r.reported ≡ r.standing.spent)) }
+    {
+        let nth = self.rows.iter().position(|row| row.number == number)?;
+        let row = &mut self.rows[nth];
+        let Standing { jobs, spent, .. } = row.standing;
+        if jobs > 0 || spent == row.reported {
+            return None;
+        }
+        row.reported = spent;
+        Some(*row)
+    }
+
+    /// Takes out the session with this number, which has ended.
+    fn leave(&mut self, number: u64) -> Option<Row>
+        ensures { IfSome result (λ r. r.number ≡ number) }
+    {
+        let nth = self.rows.iter().position(|row| row.number == number)?;
+        Some(self.rows.swap_remove(nth))
+    }
+}
+
 /// The sessions that run.
 #[derive(Drop)]
 pub struct Roster {
-    rows: Mutex<Vec<Row>>,
+    rows: Mutex<Rows>,
 }
 
 impl Roster {
-    /// A roster without sessions, with the room for so many.
+    /// A roster without sessions, with memory for so many.
     ///
     /// # Errors
     ///
     /// There is no memory for it.
-    pub fn new(alloc: Global, seats: usize) -> Result<Self, AllocError> {
-        let rows = Vec::with_capacity(alloc, seats)?;
+    pub fn new(alloc: Global, sessions: usize) -> Result<Self, AllocError> {
+        let rows = Vec::with_capacity(alloc, sessions)?;
         Ok(Roster {
-            rows: Mutex::new(rows),
+            rows: Mutex::new(Rows { rows, next: 0 }),
         })
     }
 
-    /// Adds a session that starts now. Where there is no memory for it, it isn't told of.
-    pub fn enter<R: Wait + Clock>(&self, rt: &R, client: Origin) {
-        let row = Row::new(client, Instant::now(rt).ok());
-        let _ = self.rows.lock(rt).push(row);
+    /// Adds a session that starts now, and answers the number of its row.
+    pub fn enter<R: Wait + Clock>(&self, rt: &R, client: Origin) -> u64 {
+        let began = Instant::now(rt).ok();
+        self.rows.lock(rt).enter(client, began)
     }
 
     /// Notes something of a session.
-    fn note<R: Wait>(&self, rt: &R, client: Origin, note: Note) {
-        let mut rows = self.rows.lock(rt);
-        for row in rows.iter_mut() {
-            if row.client == client {
-                row.note(note);
-            }
-        }
+    pub fn note<R: Wait>(&self, rt: &R, number: u64, note: Note) {
+        self.rows.lock(rt).note(number, note);
     }
 
     /// A session that has spent steps since this was last asked, and has no job queued.
-    pub fn spender<R: Wait>(&self, rt: &R, client: Origin) -> Option<Row> {
-        let mut rows = self.rows.lock(rt);
-        for row in rows.iter_mut() {
-            let standing = row.standing;
-            if row.client == client && standing.jobs == 0 && standing.spent != row.told {
-                row.told = standing.spent;
-                return Some(*row);
-            }
-        }
-        None
+    pub fn spender<R: Wait>(&self, rt: &R, number: u64) -> Option<Row> {
+        self.rows.lock(rt).spender(number)
     }
 
     /// Takes a session out that has ended.
-    pub fn leave<R: Wait>(&self, rt: &R, client: Origin) -> Option<Row> {
-        let mut rows = self.rows.lock(rt);
-        let nth = rows.iter().position(|row| row.client == client)?;
-        Some(rows.swap_remove(nth))
+    pub fn leave<R: Wait>(&self, rt: &R, number: u64) -> Option<Row> {
+        self.rows.lock(rt).leave(number)
     }
 
-    /// The session at a place, if there is one.
+    /// The session in this row of the roster, if there is one.
     pub fn at<R: Wait>(&self, rt: &R, nth: usize) -> Option<Row> {
-        self.rows.lock(rt).get(nth).copied()
+        self.rows.lock(rt).rows.get(nth).copied()
     }
 }
 
 /// A session of a roster.
 #[derive(Clone, Copy)]
 pub struct Watch<'r> {
-    pub(crate) roster: &'r Roster,
+    roster: &'r Roster,
     pub(crate) client: Origin,
+    pub(crate) number: u64,
 }
 
-impl Watch<'_> {
+impl<'r> Watch<'r> {
+    /// A session that starts now.
+    pub(crate) fn start<R: Wait + Clock>(rt: &R, roster: &'r Roster, client: Origin) -> Self {
+        Watch {
+            roster,
+            client,
+            number: roster.enter(rt, client),
+        }
+    }
+
     /// Notes something of the session.
     pub(crate) fn note<R: Wait>(&self, rt: &R, note: Note) {
-        self.roster.note(rt, self.client, note);
+        self.roster.note(rt, self.number, note);
     }
 }

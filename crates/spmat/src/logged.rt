@@ -6,7 +6,7 @@ ghost use Rattle.spmat.specs.inner.Running.{IsOfSession};
 use crate::respond_on;
 use crate::serving::Log;
 use command_line::{Done, Failure, Settings, VERSION};
-use listener::{Cause, Cut, Ending, Journal, Limits, ListenFault, Origin, ServerTerms};
+use listener::{Cause, Cut, Ending, Journal, Limits, ListenFault, Origin, ServerTerms, Watch};
 use session::ServeFault;
 use std::net::{Net, TcpListener, TcpStream};
 use std::sync::Wait;
@@ -42,11 +42,12 @@ fn ending_of(told: &Result<Done, Failure>) -> Option<Ending> {
 pub fn note_end<R: Wait + Clock>(
     rt: &R,
     journal: Option<&Journal>,
+    watch: Option<Watch<'_>>,
     told: &Result<Done, Failure>,
     refused: u64,
 ) {
-    if let (Some(journal), Some(ending)) = (journal, ending_of(told)) {
-        journal.note_end(rt, Origin::Streams, ending, refused);
+    if let (Some(journal), Some(watch), Some(ending)) = (journal, watch, ending_of(told)) {
+        journal.note_end(rt, watch, ending, refused);
     }
 }
 
@@ -141,7 +142,6 @@ where
             log_format: None,
             log_every: None,
         };
-        journal.note_start(rt, Origin::Streams);
         let told = respond_on(rt, Ok(settings), Some(journal));
         journal.end(rt);
         told

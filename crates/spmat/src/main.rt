@@ -249,8 +249,8 @@ where
     ensures { MayEnd asked result }
 {
     let idle = idle_of(&asked);
-    let watch = watch_in(journal, Origin::Streams);
-    let notice = Notice::of(rt, journal, Origin::Streams);
+    let watch = watch_in(rt, journal, Origin::Streams);
+    let notice = Notice::of(rt, journal, watch);
     let (mut unread, mut unwritten, mut refused) = (None, None, 0);
     let reader = Watching::new(Side::input(rt.reader(), idle, &mut unread), rt, watch);
     let writing = Watching::new(
@@ -261,7 +261,7 @@ where
     let writer = Noticing::new(writing, notice, &mut refused);
     let told = answer_over(rt, asked, reader, writer, watch);
     let told = explain(told, unread, unwritten);
-    note_end(rt, journal, &told, refused);
+    note_end(rt, journal, watch, &told, refused);
     told
 }
 

@@ -1,19 +1,20 @@
 """What a log says of its server, how many lines each kind of event may have in a second, and how
 sessions that run stand."""
+import os
 import re
 import subprocess
 import time
 from typing import Callable, Dict, List
 
 from tests.lib.commands import assembly_command, matrix_command, matrix_text
-from tests.lib.patience import FOR_A_REPLY
+from tests.lib.patience import CHECKED, FOR_A_REPLY
 from tests.lib.ports import free_port
 from tests.lib.runs import Wrong, expect
 from tests.program.server.hostile import LITTLE_ROOM, full_house
-from tests.program.server.logs import (REFUSED, SERVER, START, TIME, Logging, entries_of, port_of,
-                                       quick_sessions, untold_in, version)
+from tests.program.server.logs import (REFUSED, SERVER, START, TIME, Entry, Logging, entries_of,
+                                       port_of, quick_sessions, untold_in, version)
 from tests.program.server.server import BUSY, Client, serve_words, until
-from tests.program.server.sessions import PRODUCT, UPLOADED, UPLOADS
+from tests.program.server.sessions import LONG_SECONDS, PRODUCT, UPLOADED, UPLOADS
 
 RUNS = re.compile(TIME
                   + r'runs client=127\.0\.0\.1:(\d+) seconds=\d+\.\d{3} state=(\w+) jobs=(\d+) '
@@ -200,6 +201,45 @@ def told_while_it_runs(program: str) -> None:
         is_told(other, 'writing', '0')
 
 
+def comes_again_from_its_port(program: str) -> None:
+    """A client resets its connection while its batch runs, and connects again from the same port.
+    The server then has two sessions of one address; the line of each has its own numbers."""
+    rows, slots = 1 << 14, 4096
+    jobs = 16
+    if os.environ.get(CHECKED):
+        rows, jobs = 1 << 11, 1
+    text = matrix_text(rows, 1, [(row, 1, 1) for row in range(1, rows + 1)])
+    slow = b'mov64 r0, r1\n' + b'add64 r0, 1\n' * (slots - 2) + b'exit\n'
+    price = jobs * rows * slots
+    with Logging(program) as server, server.client() as other:
+        old = server.client()
+        port = old.socket.getsockname()[1]
+        old.reply(matrix_command('A', text))
+        old.reply(assembly_command('f', slow, 'unary'))
+        for _ in range(jobs):
+            old.reply(b'apply B f A\n')
+        old.send(b'run\n')
+        until('the batch is priced', lambda: other.budget()[1] == price)
+        old.reset()
+        with Client(server.port, near=port) as new:
+            for command in UPLOADS:
+                new.reply(command)
+            new.expect(PRODUCT, b'ok queued 1 12\n')
+            new.expect(b'run\n', b'ok run 1 9\nC 1 1 1 9\n')
+            new.expect(b'quit\n', b'ok quit\n')
+        until('the lines of both', lambda: len(ends_of(server, port)) == 2, LONG_SECONDS)
+        ends = {entry.end == 'quit': entry for entry in ends_of(server, port)}
+    received = sum(map(len, UPLOADS)) + len(PRODUCT + b'run\nquit\n')
+    expect('the line of the new session', (9, received, len(UPLOADS) + 3),
+           (ends[True].steps, ends[True].received, ends[True].commands))
+    expect('the steps of the old session', price, ends[False].steps)
+
+
+def ends_of(server: Logging, port: int) -> List[Entry]:
+    """What the log says of the sessions of an address that have ended."""
+    return [entry for entry in entries_of(list(server.lines)) if entry.port == port]
+
+
 LIMIT_CASES: Dict[str, Callable[[str], None]] = {
     'log-of-the-server': server_starts_and_ends,
     'log-of-many-turned-away': many_turned_away,
@@ -207,4 +247,5 @@ LIMIT_CASES: Dict[str, Callable[[str], None]] = {
     'log-of-refused-rules': refused_by_each_rule,
     'log-every-second': told_every_second,
     'log-of-a-batch': told_while_it_runs,
+    'log-of-one-address-twice': comes_again_from_its_port,
 }

@@ -180,10 +180,13 @@ class Server:
 
 
 class Client:
-    """A connection to a server."""
+    """A connection to a server, from the port `near` where one is given."""
 
-    def __init__(self, port: int, room: int = 0) -> None:
+    def __init__(self, port: int, room: int = 0, near: int = 0) -> None:
         self.socket = socket.socket()
+        if near:
+            self.socket.setsockopt(socket.SOL_SOCKET, socket.SO_REUSEADDR, 1)
+            self.socket.bind((LOOPBACK, near))
         if room:
             self.socket.setsockopt(socket.SOL_SOCKET, socket.SO_RCVBUF, room)
         self.socket.settimeout(FOR_A_REPLY)
