@@ -6,14 +6,13 @@
 //! gives a program's value on operands with its number of steps, or the slot and the rule at which
 //! it is stuck, exactly as the table of effects says, and ends on every program.
 //!
-//! Read `reg` and `insn` (what an instruction is), `rule` and `fault` (what can be wrong), `program`;
-//! `table` (a row for each operation and condition), `opcode`, `fields` and `slot`, `spell` and `encoder`, `check`, `build` and
-//! `decoder`;
-//! then what an instruction means: `operands`, `content` and `frame` (what stands in the machine), `reads`
-//! and `bounds` (what an instruction reads, writes and accesses), `arithmetic` (what it computes). The
-//! machine in code is `machine`, which only tests run.
-//! What it all means stands in specs/: Rule, Opcode, Fields, Spelling, Broken, Program, Code, then
-//! Arithmetic, Reads, Effects, Machine, Stepping, Run.
+//! Read `reg` and `insn` (what an instruction is), `rule` and `fault` (what can be wrong),
+//! `program`; `table` (a row for each operation and condition), `opcode`, `fields` and `slot`,
+//! `spell` and `encoder`, `check`, `build` and `decoder`; then what an instruction means:
+//! `operands`, `content` and `frame` (what stands in the machine), `reads` and `bounds` (what an
+//! instruction reads, writes and accesses), `arithmetic` (what it computes). The machine in code is
+//! `machine`, which only tests run. What it all means stands in specs/: Rule, Opcode, Fields,
+//! Spelling, Broken, Program, Code, then Arithmetic, Reads, Effects, Machine, Stepping, Run.
 #![tactic(auto)]
 
 pub mod arithmetic;

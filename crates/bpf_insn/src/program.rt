@@ -36,8 +36,8 @@ impl Model for Program {
 }
 
 impl Program {
-    /// The program of these instructions, or `V1` where there are none (at slot 0) or where they have
-    /// more than 4,096 slots (at slot 4,096).
+    /// The program of these instructions, or `V1` where there are none (at slot 0) or where they
+    /// have more than 4,096 slots (at slot 4,096).
     pub fn from_insns(alloc: Global, insns: Vec<Insn>) -> Result<Program, InsnsError>
         ensures ok { IfOk result (λ program. (program ≡ insns.items) × IsProgram program) }
         ensures err { IfErr result (ExplainsInsnsRefusal insns.items) }

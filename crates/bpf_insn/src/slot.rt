@@ -1,4 +1,5 @@
-//! Slots: the eight bytes of code that an instruction has, or each of the two halves of a wide load.
+//! Slots: the eight bytes of code that an instruction has, or each of the two halves of a wide
+//! load.
 ghost use Rattle.std.specs.Prelude.{◌≡◌, ◌<◌, ◌≤◌, ◌*◌, length, take};
 
 /// The fields of a slot (RFC 9669, section 3.1). Offset and imm are their bits.

@@ -1,5 +1,5 @@
-//! The table of operations and conditions. Whatever has an arm for each of these, here and in the crates above, takes its arms
-//! from it.
+//! The table of operations and conditions. Whatever has an arm for each of these, here and in the
+//! crates above, takes its arms from it.
 
 /// Calls the macro `arms` with the table, before what else it is given.
 ///

@@ -12,7 +12,8 @@ use std::alloc::Global;
 pub struct Listing {
     insns: Vec<Insn>,
     slots: usize,
-    /// Whether there was memory for all of them. Without it reading goes on, for the sake of a fault.
+    /// Whether there was memory for all of them. Without it reading goes on, for the sake of a
+    /// fault.
     is_whole: bool,
     ghost few: { slots ≤ 4096 },
 }

@@ -1,5 +1,5 @@
-//! The names of the parts of a mnemonic (operations, conditions, orders of bytes, numbers of bits) and
-//! of registers. Each table is written once, and read in both directions.
+//! The names of the parts of a mnemonic (operations, conditions, orders of bytes, numbers of bits)
+//! and of registers. Each table is written once, and read in both directions.
 ghost use Rattle.std.specs.Prelude.{◌≡◌};
 ghost use Rattle.bpf_text.specs.Names as spec;
 ghost use Rattle.bpf_text.specs.inner.Names as inner;

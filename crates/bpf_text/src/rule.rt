@@ -13,8 +13,8 @@ pub enum AsmRule {
     LineTooLong,
     /// `A2`: no instruction has the mnemonic.
     UnknownMnemonic,
-    /// `A3`: there are too few or too many operands, or one of them is no register or no number where
-    /// that is wanted.
+    /// `A3`: there are too few or too many operands, or one of them is no register or no number
+    /// where that is wanted.
     MalformedOperands,
     /// `A4`: an operand is `r` and digits, and none of `r0` to `r10`.
     UnknownRegister,

@@ -17,8 +17,8 @@ use bpf_insn::{Kind, Program};
 use std::alloc::Global;
 use std::marker::Model;
 
-/// A program that has passed both passes as an operator of a kind, with what is known at each of its slots.
-/// A contract sees an `Accepted`, of which `IsAccepted` holds.
+/// A program that has passed both passes as an operator of a kind, with what is known at each of
+/// its slots. A contract sees an `Accepted`, of which `IsAccepted` holds.
 #[derive(Drop)]
 pub(crate) struct Checked {
     kind: Kind,
@@ -36,8 +36,9 @@ impl Model for Checked {
     ghost invariant = { λ o. IsAccepted (record { kind = o.kind; insns = o.program; table = o.table.items }) };
 }
 
-/// The program with what is known at its slots, where it has no slot fault and no path shows a fault. Else the
-/// program comes back, with its first fault, or, where it has no slot fault, with want of memory.
+/// The program with what is known at its slots, where it has no slot fault and no path shows a
+/// fault. Else the program comes back, with its first fault, or, where it has no slot fault, with
+/// want of memory.
 pub(crate) fn check(
     alloc: Global,
     program: Program,
@@ -98,8 +99,8 @@ impl Checked {
         }
     }
 
-    /// Whether all paths to a slot have stored the byte at a place of the stack, -512 to -1, or None
-    /// where no path leads.
+    /// Whether all paths to a slot have stored the byte at a place of the stack, -512 to -1, or
+    /// None where no path leads.
     pub fn stored(&self, slot: u64, place: i64) -> Option<bool>
         requires above { negsuc 511 ≤ℤ place }
         requires below { place <ℤ pos 0 }

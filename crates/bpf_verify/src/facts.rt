@@ -38,7 +38,8 @@ impl Facts {
         self.tags[reg.number() as usize]
     }
 
-    /// The rule of the lowest number that the instruction breaks by what is known, if it breaks one.
+    /// The rule of the lowest number that the instruction breaks by what is known, if it breaks
+    /// one.
     pub fn refusal(&self, insn: Insn) -> Option<CodeRule>
         ensures none { IfNone result (BreaksNone (known self.now) insn) }
         ensures some { IfSome result (IsLowest (λ rule. breaks (known self.now) insn rule ≡ true)) }

@@ -17,8 +17,9 @@ use bpf_known::{KnownCall, known_of, number_in};
 use std::alloc::Global;
 use std::marker::Model;
 
-/// A program that was verified as an operator of a kind, with what is known at each of its slots, its flat code, and how its
-/// calls are known. A contract sees an `Accepted`, of which `IsAccepted` holds.
+/// A program that was verified as an operator of a kind, with what is known at each of its slots,
+/// its flat code, and how its calls are known. A contract sees an `Accepted`, of which `IsAccepted`
+/// holds.
 #[derive(Drop)]
 pub struct Operator {
     checked: Checked,
@@ -120,8 +121,8 @@ impl Operator {
         self.checked.typing(slot)
     }
 
-    /// Whether all paths to a slot have stored the byte at a place of the stack, -512 to -1, or None
-    /// where no path leads.
+    /// Whether all paths to a slot have stored the byte at a place of the stack, -512 to -1, or
+    /// None where no path leads.
     pub fn stored(&self, slot: u64, place: i64) -> Option<bool>
         requires above { negsuc 511 ≤ℤ place }
         requires below { place <ℤ pos 0 }

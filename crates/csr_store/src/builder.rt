@@ -55,18 +55,20 @@ impl Builder {
         }
     }
 
-    /// Makes room for so many further entries, in ascending order.
+    /// Reserves room for `entries` more entries, in ascending order.
     pub fn reserve(&mut self, entries: usize) -> Result<(), AllocError>
         ensures { self.new ≡ self.old }
     {
         self.ascending.reserve(entries)
     }
 
-    /// Adds an entry at a position that has none, both indices counted from 0. Costs a few instructions
-    /// where the position is above all earlier ones, else a search among the entries so far.
+    /// Adds an entry at a position that has none, both indices counted from 0. Costs a few
+    /// instructions where the position is above all earlier ones, else a search among the entries
+    /// so far.
     ///
-    /// Refuses, in this order, a position outside the sizes, one that has an entry, and an entry beyond
-    /// 16,777,216; and then answers `Memory` where its growth is refused. The builder is then as before.
+    /// Refuses, in this order, a position outside the sizes, one that has an entry, and an entry
+    /// beyond 16,777,216; and then answers `Memory` where its growth is refused. The builder is
+    /// then as before.
     pub fn put(&mut self, row: u64, column: u64, value: u64) -> Result<(), StoreError>
         ensures fits { OnOk result (put_fault self.old (row, column) ≡ None) }
         ensures added { OnOk result
@@ -120,7 +122,8 @@ impl Builder {
         }
     }
 
-    /// The matrix of all entries. The two are merged, so they stand in order, and nothing is sorted.
+    /// The matrix of all entries. The two are merged, so they stand in order, and nothing is
+    /// sorted.
     fn merged(&self) -> Result<Matrix, AllocError>
         ensures { IfOk result (λ m. m ≡ self.now) }
     {

@@ -11,13 +11,14 @@ use crate::row::cells_between;
 pub enum Cells {
     /// All in one list, as they were read.
     Whole(Vec<Cell>),
-    /// Those of each run in a list of its own, as they were computed.
+    /// Each run's cells in a list of their own, as they were computed.
     Runs(Vec<Vec<Cell>>),
 }
 
 impl Cells {
-    /// The cells from one place up to another, both counted from the first cell of all. Where there are runs these cells
-    /// stand in one of them, whose first row tells how many cells are before it.
+    /// The cells from one index up to another, both counted from the first cell of the matrix. If
+    /// the cells are in runs, one run has all of these; its first row says how many cells come
+    /// before.
     #[inline(always)]
     pub fn part(&self, starts: &[u64], run: u64, from: u64, to: u64) -> &[Cell]
         requires start { run * 256 < length starts.now }

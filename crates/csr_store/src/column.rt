@@ -7,11 +7,12 @@ use crate::matrix::Matrix;
 use std::alloc::{AllocError, Global};
 use std::marker::Model;
 
-/// The words of a matrix of one column in a list, so that each is found by its row alone: who reads many doesn't wait for where
-/// rows start. It takes 8 bytes and a bit a row. A contract sees the word of each row, if there is one.
+/// The words of a matrix of one column, in a list that is indexed by row. A reader of many words so
+/// doesn't wait for the row starts. A row takes 8 bytes and a bit. Contracts see each row's word,
+/// if it has one.
 #[derive(Drop)]
 pub struct Column {
-    /// A word for each row: any, where the row has none.
+    /// A word for each row; a row without an entry may have any.
     words: Vec<u64>,
     /// A bit for each row, in words of 64: whether it has a word.
     bits: Vec<u64>,
@@ -54,8 +55,8 @@ impl Column {
         Ok(Column { words, bits, full })
     }
 
-    /// The word at row `k`, and whether there is one. Where there is none it is any word, so that a caller may go on with it before
-    /// the answer is known.
+    /// The word at row `k`, and whether the row has one. If not, the word may be any, so that a
+    /// caller can compute with it before it looks at the answer.
     #[inline(always)]
     pub fn word(&self, k: u64) -> (u64, bool)
         requires { k < length self.now }

@@ -1,4 +1,4 @@
-//! Where the rows of a run end among its cells: rows in front of all cells are only counted.
+//! Where the rows of a run end among its cells. Rows before the first cell are only counted.
 ghost use Rattle.std.specs.Prelude.{◌≡◌, ◌<◌, ◌≤◌, ◌+◌, ◌^◌, ◌++◌, ◌∷◌, [], length, map, replicate, take, IsTrue, OnOk, OnErr};
 ghost use Rattle.std.specs.List.{AllByRecursion};
 ghost use Rattle.std.specs.List.Sorted.{IsNonDecreasing};
@@ -8,10 +8,11 @@ use crate::moving::push_moved;
 use std::alloc::{AllocError, Global};
 use std::marker::Model;
 
-/// Where rows end, one after the other. A contract sees the list.
+/// Where rows end, in order. Contracts see the list.
 #[derive(Drop)]
 pub(crate) struct RowEnds {
-    /// How many rows in front end at 0, `MOST_SIDE` at most: more than a matrix has are listed. They take no memory.
+    /// How many leading rows end at 0. They take no memory. This is at most `MOST_SIDE`; further
+    /// ones are listed.
     blank: u64,
     /// Where the others end.
     listed: Vec<u64>,
@@ -32,14 +33,14 @@ impl Model for RowEnds {
 }
 
 impl RowEnds {
-    /// Of a list.
+    /// The ends that a list has.
     pub(crate) fn of(listed: Vec<u64>) -> Self
         ensures { result ≡ listed.items }
     {
         RowEnds { blank: 0, listed }
     }
 
-    /// No row. Takes no memory.
+    /// No rows. Takes no memory.
     pub(crate) fn none(alloc: Global) -> Self
         ensures { result ≡ [] }
     {
@@ -56,14 +57,14 @@ impl RowEnds {
         self.blank + self.listed.len() as u64
     }
 
-    /// Makes room for so many rows more.
+    /// Reserves room for `rows` more rows.
     pub(crate) fn reserve(&mut self, rows: usize) -> Result<(), AllocError>
         ensures { self.new ≡ self.old }
     {
         self.listed.reserve(rows)
     }
 
-    /// Puts the end of a row behind the others.
+    /// Appends the end of a row.
     #[inline(always)]
     pub(crate) fn push(&mut self, end: u64) -> Result<(), AllocError>
         ensures ended { OnOk result (self.new ≡ self.old ++ end ∷ []) }
@@ -73,7 +74,8 @@ impl RowEnds {
         Ok(())
     }
 
-    /// Puts the one end of so many rows behind the others. In front of all cells that takes no memory, and no time for a row.
+    /// Appends `count` rows that all end at `end`. Before the first cell that takes no memory, and
+    /// no time per row.
     pub(crate) fn push_alike(&mut self, count: u64, end: u64) -> Result<(), AllocError>
         ensures ended { OnOk result (self.new ≡ self.old ++ replicate count end) }
         ensures kept { OnErr result (self.new ≡ self.old) }
@@ -86,7 +88,7 @@ impl RowEnds {
         self.listed.resize(self.listed.len() + count as usize, end)
     }
 
-    /// Adds these ends to a list, each counted from `base` on.
+    /// Appends these ends to a list, each increased by `base`.
     pub(crate) fn add_to(&self, starts: &mut Vec<u64>, base: u64) -> Result<(), AllocError>
         requires { AllByRecursion (λ e. base + e < 2 ^ 64) self.now }
         ensures { OnOk result (starts.new.items ≡ starts.old.items ++ map (λ e. base + e) self.now) }
@@ -96,8 +98,8 @@ impl RowEnds {
         push_moved(starts, &self.listed, base)
     }
 
-    /// Whether starts that don't fall begin with these ends, each counted from `base` on. Of the rows in front of all cells only
-    /// the first and the last is looked at.
+    /// Whether ascending starts begin with these ends, each increased by `base`. Of the rows before
+    /// the first cell, only the first and the last are looked at.
     pub(crate) fn begin(&self, starts: &[u64], base: u64) -> bool
         requires rise { IsNonDecreasing starts.now }
         requires fit { AllByRecursion (λ e. base + e < 2 ^ 64) self.now }
@@ -112,7 +114,8 @@ impl RowEnds {
     }
 }
 
-/// Whether starts that don't fall are all this one. They are where the first and the last is.
+/// Whether ascending starts are all equal to this one. It is enough that the first and the last
+/// are.
 fn are_all(starts: &[u64], start: u64) -> bool
     requires { IsNonDecreasing starts.now }
     ensures { IsTrue result → starts.now ≡ replicate (length starts.now) start }
@@ -120,7 +123,7 @@ fn are_all(starts: &[u64], start: u64) -> bool
     starts.is_empty() || (starts[0] == start && starts[starts.len() - 1] == start)
 }
 
-/// Whether starts begin with ends that are counted from `base` on.
+/// Whether starts begin with these ends, each increased by `base`.
 fn are_ahead(ends: &[u64], starts: &[u64], base: u64) -> bool
     requires many { length ends.now ≤ length starts.now }
     requires fit { AllByRecursion (λ e. base + e < 2 ^ 64) ends.now }

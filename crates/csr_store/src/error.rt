@@ -29,7 +29,8 @@ impl<T: Drop> From<AllocFailed<T>> for StoreError {
 impl StoreError {
     ghost use Rattle.csr_store.specs.Refusal.{rule_name};
 
-    /// The rule's name as a user knows it: `J1`, `J2` or `J3`, and `memory` where no rule was broken.
+    /// The rule's name as a user knows it: `J1`, `J2` or `J3`, and `memory` where no rule was
+    /// broken.
     pub fn name(self) -> &'static str
         ensures { result.now ≡ rule_name self }
     {

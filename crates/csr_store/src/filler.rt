@@ -55,7 +55,7 @@ impl Filler {
         }
     }
 
-    /// Makes room for so many further entries.
+    /// Reserves room for `entries` more entries.
     pub fn reserve(&mut self, entries: usize) -> Result<(), AllocError>
         ensures { self.new ≡ self.old }
     {
@@ -155,7 +155,8 @@ impl Filler {
     }
 }
 
-/// Whether a position comes behind all entries, where `next` is the least column that does in the open row.
+/// Whether a position comes after all entries. `next` is the least column of the open row that
+/// does.
 #[inline(always)]
 fn comes_behind(open_row: u64, next: u64, row: u64, column: u64) -> bool
     ensures row { IsTrue result → open_row ≤ row }
@@ -191,7 +192,8 @@ pub(crate) fn start_rows(ends: &mut Vec<u64>, rows: u64, end: u64) -> Result<(),
     ends.insert(0, 0).map_err(|_| AllocError)
 }
 
-/// The starts of all rows, or the ends back where there is no memory for them, with those of some more rows.
+/// The starts of all rows, or the ends back where there is no memory for them, with those of some
+/// more rows.
 fn starts_of(ends: Vec<u64>, rows: u64, end: u64) -> Result<RowStarts, Vec<u64>>
     requires left { length ends.items ≤ rows }
     requires small { rows ≤ limit }

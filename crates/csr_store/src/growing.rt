@@ -1,4 +1,4 @@
-//! Where rows start that are stacked on one another: no list as long as they start as the rows of another matrix do.
+//! Row starts of stacked runs. They need no list as long as they equal those of another matrix.
 ghost use Rattle.std.specs.Prelude.{◌≡◌, ◌<◌, ◌≤◌, ◌+◌, ◌^◌, ◌++◌, ◌∷◌, [], map, take, IfOk, OnOk};
 ghost use Rattle.std.specs.List.{AllByRecursion};
 ghost use Rattle.csr_store.specs.inner.Starts.{starts_of};
@@ -9,13 +9,14 @@ use crate::starts::RowStarts;
 use std::alloc::{AllocError, Global};
 use std::marker::Model;
 
-/// Where rows start, and at last where they end, beside where those of a matrix do. A contract sees the list. It takes memory
-/// once the two differ, and no row that is only counted is looked at before.
+/// Row starts, and the end of the last row, compared with those of a matrix. Contracts see the
+/// list. It takes memory once the two differ. Until then, rows that are only counted aren't looked
+/// at.
 #[derive(Drop)]
 pub(crate) struct Growing<'m> {
     alloc: Global,
     like: &'m Matrix,
-    /// So many starts will there be.
+    /// The number of row starts to expect.
     room: usize,
     so_far: SoFar,
 }
@@ -23,9 +24,9 @@ pub(crate) struct Growing<'m> {
 /// The starts so far.
 #[derive(Drop)]
 enum SoFar {
-    /// So many, the same as the first of the other matrix.
+    /// The first starts of the other matrix, this many of them.
     Alike(usize),
-    /// Those of a list.
+    /// A list of their own.
     Listed(Vec<u64>),
 }
 
@@ -44,7 +45,8 @@ impl<'m> Model for Growing<'m> {
 }
 
 impl<'m> Growing<'m> {
-    /// The start of the first row. Takes no memory; a list of their own will have room for so many.
+    /// The start of the first row. Takes no memory. A list, once there is one, has room for `room`
+    /// starts.
     pub(crate) fn begin(alloc: Global, like: &'m Matrix, room: usize) -> Self
         ensures { result ≡ 0 ∷ [] }
     {
@@ -56,7 +58,7 @@ impl<'m> Growing<'m> {
         }
     }
 
-    /// Adds the starts behind rows that end there, each counted from `base` on.
+    /// Appends the starts that follow rows with these ends, each increased by `base`.
     pub(crate) fn add(&mut self, ends: &RowEnds, base: u64) -> Result<(), AllocError>
         requires { AllByRecursion (λ e. base + e < 2 ^ 64) ends.now }
         ensures { OnOk result (self.new ≡ self.old ++ map (λ e. base + e) ends.now) }
@@ -77,7 +79,7 @@ impl<'m> Growing<'m> {
         }
     }
 
-    /// All of them: in one list with the other matrix's, if they are the same.
+    /// All starts: the other matrix's own list, if they are the same.
     pub(crate) fn finish(self) -> Result<RowStarts, AllocError>
         ensures { IfOk result (λ s. s ≡ self.entry) }
     {

@@ -9,8 +9,9 @@ use crate::rows::Rows;
 use crate::starts::RowStarts;
 use std::alloc::{AllocError, Global};
 
-/// The matrix of runs of rows that follow one another from row 0 to the last, each with these columns and
-/// without an entry in its open row. All memory is taken before the first cell is copied.
+/// The matrix of runs of rows that follow one another from row 0 to the last, each with these
+/// columns and without an entry in its open row. All memory is taken before the first cell is
+/// copied.
 pub fn join_rows(
     alloc: Global,
     rows: u64,

@@ -7,8 +7,8 @@ ghost use Rattle.csr_store.specs.inner.Kept.{kept_count};
 
 use crate::matrix::Cell;
 
-/// Room for the cells that some answers keep. Where there are any answers it has a place more, in which a cell stands until its
-/// answer is looked at.
+/// Room for the cells that some answers keep. With any answers it has room for one more, which
+/// holds a cell until its answer is looked at.
 pub fn room_for(answers: &[u64]) -> usize
     ensures { 0 < length answers.now → kept_count answers.now < result }
 {
@@ -32,7 +32,7 @@ fn count_kept(answers: &[u64]) -> usize
     kept
 }
 
-/// Adds those of some cells whose answer is not 0 to a list that has room for them, and for one more.
+/// Appends the cells whose answer is not 0 to a list that has room for them and for one more.
 #[inline(always)]
 pub fn add_where(kept: &mut Vec<Cell>, cells: &[Cell], answers: &[u64])
     requires { (length answers.now ≡ length cells.now)
@@ -48,8 +48,8 @@ pub fn add_where(kept: &mut Vec<Cell>, cells: &[Cell], answers: &[u64])
     }
 }
 
-/// Adds a cell to a list that has room for it, and takes it back where an answer is 0. So nothing waits for the answer: which
-/// cells are kept can't be foretold.
+/// Appends a cell to a list that has room for it, and removes it if its answer is 0. A branch on
+/// the answer would be mispredicted often, since nothing foretells which cells are kept.
 #[inline(always)]
 fn push_if(kept: &mut Vec<Cell>, column: u64, word: u64, answer: u64)
     requires room { length kept.old.items < vec_capacity kept.old }

@@ -29,10 +29,10 @@ pub type Cell = (u64, u64);
 
 /// A sparse matrix of 64-bit words: its two sizes, and at most one value at each position.
 ///
-/// It is kept as compressed rows: where each row starts, and behind the last row where it ends, and the
-/// cells of all rows. So it takes 16 bytes an entry and 8 a row. The cells stand in one list where they
-/// were read, and in the runs of rows that they were computed in where they are a result. Matrices whose rows start alike may
-/// share where they do.
+/// It is kept as compressed rows: where each row starts, and behind the last row where it ends, and
+/// the cells of all rows. So it takes 16 bytes an entry and 8 a row. The cells stand in one list
+/// where they were read, and in the runs of rows that they were computed in where they are a
+/// result. Matrices whose rows start alike may share where they do.
 #[derive(Drop)]
 pub struct Matrix {
     rows: u64,
@@ -130,22 +130,22 @@ impl Matrix {
         self.entries
     }
 
-    /// How many entries stand in the rows before each row, counted from 0, and at last before the end: one
-    /// number more than there are rows.
+    /// How many entries the rows before each row have, counted from 0, and at last those before the
+    /// end: one number more than there are rows.
     pub fn starts(&self) -> &[u64]
         ensures { result.now ≡ map (row_start self.now) (range_with_len 0 (self.now.rows + 1)) }
     {
         self.starts.list()
     }
 
-    /// Where the rows of another matrix start that start as these do: in one list with them.
+    /// The starts of another matrix whose rows start as these do; both then share one list.
     pub(crate) fn share_starts(&self) -> Result<RowStarts, AllocError>
         ensures { IfOk result (λ s. s ≡ map (row_start self.now) (range_with_len 0 (self.now.rows + 1))) }
     {
         self.starts.share()
     }
 
-    /// Whether no entry stands in the rows from one up to another. That is seen from where these start and end, however many
+    /// Whether the rows from one up to another have no entry. Their starts tell, however many rows
     /// they are.
     pub fn is_blank(&self, range: Range<u64>) -> bool
         requires { range.end ≤ self.now.rows }
@@ -170,7 +170,8 @@ impl Matrix {
         self.cells.part(starts, i / RUN_ROWS, from, to)
     }
 
-    /// The cells of the rows from one up to another, all of one run, counted from 0: these stand in one list.
+    /// The cells of the rows from one up to another, all of one run, counted from 0: these stand in
+    /// one list.
     pub fn cells_of(&self, range: Range<u64>) -> &[Cell]
         requires range { range.start ≤ range.end }
         requires within { range.end ≤ self.now.rows }
@@ -187,7 +188,8 @@ impl Matrix {
         self.cells.part(starts, run, from, to)
     }
 
-    /// The cells of row `i`, counted from 0, and of those behind it that stand in one list with it; and the row behind these.
+    /// The cells of row `i`, counted from 0, and of those behind it that stand in one list with it;
+    /// and the row behind these.
     #[inline(never)]
     pub(crate) fn list_from(&self, i: u64) -> (&[Cell], u64)
         requires { i < self.now.rows }
@@ -207,7 +209,8 @@ impl Matrix {
         RowReader::begin(self, row)
     }
 
-    /// The rows from one up to another, all of one run, to be copied with other values. Takes the copy's memory.
+    /// The rows from one up to another, all of one run, to be copied with other values. Takes the
+    /// copy's memory.
     pub fn copying(&self, alloc: Global, range: Range<u64>) -> Result<RowCopy<'_>, AllocError>
         requires range { range.start ≤ range.end }
         requires within { range.end ≤ self.now.rows }

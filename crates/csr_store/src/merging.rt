@@ -43,8 +43,8 @@ fn listed(alloc: Global, map: &BTreeMap<(u64, u64), u64>) -> Result<Vec<Entry>, 
     Ok(entries)
 }
 
-/// Adds the cells of a row, and before each those of other entries, from one on, that stand before it. Answers which is the next
-/// of these.
+/// Appends the cells of a row, and before each cell the other entries that come before it, from
+/// index `from` on. Returns the index of the next other entry.
 fn merge_row(
     entries: &mut Vec<Entry>,
     row: u64,
@@ -67,7 +67,8 @@ fn merge_row(
     Ok(next)
 }
 
-/// Adds the entries of a list, from one on, that stand before a position. Answers which is the next.
+/// Appends the entries of a list that come before a position, from index `next` on. Returns the
+/// index of the next entry.
 fn push_before(
     entries: &mut Vec<Entry>,
     others: &[Entry],
@@ -87,7 +88,7 @@ fn push_before(
     Ok(next)
 }
 
-/// Adds entries that fit to a list without any.
+/// Adds entries that fit to a filler without any.
 pub fn push_entries(list: &mut EntryList, entries: &[Entry]) -> Result<(), AllocError>
     requires none { list.old.entries ≡ [] }
     requires inside { All (λ e. (e.0.0 < list.old.rows) × (e.0.1 < list.old.columns)) entries.now }

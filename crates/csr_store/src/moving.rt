@@ -4,10 +4,11 @@ ghost use Rattle.csr_store.specs.inner.Moved.{moved};
 
 use std::alloc::AllocError;
 
-/// So many ends are moved by code without a loop.
+/// The number of ends that code without a loop moves at once.
 const BLOCK: usize = 16;
 
-/// Adds ends to a list, each moved by a distance modulo 2^64: so ends are moved back by the distance that comes back to 0.
+/// Adds ends to a list, each moved by a distance modulo 2^64: so ends are moved back by the
+/// distance that comes back to 0.
 pub fn push_moved(list: &mut Vec<u64>, ends: &[u64], distance: u64) -> Result<(), AllocError>
     ensures { OnOk result (list.new.items ≡ list.old.items ++ map (moved distance) ends.now) }
 {
@@ -20,7 +21,7 @@ pub fn push_moved(list: &mut Vec<u64>, ends: &[u64], distance: u64) -> Result<()
     push_each(list, rest, distance)
 }
 
-/// The same, one end after the other.
+/// As `move_ends`, one end at a time.
 #[inline(always)]
 fn push_each(list: &mut Vec<u64>, ends: &[u64], distance: u64) -> Result<(), AllocError>
     ensures { OnOk result (list.new.items ≡ list.old.items ++ map (moved distance) ends.now) }

@@ -1,4 +1,5 @@
-//! Rising positions in parts of their range: a table says where each part starts, so that a search looks at one part.
+//! Rising positions in parts of their range: a table says where each part starts, so that a search
+//! looks at one part.
 ghost use Rattle.std.specs.Prelude.{◌≡◌, ◌<◌, ◌≤◌, ◌/◌, ◌^◌, ℕ, IsTrue, length, slice_index};
 ghost use Rattle.std.specs.Ordering.{nat_cmp};
 ghost use Rattle.std.specs.FinMap as map;
@@ -9,7 +10,8 @@ ghost use Rattle.csr_store.specs.inner.Repeated.{number_at};
 use crate::matrix::Cell;
 use crate::row::cells_before;
 
-/// How many low bits of a position don't tell its part, so that the last position is in one of so many parts.
+/// How many low bits of a position don't tell its part, so that the last position is in one of
+/// `parts` parts.
 pub fn part_bits(last: u64, parts: usize) -> u32
     requires { 0 < parts }
     ensures { result < 64 }

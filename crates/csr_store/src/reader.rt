@@ -7,8 +7,8 @@ ghost use Rattle.csr_store.specs.Grid.{row_of, row_start};
 use crate::matrix::{Cell, Matrix};
 use std::marker::Model;
 
-/// Reads rows one after the other. Only the list that their cells stand in is looked up, and that once for 256 rows. A contract
-/// sees the matrix, and which row comes next.
+/// Reads rows one after the other. Only the list that their cells stand in is looked up, and that
+/// once for 256 rows. A contract sees the matrix, and which row comes next.
 #[derive(Drop)]
 pub struct RowReader<'m> {
     matrix: &'m Matrix,
@@ -38,7 +38,7 @@ impl<'m> Model for RowReader<'m> {
 }
 
 impl<'m> RowReader<'m> {
-    /// Of a matrix, from a row on.
+    /// Reads a matrix from a row on.
     pub(crate) fn begin(matrix: &'m Matrix, row: u64) -> Self
         requires { row ≤ matrix.now.rows }
         ensures { result ≡ record { grid = matrix.now; row = row } }

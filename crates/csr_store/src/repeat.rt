@@ -17,8 +17,8 @@ use std::marker::Model;
 
 /// The positions that two or more entries of a list have, and which of them were met so far.
 ///
-/// They are kept where the entries stood, so they take no memory of their own. Each has two entries or more, so behind them is
-/// room for a table of where to look for a position.
+/// They are kept where the entries stood, so they take no memory of their own. Each has two entries
+/// or more, so behind them is room for a table of where to look for a position.
 #[derive(Drop)]
 pub struct RepeatedPositions {
     /// The positions, rising, and behind them where each part of their range starts.
@@ -46,9 +46,11 @@ impl Model for RepeatedPositions {
 }
 
 impl RepeatedPositions {
-    /// Meets an entry at a position, and tells whether the position is a repeated one that was met before.
+    /// Meets an entry at a position, and tells whether the position is a repeated one that was met
+    /// before.
     ///
-    /// Costs a search in one part of the range of the repeated positions, which has some 32 of them where they stand evenly.
+    /// Costs a search in one part of the range of the repeated positions, which has some 32 of them
+    /// where they stand evenly.
     pub fn meet(&mut self, row: u64, column: u64) -> bool
         requires row { row < limit }
         requires column { column < limit }
@@ -64,11 +66,12 @@ impl RepeatedPositions {
     }
 }
 
-/// About how many positions a part has. With fewer, the table of parts doesn't stay in a cache near the processor; with more, a
-/// search in a part takes longer.
+/// About how many positions a part has. With fewer, the table of parts doesn't stay in a cache near
+/// the processor; with more, a search in a part takes longer.
 const POSITIONS_A_PART: usize = 32;
 
-/// The positions that two or more of these cells have, if there are any. The cells' positions don't fall.
+/// The positions that two or more of these cells have, if there are any. The cells' positions don't
+/// fall.
 pub fn repeats_of(cells: Vec<Cell>) -> Option<RepeatedPositions>
     requires { IsNonDecreasingBy (λ c. c.0) cells.items }
     ensures once { IfNone result (NoneTwice (map unpacked cells.items)) }
@@ -88,8 +91,8 @@ pub fn repeats_of(cells: Vec<Cell>) -> Option<RepeatedPositions>
     Some(RepeatedPositions { cells, count, bits })
 }
 
-/// Brings a cell without a mark to the front for each position that two or more cells have, and answers how many they are. The
-/// cells' positions don't fall.
+/// Brings a cell without a mark to the front for each position that two or more cells have, and
+/// answers how many they are. The cells' positions don't fall.
 fn keep_repeats(cells: &mut Vec<Cell>) -> usize
     requires { IsNonDecreasingBy (λ c. c.0) cells.old.items }
     ensures within { result ≤ length cells.new.items }
@@ -106,7 +109,8 @@ fn keep_repeats(cells: &mut Vec<Cell>) -> usize
     kept
 }
 
-/// Whether a cell has the position of the one before it, and the last of the first so many cells has another.
+/// Whether a cell has the position of the one before it, and the last of the first so many cells
+/// has another.
 fn begins_repeat(cells: &[Cell], kept: usize, nth: usize) -> bool
     requires order { kept < nth }
     requires within { nth < length cells.now }

@@ -41,11 +41,11 @@ pub fn value_at(row: &[Cell], j: u64) -> Option<u64>
     }
 }
 
-/// The most cells that are copied at once. The C library copies this many in vector registers, and a good many more byte by
-/// byte, by one instruction of which tools count each byte.
+/// The most cells that are copied at once. The C library copies this many in vector registers, and
+/// a good many more byte by byte, by one instruction of which tools count each byte.
 const PART: usize = 240;
 
-/// Adds cells behind others.
+/// Appends cells to a list.
 pub fn append(cells: &mut Vec<Cell>, more: &[Cell]) -> Result<(), AllocError>
     ensures { OnOk result (cells.new.items ≡ cells.old.items ++ more.now) }
 {
@@ -59,10 +59,10 @@ pub fn append(cells: &mut Vec<Cell>, more: &[Cell]) -> Result<(), AllocError>
     Ok(())
 }
 
-/// So many values are given to cells by code without a loop.
+/// The number of cells to which code without a loop gives values.
 const BLOCK: usize = 16;
 
-/// Gives other values to cells from one on, as many as there are values.
+/// Gives other values to as many cells as there are values, from an index on.
 pub fn put_values(cells: &mut [Cell], from: usize, values: &[u64])
     requires { from + length values.now ≤ length cells.old }
     ensures { cells.new ≡ valued_from from values.now cells.old }

@@ -10,7 +10,8 @@ use crate::rows::Rows;
 use std::marker::Model;
 use std::mem;
 
-/// Rows of a matrix of which the first entries were written with other values; the others are still the matrix's own.
+/// Rows of a matrix of which the first entries were written with other values; the others are still
+/// the matrix's own.
 #[derive(Drop)]
 pub struct RowCopy<'m> {
     first: u64,
@@ -78,7 +79,7 @@ impl<'m> RowCopy<'m> {
         self.written.len()
     }
 
-    /// The next entries that were not written, so many of them.
+    /// The next `many` entries that were not written.
     #[inline(always)]
     pub fn next_cells(&self, many: usize) -> &[Cell]
         requires { self.now.written + many ≤ entries_of self.now.run }

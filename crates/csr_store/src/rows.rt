@@ -76,8 +76,8 @@ impl Rows {
         }
     }
 
-    /// The rows of a range of a matrix, with those of their cells whose answer is not 0. Takes memory for these, and for one
-    /// cell more.
+    /// The rows of a range of a matrix, with those of their cells whose answer is not 0. Takes
+    /// memory for these, and for one cell more.
     pub fn kept(
         alloc: Global,
         a: &Matrix,
@@ -114,7 +114,7 @@ impl Rows {
         })
     }
 
-    /// Makes room for so many entries more: where there is none, for as many more as there are, at least.
+    /// Reserves room for `entries` more entries. If that takes memory, the room at least doubles.
     #[inline]
     pub fn reserve(&mut self, entries: usize) -> Result<(), AllocError>
         ensures { self.new ≡ self.old }
@@ -125,14 +125,14 @@ impl Rows {
         self.widen(entries)
     }
 
-    /// Makes room for the ends of so many rows more.
+    /// Reserves room for the ends of `rows` more rows.
     pub fn reserve_rows(&mut self, rows: usize) -> Result<(), AllocError>
         ensures { self.new ≡ self.old }
     {
         self.ends.reserve(rows)
     }
 
-    /// Moves the entries into a list with room for so many more, and for twice as many at least.
+    /// Moves the entries into a list with room for `entries` more, and for at least twice as many.
     #[inline(never)]
     fn widen(&mut self, entries: usize) -> Result<(), AllocError>
         ensures { self.new ≡ self.old }
@@ -152,7 +152,7 @@ impl Rows {
         self.cells.shrink_to_fit();
     }
 
-    /// Adds an entry to the open row, behind its others. On a refusal the run is as before.
+    /// Appends an entry to the open row. On a refusal the run is as before.
     pub fn push(&mut self, column: u64, value: u64) -> Result<(), AllocError>
         requires within { column < self.old.columns }
         requires above { AllByRecursion (λ (c : Cell). c.0 < column) self.old.opened }
@@ -171,7 +171,7 @@ impl Rows {
         &self.cells
     }
 
-    /// Gives other values to the entries from one on, as many as there are values.
+    /// Gives other values to as many entries as there are values, from an index on.
     pub fn set_values(&mut self, from: usize, values: &[u64])
         requires { from + length values.now ≤ entries_of self.old }
         ensures alike { AreAlike self.old self.new }
@@ -190,8 +190,8 @@ impl Rows {
         Ok(())
     }
 
-    /// Ends so many rows without an entry. In front of all entries that takes no memory, and no time for a row. On a refusal
-    /// the run is as before.
+    /// Ends `count` rows without an entry. Before the first entry that takes no memory, and no time
+    /// per row. On a refusal the run is as before.
     pub fn end_blank(&mut self, count: u64) -> Result<(), AllocError>
         requires none_open { self.old.opened ≡ [] }
         ensures ended { OnOk result (self.new ≡ record self.old { ended = self.old.ended ++ replicate count [] }) }
@@ -222,7 +222,8 @@ impl Rows {
         self.cells.len()
     }
 
-    /// Gives an entry another value. Entries are numbered from 0, in the order in which they were added.
+    /// Gives an entry another value. Entries are numbered from 0, in the order in which they were
+    /// added.
     #[inline(always)]
     pub fn set_value(&mut self, entry: usize, value: u64)
         requires { entry < entries_of self.old }
@@ -231,8 +232,8 @@ impl Rows {
         self.cells[entry].1 = value;
     }
 
-    /// Puts where the rows end behind the starts of others, which have so many entries, and the cells behind theirs, as a
-    /// list of their own. Answers how many entries they have together.
+    /// Appends the row ends to the starts of earlier runs, which have `entries` entries, and the cells
+    /// to theirs, as a list of their own. Returns the number of entries of all runs.
     pub(crate) fn stack_on(
         self,
         entries: u64,
@@ -250,7 +251,7 @@ impl Rows {
         Ok(entries + count)
     }
 
-    /// Adds the ended rows behind those of compressed rows.
+    /// Appends the ended rows to compressed rows.
     pub(crate) fn append_to(
         &self,
         starts: &mut Vec<u64>,

@@ -9,12 +9,13 @@ use crate::matrix::Matrix;
 use crate::rows::Rows;
 use std::alloc::{AllocError, Global};
 
-/// The matrix of runs of rows that follow one another from row 0 to the last, 256 in each but the last, which has no more;
-/// each with these columns and without an entry in its open row.
+/// The matrix of runs of rows that follow one another from row 0 to the last, 256 in each but the
+/// last, which has no more; each with these columns and without an entry in its open row.
 ///
-/// The cells stay where the runs have them, so this takes 8 bytes a row and no time for an entry. Where all rows start as those of
-/// a matrix that it is like, as a result of apply is like its operand, both keep one list of starts: then it takes no memory for a
-/// row, and no time for one in front of all entries of its run.
+/// The cells stay where the runs have them, so this takes 8 bytes a row and no time for an entry.
+/// Where all rows start as those of a matrix that it is like, as a result of apply is like its
+/// operand, both keep one list of starts: then it takes no memory for a row, and no time for one in
+/// front of all entries of its run.
 pub fn stack_runs(
     alloc: Global,
     rows: u64,

@@ -1,11 +1,13 @@
-//! Where the rows of a matrix start: a list that matrices of which each row has as many entries may share.
+//! Where the rows of a matrix start: a list that matrices of which each row has as many entries may
+//! share.
 ghost use Rattle.std.specs.Prelude.{◌≡◌, IfOk, IfErr, IfSome, OnOk};
 
 use std::alloc::{AllocError, Global};
 use std::marker::Model;
 use std::sync::Arc;
 
-/// How many entries stand in the rows before each row, and at last before the end. A contract sees the list.
+/// How many entries stand in the rows before each row, and at last before the end. A contract sees
+/// the list.
 #[derive(Drop)]
 pub struct RowStarts {
     list: Arc<Vec<u64>>,
@@ -24,7 +26,7 @@ impl Model for RowStarts {
 }
 
 impl RowStarts {
-    /// Of a list.
+    /// The starts that a list has.
     pub(crate) fn new(alloc: Global, list: Vec<u64>) -> Result<Self, AllocError>
         ensures { IfOk result (λ s. s ≡ list.items) }
     {
@@ -38,7 +40,8 @@ impl RowStarts {
         Ok(RowStarts { list })
     }
 
-    /// Puts a list into room that has one owner. Where it has more, the others keep theirs, and memory is taken; else none is.
+    /// Puts a list into room that has one owner. If it has more, the others keep the old list, and
+    /// memory is taken; else none is.
     pub(crate) fn give(&mut self, list: Vec<u64>) -> Result<(), AllocError>
         ensures { OnOk result (self.new ≡ list.items) }
     {
@@ -46,7 +49,7 @@ impl RowStarts {
         Ok(())
     }
 
-    /// Of a list, or the list back where there is no memory to share it.
+    /// The starts that a list has, or the list back if there is no memory to share it.
     pub(crate) fn or_back(alloc: Global, list: Vec<u64>) -> Result<Self, Vec<u64>>
         ensures ok { IfOk result (λ s. s ≡ list.items) }
         ensures err { IfErr result (λ l. l.items ≡ list.items) }

@@ -9,15 +9,16 @@ use csr_store::{Matrix, Rows};
 use std::alloc::{AllocError, Global};
 use std::ops::Range;
 
-/// A part of a result: rows of a range, under a mask if there is one. A mask is structural (`GrB_STRUCTURE` of the GraphBLAS): a
-/// position passes where it stores something.
+/// A part of a result: rows of a range, under a mask if there is one. A mask is structural
+/// (`GrB_STRUCTURE` of the GraphBLAS): a position passes where it stores something.
 #[derive(Drop)]
 pub struct Region<'m> {
     pub range: Range<u64>,
     pub mask: Option<&'m Matrix>,
 }
 
-/// Whether a matrix or the mask has no entry in the rows of a range. That is seen from where rows start, and no row is looked at.
+/// Whether a matrix or the mask has no entry in the rows of a range. That is seen from where rows
+/// start, and no row is looked at.
 pub fn is_blank_under(a: &Matrix, mask: Option<&Matrix>, range: &Range<u64>) -> bool
     requires mask { IfSome mask (λ m. range.now.end ≤ m.now.rows) }
     requires within { range.now.end ≤ a.now.rows }
@@ -32,7 +33,8 @@ pub fn is_blank_under(a: &Matrix, mask: Option<&Matrix>, range: &Range<u64>) -> 
     }
 }
 
-/// What was made of a part of a result: its rows, or want of memory; and the steps of the calls that were made.
+/// What was made of a part of a result: its rows, or want of memory; and the steps of the calls
+/// that were made.
 #[derive(Drop)]
 pub struct Chunk {
     pub result: Result<Rows, AllocError>,

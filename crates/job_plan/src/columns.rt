@@ -15,10 +15,12 @@ use std::alloc::{AllocError, Global};
 use std::marker::Model;
 use std::sync::Arc;
 
-/// How many times the rows of a column may be read in vain, before the search for its copy is given up.
+/// How many times the rows of a column may be read in vain, before the search for its copy is given
+/// up.
 const PATIENCE: u64 = 4;
 
-/// A copy of a column, with an owner more of the matrix that it was made of. A contract sees that matrix.
+/// A copy of a column, with an owner more of the matrix that it was made of. A contract sees that
+/// matrix.
 #[derive(Drop)]
 pub struct Copied {
     matrix: Version,
@@ -75,7 +77,8 @@ impl Copied {
         word_of(self.column.word(k))
     }
 
-    /// The first row at which another column differs: 0 where the sizes do, and none where nothing does.
+    /// The first row at which another column differs: 0 where the sizes do, and none where nothing
+    /// does.
     #[tactic(auto, using(crate::proofs::Copies::same_columns, crate::proofs::Copies::other_words))]
     fn difference(&self, other: &Matrix) -> Option<u64>
         requires { other.now.columns ≡ 1 }
@@ -111,7 +114,8 @@ fn word_at(column: &Matrix, k: u64) -> Option<u64>
     word_of(column.word_in_column(k))
 }
 
-/// What a search for a copy may answer: its place, that there is none, or that the search would take too long.
+/// What a search for a copy may answer: its place, that there is none, or that the search would
+/// take too long.
 enum Found {
     At(u64),
     Nowhere,
@@ -137,8 +141,8 @@ fn find(copies: &[Copied], column: &Matrix) -> Found
     Found::Nowhere
 }
 
-/// Whether one more copy takes no more words than the cells that it is of. The first copy may also take as many as tell where the
-/// rows of its matrix start.
+/// Whether one more copy takes no more words than the cells that it is of. The first copy may also
+/// take as many as tell where the rows of its matrix start.
 fn fits(copies: &[Copied], column: &Matrix) -> bool
     ensures { IsTrue result → FitsBehind copies.now column.now }
 {
@@ -147,7 +151,8 @@ fn fits(copies: &[Copied], column: &Matrix) -> bool
     rows + rows.div_ceil(64) <= starts + 2 * column.entries()
 }
 
-/// Puts the copy of a column behind others, where it fits and there is memory for it, and tells its place.
+/// Puts the copy of a column behind others, where it fits and there is memory for it, and tells its
+/// place.
 fn add(alloc: Global, copies: &mut Vec<Copied>, matrix: &Version) -> Option<u64>
     requires { (arc_value matrix.now).columns ≡ 1 }
     ensures { MatchOption result (copies.new.items ≡ copies.old.items) (λ p. (p ≡ length copies.old.items)

@@ -3,7 +3,8 @@ ghost use Rattle.std.specs.Prelude.{◌≡◌};
 
 use thiserror::Error;
 
-/// Why [`Priced::of`](crate::Priced::of) refuses a job, in the order in which the reasons are looked at.
+/// Why [`Priced::of`](crate::Priced::of) refuses a job, in the order in which the reasons are
+/// looked at.
 #[derive(Clone, Copy, Debug, PartialEq, Eq, Error)]
 pub enum JobError {
     #[error("J4: the operator is of another kind than the job takes")]

@@ -6,9 +6,10 @@ use bpf_verify::Operator;
 use csr_store::Version;
 use std::sync::Arc;
 
-/// The six forms of jobs, each with just the operators, the thunk and the matrices that it takes. In a line these are names; in a
-/// job they are operators and matrices of which it is an owner, perhaps of the wrong kind and of shapes that don't fit:
-/// [`Priced::of`](crate::Priced::of) looks at that.
+/// The six forms of jobs, each with just the operators, the thunk and the matrices that it takes.
+/// In a line these are names; in a job they are operators and matrices of which it is an owner,
+/// perhaps of the wrong kind and of shapes that don't fit: [`Priced::of`](crate::Priced::of) looks
+/// at that.
 #[derive(Clone, Copy, Drop)]
 pub enum Form<O = Arc<Operator>, M = Version> {
     /// What a unary operator makes of each word; with a thunk, what an index operator makes of it.

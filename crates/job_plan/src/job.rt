@@ -21,9 +21,9 @@ use std::ops::Range;
 /// The most steps that a job may cost.
 const MOST_STEPS: u64 = 4_294_967_296;
 
-/// A form with its operators and operands, a structural mask or none, and the name that the result will be bound to. A contract
-/// sees the `Job` of `specs/Job.antt`, in which versions and operators are the matrices and the accepted operators that they stand
-/// for.
+/// A form with its operators and operands, a structural mask or none, and the name that the result
+/// will be bound to. A contract sees the `Job` of `specs/Job.antt`, in which versions and operators
+/// are the matrices and the accepted operators that they stand for.
 #[derive(Drop)]
 pub struct Job {
     form: Form,
@@ -103,8 +103,8 @@ impl Job {
         Ok(price)
     }
 
-    /// How many entries the result can have, as the form says it; or the first rule that is broken, of those that come before the
-    /// price.
+    /// How many entries the result can have, as the form says it; or the first rule that is broken,
+    /// of those that come before the price.
     fn check(&self) -> Result<u64, JobError>
         ensures passes { IfOk result (λ _. Passes self.now) }
         ensures entries { IfOk result (λ n. n ≡ (costing self.now.form).entries self.now.mask) }
@@ -129,8 +129,8 @@ impl Job {
         Ok(entries)
     }
 
-    /// The price, where it is known how many entries the result can have: of a product these are its multiplications, which are
-    /// counted once.
+    /// The price, where it is known how many entries the result can have: of a product these are
+    /// its multiplications, which are counted once.
     fn price_of_all(&self, entries: u64) -> u64
         requires passes { Passes self.now }
         requires entries { entries ≡ (costing self.now.form).entries self.now.mask }

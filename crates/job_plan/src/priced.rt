@@ -38,8 +38,9 @@ impl Priced {
     ///
     /// # Errors
     ///
-    /// The job, with the first rule that it breaks, in this order: an operator of another kind, shapes that don't fit, a mask of
-    /// another shape than the result, a result that could be too large, a price that is too high.
+    /// The job, with the first rule that it breaks, in this order: an operator of another kind,
+    /// shapes that don't fit, a mask of another shape than the result, a result that could be too
+    /// large, a price that is too high.
     pub fn of(job: Job) -> Result<Priced, (Job, JobError)>
         ensures { result ≡ answered job (job_fault job) }
     {

@@ -90,8 +90,8 @@ impl Queue {
         self.jobs.clear();
     }
 
-    /// Makes a plan of the jobs, and is then empty, with room for 64. The columns that products are by are copied, each once, as
-    /// far as that pays and there is memory ([`Plan::copies`]).
+    /// Makes a plan of the jobs, and is then empty, with room for 64. The columns that products are
+    /// by are copied, each once, as far as that pays and there is memory ([`Plan::copies`]).
     ///
     /// # Errors
     ///

@@ -1,4 +1,5 @@
-//! What rows count for in a price, by how many entries they have. Where a matrix has none in the rows, that is seen at once.
+//! What rows count for in a price, by how many entries they have. Where a matrix has none in the
+//! rows, that is seen at once.
 ghost use Rattle.std.specs.Prelude.{◌≡◌, ◌≤◌, ◌<◌, ◌-◌, min, Some};
 ghost use Rattle.csr_store.specs.Along.{summed};
 ghost use Rattle.csr_store.specs.Grid.{limit};

@@ -118,7 +118,8 @@ impl Form {
         }
     }
 
-    /// How many entries the result can have, of a form in which that may be more than a matrix holds; else 0.
+    /// How many entries the result can have, of a form in which that may be more than a matrix
+    /// holds; else 0.
     pub(crate) fn entries(&self, mask: Option<&Matrix>) -> u64
         requires shapes { (operation (form_of self.now)).shapes ≡ true }
         requires mask { has_shape (operation (form_of self.now)).rows (operation (form_of self.now)).columns (mask_of mask)
@@ -169,7 +170,8 @@ impl Form {
     }
 }
 
-/// The kind of operator that `apply` takes: an index operator where there is a thunk, else a unary one.
+/// The kind of operator that `apply` takes: an index operator where there is a thunk, else a unary
+/// one.
 fn kind_with(thunk: Option<u64>) -> Kind
     ensures { result ≡ kind_with thunk }
 {

@@ -117,7 +117,7 @@ fn join_all<H: Threads>(
 }
 
 /// A worker at each of these seats: the last on the calling thread, with what is kept, the others
-/// in threads of their own. Answers what they did, and what was refused: the start of a thread, or
+/// in threads of their own. Returns what they did, and what was refused: the start of a thread, or
 /// memory for the threads' handles. Then the workers that had started went on to their ends, and
 /// the calling thread's did nothing.
 fn work_beside<'s, 'a, H: Threads, G: Gate + Sync>(
@@ -158,7 +158,7 @@ fn work_beside<'s, 'a, H: Threads, G: Gate + Sync>(
 }
 
 /// A worker at each of these seats: the last on the calling thread, the others in threads of their
-/// own. Answers what they did, and what was refused, as `work_beside` does. One worker starts no
+/// own. Returns what they did, and what was refused, as `work_beside` does. One worker starts no
 /// thread.
 pub(crate) fn work_all<H: Threads + Wait, G: Gate + Sync>(
     context: BatchContext<'_, H, G>,

@@ -1,4 +1,5 @@
-//! Calls of flat code against the machine that knows of each register what stands in it: values and steps.
+//! Calls of flat code against the machine that knows of each register what stands in it: values and
+//! steps.
 mod lanes;
 
 use bpf_insn::{Kind, Operands, Program, Ran, run_tagged};
@@ -39,7 +40,8 @@ fn operands_of(kind: Kind, x: u64, y: u64) -> Operands {
     }
 }
 
-/// That calls of the operator of a text, alone and together, give and cost what the tagged machine says, on all pairs of words.
+/// That calls of the operator of a text, alone and together, give and cost what the tagged machine
+/// says, on all pairs of words.
 fn expect_alike(rt: &impl Abort, alloc: Global, text: &str, kind: Kind) -> Result<(), Fail> {
     let tagged = assemble(alloc, text.as_bytes())?;
     let operator = assembled(alloc, kind, text)?;
@@ -58,7 +60,8 @@ fn expect_alike(rt: &impl Abort, alloc: Global, text: &str, kind: Kind) -> Resul
     Ok(())
 }
 
-/// Each of four jumps parts the lanes; those that go on store, load, compute and exit while the others wait.
+/// Each of four jumps parts the lanes; those that go on store, load, compute and exit while the
+/// others wait.
 const PARTED: &str = "
     stx64 r10, -8, r1
     stx64 r10, -16, r2

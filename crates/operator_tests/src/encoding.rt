@@ -141,7 +141,8 @@ fn expect_code(rt: &impl Abort, alloc: Global, program: &Program, code: &[u8]) -
     Ok(())
 }
 
-/// That a code is a program of so many instructions and slots, and that it is what the program is encoded to.
+/// That a code is a program of so many instructions and slots, and that it is what the program is
+/// encoded to.
 fn expect_program(
     rt: &impl Abort,
     alloc: Global,
@@ -238,7 +239,8 @@ fn a_bad_number_of_instructions_is_refused(rt: HostRuntime) -> Result<(), Fail> 
     Ok(())
 }
 
-/// That an error of decoding is shown as this text, and so is the same one of making a program of instructions.
+/// That an error of decoding is shown as this text, and so is the same one of making a program of
+/// instructions.
 fn expect_shown(
     rt: &impl Abort,
     alloc: Global,

@@ -1,4 +1,5 @@
-//! The machine with tags: what a run comes to, and where it is stuck on programs that the verifier refuses.
+//! The machine with tags: what a run comes to, and where it is stuck on programs that the verifier
+//! refuses.
 mod faults;
 
 use bpf_insn::{CodeRule, Fault, Kind, Operands, Ran, Stepped, Tagged, run_tagged};
@@ -39,7 +40,8 @@ struct Given {
     steps: u64,
 }
 
-/// Programs with what they give. The verifier refuses the last two, for a way that these operands don't go.
+/// Programs with what they give. The verifier refuses the last two, for a way that these operands
+/// don't go.
 const GIVEN: [Given; 4] = [
     Given {
         name: "add 1",

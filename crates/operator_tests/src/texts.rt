@@ -1,4 +1,5 @@
-//! Texts of programs that no session keeps, since the verifier refuses them, and how errors are shown.
+//! Texts of programs that no session keeps, since the verifier refuses them, and how errors are
+//! shown.
 mod opcodes;
 
 use bpf_text::{AsmError, AsmFault, AsmRule, assemble};

@@ -1,4 +1,5 @@
-//! What comes back with a refusal, and what is known at the slots of an operator beyond what `types` tells.
+//! What comes back with a refusal, and what is known at the slots of an operator beyond what
+//! `types` tells.
 mod refused;
 mod typing;
 

@@ -13,8 +13,8 @@ use crate::rule::{
 };
 use std::marker::Brand;
 
-/// A seat of a board's words, with what its workers drew and spent so far, so that closing the board
-/// has nothing to look up.
+/// A seat of a board's words, with what its workers drew and spent so far, so that closing the
+/// board has nothing to look up.
 #[derive(Drop)]
 pub struct Crew {
     pub table_seat: TableSeat,

@@ -1,5 +1,5 @@
-//! The rule of a board's words, and the five kinds of step that keep it: draw, complete, fail, split
-//! and join.
+//! The rule of a board's words, and the five kinds of step that keep it: draw, complete, fail,
+//! split and join.
 ghost use Rattle.std.specs.Prelude.{[], ◌++◌};
 ghost use Rattle.race_board.specs.inner.Rule.{IsHeld, everyone, first_of, rest_of, Draws, Completes, Fails, Learns};
 
@@ -48,7 +48,8 @@ impl Priced for Brand {
     ghost prices = { [] };
 }
 
-/// One is added to the count, and the first worker of the seat gets the number found, or is told the end.
+/// One is added to the count, and the first worker of the seat gets the number found, or is told
+/// the end.
 pub struct DrawStep<T: Priced>(PhantomData<T>);
 
 impl<T: Priced> Play<u8, View> for DrawStep<T> {

@@ -1,7 +1,7 @@
 //! What a closed board answers.
 
-/// What the workers did whose seats were handed in, and what all workers of the board did. The two differ by what was lost
-/// with the other seats.
+/// What the workers did whose seats were handed in, and what all workers of the board did. The two
+/// differ by what was lost with the other seats.
 #[derive(Clone, Copy, Debug, PartialEq, Eq)]
 pub struct Totals {
     /// How many chunks the workers drew whose seats were handed in.

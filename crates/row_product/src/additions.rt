@@ -53,7 +53,8 @@ impl Additions {
         self.calls.gather_pair(so_far, term);
     }
 
-    /// Makes all that were gathered, and puts what they come to at their columns. Answers the steps.
+    /// Makes all that were gathered, and puts what they come to at their columns. Returns the
+    /// steps.
     pub(crate) fn make(&mut self, add: &Operator, sums: &mut Sums) -> u64
         requires add { add.now.kind ≡ kinds.Binary }
         requires within { AreBelow (length sums.old) self.old.columns }

@@ -1,4 +1,5 @@
-//! Words of a column that the cells of a row of A name, each multiplied: the terms of a row of a product of one column.
+//! Words of a column that the cells of a row of A name, each multiplied: the terms of a row of a
+//! product of one column.
 ghost use Rattle.std.specs.Prelude.{◌≡◌, ◌≤◌, ◌<◌, ◌++◌, ◌∷◌, [], if◌then◌else◌};
 ghost use Rattle.std.specs.Prelude.{None, Some, length, vec_capacity};
 ghost use Rattle.std.specs.FinMap as fin;
@@ -15,7 +16,8 @@ use bpf_run::{Calls, Function, Loop, Outcome, call_by};
 use bpf_verify::Operator;
 use csr_store::{Column, Matrix};
 
-/// Up to 64 cells of a row of A, and the column whose words they name, with its copy if there is one.
+/// Up to 64 cells of a row of A, and the column whose words they name, with its copy if there is
+/// one.
 #[derive(Drop)]
 pub(crate) struct ColumnTerms<'c> {
     pub(crate) cells: &'c [(u64, u64)],
@@ -23,7 +25,8 @@ pub(crate) struct ColumnTerms<'c> {
     pub(crate) column: Option<&'c Column>,
 }
 
-/// The word at row `k` of a column, and whether there is one: by its copy, if there is one. Where there is no word it is any.
+/// The word at row `k` of a column, and whether there is one: by its copy, if there is one. Where
+/// there is no word it is any.
 #[inline(always)]
 pub(crate) fn word_at(b: &Matrix, column: Option<&Column>, k: u64) -> (u64, bool)
     requires column { b.now.columns ≡ 1 }
@@ -37,8 +40,9 @@ pub(crate) fn word_at(b: &Matrix, column: Option<&Column>, k: u64) -> (u64, bool
     }
 }
 
-/// Lists the terms of cells, each at column 0, by an operator that computes a function. Answers the steps. A term is listed before
-/// it is known whether there is a word for it, and taken back where there is none: a branch here would be mispredicted.
+/// Lists the terms of cells, each at column 0, by an operator that computes a function. Returns the
+/// steps. A term is listed before it is known whether there is a word for it, and taken back where
+/// there is none: a branch here would be mispredicted.
 #[inline(always)]
 fn multiply<F: Function>(
     mul: &Operator,
@@ -61,7 +65,8 @@ fn multiply<F: Function>(
     steps
 }
 
-/// Lists what a call came to at column 0, and takes it back unless it stands. Answers the steps of the call, if it stands.
+/// Lists what a call came to at column 0, and takes it back unless it stands. Returns the steps of
+/// the call, if it stands.
 #[inline(always)]
 fn list_if(terms: &mut Vec<(u64, u64)>, called: Outcome, stands: bool) -> u64
     requires room { length terms.old.items < vec_capacity terms.old }

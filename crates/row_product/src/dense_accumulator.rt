@@ -20,7 +20,8 @@ use job_forms::Making;
 use std::alloc::{AllocError, Global};
 use std::marker::Model;
 
-/// The sums of a row, and the calls that add to them. A contract sees the sum of each column, if there is one.
+/// The sums of a row, and the calls that add to them. A contract sees the sum of each column, if
+/// there is one.
 #[derive(Drop)]
 pub(crate) struct DenseAccumulator {
     sums: Sums,
@@ -40,7 +41,7 @@ impl Model for DenseAccumulator {
 }
 
 impl DenseAccumulator {
-    /// Of no column yet.
+    /// Without columns yet.
     pub(crate) fn new(alloc: Global) -> Result<Self, AllocError>
         ensures { IfOk result (λ a. a ≡ []) }
     {
@@ -73,7 +74,8 @@ impl DenseAccumulator {
         self.sums.begin();
     }
 
-    /// Adds a word times each of up to 64 cells of a row of B to the sums of their columns. Answers the steps.
+    /// Adds a word times each of up to 64 cells of a row of B to the sums of their columns. Returns
+    /// the steps.
     pub(crate) fn add_cells(&mut self, factors: &MaskedFactors, x: u64, cells: &[(u64, u64)]) -> u64
         requires { IsPart factors.now (length self.old) cells.now }
         ensures { AddsCells factors.now x cells.now self.old self.new result }
@@ -90,8 +92,8 @@ impl DenseAccumulator {
             )
     }
 
-    /// Puts a word times each of up to 64 cells into the open row, without a sum. The calls are made, and charged, before memory
-    /// may be wanting.
+    /// Puts a word times each of up to 64 cells into the open row, without a sum. The calls are
+    /// made, and charged, before memory may be wanting.
     pub(crate) fn push_products(
         &mut self,
         factors: &MaskedFactors,
@@ -119,7 +121,7 @@ impl DenseAccumulator {
     }
 }
 
-/// Adds terms to the sums of the columns of cells. Answers the steps.
+/// Adds terms to the sums of the columns of cells. Returns the steps.
 fn add_terms(
     add: &Operator,
     cells: &[(u64, u64)],
@@ -139,7 +141,8 @@ fn add_terms(
     additions.make(add, sums)
 }
 
-/// Puts terms at the columns of cells: the first of a column is its sum, and the addition of any other is gathered.
+/// Puts terms at the columns of cells: the first of a column is its sum, and the addition of any
+/// other is gathered.
 fn meet(cells: &[(u64, u64)], terms: &[u64], additions: &mut Additions, sums: &mut Sums)
     requires terms { AreTerms (length sums.old) cells.now terms.now }
     requires none { additions.old ≡ none_gathered }

@@ -14,7 +14,8 @@ pub(crate) struct DenseSums {
     /// How many columns there are. There may be room for more.
     columns: u64,
     words: Vec<u64>,
-    /// A bit for each column, in words of 64. Those that have a sum have theirs set, and no other has.
+    /// A bit for each column, in words of 64. Those that have a sum have theirs set, and no other
+    /// has.
     bits: Vec<u64>,
 }
 
@@ -31,7 +32,7 @@ impl Model for DenseSums {
 }
 
 impl DenseSums {
-    /// Of no column yet. Takes no memory.
+    /// Without columns yet. Takes no memory.
     pub(crate) fn new(alloc: Global) -> Self
         ensures { result ≡ [] }
     {

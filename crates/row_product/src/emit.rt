@@ -34,7 +34,8 @@ fn is_due(column: u64, next: u64, columns: u64) -> bool
     column >= next && column < columns
 }
 
-/// Puts the sums of the listed columns, which do not fall and are all that have one, into the open row.
+/// Puts the sums of the listed columns, which do not fall and are all that have one, into the open
+/// row.
 pub(crate) fn emit_listed(
     columns: u64,
     listed: &[u64],
@@ -55,7 +56,8 @@ pub(crate) fn emit_listed(
     Ok(())
 }
 
-/// Puts the sums of the columns whose bit is set into the open row: for rows where many columns have one.
+/// Puts the sums of the columns whose bit is set into the open row: for rows where many columns
+/// have one.
 pub(crate) fn emit_marked(
     columns: u64,
     bits: &[u64],

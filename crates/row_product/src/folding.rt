@@ -1,4 +1,5 @@
-//! The terms of a row, in the order of their columns, added up: those of one column are folded one after the other.
+//! The terms of a row, in the order of their columns, added up: those of one column are folded one
+//! after the other.
 ghost use Rattle.std.specs.Prelude.{◌≡◌, ◌≤◌, ◌+◌, ◌*◌, ◌++◌, length, vec_capacity};
 ghost use Rattle.row_product.specs.inner.SortedAccumulator.{MayFold, MayFoldBehind, FoldsBehind, AreFolded};
 
@@ -14,7 +15,8 @@ pub(crate) struct Ordered<'c> {
     pub(crate) keys: &'c [u64],
 }
 
-/// Folds further terms into a column's first, and so on for each column after it. Answers the steps.
+/// Folds further terms into a column's first, and so on for each column after it. Returns the
+/// steps.
 #[inline(always)]
 fn fold_behind<C: Caller>(
     add: &Operator,
@@ -43,7 +45,7 @@ fn fold_behind<C: Caller>(
     steps
 }
 
-/// Folds the terms of each column. Answers the steps.
+/// Folds the terms of each column. Returns the steps.
 #[inline(always)]
 fn fold_columns<C: Caller>(add: &Operator, terms: &Ordered, sums: &mut Vec<(u64, u64)>) -> u64
     requires may { MayFold add.now terms.now sums.old }
@@ -73,7 +75,7 @@ impl<'c> Loop for Ordered<'c> {
     }
 }
 
-/// Folds the terms of each column, into one cell a column. Answers the steps.
+/// Folds the terms of each column, into one cell a column. Returns the steps.
 pub(crate) fn fold_terms(add: &Operator, terms: &Ordered, sums: &mut Vec<(u64, u64)>) -> u64
     requires may { MayFold add.now terms.now sums.old }
     ensures { AreFolded add.now terms.now sums.new.items result }

@@ -1,5 +1,6 @@
-//! Rows of a product of one column by a usual ADD and a MUL that is known by its program: all rows of a range are made in one loop, in
-//! which both are compiled. A term goes into its sum as it is made, and nothing is listed.
+//! Rows of a product of one column by a usual ADD and a MUL that is known by its program: all rows
+//! of a range are made in one loop, in which both are compiled. A term goes into its sum as it is
+//! made, and nothing is listed.
 ghost use Rattle.std.specs.Prelude.{◌≡◌, ◌≤◌, ◌+◌, None, Some, IfSome, if◌then◌else◌};
 ghost use Rattle.bpf_insn.specs.declared.operands.Kind.TheVariants as kinds;
 ghost use Rattle.bpf_run.specs.Calls.{steps_of};
@@ -40,8 +41,8 @@ fn with_term<A: Function>(add: &Operator, so_far: Option<u64>, term: u64) -> Out
     }
 }
 
-/// Adds a term to a sum, or begins it, if there is a word for it. Answers the steps. The addition is made before it is known whether
-/// there is: which cells name a word can't be foretold.
+/// Adds a term to a sum, or begins it, if there is a word for it. Returns the steps. The addition
+/// is made before it is known whether there is: which cells name a word can't be foretold.
 #[inline(always)]
 fn add_if<A: Function>(add: &Operator, sum: &mut Option<u64>, term: Outcome, stands: bool) -> u64
     requires computes { Computes add.now A.meaning A.price }
@@ -173,8 +174,8 @@ impl<'r, 'f, 'm, A: Function> Loop for RowsBy<'r, 'f, 'm, A> {
     }
 }
 
-/// Adds the rows of a range in one loop, in which both operators are compiled, if they are known so and B's column is full. Else it
-/// adds none.
+/// Adds the rows of a range in one loop, in which both operators are compiled, if they are known so
+/// and B's column is full. Else it adds none.
 pub(crate) fn fill_fused(
     alloc: Global,
     factors: &MaskedFactors,

@@ -35,7 +35,7 @@ fn lets_pass(mask: Option<&Matrix>, i: u64, j: u64) -> bool
     }
 }
 
-/// Lists a word times each cell of a row of B that passes row `i` of the mask. Answers the steps.
+/// Lists a word times each cell of a row of B that passes row `i` of the mask. Returns the steps.
 #[inline(always)]
 fn list_cells<C: Caller>(
     mul: &Operator,
@@ -66,7 +66,8 @@ fn list_cells<C: Caller>(
     steps
 }
 
-/// Lists the terms that the cells of a row of A give, one row of B after the other. Answers the steps.
+/// Lists the terms that the cells of a row of A give, one row of B after the other. Returns the
+/// steps.
 #[inline(always)]
 fn list_rows<C: Caller>(mul: &Operator, naming: &Naming, listed: &mut Vec<(u64, u64)>) -> u64
     requires may { MayList mul.now naming.now listed.old }
@@ -94,7 +95,8 @@ impl<'m> Loop for Naming<'m> {
     }
 }
 
-/// Lists the terms that the cells of a row of A give, in their order, in place of what was listed. Answers the steps.
+/// Lists the terms that the cells of a row of A give, in their order, in place of what was listed.
+/// Returns the steps.
 pub(crate) fn list_terms(mul: &Operator, naming: &Naming, listed: &mut Vec<(u64, u64)>) -> u64
     requires may { MayList mul.now naming.now listed.old }
     ensures { Lists mul.now naming.now listed.old listed.new result }

@@ -1,4 +1,5 @@
-//! Rows of a product of one column: the terms of a row are one list, which is folded. There is nothing to put in order.
+//! Rows of a product of one column: the terms of a row are one list, which is folded. There is
+//! nothing to put in order.
 ghost use Rattle.std.specs.Prelude.{◌≡◌, ◌<◌, ◌^◌, [], IfOk, IfSome, OnOk};
 ghost use Rattle.bpf_insn.specs.declared.operands.Kind.TheVariants as kinds;
 ghost use Rattle.bpf_run.specs.Calls.{steps_of};
@@ -19,7 +20,8 @@ use csr_store::{Column, Matrix, Rows};
 use job_forms::Making;
 use std::alloc::{AllocError, Global};
 
-/// The terms of up to 64 cells of a row of A, and the calls that make them where the operator isn't known by its program.
+/// The terms of up to 64 cells of a row of A, and the calls that make them where the operator isn't
+/// known by its program.
 #[derive(Drop)]
 pub(crate) struct Summing {
     pub(crate) terms: Vec<(u64, u64)>,
@@ -63,7 +65,7 @@ fn fold_terms(add: &Operator, so_far: u64, terms: &[(u64, u64)]) -> Outcome
     }
 }
 
-/// Folds the words of further terms into a sum, or begins it by the first. Answers the steps.
+/// Folds the words of further terms into a sum, or begins it by the first. Returns the steps.
 fn add_terms(add: &Operator, terms: &[(u64, u64)], sum: &mut Option<u64>) -> u64
     requires add { add.now.kind ≡ kinds.Binary }
     requires room { steps_of (fold_on_calls add.now sum.old (terms_of terms.now)) < 2 ^ 64 }
@@ -82,7 +84,7 @@ fn add_terms(add: &Operator, terms: &[(u64, u64)], sum: &mut Option<u64>) -> u64
 }
 
 impl Summing {
-    /// Of no row yet.
+    /// Without rows yet.
     pub(crate) fn new(alloc: Global) -> Result<Self, AllocError>
         ensures { IfOk result (λ s. HasRoom s.terms) }
     {
@@ -92,7 +94,7 @@ impl Summing {
         })
     }
 
-    /// Lists the terms of up to 64 cells of a row of A. Answers the steps.
+    /// Lists the terms of up to 64 cells of a row of A. Returns the steps.
     fn multiply(
         &mut self,
         mul: &Operator,
@@ -133,8 +135,8 @@ impl Summing {
         Summed { sum, steps }
     }
 
-    /// Adds row `i` of the product, where its one position passes. All its calls are made, and charged, before memory may be
-    /// wanting.
+    /// Adds row `i` of the product, where its one position passes. All its calls are made, and
+    /// charged, before memory may be wanting.
     fn fill_open(
         &mut self,
         factors: &MaskedFactors,
@@ -151,8 +153,8 @@ impl Summing {
     }
 }
 
-/// Adds row `i` of the product, whose one position passes, once its terms are summed. All its calls are charged before memory may be
-/// wanting.
+/// Adds row `i` of the product, whose one position passes, once its terms are summed. All its calls
+/// are charged before memory may be wanting.
 #[inline(always)]
 pub(crate) fn end_summed(
     factors: &MaskedFactors,

@@ -21,7 +21,7 @@ pub(crate) struct Progress {
 }
 
 impl Progress {
-    /// Of no column yet.
+    /// Without columns yet.
     pub(crate) fn new(alloc: Global) -> Result<Self, AllocError>
         ensures { IfOk result (λ p. (p.sums ≡ []) × IsReady 0 p × AllForbidden p) }
     {
@@ -44,7 +44,8 @@ impl Progress {
         self.sums.widen(columns)
     }
 
-    /// Adds a word times each of up to 64 cells of a row of B to the sums: where it is masked, of those whose columns are allowed.
+    /// Adds a word times each of up to 64 cells of a row of B to the sums: where it is masked, of
+    /// those whose columns are allowed.
     fn add_part(
         &mut self,
         factors: &MaskedFactors,
@@ -65,7 +66,8 @@ impl Progress {
         self.sums.add_cells(factors, x, &self.passing[..count])
     }
 
-    /// Adds a word times row `k` of B to the sums: where it is masked, at the allowed columns. Answers the steps.
+    /// Adds a word times row `k` of B to the sums: where it is masked, at the allowed columns.
+    /// Returns the steps.
     fn add_row(&mut self, factors: &MaskedFactors, x: u64, k: u64, masked: bool) -> u64
         requires row { IsRowOfB factors.now k }
         requires ready { IsReady factors.now.b.now.columns self.old }
@@ -84,7 +86,8 @@ impl Progress {
         steps
     }
 
-    /// Adds the rows of B that row `i` of A names, each times the word that names it. Answers the steps.
+    /// Adds the rows of B that row `i` of A names, each times the word that names it. Returns the
+    /// steps.
     pub(crate) fn add_rows(&mut self, factors: &MaskedFactors, i: u64, masked: bool) -> u64
         requires row { IsRowOfA factors.now i }
         requires ready { IsReady factors.now.b.now.columns self.old }
@@ -101,8 +104,9 @@ impl Progress {
     }
 }
 
-/// Puts the cells whose columns are allowed into the first places. Answers how many they are. Each cell is put, allowed or not, and
-/// the next goes over one that isn't: which are allowed can't be foretold, so no jump waits for it.
+/// Puts the cells whose columns are allowed into the first places. Returns how many they are. Each
+/// cell is put, allowed or not, and the next goes over one that isn't: which are allowed can't be
+/// foretold, so no jump waits for it.
 fn choose(cells: &[(u64, u64)], allowed: &[bool], passing: &mut [(u64, u64)]) -> usize
     requires room { length cells.now ≤ length passing.old }
     requires within { Ascends 0 (length allowed.now) cells.now }

@@ -13,8 +13,8 @@ use job_forms::{Chunk, Region};
 use std::alloc::Global;
 use std::ops::Range;
 
-/// A range of rows of the product of two matrices: at each position that passes the mask, `add` folded over `mul` of the words of
-/// A's row and B's column, ascending, as [`product_region`] does.
+/// A range of rows of the product of two matrices: at each position that passes the mask, `add`
+/// folded over `mul` of the words of A's row and B's column, ascending, as [`product_region`] does.
 pub fn product_rows<'m>(
     alloc: Global,
     a: &'m Matrix,

@@ -30,7 +30,8 @@ fn sum_under(factors: &MaskedFactors, i: u64, progress: &mut Progress) -> u64
     }
 }
 
-/// Adds row `i` of the product, by its sums. All its calls are made, and charged, before memory may be wanting.
+/// Adds row `i` of the product, by its sums. All its calls are made, and charged, before memory may
+/// be wanting.
 fn fill_summed(
     factors: &MaskedFactors,
     i: u64,
@@ -53,7 +54,8 @@ impl RowAccumulator for Progress {
 
     ghost may_fill = { λ f i. Unit {0} };
 
-    /// Work linear in the row's multiplications, the words of A's row and of the mask's, and its own entries, but for their order.
+    /// Work linear in the row's multiplications, the words of A's row and of the mask's, and its
+    /// own entries, but for their order.
     fn fill_row(
         &mut self,
         factors: &MaskedFactors,

@@ -8,7 +8,8 @@ use job_forms::Making;
 use std::alloc::AllocError;
 use std::ops::Range;
 
-/// Room in which a row of a product is summed: of all columns (`row`), or in lists of its terms alone (`sorted_accumulator`).
+/// Room in which a row of a product is summed: of all columns (`row`), or in lists of its terms
+/// alone (`sorted_accumulator`).
 pub(crate) trait RowAccumulator {
     /// There is room for so many columns, as far as it has to be there before a row is begun.
     ghost is_ready: { ℕ → Self → Type 0 };

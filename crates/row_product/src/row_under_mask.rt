@@ -14,8 +14,8 @@ pub(crate) struct RowUnderMask<'r> {
     pub(crate) mask: RowCursor<'r>,
 }
 
-/// Puts the next cells that pass, up to 64, into the first places. Answers what is left, and how many they are. Each cell is put, and
-/// the next goes over one that doesn't pass.
+/// Puts the next cells that pass, up to 64, into the first places. Returns what is left, and how
+/// many they are. Each cell is put, and the next goes over one that doesn't pass.
 pub(crate) fn list_passing<'r>(
     row: RowUnderMask<'r>,
     passing: &mut [(u64, u64)],

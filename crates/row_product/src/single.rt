@@ -1,4 +1,5 @@
-//! Rows of A with one entry: a row of B, as far as it passes, each word multiplied. There is nothing to sum, nor to put in order.
+//! Rows of A with one entry: a row of B, as far as it passes, each word multiplied. There is
+//! nothing to sum, nor to put in order.
 ghost use Rattle.std.specs.Prelude.{◌≡◌, ◌≤◌, ◌+◌, ◌*◌, ◌++◌, ◌∷◌, []};
 ghost use Rattle.std.specs.Prelude.{length, IfSome, OnOk};
 ghost use Rattle.bpf_run.specs.Calls.{calls_on, pairs_with};

@@ -1,4 +1,5 @@
-//! Rows of a product whose terms are few beside the columns: the terms are listed, put in order by their columns, and folded.
+//! Rows of a product whose terms are few beside the columns: the terms are listed, put in order by
+//! their columns, and folded.
 ghost use Rattle.std.specs.Prelude.{◌≡◌, ◌≤◌, ◌<◌, ◌++◌, [], ℕ, true, length, OnOk};
 ghost use Rattle.bpf_run.specs.Calls.{steps_of};
 ghost use Rattle.csr_store.specs.Grid.{Cell, limit, row_of};
@@ -29,7 +30,7 @@ pub(crate) struct SortedAccumulator {
 }
 
 impl SortedAccumulator {
-    /// Of no row yet. Takes no memory.
+    /// Without rows yet. Takes no memory.
     pub(crate) fn new(alloc: Global) -> Self {
         SortedAccumulator {
             listed: Vec::new(alloc),
@@ -50,7 +51,7 @@ impl SortedAccumulator {
         self.sums.reserve(terms)
     }
 
-    /// Sums row `i` of the product at the columns that pass the mask. Answers the steps.
+    /// Sums row `i` of the product at the columns that pass the mask. Returns the steps.
     fn sum_row(&mut self, factors: &MaskedFactors, i: u64) -> u64
         requires row { IsRowOfA factors.now i }
         requires few { mults_of factors.now.b.now (row_of factors.now.a.now i) < limit }
@@ -72,8 +73,8 @@ impl SortedAccumulator {
         multiplied + fold_terms(factors.add, &ordered, &mut self.sums)
     }
 
-    /// Adds row `i` of the product, for whose terms there is room. All its calls are made, and charged, before memory may be
-    /// wanting.
+    /// Adds row `i` of the product, for whose terms there is room. All its calls are made, and
+    /// charged, before memory may be wanting.
     fn fill_listed(
         &mut self,
         factors: &MaskedFactors,

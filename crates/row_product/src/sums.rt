@@ -15,8 +15,8 @@ use csr_store::Rows;
 use std::alloc::{AllocError, Global};
 use std::marker::Model;
 
-/// From one sum in so many columns on, going over the bits of all columns is cheaper than putting those that have one in order: 64
-/// columns are one word.
+/// From one sum in so many columns on, going over the bits of all columns is cheaper than putting
+/// those that have one in order: 64 columns are one word.
 const COLUMNS_A_SUM: u64 = 512;
 
 /// The sums of the row in progress. A contract sees the sum of each column, if there is one.
@@ -40,7 +40,7 @@ impl Model for Sums {
 }
 
 impl Sums {
-    /// Of no column yet. Takes no memory.
+    /// Without columns yet. Takes no memory.
     pub(crate) fn new(alloc: Global) -> Self
         ensures { result ≡ [] }
     {
@@ -117,7 +117,8 @@ impl Sums {
         }
     }
 
-    /// Adds a term to the sum of a column, or begins it, by an operator that computes a function. Answers the steps.
+    /// Adds a term to the sum of a column, or begins it, by an operator that computes a function.
+    /// Returns the steps.
     #[inline(always)]
     pub(crate) fn add<F: Function>(&mut self, add: &Operator, column: u64, term: u64) -> u64
         requires computes { Computes add.now F.meaning F.price }

@@ -1,5 +1,5 @@
-//! Terms added to the sums of their columns, by operators that are known by their program: one after another, since nothing is
-//! gathered for a call that is compiled in place.
+//! Terms added to the sums of their columns, by operators that are known by their program: one
+//! after another, since nothing is gathered for a call that is compiled in place.
 ghost use Rattle.std.specs.Prelude.{◌<◌, ◌^◌, length};
 ghost use Rattle.bpf_run.specs.Calls.{steps_of};
 ghost use Rattle.bpf_run.specs.Known.{Computes};
@@ -16,7 +16,8 @@ pub(crate) struct Terms<'c> {
     pub(crate) terms: &'c [u64],
 }
 
-/// Adds terms to the sums of the columns of cells, by an operator that computes a function. Answers the steps.
+/// Adds terms to the sums of the columns of cells, by an operator that computes a function. Returns
+/// the steps.
 #[inline(always)]
 fn add_terms<F: Function>(
     add: &Operator,

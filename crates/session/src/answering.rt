@@ -20,7 +20,7 @@ use step_budget::Steps;
 use wire::{Output, Sink, WriteFailed};
 use workspace::{answer, answer_with_body};
 
-/// Answers what was received. Tells how the session ends, if it does.
+/// Returns what was received. Tells how the session ends, if it does.
 fn respond<T: Steps, H: Threads + Wait>(
     rt: &H,
     alloc: Global,
@@ -86,7 +86,7 @@ fn say<W: Sink>(
     if last { output.flush(writer) } else { Ok(()) }
 }
 
-/// Answers what was received, says the reply, and counts the command. Tells how the session ends,
+/// Returns what was received, says the reply, and counts the command. Tells how the session ends,
 /// if it does.
 ///
 /// # Errors

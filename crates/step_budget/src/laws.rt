@@ -6,7 +6,8 @@ ghost use Rattle.step_purse.specs.Histories.{Leads, own_calls};
 ghost use Rattle.step_purse.specs.Passes.{PassState};
 ghost use Rattle.step_purse.specs.declared.dealings.Dealing.{Dealing};
 
-/// The calls of a wallet, in order, are those that its pass gained, and it stays a pass of its purse.
+/// The calls of a wallet, in order, are those that its pass gained, and it stays a pass of its
+/// purse.
 pub fn calls_of_a_wallet()
     ensures purse { (old : PassState) (ds : List Dealing) (new : PassState) → Deals Draws old ds new
         → (new.purse ≡ old.purse) × (new.allowance ≡ old.allowance) }

@@ -7,8 +7,8 @@ use std::marker::Model;
 use std::sync::Wait;
 use step_purse::{Reply, Totals};
 
-/// A budget of one thread, which nobody else draws on: for tests, and for callers with a session of their own. The program draws
-/// on a `Wallet`. A contract sees its totals.
+/// A budget of one thread, which nobody else draws on: for tests, and for callers with a session of
+/// their own. The program draws on a `Wallet`. A contract sees its totals.
 #[derive(Debug, Drop)]
 pub struct Tally {
     totals: Totals,

@@ -1,6 +1,7 @@
-//! The cell of a purse with its allowance, and one method for each kind of step: Refuse or Look (`ask`), Look (`look`),
-//! Read (`count`), Reserve, Settle or Look (`exchange`), Split (`tell`) and Join (`gather`), besides the first one (`open`).
-//! Only `exchange` changes the words. `reserve` and `settle` try until an exchange makes the call.
+//! The cell of a purse with its allowance, and one method for each kind of step: Refuse or Look
+//! (`ask`), Look (`look`), Read (`count`), Reserve, Settle or Look (`exchange`), Split (`tell`) and
+//! Join (`gather`), besides the first one (`open`). Only `exchange` changes the words. `reserve`
+//! and `settle` try until an exchange makes the call.
 ghost use Rattle.std.specs.Prelude.{◌≡◌, ◌+◌, ◌^◌, ◌≤◌, [], nat_le, slice_index, true, MatchBool, IfOk};
 ghost use Rattle.crossbeam_utils.specs.Seq.{cell_view};
 ghost use Rattle.step_purse.specs.Plain.{total, IsReplyTo, PlainlyLeads, MayMake};

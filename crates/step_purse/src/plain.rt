@@ -1,4 +1,5 @@
-//! The purse of one thread. The shared purse computes each call with it, and its contracts are told by it.
+//! The purse of one thread. The shared purse computes each call with it, and its contracts are told
+//! by it.
 ghost use Rattle.std.specs.Prelude.{◌≡◌, ◌^◌, ◌≤◌};
 ghost use Rattle.step_purse.specs.Plain.{opened, total, reply_to, after, IsReplyTo};
 ghost use Rattle.step_purse.specs.declared.dealings.Dealing.TheVariants.{Reserved, Settled};

@@ -13,8 +13,9 @@ use std::alloc::{AllocError, Global};
 use std::marker::Model;
 use std::sync::Wait;
 
-/// A right to call one purse, for one caller at a time. Contracts see it as a `PassState` of `specs/Passes.antt`: it knows
-/// which calls it made, what it owes, and how much of the purse is its own.
+/// A right to call one purse, for one caller at a time. Contracts see it as a `PassState` of
+/// `specs/Passes.antt`: it knows which calls it made, what it owes, and how much of the purse is
+/// its own.
 #[derive(Drop)]
 pub struct Pass {
     seat: Seat,
@@ -38,8 +39,8 @@ impl Model for Pass {
     ghost invariant = { λ p. MayCall (cell_view p.seat) × (p.owed ≡ (cell_view p.seat).known.owes) };
 }
 
-/// A purse of steps that threads share: what is left, reserved and spent of one allowance. Contracts see it as a
-/// `PurseState` of `specs/Passes.antt`.
+/// A purse of steps that threads share: what is left, reserved and spent of one allowance.
+/// Contracts see it as a `PurseState` of `specs/Passes.antt`.
 #[derive(Drop)]
 pub struct Purse {
     account: Account,
@@ -63,7 +64,8 @@ impl Pass {
 }
 
 impl Purse {
-    /// A purse of this allowance, with one pass, which has the whole share. This is the only call that takes memory.
+    /// A purse of this allowance, with one pass, which has the whole share. This is the only call
+    /// that takes memory.
     pub fn open(alloc: Global, allowance: u64) -> Result<(Purse, Pass), AllocError>
         requires { allowance ≤ 2 ^ 62 }
         ensures allowance { IfOk result (λ r. r.0.allowance ≡ allowance) }
@@ -74,8 +76,9 @@ impl Purse {
         Ok((Purse { account }, Pass { seat, owed: 0 }))
     }
 
-    /// Two passes of one, each with half of its share. The first keeps its calls and what it owes. The second has seen the
-    /// same, made no call and owes nothing. It takes `rt` as all steps of a purse do, and never tries twice.
+    /// Two passes of one, each with half of its share. The first keeps its calls and what it owes.
+    /// The second has seen the same, made no call and owes nothing. It takes `rt` as all steps of a
+    /// purse do, and never tries twice.
     pub fn split<R: Wait>(&self, _rt: &R, pass: Pass) -> (Pass, Pass)
         requires { IsPassOf self.now pass }
         ensures own { IsPassOf self.now result.0 × IsPassOf self.now result.1 }
@@ -93,8 +96,8 @@ impl Purse {
         )
     }
 
-    /// One pass of two. It has seen what both had seen, made the calls of both, owes what both owed, and has the shares of
-    /// both.
+    /// One pass of two. It has seen what both had seen, made the calls of both, owes what both
+    /// owed, and has the shares of both.
     pub fn join<R: Wait>(&self, rt: &R, first: Pass, second: Pass) -> Pass
         requires first { IsPassOf self.now first }
         requires second { IsPassOf self.now second }
@@ -113,8 +116,8 @@ impl Purse {
         }
     }
 
-    /// Moves the amount from left to reserved, or changes nothing where less is left. Where another call came between,
-    /// it tries again.
+    /// Moves the amount from left to reserved, or changes nothing where less is left. Where another
+    /// call came between, it tries again.
     pub fn reserve<R: Wait>(&self, rt: &R, pass: &mut Pass, amount: u64) -> Reply
         requires { IsPassOf self.now pass.old }
         ensures made { Calls self.now pass.old (Reserved amount result) pass.new }
@@ -127,8 +130,8 @@ impl Purse {
         reply
     }
 
-    /// Takes the amount from reserved, adds `spent` to spent and the rest to left. Where another call came between, it
-    /// tries again.
+    /// Takes the amount from reserved, adds `spent` to spent and the rest to left. Where another
+    /// call came between, it tries again.
     pub fn settle<R: Wait>(&self, rt: &R, pass: &mut Pass, amount: u64, spent: u64)
         requires own { IsPassOf self.now pass.old }
         requires spent { spent ≤ amount }

@@ -25,7 +25,8 @@ pub type PurseCell = seq_cell::RuledSeqCell<[u64; 3], View, OneHistory, 3>;
 /// A right to take steps at a cell.
 pub type Seat = seq_cell::Pass<[u64; 3], View>;
 
-/// What the purse was opened with. Its first step picks this, since a step can't look into the cell.
+/// What the purse was opened with. Its first step picks this, since a step can't look into the
+/// cell.
 pub trait Allowed {
     ghost use Rattle.std.specs.Prelude.{ℕ};
 

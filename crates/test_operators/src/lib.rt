@@ -1,6 +1,7 @@
 //! Operators for tests, written as assembly text. No crate of the program uses this one.
 //!
-//! A text has an instruction a line, as `docs/operators.md` says. Texts that several crates of tests share stand here.
+//! A text has an instruction a line, as `docs/operators.md` says. Texts that several crates of
+//! tests share stand here.
 #![tactic(auto)]
 
 ghost use Rattle.std.specs.Prelude.{◌≡◌, IfOk};
@@ -43,7 +44,8 @@ pub enum NoOperator {
     Program(VerifyError),
 }
 
-/// The operator of a text. A text with a fault is the test's own fault, and comes back with its line or its slot.
+/// The operator of a text. A text with a fault is the test's own fault, and comes back with its
+/// line or its slot.
 pub fn assembled(alloc: Global, kind: Kind, text: &str) -> Result<Operator, NoOperator>
     ensures { IfOk result (λ operator. operator.kind ≡ kind) }
 {

@@ -1,6 +1,7 @@
 //! Lines, words and numbers of texts, for each crate that reads one.
 //!
-//! The contracts are over `specs/Words.antt` and `specs/Numbers.antt`; what a line is, std says (`lines`).
+//! The contracts are over `specs/Words.antt` and `specs/Numbers.antt`; what a line is, std says
+//! (`lines`).
 //!
 //! Read `words` and `numbers`, then `lines`.
 #![tactic(auto)]

@@ -12,7 +12,8 @@ fn strip_cr(line: &[u8]) -> &[u8]
     }
 }
 
-/// The first line of a text, without its LF or CR LF, and what follows it. Lines are those of std's `lines`.
+/// The first line of a text, without its LF or CR LF, and what follows it. Lines are those of std's
+/// `lines`.
 #[inline]
 pub fn first_line(text: &[u8]) -> Option<(&[u8], &[u8])>
     ensures lines { MatchOption result (lines text.now ≡ []) (λ p. lines text.now ≡ p.0.now ∷ lines p.1.now) }

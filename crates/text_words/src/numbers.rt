@@ -21,7 +21,8 @@ fn are_digits(text: &[u8]) -> bool
     text.iter().all(|byte| byte.is_ascii_digit())
 }
 
-/// The number that one or more decimal digits write, if a word is such: None in its place where 64 bits don't hold it.
+/// The number that one or more decimal digits write, if a word is such: None in its place where 64
+/// bits don't hold it.
 #[inline]
 fn digits(word: &[u8]) -> Option<Option<u64>>
     ensures { result ≡ option_map in_word (decimal_in word.now) }

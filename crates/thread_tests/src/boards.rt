@@ -208,8 +208,8 @@ fn a_board_closed_with_a_seat_lost(rt: HostRuntime) -> Result<(), Fail> {
     Ok(())
 }
 
-/// A thread whose stack no machine has can't start, and the seat that was to go there is lost: the other worker draws all
-/// chunks, and the board says that nothing else was drawn or spent.
+/// A thread whose stack no machine has can't start, and the seat that was to go there is lost: the
+/// other worker draws all chunks, and the board says that nothing else was drawn or spent.
 #[test]
 fn a_seat_lost_with_a_refused_thread(rt: HostRuntime) -> Result<(), Fail> {
     let prices = vec![in rt.alloc(); 1u64; 10]?;

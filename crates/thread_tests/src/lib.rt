@@ -1,4 +1,5 @@
-//! Tests of the crates that share work and steps among threads, through their public functions alone.
+//! Tests of the crates that share work and steps among threads, through their public functions
+//! alone.
 //!
 //! The gate proves a crate that has tests of its own twice. These stand above the crates that they
 //! test, each of which is so proved once.

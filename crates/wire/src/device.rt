@@ -21,8 +21,8 @@ pub trait Source {
         ensures counted { IsRead (length buf.new) result (state self.old) (state self.new) };
 }
 
-/// What bytes go to: a writer whose writes and failed writes are counted, for contracts alone. A write that takes none of
-/// some bytes has failed too.
+/// What bytes go to: a writer whose writes and failed writes are counted, for contracts alone. A
+/// write that takes none of some bytes has failed too.
 pub trait Sink {
     // the bytes that were taken, and the counts
     ghost state: { Self → SinkState };

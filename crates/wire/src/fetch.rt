@@ -32,7 +32,8 @@ pub enum Body {
     Cut,
 }
 
-/// Takes the first line of the bytes that are held, which is copied out, where they have one. Nothing is read.
+/// Takes the first line of the bytes that are held, which is copied out, where they have one.
+/// Nothing is read.
 pub fn line_held(input: &mut Input, line: &mut Vec<u8>) -> Option<Lined>
     requires room { 1026 ≤ vec_capacity line.old }
     ensures fetched { IfSome result (λ lined. (s : SourceState) → Fetched 0
@@ -57,7 +58,8 @@ pub fn line_held(input: &mut Input, line: &mut Vec<u8>) -> Option<Lined>
 ///
 /// # Errors
 ///
-/// A read failed, or no more reads may be made, before a line was there. The bytes that came are kept.
+/// A read failed, or no more reads may be made, before a line was there. The bytes that came are
+/// kept.
 pub fn next_line<R: Source>(
     input: &mut Input,
     reader: &mut R,
@@ -106,8 +108,8 @@ fn begin(alloc: Global, part: &[u8], length: u64) -> Result<Vec<u8>, AllocError>
     Ok(kept)
 }
 
-/// Makes some room ready behind the bytes of a body of `length` bytes that came. The room grows to twice of what came, and
-/// never past the body's end.
+/// Makes some room ready behind the bytes of a body of `length` bytes that came. The room grows to
+/// twice of what came, and never past the body's end.
 ///
 /// # Errors
 ///
@@ -144,7 +146,8 @@ enum Kept {
 ///
 /// # Errors
 ///
-/// A read failed, or no more reads may be made, before the body was there. What came of it is dropped.
+/// A read failed, or no more reads may be made, before the body was there. What came of it is
+/// dropped.
 fn keep<R: Source>(
     input: &mut Input,
     reader: &mut R,
@@ -208,11 +211,13 @@ fn skip<R: Source>(input: &mut Input, reader: &mut R, count: u64) -> Result<Body
     }
 }
 
-/// Reads the rest of a body of `length` bytes, of which the first part came. Where there is no room for it, it is dropped.
+/// Reads the rest of a body of `length` bytes, of which the first part came. Where there is no room
+/// for it, it is dropped.
 ///
 /// # Errors
 ///
-/// A read failed, or no more reads may be made, before the body was there. What came of it is dropped.
+/// A read failed, or no more reads may be made, before the body was there. What came of it is
+/// dropped.
 fn read_rest<R: Source>(
     input: &mut Input,
     reader: &mut R,
@@ -235,12 +240,13 @@ fn read_rest<R: Source>(
     }
 }
 
-/// Reads on until a body of so many bytes is there, which is taken from the input. Its room grows as it comes. Where there
-/// is no room for it, it is dropped as it comes.
+/// Reads on until a body of so many bytes is there, which is taken from the input. Its room grows
+/// as it comes. Where there is no room for it, it is dropped as it comes.
 ///
 /// # Errors
 ///
-/// A read failed, or no more reads may be made, before the body was there. What came of it is dropped.
+/// A read failed, or no more reads may be made, before the body was there. What came of it is
+/// dropped.
 pub fn read_body<R: Source>(
     alloc: Global,
     input: &mut Input,

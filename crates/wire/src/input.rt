@@ -16,7 +16,8 @@ use std::marker::Model;
 /// How many bytes are held at most.
 pub const ROOM: usize = 8192;
 
-/// Bytes that were read and not used yet, whether the stream has ended behind them, and how many reads may still be made.
+/// Bytes that were read and not used yet, whether the stream has ended behind them, and how many
+/// reads may still be made.
 #[derive(Drop)]
 pub struct Input {
     room: Vec<u8>,
@@ -41,7 +42,8 @@ impl Model for Input {
     ghost invariant = { λ i. (i.from ≤ i.to) × (i.to ≤ vec_len i.room) × (vec_len i.room ≡ 8192) };
 }
 
-/// Reads into the part of the room from a place on. It counts as a read into any room does, be it of one byte.
+/// Reads into the part of the room from a place on. It counts as a read into any room does, be it
+/// of one byte.
 fn read_behind<S: Source>(source: &mut S, room: &mut [u8], at: usize) -> io::Result<usize>
     requires { at < length room.old }
     ensures put { IsPut at result room.old room.new }
@@ -52,7 +54,8 @@ fn read_behind<S: Source>(source: &mut S, room: &mut [u8], at: usize) -> io::Res
 }
 
 impl Input {
-    /// No bytes, of a stream that has not ended and of which so many reads may be made, and room for `ROOM` bytes.
+    /// No bytes, of a stream that has not ended and of which so many reads may be made, and room
+    /// for `ROOM` bytes.
     ///
     /// # Errors
     ///
@@ -152,8 +155,9 @@ impl Input {
         }
     }
 
-    /// Reads some more bytes into the part of a caller's room from a place on, by one read of the source, where no bytes are
-    /// held. Answers how many came. A read that gives none tells that the stream has ended.
+    /// Reads some more bytes into the part of a caller's room from a place on, by one read of the
+    /// source, where no bytes are held. Returns how many came. A read that gives none tells that
+    /// the stream has ended.
     ///
     /// # Errors
     ///

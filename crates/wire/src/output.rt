@@ -7,7 +7,8 @@ use crate::input::ROOM;
 use std::alloc::{AllocError, Global};
 use std::marker::Model;
 
-/// Text that waits to be written: up to `ROOM` bytes, so that many short texts are one write. A contract sees the bytes.
+/// Text that waits to be written: up to `ROOM` bytes, so that many short texts are one write. A
+/// contract sees the bytes.
 #[derive(Drop)]
 pub struct Output {
     room: Vec<u8>,
@@ -51,12 +52,13 @@ impl Output {
         empty(&mut self.room, writer)
     }
 
-    /// Says a text, which waits behind what waits. Where there is no room for it, what waited is written first; a text that is
-    /// longer than all the room doesn't wait.
+    /// Says a text, which waits behind what waits. Where there is no room for it, what waited is
+    /// written first; a text that is longer than all the room doesn't wait.
     ///
     /// # Errors
     ///
-    /// The first call that fails ends it. What was written by then is a front part of what waited and the text.
+    /// The first call that fails ends it. What was written by then is a front part of what waited
+    /// and the text.
     pub fn say<W: Sink>(&mut self, writer: &mut W, text: &[u8]) -> Result<(), WriteFailed>
         ensures sent { Sent (is_ok result) text.now
             (record { sink = W.state writer.old; waits = self.old })
@@ -93,7 +95,8 @@ fn empty<W: Sink>(room: &mut Vec<u8>, writer: &mut W) -> Result<(), WriteFailed>
     }
 }
 
-/// Makes room for so many bytes more: empties it, where there is too little. Answers whether it is enough.
+/// Makes room for so many bytes more: empties it, where there is too little. Returns whether it is
+/// enough.
 fn make_room<W: Sink>(room: &mut Vec<u8>, writer: &mut W, count: usize) -> Result<bool, WriteFailed>
     ensures sent { Sent (is_ok result) []
         (record { sink = W.state writer.old; waits = room.old.items })

@@ -184,7 +184,7 @@ fn a_text_is_written_whole_or_not(rt: HostRuntime) {
     assert!(rt; cut.is_err());
 }
 
-/// Says two texts to a writer, and writes them where that is wanted. Answers whether all went well.
+/// Says two texts to a writer, and writes them where that is wanted. Returns whether all went well.
 fn say_two<W: io::Write + Drop, C: Ledger, F: Ledger>(
     alloc: Global,
     writer: W,

@@ -1,4 +1,5 @@
-//! Which slot follows an instruction (RFC 9669, section 4.3), and whether a program may go on there.
+//! Which slot follows an instruction (RFC 9669, section 4.3), and whether a program may go on
+//! there.
 ghost use Rattle.std.specs.Prelude.{◌≡◌, ◌<◌, true, false, Some, IfOk, IfErr, pos};
 ghost use Rattle.std.specs.Bool.{OnTrue};
 ghost use Rattle.std.specs.Option.{option_map};

@@ -10,7 +10,8 @@ const COUNTS: [u64; 27] = [
     63, 64,
 ];
 
-/// The operands of the lane of this number, among all pairs of words; or the same ones, where all are alike.
+/// The operands of the lane of this number, among all pairs of words; or the same ones, where all
+/// are alike.
 fn operands_at(kind: Kind, lane: u64, alike: bool) -> Operands {
     if alike {
         return operands_of(kind, 5, 6);
@@ -32,7 +33,8 @@ fn gather_all(calls: &mut Calls, kind: Kind, operands: &[Operands])
     }
 }
 
-/// That these values are what the tagged machine gives on these operands. Answers the sum of its steps.
+/// That these values are what the tagged machine gives on these operands. Returns the sum of its
+/// steps.
 fn expect_values(rt: &impl Abort, tagged: &Program, operands: &[Operands], values: &[u64]) -> u64 {
     assert_eq!(rt; values.len(), operands.len());
     let mut sum = 0u64;
@@ -197,8 +199,9 @@ fn push_entries(
 /// Cells that fill all lanes.
 const OTHERS: [(u64, u64); 64] = [(3000, 1000); 64];
 
-/// That calls of cells that are gathered where other words stood in the lanes give and cost what the tagged machine says of
-/// each: of a few cells, one call after the other, and of more, in lanes.
+/// That calls of cells that are gathered where other words stood in the lanes give and cost what
+/// the tagged machine says of each: of a few cells, one call after the other, and of more, in
+/// lanes.
 fn expect_entries(rt: &impl Abort, alloc: Global, text: &str) -> Result<(), Fail> {
     let tagged = assemble(alloc, text.as_bytes())?;
     let operator = assembled(alloc, Kind::Index, text)?;

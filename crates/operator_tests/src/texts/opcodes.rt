@@ -1,4 +1,5 @@
-//! Opcodes with fields that the verifier refuses in every program, there and back: jumps back and far ahead, and R10 written.
+//! Opcodes with fields that the verifier refuses in every program, there and back: jumps back and
+//! far ahead, and R10 written.
 use bpf_insn::encode;
 use bpf_text::{assemble, disassemble};
 use std::alloc::{AllocError, Global};

@@ -1,7 +1,9 @@
-//! Verdicts of which memory is refused: the program comes back word for word, and a further verdict on it is that of the first.
+//! Verdicts of which memory is refused: the program comes back word for word, and a further verdict
+//! on it is that of the first.
 //!
-//! Run these also with each allocation refused in turn, by `rt try --test --fail-alloc N` for N from 1 on: what is asked for besides a
-//! verdict is asked for once more, and then each test passes whichever allocation was refused.
+//! Run these also with each allocation refused in turn, by `rt try --test --fail-alloc N` for N
+//! from 1 on: what is asked for besides a verdict is asked for once more, and then each test passes
+//! whichever allocation was refused.
 use super::*;
 use bpf_insn::{Program, encode};
 use bpf_text::AsmError;
@@ -9,7 +11,8 @@ use std::alloc::AllocError;
 use std::fmt;
 use std::fmt::Write;
 
-/// What is found of a program: its length where it is accepted, or the slot and the rule of its fault.
+/// What is found of a program: its length where it is accepted, or the slot and the rule of its
+/// fault.
 type Verdict = Result<u64, (u64, CodeRule)>;
 
 /// A program with the verdict on it.
@@ -106,7 +109,8 @@ fn words_of(alloc: Global, program: &Program) -> Result<Vec<u8>, AllocError> {
     }
 }
 
-/// The verdict on a program; or the program, where memory was refused. Whatever comes back is the program, word for word.
+/// The verdict on a program; or the program, where memory was refused. Whatever comes back is the
+/// program, word for word.
 fn first_verdict(
     rt: &impl Abort,
     alloc: Global,

@@ -1,4 +1,5 @@
-//! What is known at the slots of an operator, where `types` has no line, and which bytes of the stack.
+//! What is known at the slots of an operator, where `types` has no line, and which bytes of the
+//! stack.
 use super::*;
 
 /// The tag of a register at a slot where a path leads.

@@ -1,5 +1,6 @@
-//! A client as a batch is: each worker keeps a list of the chunks that it completed, each with its steps, and the lists are
-//! joined. It is proved that each chunk stands in the one list once, with its steps.
+//! A client as a batch is: each worker keeps a list of the chunks that it completed, each with its
+//! steps, and the lists are joined. It is proved that each chunk stands in the one list once, with
+//! its steps.
 ghost use Rattle.std.specs.Prelude.{◌≡◌, ◌<◌, ◌≤◌, ◌%◌, [], length, vec_len, slice_index, IfOk, All};
 ghost use Rattle.race_board.specs.Race.{BoardState, SeatState, IsSeatOf, IsDrained, MayDrawAt, workers_of};
 ghost use Rattle.race_board.specs.Chunks.{AreEachOnce, CostJust, completed_by, steps_in, sum_below};
@@ -69,7 +70,8 @@ fn join(
     Ok((seats, joined))
 }
 
-/// So many workers in threads over so many chunks: what the board answers, and all that they completed.
+/// So many workers in threads over so many chunks: what the board answers, and all that they
+/// completed.
 fn race<R: Threads + Sync>(
     rt: &R,
     alloc: Global,
@@ -101,8 +103,8 @@ fn race<R: Threads + Sync>(
     Ok((board.close(seats), joined))
 }
 
-/// Closes a board with the seats that are left, whatever their workers did: they spent no more than the prices of all
-/// chunks, and no more than all workers together.
+/// Closes a board with the seats that are left, whatever their workers did: they spent no more than
+/// the prices of all chunks, and no more than all workers together.
 fn close_early(board: Board, seats: Vec<BoardSeat>) -> Totals
     requires { All (IsSeatOf board) seats.items }
     ensures priced { result.spent ≤ sum_below (slice_index board.prices) (length board.prices) }
