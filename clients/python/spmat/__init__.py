@@ -34,11 +34,11 @@ if TYPE_CHECKING:
     from .operators import (Operator, Semiring, asm, binary, code, indexunary, select, semiring,
                             unary)
     from .operators.c import c
-    from .operators.compiler.operands import cdiv, cmod, rsh, udiv, ult, umod, where
+    from .operators.functions import cdiv, cmod, rsh, udiv, ult, umod, where
     from .operators.diagnostics import code_of, explain
     from .pricing.call_price import price
     from .session import Session
-    from .tiles import concat
+    from .submatrices import concat
     from .vector import Vector
 
 
@@ -81,14 +81,14 @@ _PLACES: Dict[str, str] = {name: module for module, names in {
     'mask': 'Mask',
     'matrix': 'Matrix bipartite',
     'operators': 'Operator Semiring asm binary code indexunary select semiring unary',
-    'operators.compiler.operands': 'cdiv cmod rsh udiv ult umod where',
+    'operators.functions': 'cdiv cmod rsh udiv ult umod where',
     'operators.diagnostics': 'code_of explain',
     'pricing.call_price': 'price',
     'loops.fixpoint': 'fixpoint',
     'algorithms.temporal_paths': 'events',
     'session': 'Session',
     'vector': 'Vector',
-    'tiles': 'concat'}.items() for name in names.split()}
+    'submatrices': 'concat'}.items() for name in names.split()}
 
 # What python-graphblas has at its top, and what it is here.
 _ELSEWHERE = {'agg': 'aggregators are names, as in A.reduce_rowwise("count")',

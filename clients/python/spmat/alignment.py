@@ -2,12 +2,13 @@
 from __future__ import annotations
 
 import itertools
-from typing import Any, Dict, List, NamedTuple, Optional, Sequence, Tuple, TypeVar, cast
+from typing import Any, Dict, List, NamedTuple, Sequence, Tuple, TypeVar, cast
+
+import numpy
 
 from .aliases import alias
 from .errors import NamesDiffer, refusal
 from .io.exporters import Held
-from .io.matrix_text import is_array
 from .limits import MOST_SIDE
 from .metadata import COLUMNS, POSITIONS, ROWS, Axis, Nodes, check_names, vertices_of
 
@@ -126,13 +127,12 @@ def _common(sides: Sequence[_Target], how: str) -> _Target:
             names = next(names for names in lists if not names.are_counted)
             raise NamesDiffer(
                 'a matrix of %d rows or columns without names can not be aligned with one that '
-                'has some: %s; %s' % (
-                    count, ', '.join(map(repr, names[:3])), POSITIONS))
+                'has some: %s; %s' % (count, ', '.join(map(repr, names[:3])), POSITIONS))
     if not lists:
         count = (max if how == 'outer' else min)((count for _, count in sides), default=0)
         return _Target(Axis(None, max((axis.unnamed for axis, _ in sides), default=Axis().unnamed)),
                        count)
-    found = _joined([axis.listed(count) for axis, count in sides], how)
+    found = _join_names([axis.listed(count) for axis, count in sides], how)
     if len(found) > MOST_SIDE:
         raise refusal('M4', detail='%d vertices' % len(found))
     same = next((names for names in lists if len(names) == len(found) and list.__eq__(names, found)
@@ -140,57 +140,44 @@ def _common(sides: Sequence[_Target], how: str) -> _Target:
     return _Target(Axis(Nodes(found) if same is None else same), len(found))
 
 
-def _joined(lists: Sequence[Sequence[Any]], how: str) -> List[Any]:
+def _join_names(lists: Sequence[Sequence[Any]], how: str) -> List[Any]:
     """The names that any list has, or that all have: whole numbers ascending, others as they first
     stand."""
-    found = dict.fromkeys(itertools.chain.from_iterable(lists) if how == 'outer' else lists[0])
+    found = list(dict.fromkeys(itertools.chain.from_iterable(lists)))
     if how == 'inner':
-        for names in lists[1:]:
-            others = set(names)
-            found = {name: None for name in found if name in others}
-    return sorted(found) if all(type(name) is int for name in found) else list(found)
+        in_all = set(lists[0]).intersection(*lists[1:])
+        found = [name for name in found if name in in_all]
+    return sorted(found) if all(type(name) is int for name in found) else found
 
 
 def _moved(matrix: M, rows: _Target, columns: _Target, before: Sequence[M]) -> M:
     """A matrix with other vertices: its entries between those that it still has. In blocks it is
     cut as those before."""
     notes = matrix.notes.with_axes(rows.axis, columns.axis)
-    tables = [_table(_target_of(matrix, axis), target)
+    tables = [_find_places(_target_of(matrix, axis), target)
               for axis, target in ((ROWS, rows), (COLUMNS, columns))]
-    if tables == [None, None]:
+    if all(table is None for table in tables):
         is_same = (notes.rows is matrix.notes.rows and notes.columns is matrix.notes.columns
                    and notes == matrix.notes)
         return matrix if is_same else alias(matrix, notes)
-    i, j, values = _kept(*matrix.entries(), *tables)
+    *ends, values = matrix.entries()
+    i, j = (at if table is None else table[at] for at, table in zip(ends, tables))
+    stay = (i >= 0) & (j >= 0)
     like = next((one for one in before if one.nrows == rows.size and one.session == matrix.session),
                 matrix)
-    made = cast(M, like.session.from_coo(i, j, values, rows.size, columns.size))
+    made = cast(M, like.session.from_coo(i[stay], j[stay], values[stay], rows.size, columns.size))
     made.notes = notes._replace(source='')
     return made
 
 
-def _table(old: _Target, new: _Target) -> Optional[List[int]]:
+def _find_places(old: _Target, new: _Target) -> Any:
     """The new place of each old row or column, -1 where it has none; None where all stay."""
     if old.axis.names is new.axis.names and old.size == new.size:
         return None
-    names: Sequence[Any] = old.axis.listed(old.size)
+    at = numpy.arange(old.size)
     if new.axis.names is None:
-        return [place if place < new.size else -1 for place in range(old.size)]
+        return numpy.where(at < new.size, at, -1)
     places = new.axis.names.places
-    found = [places.get(name, -1) for name in names]
-    return None if old.size == new.size and found == list(range(old.size)) else found
-
-
-def _kept(i: Any, j: Any, values: Any, rows: Optional[List[int]],
-          columns: Optional[List[int]]) -> Tuple[Any, Any, Any]:
-    """Entries at their new places, without those that have none."""
-    if is_array(i):
-        import numpy
-        i, j = (at if table is None else numpy.array(table, numpy.int64)[at]
-                for at, table in ((i, rows), (j, columns)))
-        keep = (i >= 0) & (j >= 0)
-        return i[keep], j[keep], values[keep]
-    i, j = (at if table is None else [table[k] for k in at]
-            for at, table in ((i, rows), (j, columns)))
-    kept = [entry for entry in zip(i, j, values) if entry[0] >= 0 and entry[1] >= 0]
-    return tuple(map(list, zip(*kept))) if kept else ([], [], [])  # type: ignore[return-value]
+    found = numpy.fromiter((places.get(name, -1) for name in old.axis.listed(old.size)),
+                           numpy.int64, old.size)
+    return None if old.size == new.size and (found == at).all() else found

@@ -7,25 +7,26 @@ from __future__ import annotations
 
 from typing import TYPE_CHECKING, Any, Callable, Dict, List, Optional, Tuple, TypeVar, cast
 
-from . import aggregators, assignment, tiles, units
+from . import aggregators, submatrices, units
 from .backends.protocol import Handle, Job
 from .backends.unread import reading
 from .common_session import common_session
+from .derivation import masked, of_update, on_diagonal
 from .errors import refusal
-from .indexing import gather, picked
+from .io.coo import side, whole
 from .job_operators import of_form, ring_of
 from .mask import Mask, as_mask, structure
-from .metadata import (BY_POSITIONS, COLUMNS, NOTHING, ROWS, Notes, check_equal, check_same_names,
-                       even, hint_of, of_copy, of_update, on_diagonal, under)
+from .metadata import (BY_POSITIONS, COLUMNS, ELEMENTWISE, NOTHING, ROWS, Notes, even, hint_of,
+                       joined, of_copy)
 from .operators import Op, Semiring, binary, indexunary, unary
-from .signs import Signs
+from .python_syntax import Signs
 
 if TYPE_CHECKING:
     from .job_operators import Ring
     from .matrix import Matrix, MaskLike
 
 C = TypeVar('C', bound='Composites')
-Sizes = tiles.Sizes
+Sizes = submatrices.Sizes
 # What stands on the diagonal of a matrix that is multiplied by others without changing them.
 NEUTRAL: Dict[str, int] = {'plus_times': 1, 'lor_land': 1, 'any_pair': 1, 'min_plus': 0,
                            'max_plus': 0}
@@ -40,8 +41,7 @@ class MatrixType(type):
         if name.startswith('from_') or name == 'io':
             raise AttributeError(
                 'a matrix belongs to a session, which makes it: with spmat.Session() as s: s.%s(..)'
-                % (
-                    name if name != 'io' else 'read_graph'))
+                % (name if name != 'io' else 'read_graph'))
         raise AttributeError('type object %r has no attribute %r' % (cls.__name__, name))
 
 
@@ -73,7 +73,9 @@ class Composites(Signs, metaclass=MatrixType):
 
     @reading
     def __getitem__(self, at: Any) -> Any:
-        """`G[i, j]`: the value of an entry, what it stands for where there is a unit, None where
+        """A value, a row, a column, a part, or a copy under a mask.
+
+        `G[i, j]` is the value of an entry, what it stands for where there is a unit, None where
         there is none. `G[i, :]` is a row, `G[:, j]` a column, `G[rows, columns]` a part, `G[M.S]`
         or `G[~M.V]` a copy under a mask.
 
@@ -86,40 +88,109 @@ class Composites(Signs, metaclass=MatrixType):
         Where numbers are names, but for 0 to n - 1, a number in a slice could be either and is
         refused.
 
+        Parameters
+        ----------
+        at : pair of indexes, or Mask
+            The rows and the columns, each a name, a number, a list, an array, a slice or a filter.
+
+        Returns
+        -------
+        Matrix, int, float or None
+            A value where one row and one column are asked for, else a matrix.
+
+        Raises
+        ------
+        ValueError
+            Where there is no such vertex, or a name stands twice.
+        IndexError
+            Where a filter has another length.
+        TypeError
+            For floats and other things that are no index.
+
+        Notes
+        -----
         1 job for the rows and 1 for the columns that are chosen, and 1 run where both are; a value
-        comes with 1 run more. In the GraphBLAS GrB_extract. Raises ValueError where there is no
-        such vertex, or a name stands twice, IndexError where a filter has another length, TypeError
-        for floats and other things that are no index."""
-        return picked(self, at)  # type: ignore[arg-type]
+        comes with 1 run more. In the GraphBLAS GrB_extract.
+        """
+        return submatrices.picked(self, at)  # type: ignore[arg-type]
 
     def assign(self: C, what: Any, rows: Any = None, columns: Any = None, *,
                accum: Optional[Op] = None, mask: 'MaskLike' = None, replace: bool = False,
                name: Optional[str] = None) -> C:
         """A new matrix in which a part has other entries: C<M, accum>(rows, columns) = what.
 
-        Parameters: `what` is a matrix of the part's shape, or a number for each of its places
-        (under a mask for each place of the mask); one row may also be set to a column, and one
-        column to a row. `rows` and `columns` are as in `A[rows, columns]`, None for all. Places of
-        the part where `what` has no entry lose theirs, or with `accum` keep it. The `mask` has this
-        matrix's shape: outside of it entries stay, or with `replace` go.
+        Parameters
+        ----------
+        what : Matrix or number
+            A matrix of the part's shape, or a number for each of its places (under a mask for each
+            place of the mask). One row may also be set to a column, and one column to a row.
+        rows : index, optional
+            The rows of the part, as in `A[rows, columns]`; all rows without it.
+        columns : index, optional
+            The columns of the part, as in `A[rows, columns]`; all columns without it.
+        accum : Operator, str or callable, optional
+            A binary operator that joins old and new entries. Places of the part where `what` has no
+            entry lose theirs, or with `accum` keep it.
+        mask : Mask, optional
+            A mask of this matrix's shape. Outside of it entries stay, or with `replace` go.
+        replace : bool, default False
+            Whether entries outside of the mask go.
+        name : str, optional
+            What the result is called.
 
-        Returns: a matrix of this one's shape and names.
+        Returns
+        -------
+        Matrix
+            A matrix of this one's shape and names.
 
-        Cost: without an accumulator 9 jobs and 5 runs for some rows, 2 and 2 more for some columns
-        as well; with one 2 to 3 jobs. A mask adds what `update` takes. In the GraphBLAS GrB_assign,
-        in python-graphblas `C(mask, accum)[rows, columns] << what`.
+        Raises
+        ------
+        DimensionMismatch
+            Where shapes don't fit.
+        ValueError
+            Where a row or a column is given twice, or the unit can't hold the number.
 
-        Raises DimensionMismatch where shapes don't fit, ValueError where a row is given twice."""
-        whole: Any = self
-        return cast(C, assignment.assigned(whole, what, (rows, columns), accum, mask, replace,
+        Notes
+        -----
+        Costs are without an accumulator 9 jobs and 5 runs for some rows, 2 and 2 more for some
+        columns as well; with one 2 to 3 jobs. A mask adds what `update` takes in jobs. In the
+        GraphBLAS GrB_assign, in python-graphblas `C(mask, accum)[rows, columns] << what`.
+        """
+        matrix: Any = self
+        return cast(C, submatrices.assigned(matrix, what, (rows, columns), accum, mask, replace,
                                            name))
 
     def get(self, row: Any, column: Any = None, default: Any = None) -> Any:
-        """The value of one entry, `default` where there is none: `A.get(i, j, 0)`, of a column or a
-        row `c.get(i, default=0)`.
+        """The value of one entry, or a default where there is none.
 
-        Rows and columns are as in `A[i, j]`, which gives None where there is none. 2 jobs and 2
-        runs. In python-graphblas `get`."""
+        `A.get(i, j, 0)` is of a matrix, `c.get(i, default=0)` of a column or a row.
+
+        Parameters
+        ----------
+        row : name or int
+            The row, as in `A[i, j]`; of a row its column, where `column` isn't given.
+        column : name or int, optional
+            The column, as in `A[i, j]`. A column or a row needs none.
+        default : object, optional
+            What is given where there is no entry; None, as `A[i, j]` gives, without it.
+
+        Returns
+        -------
+        int, float or object
+            What the stored value stands for, or `default`.
+
+        Raises
+        ------
+        TypeError
+            Where `column` isn't given and this is neither a column nor a row, or where more than
+            one entry is asked for.
+        ValueError
+            Where there is no such vertex.
+
+        Notes
+        -----
+        2 jobs and 2 runs. In python-graphblas `get`.
+        """
         matrix: Any = self
         if column is None and 1 not in self.shape:
             raise TypeError('get(row, column) is of two, and this is %dx%d' % self.shape)
@@ -138,11 +209,44 @@ class Composites(Signs, metaclass=MatrixType):
 
     def reduce_columnwise(self: C, op: Op = 'plus', *, mask: Any = None,
                           associative: Optional[bool] = None, name: Optional[str] = None) -> C:
-        """A row: the fold of each column that isn't empty, from its first row to its last, for
-        every operator. 1 job and no run: a product of a row of ones with this matrix, by `second`.
-        The session keeps the ones; it uploads them at the first use of a length. It takes the
-        aggregators that `reduce_rowwise` takes, of which "argmin" gives rows. `associative` is as
-        for `mxm`: row blocks then fold their own rows, and send a row each."""
+        """The fold of each column, as a row.
+
+        A column is folded from its first row to its last, for every operator. One that is empty has
+        no entry.
+
+        Parameters
+        ----------
+        op : Operator, str or callable, default 'plus'
+            A binary operator, or one of the aggregators that `reduce_rowwise` takes, of which
+            "argmin" gives rows.
+        mask : Mask, optional
+            Where the result may have entries; a mask of a row.
+        associative : bool, optional
+            The caller's word that the operator is associative, as for `mxm`: row blocks then fold
+            their own rows, and send a row each.
+        name : str, optional
+            What the result is called.
+
+        Returns
+        -------
+        Matrix
+            A row with an entry for each column that isn't empty.
+
+        Raises
+        ------
+        DimensionMismatch
+            Where the mask is no row of this length.
+
+        Notes
+        -----
+        1 job and no run: a product of a row of ones with this matrix, by `second`. The session
+        keeps the ones; it uploads them at the first use of a length.
+
+        Examples
+        --------
+        >>> s.from_coo([0, 1, 1], [0, 0, 2], [1, 2, 3], 2, 3).reduce_columnwise().to_list()
+        [3, None, 3]
+        """
         if aggregators.is_aggregator(op):
             return aggregators.aggregated(self, str(op), 0, mask, name)
         ring = Semiring(of_form('product', op), binary.second)
@@ -152,13 +256,42 @@ class Composites(Signs, metaclass=MatrixType):
 
     @reading
     def reduce_scalar(self, op: Op = 'plus', *, raw: bool = False) -> Any:
-        """The fold of all entries as a number, or None where there are none: the folds of the rows,
-        folded, so the operator has to be associative. It is an int, or where the fold has a unit a
-        float, what it stands for; `raw=True` gives the stored whole number. At most 2 jobs and 2
-        runs (1 and 1 of a row or a column), and one number comes back. Of the aggregators of
-        `reduce_rowwise` it takes those that aren't positions; "mean" is a float. A sum or a product
-        beyond 64 bits wraps, without a word unless there is a unit; a mean doesn't. Algorithms
-        refuse where theirs could."""
+        """The fold of all entries, as a number.
+
+        The folds of the rows are folded, so the operator has to be associative.
+
+        Parameters
+        ----------
+        op : Operator, str or callable, default 'plus'
+            A binary operator, or one of the aggregators of `reduce_rowwise` that aren't positions.
+        raw : bool, default False
+            Whether the stored whole number is given, also where the fold has a unit.
+
+        Returns
+        -------
+        int, float or None
+            An int, or where the fold has a unit a float, what it stands for; "mean" is a float.
+            None where there are no entries.
+
+        Raises
+        ------
+        TypeError
+            Of an aggregator whose answers are positions, such as "argmin".
+
+        Notes
+        -----
+        At most 2 jobs and 2 runs (1 and 1 of a row or a column), and one number comes back.
+
+        A sum or a product beyond 64 bits wraps, without a word unless there is a unit; a mean
+        doesn't. Algorithms refuse where theirs could.
+
+        Examples
+        --------
+        >>> s.from_coo([0, 0, 1], [0, 1, 1], [1, 2, 3], 2, 2).reduce_scalar()
+        6
+        >>> s.from_coo([0, 0, 1], [0, 1, 1], [1, 2, 3], 2, 2).reduce_scalar('max')
+        3
+        """
         if aggregators.is_aggregator(op):
             return aggregators.aggregate_all(self, str(op), raw)
         rows = self if self.ncols == 1 else self.reduce_rowwise(op)
@@ -167,7 +300,29 @@ class Composites(Signs, metaclass=MatrixType):
         return units.to_decimal(values[0], 1 if raw else made.unit) if values else None
 
     def dup(self: C, *, mask: Any = None, name: Optional[str] = None) -> C:
-        """A copy: 1 job, and with a complement as its mask what `without` takes."""
+        """A copy.
+
+        Parameters
+        ----------
+        mask : Mask, optional
+            Which positions are copied; all without it.
+        name : str, optional
+            What the result is called.
+
+        Returns
+        -------
+        Matrix
+            A matrix of the same shape, with the entries that are copied.
+
+        Raises
+        ------
+        DimensionMismatch
+            Where the mask has another shape.
+
+        Notes
+        -----
+        1 job, and with a complement as its mask what `without` takes in jobs.
+        """
         where = as_mask(mask)
         if where is not None and where.complement:
             return self.without(~where, name=name)
@@ -175,10 +330,35 @@ class Composites(Signs, metaclass=MatrixType):
         return made
 
     def without(self: C, mask: Any, *, name: Optional[str] = None) -> C:
-        """The entries outside a mask, whatever the values: 5 jobs and 3 runs, 1 run more where this
-        matrix or the mask's waits, 1 job and 1 run more for `A.V`. Ones for the entries here and
-        zeros for the mask's; their union by `zero` is 1 only where this matrix is alone; a copy
-        under those. Of ~A.S or ~A.V it is a copy under A.S or A.V, 1 job."""
+        """The entries outside a mask, whatever the values.
+
+        Parameters
+        ----------
+        mask : Mask
+            A.S or A.V. Of ~A.S or ~A.V the result is a copy under A.S or A.V.
+        name : str, optional
+            What the result is called.
+
+        Returns
+        -------
+        Matrix
+            A matrix of the same shape, with the entries that are left.
+
+        Raises
+        ------
+        TypeError
+            Where there is no mask.
+        DimensionMismatch
+            Where the mask has another shape.
+
+        Notes
+        -----
+        5 jobs and 3 runs, 1 run more where this matrix or the mask's waits, 1 job and 1 run more
+        for `A.V`. 1 job of ~A.S or ~A.V.
+
+        It makes ones for the entries here and zeros for the mask's; their union by `zero` is 1 only
+        where this matrix is alone; a copy under those is the result.
+        """
         where = as_mask(mask, warns=False)
         if where is None:
             raise TypeError('expected a mask')
@@ -201,14 +381,48 @@ class Composites(Signs, metaclass=MatrixType):
 
     def update(self: C, other: C, accum: Optional[Op] = None, mask: Any = None,
                replace: bool = False, *, name: Optional[str] = None) -> C:
-        """A new matrix, what the GraphBLAS writes C<M, accum> = other: under the mask `other`, or
-        with `accum` the union of both by it; outside the mask this matrix, or nothing where
-        `replace` is set. So `C.update(A.mxm(B), "plus")` is python-graphblas' `C(accum) <<
-        A.mxm(B)`, and `C.update(B, mask=M.S)` its `C(M.S) << B`; `assign` sets a part.
+        """A new matrix, what the GraphBLAS writes C<M, accum> = other.
 
-        Without a mask 1 job, no run. With one 7 jobs and 4 runs, with `replace` 1 and none (5 and 3
-        for a complement); `accum` is 1 job more, A.V 1 and 1; and where an operand or the mask
-        waits, 1 run."""
+        Under the mask it is `other`, or with `accum` the union of both by it. Outside the mask it
+        is this matrix, or nothing where `replace` is set. So `C.update(A.mxm(B), "plus")` is
+        python-graphblas' `C(accum) << A.mxm(B)`, and `C.update(B, mask=M.S)` its `C(M.S) << B`;
+        `assign` sets a part.
+
+        Parameters
+        ----------
+        other : Matrix
+            A matrix of the same shape.
+        accum : Operator, str or callable, optional
+            A binary operator that joins old and new entries.
+        mask : Mask, optional
+            Where the result is `other`; everywhere without it.
+        replace : bool, default False
+            Whether entries outside of the mask go.
+        name : str, optional
+            What the result is called.
+
+        Returns
+        -------
+        Matrix
+            A matrix of the same shape.
+
+        Raises
+        ------
+        TypeError
+            Where `other` is no matrix.
+        DimensionMismatch
+            Where the other or the mask has another shape.
+        NamesDiffer
+            Where the names of rows or columns differ.
+        UnitsDiffer
+            Where units differ and the result has values of both, or `accum` joins them.
+
+        Notes
+        -----
+        Costs are without a mask 1 job, no run. With one 7 jobs and 4 runs, with `replace` 1 and
+        none (5 and 3 for a complement); `accum` is 1 job more, A.V 1 and 1; and where an operand or
+        the mask waits, 1 run.
+        """
         self._check_shape('union', other, self.shape)
         where = as_mask(mask)
         if where is not None:
@@ -240,14 +454,37 @@ class Composites(Signs, metaclass=MatrixType):
 
     @reading
     def isequal(self: C, other: C) -> bool:
-        """Whether both have the same sizes, positions and values. No job where sizes or numbers of
-        entries differ; else 2 jobs and 2 runs. NamesDiffer or UnitsDiffer where they can't be
-        compared."""
+        """Whether both have the same sizes, positions and values.
+
+        Parameters
+        ----------
+        other : Matrix
+            The matrix to compare with.
+
+        Returns
+        -------
+        bool
+            False also where the shapes differ.
+
+        Raises
+        ------
+        TypeError
+            Where `other` is no matrix.
+        NamesDiffer
+            Where names differ, so that the matrices can't be compared.
+        UnitsDiffer
+            Where units differ, so that the matrices can't be compared.
+
+        Notes
+        -----
+        No job where sizes or numbers of entries differ; else 2 jobs and 2 runs.
+        """
         if not isinstance(other, Composites):
             raise TypeError('expected a matrix, got %r' % (other,))
         if self.shape != other.shape:
             return False
-        check_equal(self.notes, other.notes)
+        units.common('isequal', self.unit, other.unit)
+        joined(self.notes, other.notes, ELEMENTWISE)
         if self.nvals != other.nvals:
             return False
         differ = self.ewise_mult(other, 'ne')
@@ -257,30 +494,94 @@ class Composites(Signs, metaclass=MatrixType):
 
     def ewise_union(self: C, other: C, op: Op, left_default: Any, right_default: Any, *,
                     mask: 'MaskLike' = None, name: Optional[str] = None) -> C:
-        """op(x, y) wherever one has an entry, with a default in place of the one that is missing:
-        `A.ewise_union(B, "minus", 0, 0)`.
+        """The union of two matrices, with a default for an entry that is missing.
 
-        `left_default` stands for this matrix's entries, `right_default` for the other's. 5 jobs and
-        2 runs, besides those of the mask. In the GraphBLAS GxB_eWiseUnion, in python-graphblas the
-        same name."""
-        ours = filled(other, left_default, self.unit)
-        theirs = filled(self, right_default, other.unit)
+        It is op(x, y) wherever one has an entry, with a default in place of the one that is
+        missing: `A.ewise_union(B, "minus", 0, 0)`.
+
+        Parameters
+        ----------
+        other : Matrix
+            A matrix of the same shape.
+        op : Operator, str or callable
+            A binary operator.
+        left_default : number
+            What stands for this matrix's entries, where they are missing.
+        right_default : number
+            What stands for the other's entries, where they are missing.
+        mask : Mask, optional
+            Where the result may have entries.
+        name : str, optional
+            What the result is called.
+
+        Returns
+        -------
+        Matrix
+            A matrix of the same shape.
+
+        Raises
+        ------
+        DimensionMismatch
+            Where the other or the mask has another shape.
+        ValueError
+            Where the unit can't hold a default.
+
+        Notes
+        -----
+        5 jobs and 2 runs, besides those of the mask. In the GraphBLAS GxB_eWiseUnion, in
+        python-graphblas the same name.
+
+        Examples
+        --------
+        >>> A, B = s.from_coo([0], [0], [5], 1, 2), s.from_coo([0, 0], [0, 1], [1, 2], 1, 2)
+        >>> A.ewise_union(B, 'minus', 0, 0).to_list()
+        [4, -2]
+        """
+        ours = submatrices.filled(other, left_default, self.unit)
+        theirs = submatrices.filled(self, right_default, other.unit)
         left, right = self.ewise_add(ours, 'first'), other.ewise_add(theirs, 'first')
         return left.ewise_mult(right, op, mask=mask, name=name)  # type: ignore[no-any-return]
 
     def isclose(self: C, other: C, rel_tol: float = 1e-7, abs_tol: float = 0.0) -> bool:
-        """Whether both have the same sizes and positions, and values that differ by at most
-        `rel_tol` times the greater one, or by `abs_tol`, as `math.isclose` has it. Values are what
-        they stand for, where matrices have units.
+        """Whether both have the same sizes and positions, and values that are close.
 
-        The client reads both where they differ. In python-graphblas the same name."""
+        Values differ by at most `rel_tol` times the greater one, or by `abs_tol`, as `math.isclose`
+        has it. They are what they stand for, where matrices have units.
+
+        Parameters
+        ----------
+        other : Matrix
+            The matrix to compare with.
+        rel_tol : float, default 1e-7
+            The most by which values differ, as a part of the greater one.
+        abs_tol : float, default 0.0
+            The most by which values differ.
+
+        Returns
+        -------
+        bool
+            False also where the shapes differ.
+
+        Raises
+        ------
+        TypeError
+            Where `other` is no matrix.
+        ValueError
+            Where a tolerance is below 0.
+        NamesDiffer
+            Where names differ, so that the matrices can't be compared.
+
+        Notes
+        -----
+        The client reads both where they differ. In python-graphblas the same name.
+        """
         if not isinstance(other, Signs):
             raise TypeError('expected a matrix, got %r' % (other,))
         if rel_tol < 0 or abs_tol < 0:
             raise ValueError('tolerances are 0 or more, not %r and %r' % (rel_tol, abs_tol))
         if self.shape != other.shape:
             return False
-        check_same_names(self.notes, other.notes)
+        joined(self.notes, other.notes, ELEMENTWISE)
         if units.is_whole(self.unit) and units.is_whole(other.unit):
             units.common('isclose', self.unit, other.unit)
         if self.nvals != other.nvals:
@@ -297,61 +598,252 @@ class Composites(Signs, metaclass=MatrixType):
     # -- products
 
     def power(self: C, n: int, op: 'Ring' = 'plus_times', *, name: Optional[str] = None) -> C:
-        """This matrix multiplied with itself, n times in all, over a semiring whose product is
-        associative.
+        """This matrix multiplied with itself, n times in all.
 
-        `n` is 0 or more; of 0 it is the matrix with what changes nothing on its diagonal, for
-        "plus_times", "lor_land", "any_pair", "min_plus" and "max_plus". Cost: up to 2 log2(n)
-        products. In python-graphblas the same name, in numpy `matrix_power`.
+        Parameters
+        ----------
+        n : int
+            0 or more. Of 0 it is the matrix with what changes nothing on its diagonal, for
+            "plus_times", "lor_land", "any_pair", "min_plus" and "max_plus".
+        op : str, Semiring or pair, default 'plus_times'
+            A semiring whose product is associative.
+        name : str, optional
+            What the result is called.
 
-        Raises DimensionMismatch where it isn't square, ValueError for a power below 0 or one of 0
-        over another semiring."""
-        return power_of(self, n, op, name)  # type: ignore[return-value, arg-type]
+        Returns
+        -------
+        Matrix
+            A matrix of the same shape.
+
+        Raises
+        ------
+        DimensionMismatch
+            Where this matrix isn't square.
+        ValueError
+            For a power below 0, or one of 0 over another semiring.
+
+        Notes
+        -----
+        Costs are up to 2 log2(n) products. In python-graphblas the same name, in numpy
+        `matrix_power`.
+        """
+        n = whole(n, 'power')
+        if self.nrows != self.ncols:
+            raise refusal('J5', command='product',
+                          detail='a power is of a square matrix, and this is %dx%d' % self.shape)
+        if n < 0:
+            raise ValueError('a power is 0 or more, not %d' % n)
+        if n == 0:
+            return self._neutral(op, name)
+        units.check_power(self.unit, n, ring_of(op)[0].mul)
+        made: Optional[C] = None
+        square = self
+        while n:
+            if n & 1:
+                made = square if made is None else made.mxm(square, op)
+            n >>= 1
+            square = square.mxm(square, op) if n else square
+        assert made is not None
+        if op in EXACT:                            # powers of a symmetric matrix commute
+            made.notes = made.notes._replace(directed=even(self.notes))
+        return made.dup(name=name) if name is not None or made is self else made
+
+    def _neutral(self: C, op: 'Ring', name: Optional[str]) -> C:
+        """The power of 0: what changes nothing, on the diagonal."""
+        if op not in NEUTRAL:
+            raise ValueError(
+                'what changes nothing is known for %s, not for %r: powers are 1 or more'
+                % (', '.join(NEUTRAL), op))
+        value = NEUTRAL[op]  # type: ignore[index]
+        neutral: Any = self.session.identity(self.nrows, value, name=name)
+        neutral.notes = NOTHING._replace(directed=False).with_axes(self.notes.axis(ROWS),
+                                                                   self.notes.axis(COLUMNS))
+        return cast(C, neutral)
 
     def kronecker(self: C, other: C, op: Op = 'times', *, name: Optional[str] = None) -> C:
-        """op(x, y) for each entry x here and y there, y's place within x's: at (i * rows + k, j *
-        columns + l).
+        """The Kronecker product: op(x, y) for each entry x here and y there.
 
-        The result's names are pairs of names, where both have names. The client reads both matrices
-        and sends one entry for each pair of theirs twice; 1 job. In the GraphBLAS GrB_kronecker, in
-        numpy `kron`. Raises TooLarge above 16,777,216 pairs."""
-        return tiles.kronecker(self, other, op, name)  # type: ignore[arg-type, return-value]
+        The place of y is within that of x: at (i * rows + k, j * columns + l).
+
+        Parameters
+        ----------
+        other : Matrix
+            The matrix that each entry here is joined with.
+        op : Operator, str or callable, default 'times'
+            A binary operator.
+        name : str, optional
+            What the result is called.
+
+        Returns
+        -------
+        Matrix
+            A matrix with the products of both sizes. Its names are pairs of names, where both have
+            names.
+
+        Raises
+        ------
+        TypeError
+            Where `other` is no matrix.
+        TooLarge
+            Above 16,777,216 pairs.
+
+        Notes
+        -----
+        1 job. The client reads both matrices and sends one entry for each pair of theirs twice. In
+        the GraphBLAS GrB_kronecker, in numpy `kron`.
+        """
+        return submatrices.kronecker(self, other, op, name)  # type: ignore[arg-type, return-value]
 
     # -- diagonals, tiles and sizes
 
     def diag(self: C, k: int = 0, *, name: Optional[str] = None) -> C:
-        """Of a column or a row the square matrix with its entries on the k-th diagonal, by the
-        client like `T`. Of any other matrix the column of the entries on its k-th diagonal, which
-        lies k columns to the right of (0, 0), or -k rows below it.
+        """The matrix with a column on a diagonal, or the diagonal of a matrix.
 
-        A k other than 0 gives no names. Of a matrix 2 jobs and 1 run, 1 job and 1 run more for
-        another k than 0. In python-graphblas `Vector.diag`, `Matrix.diag`, in numpy `diag`."""
-        return diagonal(self, k, name)  # type: ignore[arg-type, return-value]
+        Of a column or a row it is the square matrix with its entries on the k-th diagonal. Of any
+        other matrix it is the column of the entries on its k-th diagonal.
+
+        Parameters
+        ----------
+        k : int, default 0
+            Which diagonal: it lies k columns to the right of (0, 0), or -k rows below it. A k other
+            than 0 gives no names.
+        name : str, optional
+            What the result is called.
+
+        Returns
+        -------
+        Matrix
+            A square matrix, or a column.
+
+        Notes
+        -----
+        2 jobs and 1 run of a matrix, 1 job and 1 run more for another k than 0. Of a column or a
+        row the client makes it, like `T`. In python-graphblas `Vector.diag`, `Matrix.diag`, in
+        numpy `diag`.
+
+        Examples
+        --------
+        >>> s.from_coo([0, 0, 1], [0, 1, 1], [1, 2, 3], 2, 2).diag().to_list()
+        [1, 3]
+        """
+        k = whole(k, 'number of a diagonal')
+        if 1 not in self.shape:
+            return self._diagonal(k, name)
+        rows, columns, values = self.entries()
+        along = ROWS if self.ncols == 1 else COLUMNS
+        size = side(self.shape[along] + abs(k), 0, 'nrows')
+        at = columns if along else rows
+        made: Any = self.session.from_coo(at + max(-k, 0), at + max(k, 0), values, size, size,
+                                          name=name)
+        made.notes = (BY_POSITIONS._replace(unit=self.unit) if k
+                      else on_diagonal(self.notes, along))
+        return cast(C, made)
+
+    def _diagonal(self: C, k: int, name: Optional[str]) -> C:
+        """The column of the entries on the k-th diagonal."""
+        column: Any = self.select('diag', k).reduce_rowwise('first', name=name if not k else None)
+        if k:
+            first = max(-k, 0)
+            length = max(0, min(self.nrows - first, self.ncols - max(k, 0)))
+            column = submatrices.take(column, ROWS, range(first, first + length), name)
+            column.notes = BY_POSITIONS._replace(unit=self.unit)
+        return cast(C, column)
 
     def split(self: C, row_sizes: Sizes, column_sizes: Optional[Sizes] = None) -> List[List[C]]:
-        """The parts of this matrix, as rows of tiles, which `spmat.concat` puts together again.
+        """The parts of this matrix, as rows of tiles.
 
-        Sizes are those of all parts, or one for each but the last; None doesn't part the columns. 2
-        jobs and 1 run a part. In python-graphblas `ss.split`. Raises ValueError where sizes don't
-        add up to the rows or columns."""
-        return tiles.parts_of(self, row_sizes, column_sizes)  # type: ignore[arg-type, return-value]
+        `spmat.concat` puts them together again.
+
+        Parameters
+        ----------
+        row_sizes : int or list of int
+            The rows of all parts, or one number for each but the last.
+        column_sizes : int or list of int, optional
+            The columns of all parts, or one number for each but the last. None doesn't part the
+            columns.
+
+        Returns
+        -------
+        list of lists of Matrix
+            The tiles, a list for each row of them.
+
+        Raises
+        ------
+        ValueError
+            Where sizes don't add up to the rows or columns, or one size for all is below 1.
+
+        Notes
+        -----
+        2 jobs and 1 run a part. In python-graphblas `ss.split`.
+        """
+        matrix: Any = self
+        return cast(List[List[C]], submatrices.parts_of(matrix, row_sizes, column_sizes))
 
     def resize(self: C, nrows: int, ncols: int, *, name: Optional[str] = None) -> C:
-        """A new matrix of other sizes: entries beyond them are left out. Rows or columns that grow
-        in number have no names.
+        """A new matrix of other sizes.
 
-        2 jobs and 1 run. In the GraphBLAS GrB_Matrix_resize, which changes the matrix itself."""
-        return tiles.resized(self, nrows, ncols, name)  # type: ignore[arg-type, return-value]
+        Entries beyond them are left out. Rows or columns that grow in number have no names.
+
+        Parameters
+        ----------
+        nrows : int
+            How many rows it has.
+        ncols : int
+            How many columns it has.
+        name : str, optional
+            What the result is called.
+
+        Returns
+        -------
+        Matrix
+            A matrix of these sizes.
+
+        Raises
+        ------
+        ValueError
+            Where a size is below 0.
+
+        Notes
+        -----
+        2 jobs and 1 run. In the GraphBLAS GrB_Matrix_resize, which changes the matrix itself.
+        """
+        return submatrices.resized(self, nrows, ncols, name)  # type: ignore[arg-type, return-value]
 
     def reshape(self: C, nrows: int, ncols: int, order: str = 'rowwise', *,
                 name: Optional[str] = None) -> C:
-        """The same entries in another shape with as many places, counted row by row, or column by
-        column with `order="columnwise"`; one size may be -1. The result has no names.
+        """The same entries in another shape with as many places.
 
-        By the client, like `T`. In the GraphBLAS GxB_Matrix_reshape, in numpy `reshape`. Raises
-        DimensionMismatch for another number of places."""
-        whole: Any = self
-        return cast(C, tiles.reshaped(whole, nrows, ncols, order, name))
+        Parameters
+        ----------
+        nrows : int
+            How many rows it has; -1 for what is left beside the columns.
+        ncols : int
+            How many columns it has; -1 for what is left beside the rows. One size alone may be -1.
+        order : str, default 'rowwise'
+            Places are counted row by row, or column by column with "columnwise". The letters of
+            numpy, "C" and "F", mean the same.
+        name : str, optional
+            What the result is called.
+
+        Returns
+        -------
+        Matrix
+            A matrix of these sizes, without names.
+
+        Raises
+        ------
+        DimensionMismatch
+            For another number of places.
+        ValueError
+            Where `order` is another word.
+
+        Notes
+        -----
+        No job: the client makes it, like `T`. In the GraphBLAS GxB_Matrix_reshape, in numpy
+        `reshape`.
+        """
+        matrix: Any = self
+        return cast(C, submatrices.reshaped(matrix, nrows, ncols, order, name))
 
 
 def check_mask(where: Mask, shape: Tuple[int, int], notes: Notes) -> None:
@@ -366,73 +858,4 @@ def notes_under(where: Mask, shape: Tuple[int, int], notes: Notes) -> Notes:
     """What is known of a result under a mask. DimensionMismatch where the mask has another shape,
     NamesDiffer where it has other names."""
     check_mask(where, shape, notes)
-    return under(notes, where.matrix.notes, where.value, where.complement)
-
-
-def filled(pattern: Any, number: Any, unit: units.Unit) -> Any:
-    """A matrix with one number wherever another has an entry: 1 job."""
-    made = pattern.apply('thunk', right=units.to_stored(number, unit, 'default '))
-    made.notes = made.notes._replace(unit=unit)
-    return made
-
-
-def power_of(matrix: 'Matrix', n: int, op: 'Ring', name: Optional[str]) -> 'Matrix':
-    """See `Composites.power`."""
-    from .io.coo import whole
-    n = whole(n, 'power')
-    if matrix.nrows != matrix.ncols:
-        raise refusal('J5', command='product',
-                      detail='a power is of a square matrix, and this is %dx%d' % matrix.shape)
-    if n < 0:
-        raise ValueError('a power is 0 or more, not %d' % n)
-    if n == 0:
-        if op not in NEUTRAL:
-            raise ValueError(
-                'what changes nothing is known for %s, not for %r: powers are 1 or more'
-                % (', '.join(NEUTRAL), op))
-        value = NEUTRAL[op]  # type: ignore[index]
-        neutral = matrix.session.identity(matrix.nrows, value, name=name)
-        neutral.notes = NOTHING._replace(directed=False).with_axes(matrix.notes.axis(ROWS),
-                                                                   matrix.notes.axis(COLUMNS))
-        return neutral
-    units.check_power(matrix.unit, n, ring_of(op)[0].mul)
-    made: Optional['Matrix'] = None
-    square = matrix
-    while n:
-        if n & 1:
-            made = square if made is None else made.mxm(square, op)
-        n >>= 1
-        square = square.mxm(square, op) if n else square
-    assert made is not None
-    if op in EXACT:                                # powers of a symmetric matrix commute
-        made.notes = made.notes._replace(directed=even(matrix.notes))
-    return made.dup(name=name) if name is not None or made is matrix else made
-
-
-def diagonal(matrix: 'Matrix', k: int, name: Optional[str]) -> 'Matrix':
-    """See `Composites.diag`."""
-    from .io.coo import whole
-    k = whole(k, 'number of a diagonal')
-    if 1 not in matrix.shape:
-        return _diagonal_of(matrix, k, name)
-    rows, columns, values = matrix.entries()
-    at, count = (rows, matrix.nrows) if matrix.ncols == 1 else (columns, matrix.ncols)
-    down, right = max(-k, 0), max(k, 0)
-    moved: Tuple[Any, Any] = ((at, at) if not k else ([int(i) + down for i in at],
-                                                      [int(i) + right for i in at]))
-    made = matrix.session.from_coo(*moved, values, count + abs(k), count + abs(k), name=name)
-    along = ROWS if matrix.ncols == 1 else COLUMNS
-    made.notes = BY_POSITIONS._replace(unit=matrix.unit) if k else on_diagonal(matrix.notes, along)
-    return made
-
-
-def _diagonal_of(matrix: 'Matrix', k: int, name: Optional[str]) -> 'Matrix':
-    column = matrix.select('diag', k).reduce_rowwise('first', name=name if not k else None)
-    if not k:
-        return column
-    first = max(-k, 0)
-    length = max(0, min(matrix.nrows - first, matrix.ncols - max(k, 0)))
-    part = gather(column, list(range(first, first + length)),
-                  0).mxm(column, 'any_second', name=name)
-    part.notes = BY_POSITIONS._replace(unit=matrix.unit)
-    return part
+    return masked(notes, where.matrix.notes, where.complement)

@@ -16,11 +16,11 @@ from typing import Any, Dict, List, Optional, Sequence
 
 import numpy
 
-from .display import graph_pictures, pictures
+from .display import count_in_groups, graph_pictures, pictures
 from .display.pictures import INK, WARM, Path, Target
 from .extras import import_extra
 from .matrix import Matrix
-from .metadata import VERTICES, joined, without_names
+from .metadata import VERTICES, joined
 
 __all__ = ['check', 'degree_histogram', 'graph', 'levels', 'raster', 'route', 'spy']
 
@@ -78,14 +78,11 @@ def raster(A: Matrix, rows: int = RASTER, columns: int = RASTER) -> Matrix:
 
     Notes
     -----
-    3 jobs in 3 runs: two products, of as many multiplications as A has entries. In the GraphBLAS
+    2 jobs in 2 runs: two products, of as many multiplications as A has entries. In the GraphBLAS
     this is P A Q over plus, with P and Q that gather rows and columns.
     """
-    rows, columns = min(rows, A.nrows), min(columns, A.ncols)
-    i, j = numpy.arange(A.nrows), numpy.arange(A.ncols)
-    P = without_names(A.session.from_coo(i * rows // max(1, A.nrows), i, 1, rows, A.nrows))
-    Q = without_names(A.session.from_coo(j, j * columns // max(1, A.ncols), 1, A.ncols, columns))
-    return P.mxm(A.apply('one'), 'plus_second').mxm(Q, 'plus_first')
+    return count_in_groups(A, *(numpy.arange(side) * min(cells, side) // max(1, side)
+                                for side, cells in zip(A.shape, (rows, columns))))
 
 
 def spy(A: Matrix, path: Optional[Path] = None, size: int = RASTER, first: int = 0, *,
@@ -114,7 +111,7 @@ def spy(A: Matrix, path: Optional[Path] = None, size: int = RASTER, first: int =
 
     Notes
     -----
-    1 run, or 3 for a raster. In matplotlib `spy`.
+    1 run, or 2 for a raster. In matplotlib `spy`.
     """
     ax = pictures.open_axes(Target(ax, path), 6, 6)
     is_small = max(A.shape) <= size
@@ -253,7 +250,7 @@ def graph(G: Matrix, path: Optional[Path] = None, *, color: Any = None, size: An
     >>> draw.graph(G, color=algorithms.core_numbers(G), size=algorithms.pagerank(G))
     """
     graph_pictures.check_is_drawable(G)
-    look = graph_pictures.Look(color, size, labels, pos)
+    look = pictures.Look(color, size, labels, pos)
     return pictures.finish(graph_pictures.draw_graph(G, look, Target(ax, path)), path)
 
 

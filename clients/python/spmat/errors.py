@@ -26,9 +26,9 @@ sentence. The sentences stand here once, in the words of docs/protocol.md and do
 """
 from __future__ import annotations
 
-import re
 import copy
-from typing import Any, Callable, Dict, Optional, Sequence, Tuple, Type
+import re
+from typing import Any, Callable, Dict, Optional, Sequence, Tuple, Type, TypeVar
 
 from ._client.protocol import COMMANDS
 
@@ -131,36 +131,82 @@ def arguments_in(words: str) -> Tuple[str, ...]:
     """List the arguments of a call that a message writes as ``columns=``, each once."""
     return tuple(dict.fromkeys(_ARGUMENT.findall(words)))
 
+AnyRefused = TypeVar('AnyRefused', bound='Refused')
+
 
 class SpmatError(Exception):
-    """Everything that this package raises of its own."""
+    """Everything that this package raises of its own.
+
+    Notes
+    -----
+    It is the base of the errors. `NotSettled`, a RuntimeError, and the warnings stand apart. The
+    list at the top of `spmat.errors` says what to do about each.
+    """
 
 
 class Closed(SpmatError):
-    """The session has ended: by close, by a refusal, or as the program or the connection is gone.
-    The words have what the program said."""
+    """The session has ended.
+
+    Notes
+    -----
+    It ends by `close`, by a refusal, or as the program or the connection is gone. The words have
+    what the program said. Each call that needs the session raises this from then on. Open another
+    session, and make the matrices there anew.
+    """
 
 
 class ProtocolError(Closed):
-    """What came is no reply to the command that was sent: the other side is no server of spmat, or
-    something between drops, repeats or swaps replies. The session is ended, as commands and replies
-    are out of step."""
+    """What came is no reply to the command that was sent.
+
+    Notes
+    -----
+    The other side is no server of spmat, or something between drops, repeats or swaps replies. The
+    session is ended, as commands and replies are out of step. Look whether the address is a
+    server's, and what lies between; then open another session.
+    """
 
 
 class MaskWarning(UserWarning):
-    """A matrix was given as a mask: it means its structure, `A.S`, where the C API of the GraphBLAS
-    means its values, `A.V`."""
+    """A matrix was given as a mask.
+
+    Notes
+    -----
+    It means its structure, `A.S`, where the C API of the GraphBLAS means its values, `A.V`. Write
+    `mask=A.S` or `mask=A.V`, which give no warning.
+    """
 
 
 class OverflowWarning(UserWarning):
-    """Results of a job on values with a unit, such as decimals, may be beyond 64 bits. They wrap
-    there, and stand for other numbers."""
+    """Results of a job on values with a unit, such as decimals, may be beyond 64 bits.
+
+    Notes
+    -----
+    They wrap there, and stand for other numbers. The words say what leaves room: often a coarser
+    unit, by `A.rescale(unit, exact=False)`, which rounds.
+    """
 
 
 class ReadError(SpmatError, ValueError):
-    """A file isn't what was to be read: `.file` its name, `.at` the line, from 1, or None, `.line`
-    what stands there. `.arguments` are the names of the arguments of a call that the words are
-    about, such as ``columns``."""
+    """A file isn't what was to be read.
+
+    Attributes
+    ----------
+    file : str
+        Its name.
+    at : int or None
+        The line, from 1, or None.
+    words : str
+        What is wrong.
+    line : str
+        What stands there, or empty.
+    arguments : tuple of str
+        The names of the arguments of a call that the words are about, such as ``columns``.
+
+    Notes
+    -----
+    Calls that read a file raise it. Mend the line, or give the arguments that the words name. It is
+    a ValueError, too.
+    """
 
     def __init__(self, file: str, at: Optional[int], words: str, line: str = '') -> None:
         self.file, self.at, self.words, self.line = file, at, words, line
@@ -173,57 +219,112 @@ class ReadError(SpmatError, ValueError):
 
 
 class NamesDiffer(SpmatError, ValueError):
-    """Two matrices that a job would combine have different names for their rows or columns: by
-    position the values of different vertices would meet. `spmat.align` brings matrices to the same
-    names, and `nodelist=` reads one with the names of another.
+    """Two matrices that a job would combine have different names for their rows or columns.
 
     Notes
     -----
+    By position the values of different vertices would meet. `spmat.align` brings matrices to the
+    same names, and `nodelist=` reads one with the names of another. It is a ValueError, too.
+
     In pandas such tables are aligned; python-graphblas knows no names.
     """
 
 
 class NotMade(SpmatError):
-    """The result of a job whose run was refused, so that it never came to be. The refusal is the
-    cause. `ResultLost` is the same class."""
+    """The result of a job whose run was refused, so that it never came to be.
+
+    Notes
+    -----
+    A call that wants such a matrix raises it. The refusal is the cause, `__cause__`: do about it
+    what its class says, and ask for the job again. `ResultLost` is the same class.
+    """
 
 
 ResultLost = NotMade
 
 
 class UnitsDiffer(SpmatError, ValueError):
-    """Numbers of two units would meet, such as hundredths and thousandths; or a result would have
-    two units. The words say what to write."""
+    """Numbers of two units would meet, or a result would have two units.
+
+    Notes
+    -----
+    Such units are hundredths and thousandths. The words say what to write; `A.rescale(unit)` gives
+    one matrix the other's. It is a ValueError, too.
+    """
 
 
 class CompileError(SpmatError):
-    """A function of Python or C that can't be an operator, or that clang refused; no server was
-    asked. The words say what to do."""
+    """A function of Python or C that can't be an operator, or that clang refused.
+
+    Notes
+    -----
+    It is raised where the operator is made, or before it is first used; no server was asked. The
+    words say what to do.
+    """
 
 
 class NotSettled(RuntimeError):
-    """More rounds than there can be, or than were allowed."""
+    """More rounds than there can be, or than were allowed.
+
+    Notes
+    -----
+    `Loop.run`, `fixpoint` and algorithms that go by rounds raise it. Allow more rounds, by `most=`
+    of the first two, or look whether the rounds come to an end at all. The state of a `Loop` is
+    that behind the rounds that were made. It is a RuntimeError, and no `SpmatError`.
+    """
 
 
 class Refused(SpmatError):
-    """A refusal: `.rule` as the documents name it ('J5'; 'memory', 'thread', 'busy'), `.sentence`
-    in words, `.at` the line (M and A rules) or slot (V rules) or None, `.line` what stands there,
-    `.command` the command's line, `.numbers` all numbers of the reply; of a loop `.round` the round
-    that it came in."""
+    """A refusal: the server answered `no ..`, or would have.
+
+    Attributes
+    ----------
+    rule : str
+        The rule as the documents name it: 'J5'; 'memory', 'thread', 'busy'.
+    sentence : str
+        The rule in words.
+    at : int or None
+        The line (M and A rules) or slot (V rules), or None.
+    line : str
+        What stands there.
+    command : str
+        The command's line.
+    numbers : tuple of int
+        All numbers of the reply.
+    round : int or None
+        Of a loop the round that it came in.
+    detail : str
+        What is known beside, such as the shapes, or a hint; else empty.
+    file : str
+        The file whose line is meant, or empty.
+    said : str
+        Other words for the sentence, or empty.
+    text_line : int or None
+        The line of the text that a slot comes from, or None.
+
+    Notes
+    -----
+    Its subclasses tell apart what can be done. A refusal that the client foresees is the same
+    exception, raised before the job is sent.
+    """
 
     round: Optional[int] = None
 
     def __init__(self, rule: str, numbers: Sequence[int] = (), command: str = '', line: str = '',
                  detail: str = '') -> None:
-        self.rule, self.numbers, self.command, self.line, self.detail = rule, tuple(
-            numbers), command, line, detail
+        # copies and pickles are made of these arguments, and of what is set behind them
+        super().__init__(rule, tuple(numbers), command, line, detail)
+        self.rule, self.numbers = rule, tuple(numbers)
+        self.command, self.line, self.detail = command, line, detail
         self.at: Optional[int] = self.numbers[0] if self.numbers and is_placed(rule) else None
         self.file, self.said = '', ''
         self.text_line: Optional[int] = None
         key = (rule if rule in SENTENCES and not (self.numbers and rule + ' SPENT' in SENTENCES)
                else rule + ' SPENT')
         self.sentence = SENTENCES.get(key, 'a refusal that this client does not know')
-        super().__init__(self.message())
+
+    def __str__(self) -> str:
+        return self.message()
 
     def message(self) -> str:
         """What is said of it, as `str` gives it."""
@@ -240,62 +341,85 @@ class Refused(SpmatError):
         more += ['to mend it: ' + MENDS[self.rule]] if self.rule in MENDS else []
         return '; '.join([text] + more)
 
+    def _replace(self: AnyRefused, **changes: Any) -> AnyRefused:
+        out = copy.copy(self)
+        vars(out).update(changes)
+        return out
+
     def of_file(self, file: str = '', said: str = '') -> 'Refused':
-        """This refusal, of a line of a file, with other words for its sentence where they are
+        """This refusal, of a line of a file, with other words for its sentence if they are
         given."""
-        return self._told(self.detail, file or self.file, said or self.said, self.text_line)
+        return self._replace(file=file or self.file, said=said or self.said)
 
     def on_line(self, number: Optional[int], detail: str = '') -> 'Refused':
         """This refusal of a slot, with the line of the text that it comes from, and a hint."""
-        return self._told(detail or self.detail, self.file, self.said, number)
-
-    def _told(self, detail: str, file: str, said: str, text_line: Optional[int]) -> 'Refused':
-        out = type(self)(self.rule, self.numbers, self.command, self.line, detail)
-        out.file, out.said, out.text_line = file, said, text_line
-        out.args = (out.message(),)
-        return out
+        return self._replace(text_line=number, detail=detail or self.detail)
 
     def hinting(self, rule: str, hint: str) -> 'Refused':
-        """This refusal, with a hint where it is by this rule and has none yet."""
-        if self.rule != rule or self.detail:
-            return self
-        return self._told(hint, self.file, self.said, self.text_line)
-
-    def __reduce__(self) -> Tuple[Any, ...]:
-        return _again, (type(self), (self.rule, self.numbers, self.command, self.line, self.detail),
-                        self.file, self.said, self.text_line)
-
-
-def _again(kind: Type[Refused], told: Tuple[Any, ...], file: str, said: str,
-           text_line: Optional[int]) -> Refused:
-    """A refusal that was pickled."""
-    return kind(*told).of_file(file, said).on_line(text_line)
+        """This refusal, with a hint if it is by this rule and has none yet."""
+        return self if self.rule != rule or self.detail else self._replace(detail=hint)
 
 
 class OperatorRefused(Refused):
-    """An operator breaks a rule of assembly text (A1 to A6), of code (V1 to V6, S9) or of the
-    verifier (V7 to V16)."""
+    """An operator breaks a rule.
+
+    Notes
+    -----
+    The rules are those of assembly text (A1 to A6), of code (V1 to V6, S9) and of the verifier (V7
+    to V16). Mend the operator at the line or slot `at`, where `line` stands. `Session.check` finds
+    it out before a job does.
+    """
 
 
 class TextRefused(Refused, ValueError):
-    """A matrix text breaks a rule (M1 to M12 but M4)."""
+    """A matrix text breaks a rule (M1 to M12 but M4).
+
+    Notes
+    -----
+    Mend the text at the line `at`. It is a ValueError, too.
+    """
 
 
 class TooLarge(Refused, ValueError):
-    """Sizes, a body, a price or the possible result of a job above a limit (M4, S7, J7, J8)."""
+    """Sizes, a body, a price or the possible result of a job above a limit (M4, S7, J7, J8).
+
+    Notes
+    -----
+    Cut the work into parts, such as some rows at a time. It is a ValueError, too.
+    """
 
 
 class DimensionMismatch(Refused, ValueError):
-    """Shapes of operands (J5) or of the mask (J9) don't fit. In python-graphblas the same name."""
+    """Shapes of operands (J5) or of the mask (J9) don't fit.
+
+    Notes
+    -----
+    Look at the `shape` of both. It is a ValueError, too.
+
+    In python-graphblas the same name.
+    """
 
 
 class DomainMismatch(Refused, TypeError):
-    """An operator of another kind than the job takes (J4). In python-graphblas the same name."""
+    """An operator of another kind than the job takes (J4).
+
+    Notes
+    -----
+    Give an operator of the kind that the method names: unary, binary or index. It is a TypeError,
+    too.
+
+    In python-graphblas the same name.
+    """
 
 
 class BudgetWarning(UserWarning):
-    """A call may take more steps than are left, so that it may be refused amid its work. It is told
-    before its first job."""
+    """A call may take more steps than are left, so that it may be refused amid its work.
+
+    Notes
+    -----
+    It is told before its first job. `spmat.price` tells what the call takes; a session with more
+    steps may do, and `other.adopt(G)` takes a matrix there.
+    """
 
 
 class _Spent(Refused):
@@ -311,25 +435,75 @@ class _Spent(Refused):
 
 
 class OutOfMemory(_Spent):
-    """The server has no memory for what the command needs. In python-graphblas the same name."""
+    """The server has no memory for what the command needs.
+
+    Attributes
+    ----------
+    spent : int or None
+        The steps that a refused run took, or None where another command was refused.
+
+    Notes
+    -----
+    Let go of matrices that nobody needs, cut the work into parts, or take a server with more
+    memory.
+
+    In python-graphblas the same name.
+    """
 
 
 class NoThread(_Spent):
-    """A run could not start a thread for a worker. `ThreadUnavailable` is the same class."""
+    """A run could not start a thread for a worker.
+
+    Attributes
+    ----------
+    spent : int or None
+        The steps that the run took, or None where another command was refused.
+
+    Notes
+    -----
+    The threads that were started went on, to so many steps. A session of fewer workers may do.
+    `ThreadUnavailable` is the same class.
+    """
 
 
 ThreadUnavailable = NoThread
 
 
 class Busy(Refused):
-    """The server has as many sessions as it serves, and closed the connection."""
+    """The server has as many sessions as it serves, and closed the connection.
+
+    Notes
+    -----
+    It is raised where a session is opened. Try later. A gateway that can book no session now is
+    busy, too.
+    """
 
 
 class BudgetExceeded(Refused):
-    """A job's price is above what is left, also after the queue was run. `algorithm` is the
-    function of `spmat.algorithms` that wants it, or empty. `partial` is what that function had
-    found by then, where that means something: a result of the same kind, as the function's
-    docstring says, else None. Reading it takes no steps."""
+    """A job's price is above what is left, also after the queue was run.
+
+    Attributes
+    ----------
+    algorithm : str
+        The function of `spmat.algorithms` that wants it, or empty.
+    partial : Any
+        What that function had found by then, where that means something: a result of the same kind,
+        as the function's docstring says, else None. Reading it takes no steps.
+    price : int
+        The most steps that the job can take; of a call that was refused before its first job, those
+        that it takes at the least.
+    needed : int
+        The steps that have to be left, at the least: `price`.
+    left : int
+        The steps that were left.
+    arguments : tuple of str
+        The names of the arguments of a call that it is about: `steps`.
+
+    Notes
+    -----
+    Open a session with more steps, and `other.adopt(G)` takes a matrix there.
+    `spmat.price(lambda: ..)` tells beforehand what a call takes.
+    """
 
     algorithm = ''
     arguments = ('steps',)
@@ -343,36 +517,27 @@ class BudgetExceeded(Refused):
 
     def with_advice(self) -> 'BudgetExceeded':
         """This refusal of a job, with what can be done."""
-        return type(self)(self.rule, self.numbers, self.command, self.line,
-                          'the price is %d, and %d are left: %s; spmat.price(lambda: ..) tells '
-                          'beforehand what a call takes' % (self.price, self.left, MORE_STEPS))
+        return self._replace(
+            detail='the price is %d, and %d are left: %s; spmat.price(lambda: ..) tells '
+            'beforehand what a call takes' % (self.price, self.left, MORE_STEPS))
 
     def name_algorithm(self, name: str) -> None:
-        """Notes which algorithm wanted the job."""
+        """Note which algorithm wanted the job."""
         wanted = '%s wants a job of up to %s steps' % (name, format(self.price, ','))
         self.algorithm, self.detail = name, self.detail.replace('the price is %d' % self.price,
                                                                 wanted, 1)
-        self.args = (self.message(),)
 
     def of_call(self, name: str) -> 'BudgetExceeded':
         """This refusal, of a whole call of an algorithm before any of its jobs, with what can be
         done."""
-        out = type(self)(self.rule, self.numbers, self.command, self.line,
-                         '%s needs at least %s steps, and %s are left; none of its jobs was '
-                         'sent: %s' % (name, format(self.needed, ','), format(self.left, ','),
-                                       MORE_STEPS))
-        out.algorithm, out.said = name, 'fewer steps are left than the call needs'
-        out.args = (out.message(),)
-        return out
+        return self._replace(
+            algorithm=name, said='fewer steps are left than the call needs',
+            detail='%s needs at least %s steps, and %s are left; none of its jobs was sent: %s'
+            % (name, format(self.needed, ','), format(self.left, ','), MORE_STEPS))
 
     def by(self, way: str) -> 'BudgetExceeded':
         """This refusal, with another way to more steps."""
-        out = type(self)(self.rule, self.numbers, self.command, self.line,
-                         self.detail.replace(MORE_STEPS, way))
-        out.algorithm, out.said = self.algorithm, self.said
-        out.partial = self.partial
-        out.args = (out.message(),)
-        return out
+        return self._replace(detail=self.detail.replace(MORE_STEPS, way))
 
     @property
     def price(self) -> int:

@@ -1,21 +1,19 @@
-"""`G[i, j]`, `G[i, :]`, `G[rows, columns]`, `G[mask]`, made of products and copies: what an index
-means, and what it gives.
+"""What an index means: which rows or columns a name, a number, a list, a slice or a filter asks
+for.
 
-A product with a matrix of ones gathers rows or columns, as GrB_extract does: P G has the rows of G
-that P names, G Q the columns.
+`submatrices` takes these out of a matrix, or sets them.
 """
 from __future__ import annotations
 
 import collections
 import sys
 from collections.abc import Iterator, KeysView, Set, ValuesView
-from typing import TYPE_CHECKING, Any, Hashable, List, NamedTuple, NoReturn, Optional, Union
+from typing import TYPE_CHECKING, Any, Hashable, List, NamedTuple, NoReturn, Optional
 
-from . import units
 from .io.exporters import Held
 from .io.matrix_text import is_array
 from .mask import Mask
-from .metadata import NOTHING, Nodes, even, joined
+from .metadata import Nodes, joined
 
 if TYPE_CHECKING:
     from .matrix import Matrix
@@ -34,27 +32,7 @@ class Chosen(NamedTuple):
     one: bool = False
 
 
-def picked(matrix: 'Matrix', at: Any) -> Union['Matrix', int, float, None]:
-    """See `Matrix.__getitem__`."""
-    if isinstance(at, Mask):
-        return matrix.dup(mask=at)
-    rows, columns = (choose_places(matrix, index, axis) for axis, index in enumerate(_pair_of(at)))
-    for axis, chosen in enumerate((rows, columns)):
-        _check_once(matrix, chosen, axis)
-    part = matrix
-    if rows.places is not None:
-        part = gather(matrix, rows.places, 0).mxm(part, 'any_second')
-    if columns.places is not None:
-        part = part.mxm(gather(matrix, columns.places, 1), 'any_first')
-    if rows.one and columns.one:
-        values = part.entries(arrays=False)[2]
-        return units.to_decimal(values[0], matrix.unit) if values else None
-    if rows.places is not None and rows.places == columns.places:
-        part.notes = part.notes._replace(directed=even(matrix.notes))
-    return part
-
-
-def _check_once(matrix: 'Matrix', chosen: Chosen, axis: int) -> None:
+def check_once(matrix: 'Matrix', chosen: Chosen, axis: int) -> None:
     """ValueError where a row (or column) that has a name is asked for twice: of a result no two
     have one name, as those of pandas may."""
     places = chosen.places
@@ -68,7 +46,7 @@ def _check_once(matrix: 'Matrix', chosen: Chosen, axis: int) -> None:
         'None, and write positions' % (what, name, what, what, what))
 
 
-def _pair_of(at: Any) -> Any:
+def pair_of(at: Any) -> Any:
     """The index of the rows and that of the columns. TypeError where there aren't two."""
     if isinstance(at, Held):
         raise TypeError(
@@ -298,17 +276,3 @@ def _of_column(matrix: 'Matrix', mask: Any, axis: int) -> List[int]:
     joined(values.notes, matrix.notes,
            ((side, axis, 'the filter and the %ss that it filters' % WHAT[axis]),))
     return [place for place in range(length) if (place in stored) is inside]
-
-
-def gather(matrix: 'Matrix', places: List[int], axis: int) -> 'Matrix':
-    """The matrix of ones that gathers some rows (from the left) or columns (from the right). Its
-    other side has the names of what is gathered, or none where one is gathered twice."""
-    count, many = matrix.shape[axis], len(places)
-    whole = matrix.notes.axis(axis)
-    if axis == 0:
-        made = matrix.session.from_coo(range(many), places, 1, many, count)
-        made.notes = NOTHING.with_axes(whole.part(places), whole)
-    else:
-        made = matrix.session.from_coo(places, range(many), 1, count, many)
-        made.notes = NOTHING.with_axes(whole, whole.part(places))
-    return made

@@ -2,16 +2,20 @@
 from __future__ import annotations
 
 import datetime
+import math
 from decimal import Decimal
 from fractions import Fraction
-from typing import Dict, NamedTuple, Optional, Tuple, Union
+from typing import Any, Dict, NamedTuple, NoReturn, Optional, Tuple, Union
 
 import numpy
 
-from . import units
 from ._client.protocol import FORMS
-from .errors import refusal
+from .errors import UnitsDiffer, refusal
+from .exact_numbers import TimeUnit, compared, exact_number, is_time
+from .io import coo
 from .operators import READY, Op, Operator, Semiring, find, find_semiring
+from .units import (COMPARE, FIRST, KEEP, MEET, OVER, SECOND, SHIFT, TIMES, UNDER, Unit, is_whole,
+                    meaning_of, name_of, plain, to_stored)
 
 Number = Union[int, float, Fraction, Decimal, datetime.date, datetime.timedelta, numpy.datetime64,
                numpy.timedelta64]
@@ -25,7 +29,7 @@ class Applied(NamedTuple):
     op: Operator
     thunk: Optional[int]
     even: bool
-    unit: units.Unit
+    unit: Unit
     by: Operator
     is_left: bool = False
 
@@ -55,25 +59,25 @@ def ring_of(op: Ring) -> Tuple[Semiring, Tuple[Operator, Operator]]:
     return found
 
 
-def applied(op: Op, right: Optional[Number], left: Optional[Number], unit: units.Unit) -> Applied:
+def applied(op: Op, right: Optional[Number], left: Optional[Number], unit: Unit) -> Applied:
     """What `apply` sends of a matrix with this unit."""
     if right is not None and left is not None:
         raise TypeError('right= or left=, not both')
     bound = right is not None or left is not None
     if not bound and isinstance(op, Operator) and op.kind == 'unary':
-        return Applied(op, None, True, unit if unit == 1 else units.of_unary(op, unit), op)
+        return Applied(op, None, True, unit if unit == 1 else of_unary(op, unit), op)
     kinds = ('binary', 'index') if bound else ('unary', 'index')
     found = find(_kind_of(op, kinds, bound), op)
     number = left if left is not None else right if right is not None else 0
     if found.kind == 'index' and left is None:
-        sent = units.of_index(found, number, unit, 'right=')
+        sent = of_index(found, number, unit, 'right=')
         return Applied(sent.op, sent.thunk, False, sent.unit, sent.op)
     if found.kind == 'binary' and bound:
-        sent = units.of_bound(found, number, left is not None, unit)
+        sent = of_bound(found, number, left is not None, unit)
         op = sent.op.bind_right() if right is not None else sent.op.bind_left()
         return Applied(op, sent.thunk, True, sent.unit, sent.op, left is not None)
     if found.kind == 'unary' and not bound:
-        return Applied(found, None, True, units.of_unary(found, unit), found)
+        return Applied(found, None, True, of_unary(found, unit), found)
     how = ' with %s=' % ('right' if right is not None else 'left') if bound else ''
     raise refusal('J4', command='apply',
                   detail='expected a unary or index operator, or a binary one with right= or '
@@ -86,3 +90,111 @@ def _kind_of(op: Op, kinds: Tuple[str, str], bound: bool) -> str:
         from .operators.compiler import kind_of
         return kind_of(op, bound)
     return kinds[1] if op not in READY[kinds[0]] and op in READY[kinds[1]] else kinds[0]
+
+
+# -- the numbers beside operators, and the units of what they give
+
+def _is_function(op: Operator) -> bool:
+    """Whether an operator was made of a function, which gets stored numbers."""
+    return hasattr(op, 'function')
+
+
+class Bound(NamedTuple):
+    """An operator, the whole number that is sent beside it, and the unit of its result."""
+    op: Operator
+    thunk: int
+    unit: Unit
+
+
+def of_unary(op: Operator, unit: Unit) -> Unit:
+    """The unit of a unary operator's result."""
+    if unit == 1:
+        return 1
+    meaning = meaning_of(op)
+    if meaning == UNDER and not isinstance(unit, TimeUnit):
+        _refuse_inverse(op, 1, unit)
+    return unit if meaning == KEEP else 1
+
+
+def of_index(op: Operator, thunk: Any, unit: Unit,
+             what: str = 'the number beside the operator') -> Bound:
+    """The same of an index operator, with the number beside it: a value stands for itself, what the
+    caller's own operators get is a stored number."""
+    if unit == 1 and _is_stored(thunk):
+        return Bound(op, thunk, 1)
+    meaning = meaning_of(op)
+    if meaning == COMPARE and not _is_function(op):
+        return Bound(*compared(op, thunk, unit), 1)
+    return Bound(op, _whole(thunk, what, 'is'), unit if meaning == KEEP else 1)
+
+
+def of_bound(op: Operator, number: Any, is_left: bool, unit: Unit) -> Bound:
+    """The same of a binary operator, one of whose operands is a number: where it meets the values
+    it is one of these, by times and division it is a factor."""
+    if unit == 1 and _is_stored(number):
+        return Bound(op, number, 1)
+    meaning, what = meaning_of(op), 'left=' if is_left else 'right='
+    if not _is_function(op):
+        if meaning == COMPARE:
+            return Bound(*compared(op, number, unit, is_left), 1)
+        if meaning in (MEET, FIRST, SECOND):
+            return Bound(op, to_stored(number, unit, what), unit)
+    divides = meaning in (OVER, UNDER) and is_left != (meaning == OVER)
+    if meaning in (OVER, UNDER) and not divides and not is_whole(unit):
+        _refuse_inverse(op, number, unit)
+    if meaning == TIMES or divides:
+        _check_factor(op, number, is_left, unit)
+    stored = _whole(number, what, 'of "%s" is' % name_of(op))
+    return Bound(op, stored, _own(meaning, is_left, unit))
+
+
+def _is_stored(number: Any) -> bool:
+    """Whether a number is stored as it is where values have no unit. So most are, and all that
+    follows here would take longer than the rest of a job."""
+    return type(number) is int and coo.LEAST <= number <= coo.MOST
+
+
+def _own(meaning: Optional[str], is_left: bool, unit: Unit) -> Unit:
+    """The unit of the result of a binary operator with a number that isn't changed. A multiple of a
+    time is a number."""
+    if meaning == SHIFT and is_left:
+        return 1
+    keep = ((MEET, FIRST, SECOND) if isinstance(unit, TimeUnit)
+            else (MEET, FIRST, SECOND, TIMES, OVER, UNDER, SHIFT))
+    return unit if meaning in keep else 1
+
+
+def _whole(number: Any, what: str, verb: str) -> int:
+    """A whole number of 64 bits that callers write beside an operator, by the word that they know
+    it by."""
+    try:
+        return coo.word(number, 'number')
+    except (TypeError, ValueError) as fault:
+        raise type(fault)('%s %s a whole number of 64 bits, not %r'
+                          % (what, verb, number)) from None
+
+
+def _check_factor(op: Operator, number: Any, is_left: bool, unit: Unit) -> None:
+    """ValueError for a factor, or a divisor, that isn't whole: it says how to take it all the
+    same."""
+    if is_time(number) or isinstance(number, str) or not math.isfinite(number):
+        return                                     # `_whole` says so
+    over, under = exact_number(number).as_integer_ratio()
+    if under == 1:
+        return
+    side, name = 'left' if is_left else 'right', name_of(op)
+    how = 'B = A.apply("times", %s=%d); B.unit = %s' % (side, over, plain(unit * Fraction(under)))
+    if meaning_of(op) != TIMES:
+        how = 'A.apply("times", right=%d).apply("%s", %s=%d)' % (under, name, side, over)
+    raise ValueError('%s= of "%s" is a whole number, not %r: write %s' % (side, name, number, how))
+
+
+def _refuse_inverse(op: Operator, number: Any, unit: Unit) -> NoReturn:
+    parts = 1000 * unit.denominator
+    over = exact_number(number) * unit * parts
+    parts, over = ((parts, over) if over.denominator == 1 and abs(over) <= coo.MOST
+                   else (unit.denominator, Fraction(unit.numerator)))
+    raise UnitsDiffer(
+        '"%s" divides by values that are parts of 1/%s, so that the quotients would be no parts '
+        'of it: write B = A.dup(); B.unit = 1; C = B.apply("cdiv", left=%d); C.unit = %d for '
+        'quotients in parts of 1/%d, cut down' % (name_of(op), unit, int(over), parts, parts))

@@ -13,13 +13,34 @@ if TYPE_CHECKING:
 
 
 class Mask(NamedTuple):
-    """`A.S` where A has an entry, `A.V` where it has one that isn't 0, `~A.S` and `~A.V` everywhere
-    else. In the GraphBLAS a structural mask, a value mask, and their complements. The server knows
-    `A.S` alone; what the others take stands at `Matrix.S` and `Matrix.V`.
+    """Where a result may have entries: `A.S`, `A.V`, `~A.S` or `~A.V`.
+
+    `A.S` is where A has an entry, `A.V` where it has one that isn't 0, `~A.S` and `~A.V` everywhere
+    else.
+
+    Parameters
+    ----------
+    matrix : Matrix
+        The matrix A, by whose entries it goes.
+    value : bool, default False
+        Whether an entry that is 0 doesn't count: `A.V`.
+    complement : bool, default False
+        Whether it is everywhere else: `~A.S`, `~A.V`.
+
+    Notes
+    -----
+    The server knows `A.S` alone; what the others take stands at `Matrix.S` and `Matrix.V`.
 
     `A.S & B.S`, `|`, `^` and `-` are masks, too: of 1 job, and 5 and 3 runs where entries of one
     alone are wanted (`without`), and 1 job and 1 run more for each mask by value. In
-    python-graphblas the same signs."""
+    python-graphblas the same signs.
+
+    `and`, `or` and `not` of a mask raise TypeError, and so does == of masks of two matrices. The
+    signs raise DimensionMismatch where the shapes differ, ValueError where the masks are of two
+    sessions, and TypeError beside what is no mask.
+
+    GraphBLAS: a structural mask, a value mask, and their complements.
+    """
     matrix: Any
     value: bool = False
     complement: bool = False

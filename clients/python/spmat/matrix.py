@@ -6,15 +6,15 @@ from typing import TYPE_CHECKING, Any, Iterator, Optional, Sequence, Tuple, Type
 
 import numpy
 
-from . import aggregators, metadata, overflow, oversized_jobs, units
+from . import aggregators, derivation, metadata, overflow, oversized_jobs
 from .backends.protocol import Handle, Job, OneVisit
 from .common_session import common_session
 from .composites import Composites, notes_under
 from .display import html
 from .errors import TooLarge, refusal
-from .job_operators import Number, Ring, applied, of_form, ring_of
+from .job_operators import Number, Ring, applied, of_form, of_index, ring_of
 from .mask import Mask, as_mask, structure
-from .operators import Op
+from .operators import Op, Operator
 
 if TYPE_CHECKING:
     from .session import Session
@@ -74,23 +74,54 @@ class Matrix(Composites):
 
     @property
     def in_one_place(self) -> bool:
-        """Whether one session has it whole: blocks have not."""
+        """Whether one session has it whole.
+
+        Returns
+        -------
+        bool
+            False of blocks, which no session has whole.
+        """
         return self.handle.backend.in_one_place
 
     @property
     def waits(self) -> bool:
-        """Whether this is the result of a job that hasn't run."""
+        """Whether this is the result of a job that hasn't run.
+
+        Returns
+        -------
+        bool
+            False of a matrix that is there.
+        """
         return self.handle.waits
 
     @property
     def nvals(self) -> int:
-        """The number of entries. Runs the queue where this matrix waits; nothing is sent
-        otherwise."""
+        """The number of entries.
+
+        Returns
+        -------
+        int
+            How many entries are stored, also those whose value is 0.
+
+        Notes
+        -----
+        Runs the queue where this matrix waits; nothing is sent otherwise.
+        """
         return self.session.backend.count(self.handle)
 
     def wait(self: Self) -> Self:
-        """This matrix, once it is there: runs the queue where it waits. In python-graphblas `wait`,
-        and `new` of an expression."""
+        """This matrix, once it is there.
+
+        Returns
+        -------
+        Matrix
+            This matrix itself.
+
+        Notes
+        -----
+        Runs the queue where this matrix waits. In python-graphblas `wait`, and `new` of an
+        expression.
+        """
         self.session.backend.wait(self.handle)
         return self
 
@@ -98,46 +129,80 @@ class Matrix(Composites):
 
     @property
     def price(self) -> Optional[int]:
-        """Of a job's result the most steps that the job could take; None of another matrix. A job
-        that waits to be sent is sent."""
+        """Of a job's result the most steps that the job could take.
+
+        Returns
+        -------
+        int or None
+            None of a matrix that is no job's result.
+
+        Notes
+        -----
+        A job that waits to be sent is sent.
+        """
         if self.handle.price is None and self.handle.waits:
             self.session.backend.flush(self.handle)
         return self.handle.price
 
     @property
     def steps(self) -> Optional[int]:
-        """Of a job's result the steps that the job took; None until it ran, and of another
-        matrix."""
+        """Of a job's result the steps that the job took.
+
+        Returns
+        -------
+        int or None
+            None until the job ran, and of a matrix that is no job's result.
+        """
         return self.handle.steps
 
     @property
     def S(self) -> Mask:
-        """The mask of the positions that are stored here, whatever their values. It costs no job.
-        `~A.S` takes 5 jobs and 4 runs more than no mask (`without`)."""
+        """The mask of the positions that are stored here, whatever their values.
+
+        Returns
+        -------
+        Mask
+            `~A.S` is the mask of the positions that aren't stored.
+
+        Notes
+        -----
+        It costs no job. `~A.S` takes 5 jobs and 4 runs more than no mask (`without`).
+        """
         return Mask(self)
 
     @property
     def V(self) -> Mask:
-        """The mask of the positions whose value isn't 0. It takes 1 job and 1 run more than `A.S`;
-        `~A.V` takes 1 job more than `~A.S`."""
+        """The mask of the positions whose value isn't 0.
+
+        Returns
+        -------
+        Mask
+            `~A.V` is the mask of all other positions.
+
+        Notes
+        -----
+        It takes 1 job and 1 run more than `A.S`; `~A.V` takes 1 job more than `~A.S`.
+        """
         return Mask(self, value=True)
 
     # -- jobs
 
     def apply(self, op: Op, right: Optional[Number] = None, *, left: Optional[Number] = None,
               mask: MaskLike = None, name: Optional[str] = None) -> 'Matrix':
-        """Each entry's answer, by an operator. In the GraphBLAS GrB_apply.
+        """Each entry's answer, by an operator.
 
         Parameters
         ----------
         op : Operator, str or callable
             Unary: f(x). Binary, with a number bound: f(x, right) or f(left, x). Index operator:
             f(x, row, column, right).
-        right, left : number, optional
-            The number that is bound. `right` of an index operator is 0 unless given. Where this
-            matrix has a unit, `right=0.25` is a number that meets its values, and is stored as they
-            are; for times and division it is a whole factor. A date or a length of time beside
-            values that are times, `unit="s"`.
+        right : number, optional
+            The number that is bound. Of an index operator it is 0 unless given. Where this matrix
+            has a unit, `right=0.25` is a number that meets its values, and is stored as they are;
+            for times and division it is a whole factor. A date or a length of time beside values
+            that are times, `unit="s"`.
+        left : number, optional
+            The number that is bound on the other side of a binary operator, as `right` has it.
         mask : Mask, optional
             Where the result may have entries.
         name : str, optional
@@ -146,21 +211,33 @@ class Matrix(Composites):
         Returns
         -------
         Matrix
+            A matrix of the same shape, with an entry wherever this one has one.
 
         Raises
         ------
         ValueError
             Where the unit can't hold the number, which comparisons need not; where a value with a
             unit would be beyond 64 bits.
+        DimensionMismatch
+            Where the mask has another shape.
 
         Notes
         -----
         1 job. A bound binary operator is sent as an index operator of one (right) or two (left)
-        more instructions, once for all numbers. An operator of your own gets stored whole numbers,
-        also for `right`, and its result has a unit of 1: set it, as in `B.unit = 100`, where you
-        know another."""
+        more instructions, once for all numbers. In the GraphBLAS GrB_apply.
+
+        An operator of your own gets stored whole numbers, also for `right`, and its result has a
+        unit of 1: set it, as in `B.unit = 100`, where you know another.
+
+        Examples
+        --------
+        >>> s.from_coo([0, 1], [0, 1], [3, -4], 2, 2).apply('abs').to_dict()
+        {(0, 0): 3, (1, 1): 4}
+        >>> s.from_coo([0, 1], [0, 1], [3, -4], 2, 2).apply('plus', right=10).to_dict()
+        {(0, 0): 13, (1, 1): 6}
+        """
         sent = applied(op, right, left, self.notes.unit)
-        notes = metadata.of_applied(self.notes, sent.op, sent.even, sent.unit)
+        notes = derivation.of_applied(self.notes, sent.op, sent.even, sent.unit)
         span = None if sent.unit == 1 else overflow.of_applied(self, sent)
         made = self._queue(Job('apply', (sent.op,), (self.handle,), self.handle.shape, sent.thunk),
                            (self,), notes, mask, name)
@@ -168,68 +245,148 @@ class Matrix(Composites):
 
     def select(self, op: Op, thunk: Number = 0, *, mask: MaskLike = None,
                name: Optional[str] = None) -> 'Matrix':
-        """The entries for which an index operator's answer isn't 0, with their values. In the
-        GraphBLAS GrB_select.
+        """The entries for which an index operator's answer isn't 0, with their values.
 
         Parameters
         ----------
         op : Operator, str or callable
             Its name may be a sign: `A.select(">=", 3)` is `A.select("valuege", 3)`.
-        thunk : number
+        thunk : number, default 0
             What the operator gets beside each entry. A value to compare with is any number, also a
             fraction beside whole numbers, or infinity, `A.select(">=", 1.5)`; beside times a date
             or a length of time. An operator of your own gets stored whole numbers.
-        mask, name
-            As for `apply`.
+        mask : Mask, optional
+            Where the result may have entries.
+        name : str, optional
+            What the result is called.
 
         Returns
         -------
         Matrix
+            A matrix of the same shape, with the entries that are kept.
 
         Raises
         ------
         ValueError
-            Of NaN. Of "rowle", "rowgt", "colle" and "colgt", which count
-            from 0, where rows or columns have other numbers for names: an Operator,
-            `spmat.indexunary.rowle`, counts all the same.
+            Of NaN, and of "rowle", "rowgt", "colle" and "colgt", which count from 0, where rows or
+            columns have other numbers for names: an Operator, `spmat.indexunary.rowle`, counts all
+            the same.
+        DimensionMismatch
+            Where the mask has another shape.
 
         Notes
         -----
-        1 job."""
+        1 job. In the GraphBLAS GrB_select.
+
+        Examples
+        --------
+        >>> s.from_coo([0, 0, 1], [0, 1, 1], [1, 2, 3], 2, 2).select('>=', 2).to_dict()
+        {(0, 1): 2, (1, 1): 3}
+        """
         if isinstance(op, str):
             metadata.check_counts_places(op, self.notes)
         found = of_form('select', op)
-        found, stored, _ = units.of_index(found, thunk, self.notes.unit)
-        notes = metadata.of_selected(self.notes, found, stored)
+        found, stored, _ = of_index(found, thunk, self.notes.unit)
+        notes = derivation.of_selected(self.notes, found, stored)
         return self._queue(Job('select', (found,), (self.handle,), self.handle.shape, stored),
                            (self,), notes, mask, name)
 
     def ewise_add(self, other: 'Matrix', op: Op = 'plus', *, mask: MaskLike = None,
                   name: Optional[str] = None) -> 'Matrix':
-        """op(x, y) where both have an entry, else a copy of the one that has. UnitsDiffer where
-        units differ, or the operator's result has another one than the copies; that of an operator
-        of your own has a unit of 1. 1 job. In the GraphBLAS GrB_eWiseAdd; here `union`."""
+        """The union of two matrices, by op(x, y) where both have an entry.
+
+        Where one alone has an entry, the result has a copy of it.
+
+        Parameters
+        ----------
+        other : Matrix
+            A matrix of the same shape.
+        op : Operator, str or callable, default 'plus'
+            A binary operator.
+        mask : Mask, optional
+            Where the result may have entries.
+        name : str, optional
+            What the result is called.
+
+        Returns
+        -------
+        Matrix
+            A matrix of the same shape.
+
+        Raises
+        ------
+        TypeError
+            Where `other` is no matrix.
+        DimensionMismatch
+            Where the other or the mask has another shape.
+        NamesDiffer
+            Where the names of rows or columns differ.
+        UnitsDiffer
+            Where units differ, or the operator's result has another one than the copies; that of an
+            operator of your own has a unit of 1.
+
+        Notes
+        -----
+        1 job. In the GraphBLAS GrB_eWiseAdd; here `union`.
+
+        Examples
+        --------
+        >>> A, B = s.from_coo([0], [0], [5], 1, 2), s.from_coo([0, 0], [0, 1], [1, 2], 1, 2)
+        >>> A.ewise_add(B).to_list()
+        [6, 2]
+        """
         self._check_shape('union', other, self.shape)
-        found = of_form('union', op)
-        notes = metadata.of_union(self.notes, other.notes, found, self.handle.mirrors(other.handle))
-        return self._queue(Job('union', (found,), (self.handle, other.handle), self.shape),
-                           (self, other), notes, mask, name)
+        return self._combine('union', of_form('union', op), other, mask, name)
 
     def ewise_mult(self, other: 'Matrix', op: Op = 'times', *, mask: MaskLike = None,
                    name: Optional[str] = None) -> 'Matrix':
-        """op(x, y) where both have an entry. Times multiplies units, others want one, and the
-        result of an operator of your own has a unit of 1. 1 job. In the GraphBLAS GrB_eWiseMult;
-        here `both`."""
+        """The intersection of two matrices: op(x, y) where both have an entry.
+
+        Parameters
+        ----------
+        other : Matrix
+            A matrix of the same shape.
+        op : Operator, str or callable, default 'times'
+            A binary operator. Times multiplies units, others want one, and the result of an
+            operator of your own has a unit of 1.
+        mask : Mask, optional
+            Where the result may have entries.
+        name : str, optional
+            What the result is called.
+
+        Returns
+        -------
+        Matrix
+            A matrix of the same shape.
+
+        Raises
+        ------
+        TypeError
+            Where `other` is no matrix.
+        DimensionMismatch
+            Where the other or the mask has another shape.
+        NamesDiffer
+            Where the names of rows or columns differ.
+        UnitsDiffer
+            Where the operator wants one unit, and the matrices have two.
+
+        Notes
+        -----
+        1 job. In the GraphBLAS GrB_eWiseMult; here `both`.
+
+        Examples
+        --------
+        >>> A, B = s.from_coo([0], [0], [5], 1, 2), s.from_coo([0, 0], [0, 1], [3, 2], 1, 2)
+        >>> A.ewise_mult(B).to_list()
+        [15, None]
+        """
         self._check_shape('both', other, self.shape)
-        found = of_form('both', op)
-        notes = metadata.of_both(self.notes, other.notes, found, self.handle.mirrors(other.handle))
-        return self._queue(Job('both', (found,), (self.handle, other.handle), self.shape),
-                           (self, other), notes, mask, name)
+        return self._combine('both', of_form('both', op), other, mask, name)
 
     def mxm(self, other: 'Matrix', op: Ring = 'plus_times', *, mask: MaskLike = None,
             parts: bool = False, associative: Optional[bool] = None,
             name: Optional[str] = None) -> 'Matrix':
-        """The product over a semiring. In the GraphBLAS GrB_mxm; here `product`.
+        """The product over a semiring.
 
         At (i, j) stand the terms mul(A(i, k), B(k, j)) for k stored in both, folded by add with
         ascending k.
@@ -238,59 +395,138 @@ class Matrix(Composites):
         ----------
         other : Matrix
             As many rows as this one has columns.
-        op : str, Semiring or pair
+        op : str, Semiring or pair, default 'plus_times'
             Any two binary operators: by name "min_plus", of one's own a pair (add, mul) or
             `semiring(add, mul)`. By name also "any_secondi", whose terms are positions: "firsti",
             "firstj", "secondi" and "secondj" of A(i, k) and B(k, j), from 1 with a "1" behind; 1
             job and 1 run more.
-        mask, name
-            As for `apply`.
-        parts : bool
+        mask : Mask, optional
+            Where the result may have entries.
+        parts : bool, default False
             Whether a product that is too large is made by halves of this matrix's rows, their
             halves, and so on: 2 jobs and 2 runs more for each halving.
         associative : bool, optional
             The caller's word that ADD is associative. Row blocks then send `other` block by block;
             see `spmat.blocks.BlockMatrix`.
+        name : str, optional
+            What the result is called.
 
         Returns
         -------
         Matrix
+            A matrix with this one's rows and the other's columns.
 
         Raises
         ------
+        TypeError
+            Where `other` is no matrix.
+        DimensionMismatch
+            Where the other has not as many rows as this one has columns, or the mask not the
+            result's shape.
         TooLarge
             Of more than 16,777,216 multiplications (in the rows of which the mask stores
             something), or a price above 2^32 steps, unless `parts` is set.
 
         Notes
         -----
-        1 job."""
+        1 job. In the GraphBLAS GrB_mxm; here `product`.
+
+        Examples
+        --------
+        >>> A = s.from_coo([0, 0, 1], [0, 1, 1], [1, 2, 3], 2, 2)
+        >>> A.mxm(A).to_dict()
+        {(0, 0): 1, (0, 1): 8, (1, 1): 9}
+        >>> A.mxm(A, 'min_plus').to_dict()
+        {(0, 0): 2, (0, 1): 3, (1, 1): 6}
+        """
         self._check_shape('product', other, (self.ncols, None))
         if aggregators.is_positional(op):
             return aggregators.positional_product(self, other, op, mask, name, parts=parts,
                                                   associative=associative)
-        ring, operators = ring_of(op)
-        notes = metadata.of_product(self.notes, other.notes, ring, self.handle is other.handle,
-                                    self.handle.mirrors(other.handle))
-
-        def multiply(rows: 'Matrix') -> 'Matrix':
-            job = Job('product', operators, (rows.handle, other.handle), (self.nrows, other.ncols),
-                      None, None, parts, associative)
-            return self._queue(job, (rows, other), notes, mask, name)
+        operators = ring_of(op)[1]
+        notes = self._derive('product', operators, other)
+        job = Job('product', operators, (self.handle, other.handle), (self.nrows, other.ncols),
+                  None, None, parts, associative)
         if parts and not self.session.backend.halves_products:
-            return oversized_jobs.in_parts(self, multiply)
-        return multiply(self)
+            return oversized_jobs.in_parts(self, lambda rows: self._queue(
+                job._replace(operands=(rows.handle, other.handle)), (rows, other), notes, mask,
+                name))
+        return self._queue(job, (self, other), notes, mask, name)
 
     def mxv(self, vector: 'Matrix', op: Ring = 'plus_times', *, mask: MaskLike = None,
             name: Optional[str] = None) -> 'Matrix':
-        """`mxm` with a column; the result is a column. In the GraphBLAS GrB_mxv."""
-        self._check_shape('product', vector, (self.ncols, 1))
+        """The product of this matrix with a column.
+
+        Parameters
+        ----------
+        vector : Matrix
+            A column, with as many rows as this matrix has columns.
+        op : str, Semiring or pair, default 'plus_times'
+            A semiring, as `mxm` has it.
+        mask : Mask, optional
+            Where the result may have entries.
+        name : str, optional
+            What the result is called.
+
+        Returns
+        -------
+        Matrix
+            A column with this matrix's rows.
+
+        Raises
+        ------
+        TypeError
+            Where `vector` is no matrix.
+        DimensionMismatch
+            Where it is no column, or has another length.
+
+        Notes
+        -----
+        1 job: `mxm` with a column. In the GraphBLAS GrB_mxv.
+
+        Examples
+        --------
+        >>> A = s.from_coo([0, 0, 1], [0, 1, 1], [1, 2, 3], 2, 2)
+        >>> A.mxv(s.from_coo([0, 1], [0, 0], [10, 1], 2, 1)).to_list()
+        [12, 3]
+        """
+        if not isinstance(vector, Matrix) or vector.ncols != 1:
+            self._check_shape('product', vector, (self.ncols, 1))
         return self.mxm(vector, op, mask=mask, associative=False, name=name)
 
     def vxm(self, matrix: 'Matrix', op: Ring = 'plus_times', *, mask: MaskLike = None,
             name: Optional[str] = None) -> 'Matrix':
-        """`mxm` of this row with a matrix; the result is a row. Of a column take `T` first, or
-        `matrix.T.mxv(column)`. In the GraphBLAS GrB_vxm."""
+        """The product of this row with a matrix.
+
+        Of a column take `T` first, or `matrix.T.mxv(column)`.
+
+        Parameters
+        ----------
+        matrix : Matrix
+            A matrix with as many rows as this row has columns.
+        op : str, Semiring or pair, default 'plus_times'
+            A semiring, as `mxm` has it.
+        mask : Mask, optional
+            Where the result may have entries.
+        name : str, optional
+            What the result is called.
+
+        Returns
+        -------
+        Matrix
+            A row with the matrix's columns.
+
+        Raises
+        ------
+        TypeError
+            Where `matrix` is no matrix.
+        DimensionMismatch
+            Where this is no row, or the matrix has not as many rows as this one has columns.
+
+        Notes
+        -----
+        1 job: `mxm` of a row. In the GraphBLAS GrB_vxm.
+        """
         if self.nrows != 1:
             raise refusal('J5', command='product',
                           detail='vxm is of a row, and this is %dx%d' % self.shape)
@@ -298,34 +534,64 @@ class Matrix(Composites):
 
     def reduce_rowwise(self, op: Op = 'plus', *, mask: MaskLike = None,
                        name: Optional[str] = None) -> 'Matrix':
-        """A column: the fold of each row that isn't empty, from its first column to its last. In
-        the GraphBLAS GrB_reduce by rows.
+        """The fold of each row, as a column.
+
+        A row is folded from its first column to its last. One that is empty has no entry.
 
         Parameters
         ----------
-        op : Operator, str or callable
+        op : Operator, str or callable, default 'plus'
             A binary operator, or one of python-graphblas' aggregators: "sum", "prod", "last",
             "any_value"; with 1 to 3 jobs more "count", "count_nonzero", "count_zero", "exists",
             "all", "first_index", "last_index", "sum_of_squares", "peak_to_peak"; with 4 more, and a
             value a row that the client sends, "argmin" and "argmax", the first column with the
             least or greatest value; with 4 more "mean", in millionths that the client makes of sums
             and counts; no sum wraps then.
-        mask, name
-            As for `apply`.
+        mask : Mask, optional
+            Where the result may have entries; a mask of a column.
+        name : str, optional
+            What the result is called.
 
         Returns
         -------
         Matrix
+            A column with an entry for each row that isn't empty.
+
+        Raises
+        ------
+        DimensionMismatch
+            Where the mask is no column of this length.
 
         Notes
         -----
-        1 job."""
+        1 job. In the GraphBLAS GrB_reduce by rows.
+
+        Examples
+        --------
+        >>> s.from_coo([0, 0, 2], [0, 1, 1], [1, 2, 3], 3, 2).reduce_rowwise().to_list()
+        [3, None, 3]
+        """
         if aggregators.is_aggregator(op):
             return aggregators.aggregated(self, cast(str, op), 1, mask, name)
         found = of_form('reduce', op)
-        notes = metadata.of_rows(self.notes, found)
+        notes = derivation.derive('reduce', (found,), self.notes)
         return self._queue(Job('reduce', (found,), (self.handle,), (self.nrows, 1)), (self,), notes,
                            mask, name)
+
+    def _combine(self, form: str, op: Operator, other: 'Matrix', mask: MaskLike,
+                 name: Optional[str]) -> 'Matrix':
+        """The result of a job that combines the entries of two matrices of one shape."""
+        job = Job(form, (op,), (self.handle, other.handle), self.shape)
+        return self._queue(job, (self, other), self._derive(form, (op,), other), mask, name)
+
+    def _derive(self, form: str, operators: Tuple[Operator, ...],
+                other: 'Matrix') -> metadata.Notes:
+        """What is known of the result of a job on this matrix and another."""
+        one, two = self.handle, other.handle
+        mirrors = ((one.transposed is not None or two.transposed is not None)
+                   and one.mirrors(two))
+        return derivation.derive(form, operators, self.notes, other.notes, same=one is two,
+                                 mirrors=mirrors)
 
     def _queue(self, job: Job, operands: Sequence['Matrix'], notes: metadata.Notes, mask: MaskLike,
                name: Optional[str]) -> 'Matrix':
@@ -389,10 +655,20 @@ class Matrix(Composites):
 
     @property
     def T(self) -> 'Matrix':
-        """The transpose. No job: the text comes to the client and goes back, so it runs the queue
-        where this matrix waits, and costs as much as reading and writing it. While some transpose
-        is held, asking again costs nothing. Each has names of its own, which are those of this
-        matrix as it is asked for."""
+        """The transpose.
+
+        Returns
+        -------
+        Matrix
+            A matrix whose rows are this one's columns. Each has names of its own, which are those
+            of this matrix as it is asked for.
+
+        Notes
+        -----
+        No job: the text comes to the client and goes back, so it runs the queue where this matrix
+        waits, and costs as much as reading and writing it. While some transpose is held, asking
+        again costs nothing.
+        """
         backend = self.session.backend
         made = (backend.matrix_type or Matrix)(self.session, backend.transpose(self.handle))
         made.notes = metadata.turned(self.notes)
@@ -400,9 +676,17 @@ class Matrix(Composites):
                               self.kept.get(overflow.KEY))
 
     def to_text(self) -> bytes:
-        """The canonical Matrix Market text: coordinate integer general, entries by ascending row
-        and column. Runs the queue where this matrix waits, as all else does that tells what it
-        holds."""
+        """The canonical Matrix Market text.
+
+        Returns
+        -------
+        bytes
+            Coordinate integer general, entries by ascending row and column.
+
+        Notes
+        -----
+        Runs the queue where this matrix waits, as all else does that tells what it holds.
+        """
         return self.session.backend.read_text(self.handle)
 
     def _texts(self) -> Iterator[bytes]:
@@ -421,13 +705,34 @@ def _as_vector(column: Matrix) -> Matrix:
 
 
 def bipartite(B: Matrix) -> Matrix:
-    """The square matrix of a bipartite graph, from the matrix B whose rows and columns are its two
-    kinds of vertices: first the rows, then the columns, and each entry as an edge both ways. No
-    job: the entries come to the client and go back, as for `T`."""
+    """The square matrix of a bipartite graph.
+
+    Parameters
+    ----------
+    B : Matrix
+        The matrix whose rows and columns are the two kinds of vertices.
+
+    Returns
+    -------
+    Matrix
+        An undirected graph of `B.nrows + B.ncols` vertices: first the rows, then the columns, and
+        each entry of B as an edge both ways. Its names are those of the rows and of the columns, or
+        where some are the same, or there are none, ('row', name) and ('column', name).
+
+    Raises
+    ------
+    TooLarge
+        Where vertices, or entries, are more than 16,777,216 together (M4).
+
+    Notes
+    -----
+    No job: the entries come to the client and go back, as for `T`. GraphBLAS:
+    `Matrix_extractTuples`, and `Matrix_build`.
+    """
     rows, columns, values = B.entries()
     ends, columns = B.nrows + B.ncols, columns + B.nrows
     made = B.session.from_coo(numpy.concatenate((rows, columns)),
                               numpy.concatenate((columns, rows)),
                               numpy.concatenate((values, values)), ends, ends)
-    made.notes = metadata.of_both_sides(B.notes, B.nrows, B.ncols)
+    made.notes = derivation.of_both_sides(B.notes, B.nrows, B.ncols)
     return made

@@ -1,8 +1,8 @@
 """What is known of a matrix beside its entries: the names of its rows and columns, whether it is
 undirected, whether it has weights.
 
-Sessions note it of what they read, and each job hands on what stays true of its result. It is kept
-by the client alone: the server knows numbers.
+Sessions note it of what they read, and each job hands on what stays true of its result, as
+`derivation` has it. It is kept by the client alone: the server knows numbers.
 """
 from __future__ import annotations
 
@@ -15,28 +15,16 @@ import itertools
 import numbers
 from collections import Counter
 from collections.abc import KeysView, Mapping, Set
-from typing import (Any, Dict, FrozenSet, Iterable, List, NamedTuple, Optional, Protocol, Sequence,
+from typing import (TYPE_CHECKING, Any, Dict, Iterable, List, NamedTuple, Optional, Sequence,
                     Tuple, TypeVar)
 
-from . import units
 from .errors import NamesDiffer
-from .mask import Mask
-from .operators import READY, Operator, Semiring, binary
 from .units import Unit
 
-# Binary operators for which the order of operands doesn't matter: a product of a symmetric matrix
-# with itself stays symmetric.
-COMMUTE: FrozenSet[str] = frozenset((
-    'absdiff', 'band', 'bor', 'bxnor', 'bxor', 'eq', 'iseq', 'isne', 'land', 'lor', 'lxnor', 'lxor',
-    'max', 'min', 'ne', 'oneb', 'pair', 'plus', 'times', 'zero'))
-# Index operators that look at the value alone, and with a thunk of 0 these two: what they select of
-# a symmetric matrix is one.
-BY_VALUE: FrozenSet[str] = frozenset(('nonzero', 'thunk', 'valueeq', 'valuege', 'valuegt',
-                                      'valuele', 'valuelt', 'valuene'))
-BY_DIAGONAL: FrozenSet[str] = frozenset(('diag', 'offdiag'))
-IDENTITY: FrozenSet[str] = frozenset(('identity',))
-# Binary operators whose result is one of both values.
-CHOOSE: FrozenSet[str] = frozenset(('any', 'first', 'max', 'min', 'second'))
+if TYPE_CHECKING:
+    from .io.exporters import Held
+
+N = TypeVar('N', bound='Held')
 
 
 class Nodes(List[Any]):
@@ -45,33 +33,26 @@ class Nodes(List[Any]):
 
     def __init__(self, names: Iterable[Any]) -> None:
         super().__init__(names)
-        self._places: Optional[Dict[Any, int]] = None
-        self._numbered: Optional[bool] = None
-        self._are_counted: Optional[bool] = None
         # one object for all lists that were found equal to this one
         self.equal_lists: object = self
 
-    @property
+    @functools.cached_property
     def places(self) -> Dict[Any, int]:
         """The index of each name."""
-        if self._places is None:
-            self._places = {name: at for at, name in enumerate(self)}
-        return self._places
+        return {name: at for at, name in enumerate(self)}
 
-    @property
+    @functools.cached_property
     def numbered(self) -> bool:
         """Whether some name is a number, so that a number isn't taken for an index."""
-        if self._numbered is None:
-            self._numbered = any(isinstance(name, numbers.Number) for name in self)
-        return self._numbered
+        return any(isinstance(name, numbers.Number) for name in self)
 
-    @property
+    @functools.cached_property
     def are_counted(self) -> bool:
         """Whether the names are just the numbers 0 to n - 1, in this order."""
-        if self._are_counted is None:
-            ends = not self or (self[0] == 0 and self[-1] == len(self) - 1)
-            self._are_counted = bool(ends) and list.__eq__(self, list(range(len(self)))) is True
-        return self._are_counted
+        # most lists are told by their ends, which are looked at first
+        if self and (self[0] != 0 or self[-1] != len(self) - 1):
+            return False
+        return list.__eq__(self, list(range(len(self)))) is True
 
     def equals(self, other: 'Nodes') -> bool:
         """Whether two lists have the same names in the same order. Two that have are compared once:
@@ -282,18 +263,6 @@ ALIKE = Notes(unnamed_rows=Unnamed.ALIKE, unnamed_columns=Unnamed.ALIKE)
 BY_POSITIONS = Notes(unnamed_rows=Unnamed.POSITIONS, unnamed_columns=Unnamed.POSITIONS)
 
 
-class HasNotes(Protocol):
-    """A matrix, whatever holds it."""
-    notes: Notes
-
-    @property
-    def shape(self) -> Tuple[int, int]:
-        """Rows and columns."""
-
-
-N = TypeVar('N', bound=HasNotes)
-
-
 def without_names(matrix: N) -> N:
     """A matrix that was made by indexes, as one that the client makes for itself: it goes with any
     names."""
@@ -392,208 +361,15 @@ def even(*both: Notes) -> Optional[bool]:
     return False if all(one.directed is False for one in both) else None
 
 
-def _mirrored(notes: Notes, op: Operator, mirrors: bool) -> Notes:
-    """What is known of a result; symmetric where its operands are transposes of one another, and
-    their order doesn't matter."""
-    return notes._replace(directed=False) if mirrors and _is_ready(op, COMMUTE) else notes
-
-
-def _chosen(op: Operator, first: Optional[Nodes], second: Optional[Nodes]) -> Optional[Nodes]:
-    """The vertices that a result's values are, each of which is one of two values that may meet:
-    none where these mean other vertices, or the operator makes numbers of them."""
-    return (first if first is not None and second is not None and _is_ready(op, CHOOSE)
-            and first.equals(second) else None)
-
-
-def of_applied(first: Notes, op: Operator, alike: bool, unit: Unit) -> Notes:
-    """What is known of the result of `apply`, whose unit is given; `alike` says that the operator
-    doesn't look at rows and columns."""
-    if (first.value_names is None and first.directed is None and first.weighted is None
-        and not first.source and unit == first.unit):
-        return first                               # all that is known are names, which stay
-    same = _is_ready(op, IDENTITY)
-    return first._replace(directed=even(first) if alike or _is_ready(op, BY_VALUE) else None,
-                          weighted=first.weighted if same else None, source='', unit=unit,
-                          value_names=first.value_names if same else None)
-
-
-def of_selected(first: Notes, op: Operator, thunk: int) -> Notes:
-    """What is known of the result of `select`: values stay."""
-    if first.directed is None and not first.source:
-        return first
-    alike = _is_ready(op, BY_VALUE) or (thunk == 0 and _is_ready(op, BY_DIAGONAL))
-    return first._replace(directed=even(first) if alike else None, source='')
-
-
-def of_union(first: Notes, second: Notes, op: Operator, mirrors: bool = False) -> Notes:
-    """What is known of a union; `mirrors` says that its operands are transposes of one another."""
-    made = _of_pair(first, second, units.of_union(op, first.unit, second.unit),
-                    _chosen(op, first.value_names, second.value_names))
-    return _mirrored(made, op, mirrors)
-
-
-def of_both(first: Notes, second: Notes, op: Operator, mirrors: bool = False) -> Notes:
-    """What is known of an intersection; `mirrors` is as for a union."""
-    made = _of_pair(first, second, units.of_both(op, first.unit, second.unit),
-                    _met(op, first, second))
-    return _mirrored(made, op, mirrors)
-
-
-def _met(op: Operator, first: Notes, second: Notes) -> Optional[Nodes]:
-    """The vertices that the values op(x, y) are."""
-    for name, one in (('first', first), ('second', second)):
-        if _is_ready(op, frozenset((name,))):
-            return one.value_names
-    return _chosen(op, first.value_names, second.value_names)
-
-
-def _of_pair(first: Notes, second: Notes, unit: Unit, value_names: Optional[Nodes] = None) -> Notes:
-    if first is NOTHING and second is NOTHING:
-        return NOTHING
-    return _elementwise(first, second, ELEMENTWISE)._replace(directed=even(first, second),
-                                                             weighted=None, source='', unit=unit,
-                                                             value_names=value_names)
-
-
-def _elementwise(first: Notes, second: Notes, pairs: Pairs) -> Notes:
-    """The notes of the first with what the rows and columns of both are called. Where these are the
-    same, or one has none, nothing is compared."""
-    alike = (first.rows is second.rows and first.columns is second.columns
-             and first[7:] == second[7:])
-    if second is NOTHING or alike:
-        return first
-    if first is NOTHING:
-        return second._replace(weighted=None)
-    return first.with_axes(*joined(first, second, pairs))._replace(sides=first.sides
-                                                                   or second.sides)
-
-
-def of_product(first: Notes, second: Notes, ring: Semiring, same: bool,
-               mirrors: bool = False) -> Notes:
-    """What is known of a product; `same` says that both operands are one matrix, `mirrors` that
-    they are transposes of one another."""
-    if first is second and not mirrors and (first is NOTHING or first is BY_POSITIONS):
-        return first
-    inner = joined(first, second, PRODUCT)[0]
-    rows, columns = (inner if _are_alike(one) else one.axis(axis)
-                     for one, axis in ((first, ROWS), (second, COLUMNS)))
-    if not (_are_alike(first) and _are_alike(second)):
-        rows, columns = rows.alone(), columns.alone()
-    met = _met(ring.mul, first, second)
-    # the product of a bipartite matrix and the transpose of one has one kind of vertices
-    sides = 0 if first.sides == -second.sides else first.sides or second.sides
-    made = Notes(directed=even(first) if same and _is_ready(ring.mul, COMMUTE) else None,
-                 value_names=_chosen(ring.add, met, met),
-                 unit=units.of_product(ring.add, ring.mul, first.unit, second.unit), sides=sides)
-    return _mirrored(made, ring.mul, mirrors).with_axes(rows, columns)
-
-
-def _are_alike(notes: Notes) -> bool:
-    """Whether rows and columns are called alike, whatever they are called."""
-    return (notes.rows is notes.columns is None and notes.unnamed_rows is notes.unnamed_columns
-            is Unnamed.ALIKE)
-
-
-def of_rows(first: Notes, op: Operator) -> Notes:
-    """What is known of a column that has the fold of each row."""
-    return (NOTHING if first is NOTHING else Notes(
-        unit=units.of_fold(op, first.unit),
-        value_names=_chosen(op, first.value_names, first.value_names)).with_axes(
-            first.axis(ROWS).alone(), Axis()))
-
-
-def masked(result: Notes, mask: Notes) -> Notes:
-    """What is known of a result that is cut to the structure of a mask."""
-    if result is NOTHING and mask is NOTHING:
-        return NOTHING
-    return _elementwise(result, mask, MASK)._replace(directed=even(result, mask), source='',
-                                                     unit=result.unit,
-                                                     value_names=result.value_names)
-
-
-def of_structure(mask: Notes, value: bool) -> Notes:
-    """What is known of the positions that a mask means; `value` says that entries of 0 don't
-    count."""
-    return mask._replace(directed=even(mask)) if value and mask is not NOTHING else mask
-
-
-def outside(result: Notes, mask: Notes) -> Notes:
-    """What is known of the entries of a result that lie outside of a mask: undirected only where
-    both are."""
-    if result is NOTHING and mask is NOTHING:
-        return NOTHING
-    alone = masked(result, mask)
-    return masked(of_copy(result), alone)
-
-
-def of_copy(first: Notes) -> Notes:
-    """What is known of a copy, which is a job."""
-    return NOTHING if first is NOTHING else first._replace(directed=even(first), source='')
-
-
-def under(result: Notes, mask: Optional[Notes], value: bool, complement: bool) -> Notes:
-    """What is known of a result under a mask of any kind, or under none."""
-    if mask is None:
-        return result
-    there = of_structure(mask, value)
-    return outside(result, there) if complement else masked(result, there)
-
-
-def of_update(first: Notes, second: Notes, accum: Optional[Operator], where: Optional[Mask],
-              replace: bool) -> Notes:
-    """What is known of C<M, accum> = second, where `first` is of C."""
-    both = _of_pair(first, second, second.unit) if accum is None else of_union(first, second, accum)
-    inside = (of_copy(second.with_axes(both.axis(ROWS), both.axis(COLUMNS))) if accum is None
-              else both)
-    if where is None:
-        return inside
-    there = under(of_copy(inside), where.matrix.notes, where.value, where.complement)
-    if replace:
-        return there
-    unit = units.common('update', first.unit, there.unit)
-    alike = _chosen(binary.first, first.value_names, there.value_names)
-    return _of_pair(under(of_copy(first), where.matrix.notes, where.value, not where.complement),
-                    there, unit, alike)
-
-
-def check_equal(first: Notes, second: Notes) -> None:
-    """Raises NamesDiffer or UnitsDiffer where two matrices can't be compared, as they are of other
-    vertices, or other parts."""
-    units.common('isequal', first.unit, second.unit)
-    check_same_names(first, second)
-
-
-def check_same_names(first: Notes, second: Notes) -> None:
-    """Raises NamesDiffer where two matrices are of other vertices."""
-    joined(first, second, ELEMENTWISE)
-
-
 def turned(first: Notes) -> Notes:
     """What is known of the transpose."""
     return first.with_axes(first.axis(COLUMNS),
                            first.axis(ROWS))._replace(source='', sides=-first.sides)
 
 
-def of_both_sides(first: Notes, nrows: int, ncols: int) -> Notes:
-    """What is known of the square matrix of a bipartite graph: its names are those of the rows and
-    of the columns, or where some are the same, or there are none, ('row', name) and ('column',
-    name)."""
-    rows = first.rows if first.rows is not None else Nodes(range(nrows))
-    columns = first.columns if first.columns is not None else Nodes(range(ncols))
-    apart = rows.places.keys().isdisjoint(columns.places)
-    names = Nodes([*rows, *columns] if apart else [*(('row', name) for name in rows),
-                                                   *(('column', name) for name in columns)])
-    return Notes(names, names, False, first.weighted, unit=first.unit)
-
-
-def on_diagonal(first: Notes, along: int) -> Notes:
-    """What is known of the square matrix with the entries of a column (along its rows, 0) or of a
-    row (along its columns, 1) on its diagonal."""
-    axis = first.axis(along)
-    if axis == Axis():
-        return ALIKE._replace(directed=False, unit=first.unit, value_names=first.value_names)
-    return Notes(directed=False, unit=first.unit,
-                 value_names=first.value_names).with_axes(axis, axis)
+def of_copy(first: Notes) -> Notes:
+    """What is known of a copy, which is a job."""
+    return NOTHING if first is NOTHING else first._replace(directed=even(first), source='')
 
 
 BY_PLACE: Dict[str, int] = {'rowle': ROWS, 'rowgt': ROWS, 'colle': COLUMNS, 'colgt': COLUMNS}
@@ -609,8 +385,7 @@ def check_counts_places(op: str, first: Notes) -> None:
         raise ValueError(
             '"%s" counts %s from 0, and here %s have numbers for names, such as %r: write A[%s] '
             'with a list of names, or A.select(spmat.indexunary.%s, ..) to count them all the '
-            'same' % (
-                op, what, what, names[0], ':, names' if axis else 'names, :', op))
+            'same' % (op, what, what, names[0], ':, names' if axis else 'names, :', op))
 
 
 TWO_KINDS = ('a graph has one kind of vertices, and rows and columns of this matrix are two kinds: '
@@ -637,15 +412,3 @@ def vertices_of(graph: Notes) -> Optional[Axis]:
     differ."""
     rows, columns = graph.axis(ROWS), graph.axis(COLUMNS)
     return rows.with_other(columns) if rows.agrees(columns) and not graph.sides else None
-
-
-def _is_ready(op: Operator, names: FrozenSet[str]) -> bool:
-    """Whether this is the ready operator of one of the names, whatever it is called, as one from a
-    function is."""
-    return op in _ready(op.kind, names)
-
-
-@functools.lru_cache(maxsize=None)
-def _ready(kind: str, names: FrozenSet[str]) -> FrozenSet[Operator]:
-    """The ready operators of a kind by these names, as far as there are any."""
-    return frozenset(READY[kind][name] for name in names if name in READY[kind])

@@ -15,6 +15,7 @@ from typing import (TYPE_CHECKING, Any, Callable, Dict, List, NamedTuple, Option
 import numpy
 
 from . import units
+from .derivation import RULES
 from .errors import BudgetExceeded, OverflowWarning
 from .io.coo import LEAST, MOST
 from .io.matrix_text import Triples
@@ -107,21 +108,21 @@ def folded(fold: Callable[[Triples, Optional[Op]], Triples], triples: Triples, d
            unit: units.Unit) -> Triples:
     """Triples that are read with a unit, of which those of one position are folded. ValueError
     where a sum is beyond 64 bits."""
-    if unit != 1 and dup_op is not None and find('binary',
-                                                 dup_op) == READY['binary'].plus and len(
-                                                     triples.values):
+    is_sum = dup_op is not None and find('binary', dup_op) == READY['binary'].plus
+    if unit != 1 and is_sum and len(triples.values):
         many, at = numpy.unique(triples.rows * max(triples.ncols, 1) + triples.columns,
                                 return_inverse=True)
+        # sums of upper and of lower halves, neither of which wraps
         high, low = numpy.zeros(len(many), numpy.int64), numpy.zeros(len(many), numpy.int64)
         numpy.add.at(high, at, triples.values >> 32)
         numpy.add.at(low, at, triples.values & 0xffffffff)
         high += low >> 32
-        if len(many) < len(at) and ((high >= 1 << 31) | (high < -1 << 31)).any():
-            place = int(many[(high >= 1 << 31) | (high < -1 << 31)][0])
+        is_beyond = (high >= 1 << 31) | (high < -1 << 31)
+        if len(many) < len(at) and is_beyond.any():
+            place = int(many[is_beyond][0])
             raise ValueError(
                 'the values at row %d, column %d add up to a number beyond 64 bits in %s: a '
-                'smaller scale= has room' % (
-                    *divmod(place, triples.ncols), units.told(unit)))
+                'smaller scale= has room' % (*divmod(place, triples.ncols), units.told(unit)))
     return fold(triples, dup_op)
 
 
@@ -153,12 +154,12 @@ def of_job(backend: 'Backend', job: 'Job', operands: Sequence[Any]) -> Optional[
     known: List[Span] = [operand.kept.get(KEY, ANY) for operand in operands]
     if job.form == 'select':
         return known[0]._replace(exact=False)
-    names = [NAMED.get(op) for op in job.operators]
-    if None in names:
+    names = [NAMED[op] for op in job.operators if op in NAMED]
+    if len(names) < len(job.operators):
         return None
     found = _span(job.form, names, known, operands[0].ncols)
     if not found.fits:
-        wanted = WANTED.get(names[-1] or '', (0, 1)) if job.form != 'union' else (0, 1)
+        wanted = WANTED.get(names[-1], (0, 1)) if job.form != 'union' else (0, 1)
         known = [_asked(operand) if at in wanted else span
                  for at, (operand, span) in enumerate(zip(operands, known))]
         found = _span(job.form, names, known, operands[0].ncols)
@@ -170,18 +171,22 @@ def of_job(backend: 'Backend', job: 'Job', operands: Sequence[Any]) -> Optional[
     return found if found.fits else None
 
 
-def _span(form: str, names: Sequence[Optional[str]], known: Sequence[Span], many: int) -> Span:
+def _span(form: str, names: Sequence[str], known: Sequence[Span], many: int) -> Span:
     """What values a job's result can have by those of its operands, where up to so many terms are
     folded."""
-    term = known[0] if form == 'reduce' else TERMS[names[-1] or ''](known[0], known[1])
-    if form == 'union':
+    rule = RULES[form]
+    term = known[0] if rule.term is None else TERMS[names[rule.term]](known[0], known[1])
+    if rule.copies:
         return _hull(_hull(known[0], known[1]), term)
-    if form == 'both' or names[0] not in SUMS:
-        return TERMS['cmod'](term, term) if names[0] == 'cmod' else term
-    return term.times(many) if names[0] == 'plus' else Span(-term.size * many, term.size * many)
+    fold = None if rule.fold is None else names[rule.fold]
+    if fold == 'cmod':
+        return TERMS['cmod'](term, term)
+    if fold not in SUMS:
+        return term
+    return term.times(many) if fold == 'plus' else Span(-term.size * many, term.size * many)
 
 
-def _sums(names: Sequence[Optional[str]], known: Sequence[Span], operands: Sequence[Any],
+def _sums(names: Sequence[str], known: Sequence[Span], operands: Sequence[Any],
           term: Span) -> Span:
     """What sums can be, by the greatest sum of a row of absolute values, or of a column of the
     second operand's."""
@@ -241,10 +246,10 @@ def _mend(operands: Sequence[Any], found: Span, is_product: bool) -> str:
                                                     % (name, unit // by) for name, unit in scaled)
 
 
-def _warn(names: Sequence[Optional[str]], operands: Sequence[Any], found: Span) -> None:
+def _warn(names: Sequence[str], operands: Sequence[Any], found: Span) -> None:
     unit = next((operand.unit for operand in operands if operand.unit != 1), 1)
     warn_user(
         '"%s" of values in %s: some results may be beyond 64 bits, where they wrap, and stand '
         'for other numbers; %s' % (
-            '_'.join(name or '' for name in names), units.told(unit),
+            '_'.join(names), units.told(unit),
             _mend(operands, found, names[-1] == 'times')), OverflowWarning)

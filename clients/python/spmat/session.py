@@ -65,23 +65,60 @@ class Session(Sources[Matrix]):
                 progress: Optional[Progress] = None, tls: Optional[ssl.SSLContext] = None,
                 token: Optional[str] = None, ca: Optional[str] = None,
                 run_timeout: Optional[float] = None) -> Session:
-        """A session of `spmat serve`; where `host` has a slash, of `spmat.socket` or another server
-        at this socket file. `tls` is an `ssl.SSLContext`, where TLS is spoken in front of the
-        server; the name in its certificate has to be `host`.
+        """Open a session of a server, or of a gateway.
 
-        `Session.connect('spmat://anna@graphs.example:7173', token='..')` is a session of a gateway
-        (docs/service.md), which speaks TLS. `token` is by default the variable SPMAT_TOKEN. `ca` is
-        a file with who signs the gateway's certificate, where the system trusts nobody who does.
-        Where the gateway knows the user by a certificate, `tls` has it in place of `token` and
-        `ca`.
+        Parameters
+        ----------
+        host : str, default '127.0.0.1'
+            The host of `spmat serve`. Where it has a slash, it is the socket file of `spmat.socket`
+            or of another server. An address `spmat://USER@HOST:PORT`, such as
+            `spmat://anna@graphs.example:7173`, is that of a gateway (docs/service.md), which speaks
+            TLS.
+        port : int, default 7171
+            The port. A socket file and a gateway's address don't need it.
+        timeout : float, optional
+            How many seconds connecting may take, and then each command from its first byte to the
+            last of its reply; 60 unless given. None waits for ever.
+        progress : callable, optional
+            `progress(what, done, of)` is called in long work, as the class has it.
+        tls : ssl.SSLContext, optional
+            Where TLS is spoken in front of the server; the name in its certificate has to be
+            `host`. Where a gateway knows the user by a certificate, `tls` has it in place of
+            `token` and `ca`.
+        token : str, optional
+            The user's token at a gateway; by default the variable SPMAT_TOKEN.
+        ca : str, optional
+            A file with who signs the gateway's certificate, where the system trusts nobody who
+            does.
+        run_timeout : float, optional
+            How many seconds a command that runs jobs may take. It takes as long as they do, and has
+            no limit unless this is given.
 
-        Raises OSError where nobody listens or TLS is refused, Closed where the connection is closed
-        before a first answer, and Busy where the server has as many sessions as it serves.
-        `timeout` is how many seconds connecting may take, and then each command from its first byte
-        to the last of its reply; None waits for ever. A command that runs jobs takes as long as
-        they do: `run_timeout` is its limit, None unless given. Where a limit passes, TimeoutError
-        is raised and the session is closed; so it is where a reply doesn't answer its command
-        (ProtocolError)."""
+        Returns
+        -------
+        Session
+            The session. Its budget and its workers are the server's.
+
+        Raises
+        ------
+        OSError
+            Where nobody listens, or TLS is refused.
+        Closed
+            Where the connection is closed before a first answer.
+        Busy
+            Where the server has as many sessions as it serves.
+        TimeoutError
+            Where a limit passes, here or in a later command; the session is closed then.
+        ProtocolError
+            Where a reply doesn't answer its command; the session is closed then, too.
+        ValueError
+            Where `host` is no address of a gateway though it has `://`, or there is neither a token
+            nor a certificate.
+
+        Notes
+        -----
+        No job. The session asks once for the budget, which says at once where there is no session.
+        """
         session = cls.__new__(cls)
         address = (Address.of_gateway(host, token, ca, tls) if '://' in host
                    else Address(host, port, tls))
@@ -142,19 +179,67 @@ class Session(Sources[Matrix]):
         return self.backend.jobs
 
     def close(self) -> None:
-        """Ends the session. Its matrices are gone; jobs that wait are not run."""
+        """End the session.
+
+        Its matrices are gone; jobs that wait are not run.
+
+        Notes
+        -----
+        No run. Where a reply is awaited the session ends at once; where it has ended already, this
+        does nothing. GraphBLAS: `finalize`.
+        """
         self.connection.quit()
 
     def budget(self) -> Budget:
-        """What the budget holds. No run."""
+        """Say what the budget holds.
+
+        Returns
+        -------
+        Budget
+            The steps that are `left`, those `reserved` for jobs that wait, and those `spent`. Over
+            TCP the budget is one for all sessions of the server.
+
+        Raises
+        ------
+        Closed
+            Where the session has ended.
+
+        Notes
+        -----
+        No run.
+        """
         return self.backend.budget()
 
     # -- matrices in
 
     def from_text(self, text: Union[bytes, str], name: Optional[str] = None) -> Matrix:
-        """A matrix from a Matrix Market text that the server reads as it is: coordinate, integer or
-        pattern, general or symmetric. TextRefused names the line; `mmread` reads other texts
-        too."""
+        """Make a matrix of a Matrix Market text that the server reads as it is.
+
+        Parameters
+        ----------
+        text : str or bytes
+            The text: coordinate, integer or pattern, general or symmetric. `mmread` reads other
+            texts too.
+        name : str, optional
+            A name for the matrix.
+
+        Returns
+        -------
+        Matrix
+            The matrix, whose rows and columns are called by their positions.
+
+        Raises
+        ------
+        TextRefused
+            Where the text breaks a rule (M1 to M12); it names the line.
+        TooLarge
+            Where rows, columns or entries are more than 16,777,216 (M4), or in a symmetric text the
+            entries more than 8,388,608.
+
+        Notes
+        -----
+        No job.
+        """
         made = self._from_text(text, name)
         made.notes = BY_POSITIONS
         return made
@@ -191,13 +276,49 @@ class Session(Sources[Matrix]):
     def mmread(self, source: Any, *, values: bool = True, scale: Optional[float] = None,
                max_bytes: Optional[int] = None, dup_op: DupOp = None,
                name: Optional[str] = None) -> Matrix:
-        """A matrix from a Matrix Market file: a path (also .gz and .bz2), or a file opened in
-        binary. What the server reads is sent as it is; `real` values, `array`, `skew-symmetric`,
-        and with `dup_op` positions that repeat (1 job and 1 run where any do) are made so here.
-        Values are whole numbers; with `scale` they are multiplied by it and rounded to the nearest,
-        and with `values=False` not read, so that each entry is 1, also of `complex` files. A packed
-        file has at most 268,435,456 bytes once it is unpacked, or `max_bytes`. ValueError names the
-        file and the line. In python-graphblas `io.mmread`; `read_graph` reads other formats too."""
+        """Read a Matrix Market file.
+
+        What the server reads is sent as it is. `real` values, `array`, `skew-symmetric`, and with
+        `dup_op` positions that repeat are made so by the client.
+
+        Parameters
+        ----------
+        source : path or file
+            A path (also .gz and .bz2), or a file opened in binary.
+        values : bool, default True
+            False reads no values, so that each entry is 1, also of `complex` files. Else values are
+            whole numbers.
+        scale : number, optional
+            Values are multiplied by it and rounded to the nearest. Without it they have to be
+            whole.
+        max_bytes : int, optional
+            The most bytes that a packed file may have once it is unpacked; 268,435,456 unless
+            given.
+        dup_op : operator, optional
+            Folds the values of a position that repeats.
+        name : str, optional
+            A name for the matrix.
+
+        Returns
+        -------
+        Matrix
+            The matrix.
+
+        Raises
+        ------
+        ValueError
+            Where the file is no such text, or a value isn't whole; it names the file and the line.
+        TextRefused
+            Where the text breaks a rule of the server's, such as that a position repeats (M8) and
+            no `dup_op` folds it. It is a ValueError.
+        TooLarge
+            Where rows, columns or entries are more than the server takes (M4). It is a ValueError.
+
+        Notes
+        -----
+        With `dup_op` 1 job and 1 run, where any position repeats; else no job. LAGraph:
+        `LAGraph_MMRead`. In python-graphblas `io.mmread`. `read_graph` reads other formats too.
+        """
         request = Request('mtx', Layout(values=values, scale=scale))
         units.of_read(scale, dup_op)
         return self._market(name_of(source), matrix_market.load(source, max_bytes), request, dup_op,
@@ -240,20 +361,94 @@ class Session(Sources[Matrix]):
         return made, matrix_market.kind_of(text, values)
 
     def full(self, nrows: int, ncols: int, value: int = 1, *, name: Optional[str] = None) -> Matrix:
-        """A matrix with one value everywhere."""
+        """A matrix with one value everywhere.
+
+        Parameters
+        ----------
+        nrows, ncols : int
+            The sizes.
+        value : int, default 1
+            The value of each entry, a whole number of 64 bits.
+        name : str, optional
+            A name for the matrix.
+
+        Returns
+        -------
+        Matrix
+            A matrix of `nrows` rows and `ncols` columns, with an entry at each place.
+
+        Raises
+        ------
+        TooLarge
+            Where a size, or the number of entries, is more than 16,777,216 (M4).
+        ValueError
+            Where a size is below 0, or the value isn't a whole number of 64 bits.
+
+        Notes
+        -----
+        No job. GraphBLAS: `assign` of a number to all places.
+        """
         nrows, ncols = coo.side(nrows, 0, 'nrows'), coo.side(ncols, 0, 'ncols')
         if nrows * ncols > limits.MOST_SIDE:
             raise refusal('M4', detail='%d entries' % (nrows * ncols))
         return as_constant(self._from(coo.full(nrows, ncols, value), name=name))
 
     def identity(self, n: int, value: int = 1, *, name: Optional[str] = None) -> Matrix:
-        """A square matrix with one value on its diagonal."""
+        """A square matrix with one value on its diagonal.
+
+        Parameters
+        ----------
+        n : int
+            The number of rows, and of columns.
+        value : int, default 1
+            The value of each entry, a whole number of 64 bits.
+        name : str, optional
+            A name for the matrix.
+
+        Returns
+        -------
+        Matrix
+            A matrix of n rows and n columns, with an entry at each (i, i).
+
+        Raises
+        ------
+        TooLarge
+            Where n is more than 16,777,216 (M4).
+        ValueError
+            Where n is below 0, or the value isn't a whole number of 64 bits.
+
+        Notes
+        -----
+        No job. GraphBLAS: `Matrix_diag` of a column with one value.
+        """
         at = coo.indices(coo.side(n, 0, 'n'))
         return as_constant(self._from(coo.checked(at, at, value, n, n), name=name))
 
     def ones(self, ncols: int) -> Matrix:
-        """A row of ones, which folds columns. The session keeps those of the last few lengths, but
-        for very long ones, and gives another matrix of them each time."""
+        """A row of ones, which folds columns.
+
+        Parameters
+        ----------
+        ncols : int
+            The number of columns.
+
+        Returns
+        -------
+        Matrix
+            A matrix of 1 row, with 1 in each column.
+
+        Raises
+        ------
+        TooLarge
+            Where there are more than 16,777,216 columns (M4).
+        ValueError
+            Where the number is below 0.
+
+        Notes
+        -----
+        No job. The session keeps the rows of the last 4 lengths, but for those longer than
+        1,048,576, and gives another matrix of them each time.
+        """
         with self._backend.turn():
             row = self._ones.pop(ncols, None)
             row = self.full(1, ncols) if row is None else row
@@ -274,19 +469,74 @@ class Session(Sources[Matrix]):
     # -- operators
 
     def dis(self, op: Operator) -> str:
-        """An operator as assembly text, a line for each instruction, however it was made."""
+        """An operator as assembly text, however it was made.
+
+        Parameters
+        ----------
+        op : operator
+            The operator.
+
+        Returns
+        -------
+        str
+            A line for each instruction.
+
+        Raises
+        ------
+        OperatorRefused
+            Where the operator breaks a rule.
+
+        Notes
+        -----
+        No job. The operator is uploaded.
+        """
         return ''.join(line + '\n' for line in self.backend.lines_of('dis', op))
 
     def types(self, op: Operator) -> List[str]:
-        """What the verifier knows before each instruction, a line each: its slot, and for R0 to R10
-        `u` (unset on some path), `n` (a number), `p` with a distance (a place in the stack), `m`
-        (set differently); or its slot and `-` where no path leads."""
+        """What the verifier knows before each instruction of an operator.
+
+        Parameters
+        ----------
+        op : operator
+            The operator.
+
+        Returns
+        -------
+        list of str
+            A line for each instruction: its slot, and for R0 to R10 `u` (unset on some path), `n`
+            (a number), `p` with a distance (a place in the stack), or `m` (set differently). Where
+            no path leads to it, the line is its slot and `-`.
+
+        Raises
+        ------
+        OperatorRefused
+            Where the operator breaks a rule.
+
+        Notes
+        -----
+        No job. The operator is uploaded.
+        """
         return self.backend.lines_of('types', op)
 
     def check(self, op: Operator) -> diagnostics.Check:
-        """What the verifier says of an operator: whether it is accepted, the instructions with what
-        R0 to R10 hold before each, and where it is refused the refusal, with the rows up to there.
-        No job; it is uploaded. Printed, it is a table."""
+        """What the verifier says of an operator.
+
+        Parameters
+        ----------
+        op : operator
+            The operator.
+
+        Returns
+        -------
+        Check
+            Whether it is `accepted`; in `rows` the instructions with what R0 to R10 hold before
+            each; and where it is refused the `refusal`, with the rows up to there. Printed, it is a
+            table. It is true where the operator is accepted.
+
+        Notes
+        -----
+        No job. The operator is uploaded. A refusal by the verifier is returned, not raised.
+        """
         try:
             lines, types = self.dis(op).splitlines(), self.types(op)
         except OperatorRefused as refused:
@@ -299,7 +549,29 @@ class Session(Sources[Matrix]):
     # -- jobs
 
     def run(self) -> Run:
-        """Runs the jobs that wait. Matrix methods do it where they need a result. Where the run is
-        refused (OutOfMemory, NoThread) the queue is empty all the same, and each result of it
-        raises NotMade from then on."""
+        """Run the jobs that wait.
+
+        Matrix methods do it where they need a result.
+
+        Returns
+        -------
+        Run
+            A list of the jobs that were settled, in order. Each says the `matrix` of its result
+            (None where nobody holds it any more), its `form`, its `price` (the most steps that it
+            could have taken) and the `steps` that it took.
+
+        Raises
+        ------
+        OutOfMemory
+            Where the server has no memory for the run.
+        NoThread
+            Where the server has no thread for the run.
+
+        Notes
+        -----
+        Where the run is refused the queue is empty all the same, and each result of it raises
+        NotMade from then on.
+
+        1 run, and none where no job waits. GraphBLAS: `wait`.
+        """
         return self.backend.run()

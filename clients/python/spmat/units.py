@@ -12,17 +12,15 @@ import decimal
 import functools
 import math
 from fractions import Fraction
-from typing import Any, Dict, NamedTuple, NoReturn, Optional, Union
+from typing import Any, Dict, NoReturn, Optional, Tuple, Union
 
-from . import time_units
 from .aliases import alias
-from .comparisons import compared, exact_in as exact_in, exact_number as exact_number
+from .exact_numbers import TimeUnit, exact_in as exact_in, exact_number as exact_number
 from .errors import UnitsDiffer
 from .io import coo
 from .io.matrix_text import is_array
-from .io.time_values import UNITS
+from .io.values import UNITS
 from .operators import Op, READY, Operator, find
-from .time_units import TimeUnit
 
 Unit = Union[int, Fraction]
 
@@ -68,8 +66,7 @@ def as_unit(number: Any) -> Unit:
     if exact <= 0:
         raise ValueError(
             'a unit is a number above 0, such as 100 where stored whole numbers are hundredths, '
-            'or of times %s, not %r' % (
-                ', '.join(map('"%s"'.__mod__, UNITS)), number))
+            'or of times %s, not %r' % (', '.join(map('"%s"'.__mod__, UNITS)), number))
     return plain(exact)
 
 
@@ -181,7 +178,7 @@ def _kinds(kind: str) -> Dict[Operator, str]:
             for name in names.split()}
 
 
-def _meaning(op: Operator) -> Optional[str]:
+def meaning_of(op: Operator) -> Optional[str]:
     """What an operator does with units, None where that isn't known: of the caller's own, and of
     those on bits."""
     return _kinds(op.kind).get(op)
@@ -199,9 +196,7 @@ def common(what: Union[Operator, str], first: Unit, second: Unit) -> Unit:
 
 def of_both(op: Operator, first: Unit, second: Unit) -> Unit:
     """The unit of op(x, y). UnitsDiffer where x and y have to have one, and have not."""
-    if first == 1 and second == 1:
-        return 1
-    meaning = _meaning(op)
+    meaning = meaning_of(op)
     met = common(op, first, second) if meaning in (MEET, COMPARE) else 1
     if meaning == MEET:
         return met
@@ -226,27 +221,21 @@ def _multiplied(op: Operator, first: Unit, second: Unit) -> Unit:
                             for name, one in (('A', first), ('B', second)) if one > 1000)
         raise ValueError(
             '%s multiplies the units %s and %s, and 64 bits hold no 1 in parts of their '
-            'product: write %s, with rounding' % (
-                _name(op), first, second, mend))
+            'product: write %s, with rounding' % (name_of(op), first, second, mend))
     return unit
 
 
 def check_power(unit: Unit, n: int, mul: Operator) -> None:
     """ValueError where the n-th power of a matrix has a unit of which 64 bits hold no 1."""
-    if n > 1 and not is_whole(unit) and _meaning(mul) == TIMES and n * math.log2(unit) > 63:
+    if n > 1 and not is_whole(unit) and meaning_of(mul) == TIMES and n * math.log2(unit) > 63:
         raise ValueError(
             'the power has values in parts of 1/%s^%d, of which 64 bits hold no 1: write '
             'A.rescale(%d, exact=False).power(%d), with rounding' % (unit, n, 10 ** (18 // n), n))
 
 
-def of_union(op: Operator, first: Unit, second: Unit) -> Unit:
-    """The unit of a union, which copies what one matrix alone has."""
-    return 1 if first == 1 and second == 1 else of_fold(op, common(op, first, second))
-
-
 def of_fold(op: Operator, unit: Unit) -> Unit:
     """The unit of a fold, which copies what stands alone."""
-    meaning = _meaning(op)
+    meaning = meaning_of(op)
     if unit == 1 or meaning in (None, SHIFT):
         return 1
     if meaning not in (OVER, UNDER, TIMES, COMPARE, NUMBER):
@@ -255,10 +244,8 @@ def of_fold(op: Operator, unit: Unit) -> Unit:
         return 1
     raise UnitsDiffer(
         '%s gives numbers that are no parts of 1/%s, as the values are that stand alone and are '
-        'copied: %s' % (
-            _name(op), unit,
-            'B = A.dup() and B.unit = 1 has the stored whole numbers, and A.rescale(1, '
-            'exact=False) rounds to whole ones'))
+        'copied: B = A.dup() and B.unit = 1 has the stored whole numbers, and A.rescale(1, '
+        'exact=False) rounds to whole ones' % (name_of(op), unit))
 
 
 def of_read(scale: Any, dup_op: Optional[Op], times: Optional[str] = None) -> Unit:
@@ -273,126 +260,86 @@ def of_read(scale: Any, dup_op: Optional[Op], times: Optional[str] = None) -> Un
     return unit
 
 
-def of_product(add: Operator, mul: Operator, first: Unit, second: Unit) -> Unit:
-    """The unit of a product."""
-    if first == 1 and second == 1:
-        return 1
-    return of_fold(add, of_both(mul, first, second))
-
-
 def refuse(op: Union[Operator, str], first: Unit, second: Unit) -> NoReturn:
     """Raises UnitsDiffer of the operands of an operator, or of what else brings values together."""
     if isinstance(first, TimeUnit) and isinstance(second, TimeUnit):
         wanted: Unit = min(first, second, key=lambda unit: unit.size)
     else:
-        wanted = plain(Fraction(_lcm(Fraction(first).numerator, Fraction(second).numerator)))
+        wanted = math.lcm(Fraction(first).numerator, Fraction(second).numerator)
     mend = ' and '.join('%s.rescale(%r)' % (name, wanted)
                         for name, unit in (('A', first), ('B', second)) if unit != wanted)
     raise UnitsDiffer('%s of values whose units differ: A has a unit of %s, and B of %s; write %s'
-                      % (_name(op), first, second, mend))
+                      % (name_of(op), first, second, mend))
 
 
-def _lcm(first: int, second: int) -> int:
-    a, b = first, second
-    while b:
-        a, b = b, a % b
-    return first // a * second
-
-
-def _name(op: Union[Operator, str]) -> str:
+def name_of(op: Union[Operator, str]) -> str:
     return op if isinstance(op, str) else op.name or 'an operator'
 
 
-def _is_function(op: Operator) -> bool:
-    """Whether an operator was made of a function, which gets stored numbers."""
-    return hasattr(op, 'function')
+# -- another unit
+
+def rescaled(matrix: Any, unit: Any, exact: bool) -> Any:
+    """A matrix with the same numbers in another unit; see `Held.rescale`."""
+    wanted, factor = _factor_to(matrix.unit, unit)
+    if factor == 1:
+        return with_unit(matrix, wanted)
+    made, more, less = with_unit(matrix, 1), factor.numerator, factor.denominator
+    if less != 1:
+        left = made.apply('cmod', right=less).select('nonzero')
+        if exact and left.nvals:
+            some = made.dup(mask=left.S).reduce_scalar('any', raw=True)
+            how = 'cuts them down' if isinstance(wanted, TimeUnit) else 'rounds them'
+            raise ValueError('%d of %d values would lose digits as %s, such as %s: exact=False %s'
+                             % (left.nvals, matrix.nvals, told(wanted),
+                                to_text(some, matrix.unit), how))
+        if not left.nvals:
+            made, less = made.apply('cdiv', right=less), 1
+    if more != 1:
+        _check_fits(made, Fraction(more, less), wanted)
+    if less != 1:
+        made = (made.apply('floordiv', right=less) if isinstance(wanted, TimeUnit)
+                else made.apply(_rounding(more, less)))
+    elif more != 1:
+        made = made.apply('times', right=more)
+    made.notes = matrix.notes._replace(source='', unit=wanted)
+    return made
 
 
-class Bound(NamedTuple):
-    """An operator, the whole number that is sent beside it, and the unit of its result."""
-    op: Operator
-    thunk: int
-    unit: Unit
+def _factor_to(before: Unit, unit: Any) -> Tuple[Unit, Fraction]:
+    """Another unit, and what stored numbers are multiplied by for it. ValueError where numbers
+    would become times."""
+    wanted = as_unit(unit)
+    if not isinstance(wanted, TimeUnit):
+        return wanted, Fraction(wanted) / before
+    if not isinstance(before, TimeUnit):
+        raise ValueError(
+            'the values are no times yet, so that they have no other unit of times: A.unit = %r '
+            'says that they are' % wanted)
+    return wanted, Fraction(before.size, wanted.size)
 
 
-def of_unary(op: Operator, unit: Unit) -> Unit:
-    """The unit of a unary operator's result."""
-    if unit == 1:
-        return 1
-    meaning = _meaning(op)
-    if meaning == UNDER and not isinstance(unit, TimeUnit):
-        _refuse_inverse(op, 1, unit)
-    return unit if meaning == KEEP else 1
+def _check_fits(matrix: Any, factor: Fraction, wanted: Unit) -> None:
+    """ValueError where a stored value times a factor is beyond 64 bits."""
+    least, most = math.ceil(coo.LEAST / factor), math.floor(coo.MOST / factor)
+    outside = [matrix.select('valuelt', least) if least > coo.LEAST else None,
+               matrix.select('valuegt', most) if most < coo.MOST else None]
+    many = sum(part.nvals for part in outside if part is not None)
+    if many:
+        raise ValueError('%d of %d values are beyond 64 bits in %s: a coarser unit holds them'
+                         % (many, matrix.nvals, told(wanted)))
 
 
-def of_index(op: Operator, thunk: Any, unit: Unit,
-             what: str = 'the number beside the operator') -> Bound:
-    """The same of an index operator, with the number beside it: a value stands for itself, what the
-    caller's own operators get is a stored number."""
-    meaning = _meaning(op)
-    if meaning == COMPARE and not _is_function(op):
-        return Bound(*compared(op, thunk, unit), 1)
-    return Bound(op, _whole(thunk, what, 'is'), unit if meaning == KEEP else 1)
+def _rounding(more: int, less: int) -> Operator:
+    """x times more / less, rounded to the nearest, halves to the even one. ValueError where this
+    takes more than 64 bits."""
+    if more * less >= 1 << 62:
+        raise ValueError('a factor of %d/%d can not be rounded in 64 bits: rescale in two steps'
+                         % (more, less))
 
-
-def of_bound(op: Operator, number: Any, is_left: bool, unit: Unit) -> Bound:
-    """The same of a binary operator, one of whose operands is a number: where it meets the values
-    it is one of these, by times and division it is a factor."""
-    meaning, what = _meaning(op), 'left=' if is_left else 'right='
-    if not _is_function(op):
-        if meaning == COMPARE:
-            return Bound(*compared(op, number, unit, is_left), 1)
-        if meaning in (MEET, FIRST, SECOND):
-            return Bound(op, to_stored(number, unit, what), unit)
-    divides = meaning in (OVER, UNDER) and is_left != (meaning == OVER)
-    if meaning in (OVER, UNDER) and not divides and not is_whole(unit):
-        _refuse_inverse(op, number, unit)
-    if meaning == TIMES or divides:
-        _check_factor(op, number, is_left, unit)
-    return Bound(op, _whole(number, what, 'of "%s" is' % _name(op)), _own(meaning, is_left, unit))
-
-
-def _own(meaning: Optional[str], is_left: bool, unit: Unit) -> Unit:
-    """The unit of the result of a binary operator with a number that isn't changed. A multiple of a
-    time is a number."""
-    if meaning == SHIFT and is_left:
-        return 1
-    keep = ((MEET, FIRST, SECOND) if isinstance(unit, TimeUnit)
-            else (MEET, FIRST, SECOND, TIMES, OVER, UNDER, SHIFT))
-    return unit if meaning in keep else 1
-
-
-def _whole(number: Any, what: str, verb: str) -> int:
-    """A whole number of 64 bits that callers write beside an operator, by the word that they know
-    it by."""
-    try:
-        return coo.word(number, 'number')
-    except (TypeError, ValueError) as fault:
-        raise type(fault)('%s %s a whole number of 64 bits, not %r'
-                          % (what, verb, number)) from None
-
-
-def _check_factor(op: Operator, number: Any, is_left: bool, unit: Unit) -> None:
-    """ValueError for a factor, or a divisor, that isn't whole: it says how to take it all the
-    same."""
-    if time_units.is_time(number) or isinstance(number,
-                                                str) or not math.isfinite(number) or exact_number(
-                                                    number).denominator == 1:
-        return                                     # whatever else it is, `_whole` says so
-    exact, side, name = exact_number(number), 'left' if is_left else 'right', _name(op)
-    over, under = exact.numerator, exact.denominator
-    how = 'B = A.apply("times", %s=%d); B.unit = %s' % (side, over, plain(unit * Fraction(under)))
-    if _meaning(op) != TIMES:
-        how = 'A.apply("times", right=%d).apply("%s", %s=%d)' % (under, name, side, over)
-    raise ValueError('%s= of "%s" is a whole number, not %r: write %s' % (side, name, number, how))
-
-
-def _refuse_inverse(op: Operator, number: Any, unit: Unit) -> NoReturn:
-    parts = 1000 * unit.denominator
-    over = exact_number(number) * unit * parts
-    parts, over = ((parts, over) if over.denominator == 1 and abs(over) <= coo.MOST
-                   else (unit.denominator, Fraction(unit.numerator)))
-    raise UnitsDiffer(
-        '"%s" divides by values that are parts of 1/%s, so that the quotients would be no parts '
-        'of it: write B = A.dup(); B.unit = 1; C = B.apply("cdiv", left=%d); C.unit = %d for '
-        'quotients in parts of 1/%d, cut down' % (_name(op), unit, int(over), parts, parts))
+    def nearest(x: int) -> int:
+        whole = x // less
+        over = (x - whole * less) * more
+        found = whole * more + over // less
+        rest = (over - over // less * less) * 2
+        return found + ((rest > less) | ((rest == less) & (found & 1)))
+    return READY['unary'](nearest, name='rescale')

@@ -6,13 +6,13 @@ from typing import Any, Optional, Tuple, Type
 
 import numpy
 
-from . import units
 from .aliases import alias
 from .backends.unread import reading
 from .errors import refusal
-from .indexing import choose_places, gather
+from .indexing import choose_places
 from .mask import Mask
 from .matrix import Matrix
+from .submatrices import take, value_of
 
 
 class Vector(Matrix):
@@ -45,26 +45,41 @@ class Vector(Matrix):
 
     @property
     def size(self) -> int:
-        """How many entries there can be: the rows of a column, the columns of a row."""
+        """How many entries there can be.
+
+        Returns
+        -------
+        int
+            The rows of a column, the columns of a row.
+        """
         return self.nrows if self.ncols == 1 else self.ncols
 
     @reading
     def __getitem__(self, at: Any) -> Any:
-        """`v[i]`: the value of a vertex, None where it has none. `v[indexes]`, `v[1:3]` and
+        """The value of a vertex, or the vector of some.
+
+        `v[i]` is the value of a vertex, None where it has none. `v[indexes]`, `v[1:3]` and
         `v[mask]` are vectors. `v[i, j]` is as for a matrix, unless (i, j) is a name. See
-        `Matrix.__getitem__`."""
+        `Matrix.__getitem__`.
+
+        Parameters
+        ----------
+        at : index or Mask
+            A name, a number, a list, an array, a slice or a filter.
+
+        Returns
+        -------
+        Vector, int, float or None
+            A value where one vertex is asked for, else a vector.
+        """
         axis = 0 if self.ncols == 1 else 1
         if isinstance(at, Mask) or isinstance(at, tuple) and not self._has_name(at, axis):
             return super().__getitem__(at)
         chosen = choose_places(self, at, axis)
         if chosen.places is None:
             return self
-        ones = gather(self, chosen.places, axis)
-        part = ones.mxm(self, 'any_second') if axis == 0 else self.mxm(ones, 'any_first')
-        if not chosen.one:
-            return as_vector(part)
-        values = part.entries(arrays=False)[2]
-        return units.to_decimal(values[0], self.unit) if values else None
+        part = take(self, axis, chosen.places)
+        return value_of(part) if chosen.one else as_vector(part)
 
     def _has_name(self, at: Any, axis: int) -> bool:
         """Whether a tuple is the name of a vertex, and not two indexes."""
@@ -80,8 +95,9 @@ class Vector(Matrix):
     @reading
     def to_coo(  # type: ignore[override]
             self, *, arrays: Optional[bool] = None, dtype: Any = None) -> Tuple[Any, Any]:
-        """Indexes (from 0) and values, by ascending index. `entries()` has rows, columns and
-        values.
+        """Indexes (from 0) and values, by ascending index.
+
+        `entries()` has rows, columns and values.
 
         Parameters
         ----------
@@ -92,18 +108,49 @@ class Vector(Matrix):
 
         Returns
         -------
-        tuple of two arrays or lists"""
+        tuple of two arrays or lists
+            Indexes and values.
+        """
         rows, columns, values = self.entries(arrays=arrays, dtype=dtype)
         return rows if self.ncols == 1 else columns, values
 
     @reading
     def to_dense(self, fill: Any = 0, dtype: Any = None, *, fill_value: Any = None) -> Any:
-        """An array of numpy of one dimension, `fill` where there is no entry. Else as
-        `Matrix.to_dense`."""
+        """An array of numpy of one dimension.
+
+        Else it is as `Matrix.to_dense`.
+
+        Parameters
+        ----------
+        fill : number, default 0
+            What stands where there is no entry. A type here is `dtype`: `to_dense(float)`.
+        dtype : type, optional
+            With float the array is float64, what the stored whole numbers stand for.
+        fill_value : number, optional
+            Another name of `fill`.
+
+        Returns
+        -------
+        numpy.ndarray
+            An array of one dimension, of int64 or float64.
+        """
         return numpy.asarray(super().to_dense(fill, dtype, fill_value=fill_value)).ravel()
 
     def reduce(self, op: Any = 'plus') -> Any:
-        """`reduce_scalar`, by python-graphblas' name."""
+        """The fold of all entries, as a number.
+
+        It is `reduce_scalar`, by python-graphblas' name.
+
+        Parameters
+        ----------
+        op : Operator, str or callable, default 'plus'
+            A binary operator or an aggregator, as `reduce_scalar` has it.
+
+        Returns
+        -------
+        int, float or None
+            What `reduce_scalar` gives.
+        """
         return self.reduce_scalar(op)
 
 

@@ -1,2 +1,2 @@
-"""What is between a session and its server: connections, commands and their replies, the queue of
-jobs, and handles of matrices."""
+"""What is between a session and its server: the bytes, commands and their replies, whose turn it
+is, and the program itself."""

@@ -15,27 +15,28 @@ nothing cancels a batch.
 from __future__ import annotations
 
 import collections
+import contextlib
 import os
 import socket
-import sys
 import threading
 import weakref
-from typing import Any, Callable, Deque, List, Mapping, Optional, Sequence, Tuple, Type, Union
+from typing import Callable, Deque, Iterable, Iterator, List, Mapping, Optional, Tuple, Union
 
 from ..errors import OF_GATEWAY, Closed, Near, Refused, SpmatError, refusal_of
 from ..io.coo import whole
 from ..limits import MOST_STEPS, MOST_WORKERS
-from .commands import Command, CommandBatch, Outgoing
+from .commands import PIECE, Command, CommandBatch, Incoming, Reply
 from .protocol import WORDS_WITH_BODY
 from .reply_checks import NOTHING, Limits
-from .replies import Incoming, PIECE, Reply
 from .server_program import Program, program_words
-from .sigint import Guard
 from .transport import Address, Channel, Child, Socket, Timeouts
+from .turns import Guard
 
 ENDS = ('S5', 'S6', 'S7', 'busy', *OF_GATEWAY)
 # for a command to a server and its whole reply, where its jobs don't run
 SECONDS = 60.0
+MOST_WAITING = 200                                 # commands, whose replies fit into a pipe
+MOST_BYTES = 1 << 22                               # of commands that wait
 
 Progress = Callable[[str, int, int], None]
 
@@ -51,6 +52,8 @@ def checked_settings(steps: float, workers: float) -> Tuple[int, int]:
     return many, threads
 
 
+# all that a session has to know to stay in step
+# pylint: disable-next=too-many-instance-attributes
 class Connection:
     """One session's commands and replies, in step. `command` takes turns among threads: one waits
     until another has its reply."""
@@ -65,7 +68,8 @@ class Connection:
                                  lambda done, of: self.tell('received', done, of))
         # the first refusal of the last exchange that mattered
         self.refused: Optional[Refused] = None
-        self._waiting = Outgoing()
+        self._waiting: List[Command] = []
+        self._waiting_bytes = 0
         # sent, and not answered
         self._pending: Deque[Union[Command, CommandBatch]] = collections.deque()
         self._owner = os.getpid()
@@ -136,40 +140,45 @@ class Connection:
     def put(self, command: Command) -> None:
         """One command more that waits to be sent with the next. Its reply has to be short, as none
         is read before all is sent."""
-        self._waiting.put(command)
+        self._waiting.append(command)
+        self._waiting_bytes += len(command.line) + len(command.body or b'')
+
+    def _take_waiting(self) -> List[Command]:
+        """What waits to be sent, which waits no more."""
+        commands, self._waiting, self._waiting_bytes = self._waiting, [], 0
+        return commands
 
     @property
     def waiting(self) -> int:
         """How many commands wait to be sent."""
-        return len(self._waiting.commands)
+        return len(self._waiting)
 
     @property
     def is_full(self) -> bool:
         """Whether it is time to send what waits."""
-        return self._waiting.is_full
+        return len(self._waiting) >= MOST_WAITING or self._waiting_bytes >= MOST_BYTES
 
     def exchange(self, last: Optional[Command] = None) -> Optional[Reply]:
         """Sends what waits and one command more in one go, and reads the reply of each; that of the
         last. Raises what the last is refused by, and Closed where the session ends before all are
         answered. KeyboardInterrupt while replies are awaited leaves what isn't answered pending."""
         with self.lock, self.guard:
-            if last is None and not self._waiting.commands and not self._pending:
+            if last is None and not self._waiting and not self._pending:
                 return None
-            jobs = self._waiting.jobs
+            jobs = sum(command.jobs for command in self._waiting)
             if jobs:
                 self.tell('jobs', 0, jobs)
-            self._enter()
-            try:
+            with self._amid_command():
                 self.refused = None
                 self._read_pending()
                 self.check_open()
-                sent = self._waiting.taken()
+                sent = self._take_waiting()
                 if last is not None:
                     sent.append(last)
-                self._send_all(sent)
+                self.commands += len(sent)
+                self._pending.extend(sent)
+                self._send(self._pieces_of(sent))
                 self._read_pending()
-            finally:
-                self._amid = False
             if self._ended is not None and any(command.answer is None for command in sent):
                 self.check_open()
             answer = last.answer if last is not None else None
@@ -183,49 +192,40 @@ class Connection:
         """Sends commands whose replies nobody waits for: `collect` takes them, or whoever sends
         next. Replies of any length may come; two such at a time, of half a pipe's bytes each, never
         make both sides wait."""
-        with self.lock, self.guard:
-            self._enter()
-            try:
-                self.commands += batch.commands
-                self._channel.deadline.begin(False)
-                self._send_text(batch.text)
-                self._pending.append(batch)
-            except BaseException as fault:
-                self.end(_words_of(fault), kill=True)
-                raise
-            finally:
-                self._amid = False
+        with self._amid_command():
+            self.commands += batch.commands
+            self._pending.append(batch)
+            self._send([batch.text])
 
     def collect(self, batch: CommandBatch) -> bytes:
         """The replies to commands that were posted. KeyboardInterrupt leaves them pending. Closed
         where they never come."""
         with self.lock, self.guard:
             while batch.replies is None:
-                self._enter()
-                try:
+                with self._amid_command():
                     self._read_first()
-                finally:
-                    self._amid = False
             return batch.replies
 
-    def _enter(self) -> None:
-        """A command begins. Raises Closed where the session has ended, and SpmatError amid another
-        command."""
-        self.check_open()
-        if self._amid:
-            raise SpmatError(
-                'a session can not be used from within its own command, such as by a progress '
-                'callback')
-        self._amid = True
+    @contextlib.contextmanager
+    def _amid_command(self) -> Iterator[None]:
+        """A command begins and ends, one at a time, and no Ctrl-C amid. Raises Closed where the
+        session has ended, and SpmatError amid another command."""
+        with self.lock, self.guard:
+            self.check_open()
+            if self._amid:
+                raise SpmatError(
+                    'a session can not be used from within its own command, such as by a progress '
+                    'callback')
+            self._amid = True
+            try:
+                yield
+            finally:
+                self._amid = False
 
     @property
     def owes(self) -> bool:
         """Whether replies are still to come, of commands that were interrupted or posted."""
         return bool(self._pending)
-
-    def owes_to(self, command: Command) -> bool:
-        """Whether this command was sent, and its reply is still to come."""
-        return command in self._pending
 
     @property
     def received(self) -> int:
@@ -234,13 +234,11 @@ class Connection:
 
     def settle(self) -> None:
         """Waits for the replies of commands that were interrupted or posted, where any are
-        pending."""
-        with self.lock, self.guard:
-            self._enter()
-            try:
+        pending. Raises Closed where the session has ended."""
+        self.check_open()
+        if self._pending:
+            with self._amid_command():
                 self._read_pending()
-            finally:
-                self._amid = False
 
     def _read_pending(self) -> None:
         """Reads the replies to all that is pending, in order, and does what they say."""
@@ -306,16 +304,15 @@ class Connection:
                 self._ended = why
                 self._last.detach()
                 self._channel.close(kill)
+                cause = cause or SpmatError('the session ended before it was answered')
                 while self._pending:
-                    self._pending.popleft().lost(cause
-                                                 or SpmatError(
-                                                     'the session ended before it was answered'))
+                    self._pending.popleft().lost(cause)
 
     def quit(self) -> None:
         """Ends the session in good order, or at once where a reply is owed; nothing where it has
         ended already."""
         with self.lock:
-            self._waiting.taken()                  # which isn't sent any more
+            self._take_waiting()                   # which isn't sent any more
             if self._pending:
                 self.end('it was closed while a reply was awaited', kill=True)
             if self._ended is None and os.getpid() == self._owner:
@@ -326,55 +323,39 @@ class Connection:
             # nothing where the interpreter has closed the channel already
             self.end('it was closed')
 
-    def _send_all(self, commands: Sequence[Command]) -> None:
-        """Sends commands, which are pending then. What comes meanwhile ends the session."""
-        self.commands += len(commands)
-        self._pending.extend(commands)
+    def _pieces_of(self, commands: Iterable[Command]) -> Iterator[Union[bytes, memoryview]]:
+        """The bytes of commands: small ones together, large bodies by pieces."""
+        small: List[bytes] = []
+        for command in commands:
+            line, body = command.line.encode(), command.body
+            if body is None:
+                small.append(line + b'\n')
+                continue
+            small.append(b'%s %d\n' % (line, len(body)))
+            if len(body) < PIECE:
+                small += [body, b'\n']
+                continue
+            yield b''.join(small)
+            view = memoryview(body)
+            for at in range(0, len(body), PIECE):
+                yield view[at:at + PIECE]
+                self.tell('sent', min(at + PIECE, len(body)), len(body))
+            small = [b'\n']
+        yield b''.join(small)
+
+    def _send(self, pieces: Iterable[Union[bytes, memoryview]]) -> None:
+        """Sends what is pending from now on. What comes meanwhile ends the session; but where the
+        server has ended it, its last reply says why, and is read next."""
         self._channel.deadline.begin(False)
         try:
-            self._send(commands)
+            for piece in pieces:
+                self._channel.write(piece)
+                self.sent += len(piece)
         except BaseException as fault:
+            if isinstance(fault, OSError) and not isinstance(fault, socket.timeout):
+                return
             self.end(_words_of(fault), kill=True, cause=fault)
             raise
-
-    def _send(self, commands: Sequence[Command]) -> None:
-        """Small commands together, large bodies by pieces."""
-        try:
-            small: List[bytes] = []
-            for command in commands:
-                line, body = command.line, command.body
-                small.append(line.encode() + b'\n' if body is None
-                             else b'%s %d\n' % (line.encode(), len(body)))
-                if body is not None and len(body) < PIECE:
-                    small += [body, b'\n']
-                elif body is not None:
-                    self._write(b''.join(small))
-                    self._send_body(body)
-                    small = [b'\n']
-            self._write(b''.join(small))
-        except socket.timeout:
-            raise
-        except OSError:
-            # the server has ended the session: its last reply says why
-            pass
-
-    def _send_text(self, text: bytes) -> None:
-        try:
-            self._write(text)
-        except socket.timeout:
-            raise
-        except OSError:
-            pass
-
-    def _send_body(self, body: bytes) -> None:
-        view = memoryview(body)
-        for at in range(0, len(body), PIECE):
-            self._write(view[at:at + PIECE])
-            self.tell('sent', min(at + PIECE, len(body)), len(body))
-
-    def _write(self, piece: Union[bytes, memoryview]) -> None:
-        self._channel.write(piece)
-        self.sent += len(piece)
 
     def tell(self, what: str, done: int, of: int) -> None:
         """Calls the progress callback, where there is one."""
@@ -384,45 +365,12 @@ class Connection:
     def _refused(self, reply: str, command: Command) -> Refused:
         refused = refusal_of(reply, command.line, command.near)
         words = command.line.split()
-        if refused.rule in ENDS or (refused.rule == 'S2'
-                                    and len(words) != WORDS_WITH_BODY.get(words[0], len(words))):
+        # a body may stand behind a line that was refused for its words, and be taken for commands
+        is_out_of_step = (refused.rule == 'S2'
+                          and len(words) != WORDS_WITH_BODY.get(words[0], len(words)))
+        if refused.rule in ENDS or is_out_of_step:
             self.end('it was answered `%s`' % reply, cause=refused)
         return refused
-
-
-class Turn:
-    """The turn of one thread, in a `with`, in which commands are made and what they do is noted.
-    What comes between a command and the note of it ends the session; Ctrl-C is put off until the
-    note is made, or the reply is awaited. Closed where the session has ended."""
-
-    def __init__(self, connection: Connection) -> None:
-        self._connection = connection
-
-    def __enter__(self) -> None:
-        connection = self._connection
-        connection.lock.acquire()  # pylint: disable=consider-using-with  # __exit__ releases it
-        try:
-            connection.guard.__enter__()           # pylint: disable=unnecessary-dunder-call
-            try:
-                connection.check_open()
-            except BaseException:
-                connection.guard.__exit__(*sys.exc_info())
-                raise
-        except BaseException:
-            connection.lock.release()
-            raise
-
-    def __exit__(self, kind: Optional[Type[BaseException]], fault: Optional[BaseException],
-                 trace: Any) -> None:
-        connection = self._connection
-        try:
-            if kind is not None and not issubclass(kind, Exception) and not connection.owes:
-                connection.end('amid its work came ' + kind.__name__, kill=True)
-        finally:
-            try:
-                connection.guard.__exit__(kind, fault, trace)
-            finally:
-                connection.lock.release()
 
 
 def _words_of(fault: BaseException) -> str:

@@ -46,47 +46,39 @@ LIMITS: Dict[str, Limits] = {
 NOTHING: Mapping[str, Limits] = MappingProxyType({})
 
 
-class ReplyForm(NamedTuple):
-    """How the reply to a command is written: its first word behind `ok`, and the names of the
-    numbers behind that."""
-    word: str
-    numbers: Tuple[str, ...]
-
-    def __str__(self) -> str:
-        return ' '.join(['ok', self.word, *self.numbers])
+REPLIES: Dict[str, Tuple[str, Tuple[str, ...]]] = {
+    name: (syntax.reply.split()[0], tuple(syntax.reply.split()[1:]))
+    for name, syntax in COMMANDS.items()}
+"""By command the first word behind `ok`, and the names of the numbers behind that."""
 
 
-REPLIES: Dict[str, ReplyForm] = {}
-"""The form of the reply to each command."""
-for _name, _syntax in COMMANDS.items():
-    _word, *_numbers = _syntax.reply.split()
-    REPLIES[_name] = ReplyForm(_word, tuple(_numbers))
-
-
-def check_first_line(words: Sequence[str], command: str,
+def check_first_line(words: Sequence[str], word: str, command: str,
                      within: Mapping[str, Limits] = NOTHING) -> None:
     """Raises ProtocolError where the first line of a reply doesn't answer a command.
 
     Parameters
     ----------
-    words : the words of the line.
-    command : the line of the command.
-    within : limits of numbers of the reply by their names, where the client knows narrower ones
-    than the protocol's.
+    words
+        The words of the line.
+    word, command
+        The first word of the command, and its line.
+    within
+        Limits of numbers of the reply by their names, where the client knows narrower ones than
+        the protocol's.
     """
     if words[:1] != ['ok']:
         if not _REFUSAL.fullmatch(' '.join(words)):
             raise ProtocolError('the reply to `%.80s` is none of spmat: `%.200s`'
                                 % (command, ' '.join(words)))
         return
-    form = REPLIES[command.split(None, 1)[0]] if command.split(None, 1)[0] in REPLIES else None
-    if form is None:
+    if word not in REPLIES:
         # a command of a session script, which only a refusal can answer
         raise_fault(command, 'a refusal, since there is no such command', words)
-    if len(words) != 2 + len(form.numbers) or words[1] != form.word:
-        raise_fault(command, '`%s`' % str(form), words)
-    for name, word in zip(form.numbers, words[2:]):
-        check_number(name, word, within.get(name) or LIMITS[name], command, words)
+    first, numbers = REPLIES[word]
+    if len(words) != 2 + len(numbers) or words[1] != first:
+        raise_fault(command, '`ok %s`' % COMMANDS[word].reply, words)
+    for name, number in zip(numbers, words[2:]):
+        check_number(name, number, within.get(name) or LIMITS[name], command, words)
 
 
 def check_number(name: str, word: str, limits: Limits, command: str, words: Sequence[str]) -> int:

@@ -4,7 +4,6 @@ from __future__ import annotations
 # a channel is open as long as its session, and each is asked alike
 # pylint: disable=consider-using-with,unused-argument
 
-import contextlib
 import os
 import select
 import socket
@@ -12,9 +11,9 @@ import subprocess
 import tempfile
 import time
 import urllib.parse
-from typing import TYPE_CHECKING, Iterator, NamedTuple, Optional, Sequence, Union
+from typing import TYPE_CHECKING, NamedTuple, Optional, Sequence, Union
 
-from .replies import PIECE
+from .commands import PIECE
 
 if TYPE_CHECKING:
     import ssl
@@ -28,11 +27,12 @@ GATEWAY_PORT = 7173
 WATCHER = 'read -r _; kill -9 "$0"'
 
 
-def _readable(file: int, seconds: Optional[float] = None) -> bool:
-    """Waits until something can be read, so many seconds at most."""
+def _poll_of(file: int) -> 'select.poll':
+    """What tells when something of a file can be read. A session has one, as to make one takes
+    longer than to ask it."""
     poll = select.poll()
     poll.register(file, select.POLLIN)
-    return bool(poll.poll(None if seconds is None else 1000 * seconds))
+    return poll
 
 
 class Timeouts(NamedTuple):
@@ -63,6 +63,12 @@ class Deadline:
         if left <= 0:
             raise socket.timeout(TIMED_OUT)
         return left
+
+    def await_bytes(self, poll: 'select.poll') -> None:
+        """Waits until something can be read. socket.timeout where that takes too long."""
+        seconds = self.left()
+        if not poll.poll(None if seconds is None else 1000 * seconds):
+            raise socket.timeout(TIMED_OUT)
 
 
 class Watcher:
@@ -110,13 +116,13 @@ class Child:
             raise
         assert self.process.stdout is not None
         self._output = self.process.stdout.fileno()
+        self._poll = _poll_of(self._output)
         self._watcher = Watcher(self.process.pid)
 
     def wait(self) -> None:
         """Waits until `receive` has something. socket.timeout where that takes longer than the
         deadline says."""
-        if not _readable(self._output, self.deadline.left()):
-            raise socket.timeout(TIMED_OUT)
+        self.deadline.await_bytes(self._poll)
 
     def receive(self) -> bytes:
         """What came; nothing at the end."""
@@ -211,38 +217,28 @@ class Address(NamedTuple):
     def connected(self, timeout: Optional[float]) -> socket.socket:
         """A connection. ValueError where this is no address, OSError where nobody listens there, or
         lets nobody in."""
-        if self.is_file():
-            if self.tls is not None:
-                raise ValueError('tls= is for a host and a port, and %s is a socket file'
-                                 % self.host)
-            return self._to_file(timeout)
-        if not 1 <= self.port <= 65535:
+        if self.is_file() and self.tls is not None:
+            raise ValueError('tls= is for a host and a port, and %s is a socket file' % self.host)
+        if not self.is_file() and not 1 <= self.port <= 65535:
             raise ValueError('a port is 1 to 65535, not %d' % self.port)
+        opened: Optional[socket.socket] = None
+        what = ''
         try:
-            made = socket.create_connection((self.host, self.port), timeout)
-        except OSError as fault:
-            raise _placed(fault, self, '') from None
-        made.setsockopt(socket.IPPROTO_TCP, socket.TCP_NODELAY, 1)
-        return made if self.tls is None else self._secured(made, self.tls)
-
-    def _to_file(self, timeout: Optional[float]) -> socket.socket:
-        made = socket.socket(socket.AF_UNIX)
-        with self._closing_on_fault(made):
-            made.settimeout(timeout)
-            made.connect(self.host)
-        return made
-
-    def _secured(self, made: socket.socket, tls: ssl.SSLContext) -> socket.socket:
-        with self._closing_on_fault(made, 'TLS was refused: '):
-            return tls.wrap_socket(made, server_hostname=self.host)
-
-    @contextlib.contextmanager
-    def _closing_on_fault(self, made: socket.socket, what: str = '') -> Iterator[None]:
-        """Closes a socket that can't be used, and says in which address the fault is."""
-        try:
-            yield
+            if self.is_file():
+                opened = socket.socket(socket.AF_UNIX)
+                opened.settimeout(timeout)
+                opened.connect(self.host)
+                return opened
+            opened = socket.create_connection((self.host, self.port), timeout)
+            # a command is sent at once, and not with the next
+            opened.setsockopt(socket.IPPROTO_TCP, socket.TCP_NODELAY, 1)
+            if self.tls is None:
+                return opened
+            what = 'TLS was refused: '
+            return self.tls.wrap_socket(opened, server_hostname=self.host)
         except BaseException as fault:
-            made.close()
+            if opened is not None:
+                opened.close()
             if isinstance(fault, OSError):
                 raise _placed(fault, self, what) from None
             raise
@@ -255,6 +251,7 @@ class Socket:
         self.deadline = Deadline(timeouts)
         self._has_tls = address.tls is not None
         self._socket = address.connected(timeouts.command)
+        self._poll = _poll_of(self._socket.fileno())
         if address.login:
             self._socket.sendall(address.login)
 
@@ -263,8 +260,7 @@ class Socket:
         deadline says."""
         if getattr(self._socket, 'pending', int)():
             return                                 # TLS has taken it in already
-        if not _readable(self._socket.fileno(), self.deadline.left()):
-            raise socket.timeout(TIMED_OUT)
+        self.deadline.await_bytes(self._poll)
 
     def receive(self) -> bytes:
         """What came; nothing at the end. socket.timeout where a piece of TLS doesn't come whole in

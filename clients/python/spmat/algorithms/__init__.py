@@ -30,9 +30,8 @@ from ..pricing.call_price import guarded
 from .all_pairs_lengths import (all_pairs as all_pairs, path_lengths as path_lengths,
                                 transitive_closure as transitive_closure)
 from .betweenness_centrality import betweenness as betweenness
-from .bfs import bfs_levels as bfs_levels, bfs_parents as bfs_parents
-from .call_arguments import checks_arguments
-from .centrality import eigenvector as eigenvector, hits as hits, katz as katz
+from .bfs import bfs_levels as bfs_levels, bfs_parents as bfs_parents, k_hop as k_hop
+from .centrality import eigenvector as eigenvector, hits as hits
 from .communities import (label_propagation as label_propagation, louvain as louvain,
                           modularity as modularity)
 from .components import (bipartite_sides as bipartite_sides,
@@ -41,12 +40,12 @@ from .core_decomposition import core_numbers as core_numbers, k_core as k_core
 from .distance_measures import (Bounds as Bounds, closeness as closeness, diameter as diameter,
                                 distance_counts as distance_counts, eccentricity as eccentricity)
 from .independent_set import maximal_independent_set as maximal_independent_set
+from .katz_centrality import katz as katz
 from .modelled_bounds import with_model
-from .multi_source_bfs import k_hop as k_hop
 from .neighbour_similarity import (common_neighbours as common_neighbours, jaccard as jaccard,
                                    shared_neighbours as shared_neighbours, squares as squares)
 from .page_rank import pagerank as pagerank
-from .registry import ALGORITHMS, table
+from .registry import ALGORITHMS, checks_arguments, table
 from .results import Centrality as Centrality, Communities as Communities, keep_units, name_values
 from .shortest_path_trees import (NoPath as NoPath, Path as Path, PathTree as PathTree,
                                   has_path as has_path, k_shortest_paths as k_shortest_paths,

@@ -17,7 +17,8 @@ from .registry import algorithm
 from .single_source_paths import CYCLE, TOO_LONG
 from .strong_components import strongly_connected_components
 from .traversal import is_whole, read_column
-from .utils import Progress, find_places, loops, mark_rows, name_rows, order, product, tell
+from .utils import (Progress, find_places, loops, mark_rows, name_rows, order, product, tell,
+                    warn_of_repeated)
 
 # entries a row up to which the graph is squared, so that one push covers more edges
 SHORT = 16
@@ -219,7 +220,8 @@ def path_lengths(W: Matrix, sources: Vertices, progress: Progress = None) -> Mat
     -------
     Matrix
         A row for each source in their order; no entry where no path leads. Sources and the vertices
-        that they reach make up to 16,777,216 entries.
+        that they reach make up to 16,777,216 entries. Where a source is given twice no row has a
+        name, and a warning says so.
 
     Raises
     ------
@@ -243,6 +245,7 @@ def path_lengths(W: Matrix, sources: Vertices, progress: Progress = None) -> Mat
     """
     order(W)
     rows = find_places(W, sources)
+    warn_of_repeated(W, rows)
     return name_rows(W, lengths_from(mark_rows(W, rows, 0), reach_of(W), progress), rows)
 
 

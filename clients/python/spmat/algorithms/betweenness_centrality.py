@@ -1,7 +1,7 @@
 """How many shortest paths go through each vertex, by the number of edges or by their values."""
 from __future__ import annotations
 
-from typing import Any, Callable, List, NamedTuple, Optional, Tuple
+from typing import List, NamedTuple, Optional, Tuple, Union
 
 import numpy
 
@@ -11,13 +11,13 @@ from ..operators import Semiring, asm, binary
 from . import step_bounds
 from .all_pairs_lengths import lengths_from, reach_of
 from .cached_properties import extremes, is_both_ways, is_transpose, transpose_of
-from .multi_source_bfs import Batch, REACHED, find_sources
 from .types import Array, Place, Vertices
 from .registry import algorithm
 from .results import Centrality, as_centrality
 from .traversal import put_all, read_vector
-from .utils import Progress, beside, product, tell
+from .utils import Progress, beside, find_sources, mark_rows, product, tell
 
+REACHED = Semiring(binary.any, binary.first)
 PATHS = Semiring(binary.plus, binary.first)
 LENGTHEN = Semiring(binary.any, binary.plus)
 MOST_PATHS = 1 << 62
@@ -32,6 +32,31 @@ class Fixed(NamedTuple):
     bits: int
     scale: int
     most: int
+
+
+class Batch:
+    """Searches from some vertices, a row each. `front` has what each found at the last level, with
+    the numbers of shortest paths that lead there."""
+
+    def __init__(self, G: Matrix, sources: List[Place]) -> None:
+        self.graph, self.both_ways = G, is_both_ways(G)
+        self.front = mark_rows(G, sources, 1)
+        self.marks = [self.front.apply('zero')]
+
+    def advance(self) -> None:
+        """Takes each search a level farther. A neighbour of what was found last is new, or was
+        found in the last two levels, where each edge leads both ways; else in any before."""
+        reached = product(self.front, self.graph, PATHS)
+        for mark in self.marks:
+            reached = reached.ewise_add(mark, 'zero')
+        self.front = reached.select('nonzero')
+        new = self.front.apply('zero')
+        self.marks = [self.marks[-1],
+                      new] if self.both_ways else [self.marks[0].ewise_add(new, 'first')]
+
+    def back(self, shares: Matrix, counts: Matrix) -> Matrix:
+        """What the next vertices on shortest paths have, added up, at those that have counts."""
+        return product(shares, transpose_of(self.graph, None, False), PATHS, counts)
 
 
 class Edges:
@@ -179,59 +204,35 @@ def _add(G: Matrix, sources: List[Place], fixed: Fixed, sums: Array,
          edges: Optional['Edges']) -> int:
     """Adds what the paths from some sources give to each vertex; the most shortest paths that one
     of these has."""
-    found = _by_edges(G, sources, fixed) if edges is None else _by_values(G, sources, fixed, edges)
-    levels, back, paths = found
+    search: Union[Batch, Tight] = Batch(G, sources) if edges is None else Tight(
+        edges, sources, G.nrows)
+    levels, total, paths = _counted(search, fixed, G.nvals)
     if len(levels) < 3:
         return 0
+    if edges is not None:
+        # what is behind a vertex doesn't depend on the number of edges up to it
+        levels = [counts.ewise_mult(total, 'second') for counts in levels]
     inverse = asm('unary', 'wide r0, %d\ndiv64 r0, r1\nexit\n' % (1 << fixed.bits))
     share = asm('binary', 'mov64 r0, r1\nmul64 r0, r2\nwide r3, %d\ndiv64 r0, r3\nexit\n'
                 % max(1, (1 << fixed.bits) // fixed.scale))
     shares = levels[-1].apply(inverse)
     through: Optional[Matrix] = None
     for counts in reversed(levels[1:-1]):
-        came = back(shares, counts)
+        came = search.back(shares, counts)
         here = came.ewise_mult(counts, share)
         through = here if through is None else through.ewise_add(here, 'first')
         shares = counts.apply(inverse).ewise_add(came, 'plus')
     assert through is not None
-    at, values = read_vector(_row(through).to_text(), 1)
+    at, values = read_vector(through.reduce_columnwise('plus').to_text(), 1)
     sums[at] += values
     return paths
 
 
-Back = Callable[[Matrix, Matrix], Matrix]
-"""What the shares of a level's vertices add up to at those before them on shortest paths, of which
-the counts are given."""
-
-
-def _by_edges(G: Matrix, sources: List[Place], fixed: Fixed) -> Tuple[List[Matrix], 'Back', int]:
-    """The numbers of shortest paths from some sources, level by level, the way back, and the most
-    paths of one source."""
-    levels, _, paths = _counted(Batch(G, sources, PATHS), fixed, G.nvals)
-    transpose = transpose_of(G, None, False)
-    return levels, lambda shares, counts: product(shares, transpose, PATHS, counts), paths
-
-
-def _by_values(G: Matrix, sources: List[Place], fixed: Fixed,
-               edges: Edges) -> Tuple[List[Matrix], 'Back', int]:
-    """The same by values. A level has all vertices with a shortest path of so many edges, and for
-    each the number of all its shortest paths: what is behind a vertex doesn't depend on the level,
-    and all of it is in the next one."""
-    search = Tight(edges, sources, G.nrows)
-    levels, total, paths = _counted(search, fixed, edges.many)
-    return [counts.ewise_mult(total, 'second') for counts in levels], search.back, paths
-
-
-def _row(matrix: Matrix) -> Matrix:
-    """The sums of the columns."""
-    ones = matrix.session.full(1, matrix.nrows)
-    return ones.mxm(matrix, ('plus', 'second'))
-
-
-def _counted(search: Any, fixed: Fixed, edges: int) -> Tuple[List[Any], Any, int]:
+def _counted(search: Union[Batch, Tight], fixed: Fixed,
+             edges: int) -> Tuple[List[Matrix], Matrix, int]:
     """The numbers of paths that a search finds, level by level and in all, and the most of one
     source. ValueError where there are too many."""
-    levels: List[Any] = []
+    levels: List[Matrix] = []
     total, greatest, count = search.front, 1, search.front.ncols
     while search.front.nvals:
         if levels:

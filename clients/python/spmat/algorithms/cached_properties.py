@@ -82,6 +82,14 @@ def extremes(graph: Matrix) -> Tuple[int, int]:
     return known
 
 
+def check_weights(graph: Matrix, bits: int = 62) -> None:
+    """ValueError where a value is below 0, or all together could be 2^bits or more."""
+    least, most = extremes(graph)
+    if least < 0 or most * max(1, graph.nvals) >= 1 << bits:
+        raise ValueError('weights are 0 or more, and add up to less than 2^%d: here they are %d to '
+                         '%d' % (bits, least, most))
+
+
 def check_undirected(graph: Matrix, check: bool, loops: bool = False) -> None:
     """A ValueError where an edge leads one way alone, or, unless they are allowed, from a vertex to
     itself."""

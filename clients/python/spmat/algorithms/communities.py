@@ -12,20 +12,21 @@ from ..matrix import Matrix
 from ..metadata import VERTICES, joined
 from ..operators import asm
 from . import step_bounds
-from .cached_properties import check_undirected, extremes, has_loops, is_both_ways
+from .cached_properties import (check_undirected, check_weights, extremes, has_loops,
+                                is_both_ways)
 from .independent_set import Seed, draw_on_paper, generator_of
 from .types import Array, Place
 from .registry import BOTH_WAYS, algorithm
 from .results import Communities, as_result, keep_partial
 from .traversal import keep, put_all, read_column
-from .utils import Progress, beside, find_place, name_of, order, product, tell
+from .utils import Progress, beside, contract, find_place, name_of, order, product, tell
 
 ROUNDS = 10                            # of label propagation
 BATCHES = 8                            # parts of the vertices that decide one after the other
 LEAST = 1e-7                           # what a level has to gain
 ENOUGH = 1e-4                          # .. and a sweep, for that another one follows
 SWEEPS = 20                            # of one level, at most
-MOST_WEIGHT = 1 << 53                  # of all edges: weights are compared as floats
+FLOAT_BITS = 53                        # of all weights together, which are compared as floats
 MOST_SUM = 1 << 62                     # of all edges: loops count twice
 SHOWN = 3                              # vertices without a community that are named
 Partition = Union[Matrix, Mapping[Any, Hashable], Iterable[Iterable[Any]]]
@@ -114,15 +115,6 @@ def _doubled(graph: Matrix, weighted: bool) -> Matrix:
     return values.ewise_add(values.select('diag'), 'plus') if has_loops(graph) else values
 
 
-def _gather(graph: Matrix, labels: Array, many: int) -> Matrix:
-    """The graph whose vertices are the communities: values of edges between two of them added."""
-    count, own = len(labels), numpy.arange(len(labels))
-    at, ones = numpy.argsort(labels, kind='stable'), numpy.ones_like(own)
-    gather = keep(graph, Triples(labels[at], at, ones, many, count))
-    spread = keep(graph, Triples(own, labels, ones, count, many))
-    return product(product(gather, graph, 'plus_second'), spread, 'plus_first')
-
-
 def _number(labels: Array) -> Tuple[Array, int]:
     """Labels as numbers from 0 on, by their first vertices, and how many there are."""
     _, first, which = numpy.unique(labels, return_index=True, return_inverse=True)
@@ -181,7 +173,8 @@ def modularity(G: Matrix, labels: Partition, resolution: float = 1.0, *,
         raise ValueError('weights add up to less than 2^62: here %d are %d to %d; divide them'
                          % (G.nvals, least, most))
     graph = _doubled(G, weighted) if is_both_ways(G) else G if weighted else G.apply('one')
-    rows, columns, values = _gather(graph, numbers, many).to_coo()
+    joined_ = contract(graph, (numpy.arange(len(numbers)), numbers), many, 'plus')
+    rows, columns, values = joined_.to_coo()
     out, come = (_add_up(ends, values, many) for ends in (rows, columns))
     total, inside = sum(out), int(values[rows == columns].sum())
     return float(_modularity(inside, total, sum(a * b for a, b in zip(out, come)), resolution))
@@ -207,7 +200,12 @@ def number_communities(graph: Matrix, partition: Partition) -> Tuple[Array, int]
     """The community of each vertex as a number from 0 on, and how many there are. ValueError where
     a vertex has none, or several, or isn't one of the graph's; TypeError for what has none of the
     forms."""
-    found = _read_communities(graph, partition)
+    found: Dict[int, Any] = {}
+    for at, community in _read_members(graph, partition):
+        if at in found:
+            raise ValueError('the vertex %r is in a community twice: each has to be in one'
+                             % (name_of(graph, Place(at)),))
+        found[at] = community
     missing = [at for at in range(graph.nrows) if at not in found]
     if missing:
         some = ', '.join(repr(name_of(graph, Place(at))) for at in missing[:SHOWN])
@@ -218,51 +216,41 @@ def number_communities(graph: Matrix, partition: Partition) -> Tuple[Array, int]
     return numpy.array(labels, numpy.int64), len(numbers)
 
 
-def _read_communities(graph: Matrix, partition: Any) -> Dict[int, Any]:
-    """The community of each vertex that has one, by its row."""
+def _read_members(graph: Matrix, partition: Any) -> Iterable[Tuple[int, Any]]:
+    """The row of each vertex that has a community, and that."""
     if hasattr(partition, 'to_coo') and hasattr(partition, 'nodes'):
-        return _read_column(graph, partition)
-    if hasattr(partition, 'items'):                # a mapping, or a Series
-        return _find_rows(graph, partition.items())
-    if isinstance(partition, (str, bytes)) or not hasattr(partition, '__iter__'):
-        raise _wrong_form(partition)
-    pairs: List[Tuple[Any, int]] = []
-    for number, vertices in enumerate(partition):
-        if isinstance(vertices, (str, bytes)) or not hasattr(vertices, '__iter__'):
-            raise _wrong_form(vertices)
-        pairs.extend((vertex, number) for vertex in vertices)
-    return _find_rows(graph, pairs)
+        pairs, are_rows = _read_column(graph, partition)
+        if are_rows:
+            return pairs
+    elif hasattr(partition, 'items'):              # a mapping, or a Series
+        pairs = partition.items()
+    else:
+        pairs = [(vertex, number) for number, vertices in enumerate(_listed(partition))
+                 for vertex in _listed(vertices)]
+    return [(int(find_place(graph, vertex)), community) for vertex, community in pairs]
 
 
-def _wrong_form(given: Any) -> TypeError:
-    return TypeError('communities are a column as louvain gives it, {vertex: community}, or a list '
-                     'of sets of vertices: %r is no such set' % (given,))
+def _listed(given: Any) -> Iterable[Any]:
+    """Some vertices, or some sets of them. TypeError for what is neither."""
+    if isinstance(given, (str, bytes)) or not hasattr(given, '__iter__'):
+        raise TypeError('communities are a column as louvain gives it, {vertex: community}, or a '
+                        'list of sets of vertices: %r is no such set' % (given,))
+    found: Iterable[Any] = given
+    return found
 
 
-def _read_column(graph: Matrix, column: Any) -> Dict[int, Any]:
-    """Of a column by row; by name where its vertices have other names than the graph's, or another
-    order."""
+def _read_column(graph: Matrix, column: Any) -> Tuple[Iterable[Tuple[Any, Any]], bool]:
+    """What a column says, and whether by row: else by name, as where its vertices have other names
+    than the graph's, or another order."""
     rows, _, values = (numbers.tolist() for numbers in column.to_coo())
     names, others = column.nodes, graph.nodes
     if names is not None and others is not None and column.ncols == 1 and [*names] != [*others]:
-        return _find_rows(graph, ((names[at], value) for at, value in zip(rows, values)))
+        return ((names[at], value) for at, value in zip(rows, values)), False
     if column.shape != (graph.nrows, 1):
         raise ValueError('labels are a column with a community for each of %d vertices, and this '
                          'one is %dx%d' % (graph.nrows, *column.shape))
     joined(graph.notes, column.notes, VERTICES)
-    return dict(zip(rows, values))
-
-
-def _find_rows(graph: Matrix, pairs: Iterable[Tuple[Any, Any]]) -> Dict[int, Any]:
-    """By row, from vertices and their communities."""
-    found: Dict[int, Any] = {}
-    for vertex, community in pairs:
-        at = int(find_place(graph, vertex))
-        if at in found:
-            raise ValueError('the vertex %r is in a community twice: each has to be in one'
-                             % (vertex,))
-        found[at] = community
-    return found
+    return zip(rows, values), True
 
 
 # -- Louvain's method
@@ -441,10 +429,8 @@ def louvain(G: Matrix, resolution: float = 1.0, seed: Seed = 0, progress: Progre
     """
     count = order(G)
     check_undirected(G, check, loops=True)
-    least, most = extremes(G) if weighted else (1, 1)
-    if least < 0 or most * max(1, G.nvals) >= MOST_WEIGHT:
-        raise ValueError('weights are 0 or more, and add up to less than 2^53: here they are %d to '
-                         '%d' % (least, most))
+    if weighted:
+        check_weights(G, FLOAT_BITS)
     graph, chance = _doubled(G, weighted), generator_of(seed)
     level = _Level(graph, resolution)
     now = _Reached(numpy.arange(count), level.modularity(), 0)
@@ -456,6 +442,6 @@ def louvain(G: Matrix, resolution: float = 1.0, seed: Seed = 0, progress: Progre
             if found <= now.modularity + LEAST:
                 return now._replace(levels=now.levels + 1).communities(G)
             now = _Reached(numbers[now.labels], found, now.levels + 1)
-            graph = _gather(graph, numbers, many)
+            graph = contract(graph, (numpy.arange(len(numbers)), numbers), many, 'plus')
             level = _Level(graph, resolution)
     return now.communities(G)

@@ -1,8 +1,7 @@
 """Connected components, and the two sides of a graph."""
 from __future__ import annotations
 
-import functools
-from typing import Iterator, List, Optional, Tuple
+from typing import Iterator, List, Optional
 
 import numpy
 
@@ -11,11 +10,11 @@ from ..matrix import Matrix
 from ..operators import Semiring, asm, binary
 from . import step_bounds
 from .bfs import Search, find_levels
-from .cached_properties import check_undirected, found, transpose_of
+from .cached_properties import check_undirected, transpose_of
 from .types import Array, Place
 from .registry import algorithm
-from .traversal import (Columns, Rows, Traversal, Vector, find_both_directions, find_pushes,
-                        put_all, read_values)
+from .traversal import (Columns, Traversal, Vector, find_both_directions, find_pushes, put_all,
+                        read_values)
 from .utils import (Progress, beside, column, mark_rows, name_of, nothing, order, rows_of, tell)
 
 GREATEST = Semiring(binary.max, binary.first)
@@ -85,71 +84,50 @@ class Neighbours:
     directions. Each answer is vertices, and a vertex that each is to be joined with."""
 
     def __init__(self, graph: Matrix, transpose: Optional[Matrix], check: bool) -> None:
-        self.graph = graph
-        self.columns: Columns = Columns(graph)
-        self.back: Optional[Traversal] = None      # where edges lead one way alone
+        self.graph, self.push = graph, find_pushes(graph)
+        self.ways: List[Traversal] = [Columns(graph)]
         if transpose is not None and is_same(transpose, graph):
             check_undirected(graph, check, loops=True)
         else:
-            self.columns, self.back = find_both_directions(graph, transpose, check)
-        self.push = find_pushes(graph)
+            self.ways = find_both_directions(graph, transpose, check)
 
     def all(self) -> Iterator[List[Vector]]:
         """The least ones of all vertices, and then the greatest ones. Of a small graph one run
         makes both, of a large one each has its own, when it is asked for."""
-        is_small = self.graph.nrows < LARGE
-        least = self._look_from_all('min_second', LEAST)
-        greatest = self._look_from_all('max_second', GREATEST) if is_small else []
-        got = [lines.read(made) for lines, made in least]
+        least = self._look_from_all(LEAST)
+        greatest = self._look_from_all(GREATEST) if self.graph.nrows < LARGE else None
+        got = [lines.read(made) for lines, made in zip(self.ways, least)]
         yield got
-        greatest = greatest or self._look_from_all('max_second', GREATEST)
-        yield [Vector(at, read_values(made)) for (at, _), (_, made) in zip(got, greatest)]
+        greatest = greatest or self._look_from_all(GREATEST)
+        yield [Vector(one.at, read_values(made)) for one, made in zip(got, greatest)]
 
-    def _look_from_all(self, pulled: str, pushed: Semiring) -> List[Tuple[Traversal, Matrix]]:
+    def _look_from_all(self, ring: Semiring) -> List[Matrix]:
         """What comes to all vertices along the edges that leave them, and, where these lead one way
         alone, along those that lead to them."""
-        numbers: Matrix = found(self.graph, 'numbers', lambda: _number(self.columns))
-        made: List[Tuple[Traversal, Matrix]] = [(self.columns, self.graph.mxv(numbers, pulled))]
-        if self.back is not None:
-            back = self.back
-            if isinstance(back, Rows):
-                numbers = found(self.graph, 'numbers in a row', functools.partial(_number, back))
-            made.append((back, back.step(numbers, pushed)))
-        return made
+        return [lines.step(lines.numbers(), ring) for lines in self.ways]
 
     def join(self, some: Array, labels: Labels) -> bool:
         """Joins some vertices with what has another label among their neighbours; whether there was
         any. In a component that has such a neighbour one vertex at least is joined with one."""
-        if self.back is not None:
-            return self._join_both_ways(some, labels, self.back)
+        if len(self.ways) > 1:
+            every = Vector(numpy.arange(len(labels.of)), labels.of)
+            return _join([got for lines in self.ways
+                          for got in _look_from(some, lines, lines.put(every))], labels)
         front = self.push.put(Vector(some, labels.of[some]))
-        least, greatest = (self.push.step(front, ring) for ring in (LEAST, GREATEST))
-        near, most = self.push.read(least), read_values(greatest)
-        first, second = labels.join(near.at, near.values), labels.join(near.at, most)
-        if not (first or second):
+        pushed = [self.push.step(front, ring) for ring in (LEAST, GREATEST)]
+        near = _read_alike(self.push, pushed)
+        if not _join(near, labels):
             return False
-        around = self.columns.put(Vector(near.at, labels.of[near.at]))
-        _join(self._pull(around, some), labels)
+        columns, at = self.ways[0], near[0].at
+        around = columns.put(Vector(at, labels.of[at]))
+        _join(_look_from(some, columns, around), labels)
         return True
 
-    def _join_both_ways(self, some: Array, labels: Labels, back: Traversal) -> bool:
-        """As `join`, where edges lead one way alone: along those that leave some vertices, and
-        those that lead to them."""
-        every = Vector(numpy.arange(len(labels.of)), labels.of)
-        got = self._pull(self.columns.put(every), some)
-        row, mask = back.put(every), back.put(Vector(some, numpy.ones_like(some)))
-        return _join(got + _read_alike(back, [back.step(row, ring, mask)
-                                              for ring in (LEAST, GREATEST)]), labels)
 
-    def _pull(self, labels: Matrix, some: Array) -> List[Vector]:
-        """The least and the greatest label among the neighbours of some vertices."""
-        mask = self.columns.put(Vector(some, numpy.ones_like(some)))
-        return _read_alike(self.columns, [self.graph.mxv(labels, ring, mask=mask.S)
-                                          for ring in ('min_second', 'max_second')])
-
-
-def _number(lines: Traversal) -> Matrix:
-    return lines.number(lines.ones())
+def _look_from(some: Array, lines: Traversal, labels: Matrix) -> List[Vector]:
+    """The least and the greatest label among the neighbours of some vertices."""
+    mask = lines.put(Vector(some, numpy.ones_like(some)))
+    return _read_alike(lines, [lines.step(labels, ring, mask) for ring in (LEAST, GREATEST)])
 
 
 def _join(found_labels: List[Vector], labels: Labels) -> bool:

@@ -6,7 +6,6 @@ from typing import Any, Dict, List, Optional, Set
 import numpy
 
 from ..io.coo import whole
-from ..io.matrix_text import Triples
 from ..loops import Loop, State, empty
 from ..loops.trips import Round
 from ..matrix import Matrix
@@ -18,10 +17,11 @@ from .components import connected_components
 from .types import Array
 from .registry import WITHOUT_LOOPS, algorithm
 from .results import Result, as_result, keep_partial
-from .traversal import (Unseen, Vector, find_traversal, is_ample, keep, put_all, put_column,
-                        put_known, put_row, read_column)
+from .server_loops import hear
+from .traversal import (Vector, find_traversal, is_ample, put_all, put_column, put_known, put_row,
+                        read_column)
 from .triangle_counts import degrees
-from .utils import Progress, beside, order, product, tell
+from .utils import Progress, beside, contract, order, tell
 
 COUNTS = Semiring(binary.plus, binary.first)
 # y less x, and x and y, where what the least gap is counts from 0 on
@@ -41,7 +41,7 @@ class Peeling:
         self.left: Array = numpy.zeros(G.nrows, numpy.int64)
         self.alive, had = read_column(degrees(G))
         self.left[self.alive] = had
-        self.gone = Unseen(self.lines, self.alive[:0])
+        self.many = len(self.alive)                # that are left
         self.number = 0
 
     def least(self) -> Optional[int]:
@@ -63,19 +63,13 @@ class Peeling:
         while len(fallen):
             out.append(fallen)
             self.left[fallen] = GONE
-            self.gone.note(fallen, None)
-            fallen = self._lose(self._push(fallen), k)
+            self.many -= len(fallen)
+            ones = Vector(fallen, numpy.ones_like(fallen))
+            # nobody looks at the edges of the last ones
+            fallen = self._lose(self.lines.push(ones, COUNTS), k) if self.many else fallen[:0]
             self.number += 1
             tell(self.progress, 'round', self.number)
         return out
-
-    def _push(self, fallen: Array) -> Vector:
-        """How many neighbours fall of each vertex; where many fall, of those alone that are left.
-        """
-        ones = Vector(fallen, numpy.ones_like(fallen))
-        if not self.lines.pays_scan(len(fallen)):
-            return self.lines.push(ones, COUNTS)
-        return self.lines.read(self.lines.step(self.lines.put(ones), COUNTS, self.gone.mask()))
 
     def _lose(self, came: Vector, k: int) -> Array:
         """Vertices lose neighbours; those that fall by it."""
@@ -137,8 +131,7 @@ def k_core(G: Matrix, k: int, progress: Progress = None, *, check: bool = True) 
     In each round those fall that have too few neighbours left, and push that along their edges: no
     other vertex is looked at.
 
-    Runs: 1 a round, and 2; 2 more a round in which many fall. Steps: up to 5 an edge; 4 a vertex
-    and round in which many fall.
+    Runs: 1 a round, and 2. Steps: up to 5 an edge.
 
     GraphBLAS: `vxm` over plus and first of those that fell. LAGraph: `LAGraph_KCore`. networkx:
     `k_core`.
@@ -194,9 +187,8 @@ def core_numbers(G: Matrix, progress: Progress = None, *, check: bool = True) ->
     vertices are left, and on a budget of more than 2^56 steps, the rest is a loop that stays at the
     server.
 
-    Runs: 1 a round, and 2; 2 more a round in which many fall; in the loop 4 a round, and 4. Steps:
-    up to 10 an edge; 4 a vertex and round in which many fall; in the loop 20 for each vertex that
-    is left, a round, and 20 an edge among them.
+    Runs: 1 a round, and 2; in the loop 4 a round, and 4. Steps: up to 10 an edge; in the loop 20
+    for each vertex that is left, a round, and 20 an edge among them.
 
     LAGraph: `LAGraph_KCore` for all k. networkx: `core_number`. igraph: `coreness`.
 
@@ -224,12 +216,8 @@ def core_numbers(G: Matrix, progress: Progress = None, *, check: bool = True) ->
 
 def _among(graph: Matrix, at: Array) -> Matrix:
     """The graph of some vertices alone, which have the numbers from 0 on."""
-    many, own, ones = len(at), numpy.arange(len(at)), numpy.ones_like(at)
-    if many == graph.nrows:
-        return graph
-    wide = keep(graph, Triples(own, at, ones, many, graph.nrows))
-    tall = keep(graph, Triples(at, own, ones, graph.nrows, many))
-    return product(product(wide, graph, 'any_pair'), tall, 'any_pair')
+    many = len(at)
+    return graph if many == graph.nrows else contract(graph, (at, numpy.arange(many)), many, 'any')
 
 
 def _peel_by_loop(peeling: Peeling, k: int, cores: Array) -> None:
@@ -239,7 +227,7 @@ def _peel_by_loop(peeling: Peeling, k: int, cores: Array) -> None:
     graph = _among(peeling.lines.graph, at)
     gaps = put_row(graph, Vector(numpy.arange(len(at)), peeling.left[at] - k))
     start = State({'gap': gaps, 'level': graph.session.full(1, 1, k)})
-    begun = peeling.number
+    tells = hear(peeling.progress, 'round', peeling.number)
 
     def step(s: State) -> Dict[str, Any]:
         least = s.gap.reduce_rowwise('min')
@@ -254,6 +242,5 @@ def _peel_by_loop(peeling: Peeling, k: int, cores: Array) -> None:
         fallen = loop.shown['fallen'].drain(values=False)
         levels = loop.shown['level'].drain(rounds=False).values
         cores[at[fallen.places]] = levels[fallen.rounds - first]
-        for number in range(first, first + len(rounds)):
-            tell(peeling.progress, 'round', begun + number)
+        tells(first, rounds)
     loop.rounds(empty('gap'), 1 << 40, heard)

@@ -17,7 +17,7 @@ import numpy
 from .. import units
 from ..aliases import is_same
 from ..limits import MOST_SIDE
-from ..loops import State
+from ..loops import Loop, State, empty
 from ..matrix import Matrix
 from ..metadata import without_names
 from ..operators import Semiring, asm, binary
@@ -25,7 +25,6 @@ from . import step_bounds
 from .all_pairs_lengths import lengths_from, reach_of
 from .bfs import NONE, Search, run_search
 from .cached_properties import extremes, is_both_ways, transpose_of
-from .server_loops import advance_front
 from .types import Array, Place
 from .registry import algorithm
 from .results import Centrality, as_centrality, unit_of
@@ -112,7 +111,7 @@ def _farthest(G: Matrix, sources: List[Place]) -> int:
     """How many edges lead to the vertex that is the farthest from any of some. The searches from
     these push along the edges, a word a row. Where each edge leads both ways, what the last two
     levels found is all that an edge may lead back to."""
-    many, both_ways, levels = len(sources), is_both_ways(G), [0]
+    many, both_ways = len(sources), is_both_ways(G)
     start = without_names(G.session.from_coo([k // WORD for k in range(many)],
                                              list(map(int, sources)), _bits(many), -(-many // WORD),
                                              G.nrows))
@@ -121,8 +120,9 @@ def _farthest(G: Matrix, sources: List[Place]) -> int:
         moved = s.front.mxm(G, PUSHED)
         new = moved.ewise_add(s.near, NEW, mask=moved.S).select('nonzero')
         return {'front': new, 'near': new.ewise_add(s.front if both_ways else s.near, 'bor')}
-    advance_front(step, {'front': start, 'near': start}, G.nrows + 1, levels.append)
-    return levels[-1]
+    loop = Loop(step, {'front': start, 'near': start})
+    loop.rounds(empty('front'), G.nrows + 1, lambda first, rounds: None)
+    return loop.number - 1                         # the last round found nothing
 
 
 @algorithm('how many vertices are how far from each', fields=('node', 'distance', 'vertices'),

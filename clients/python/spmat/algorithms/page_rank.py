@@ -9,13 +9,12 @@ import numpy
 from ..matrix import Matrix
 from ..operators import Semiring, binary
 from . import step_bounds
-from .cached_properties import extremes, found, is_both_ways
+from .cached_properties import check_weights, found, is_both_ways
 from .types import Array
 from .rank_rounds import Damping, Rounds, System, Units, Watch, damping_of, solve
 from .registry import algorithm
 from .results import Centrality, as_centrality, keep_partial
-from .traversal import (Columns, Traversal, Vector, find_flow, put_all, put_column, read_column,
-                        vector_of)
+from .traversal import (Traversal, Vector, find_flow, put_all, put_column, read_column, vector_of)
 from .triangle_counts import degrees
 from .utils import Progress, beside, find_place, order
 
@@ -49,10 +48,10 @@ def out_weights(lines: Traversal, weighted: bool) -> Matrix:
     graph = lines.graph
 
     def find() -> Matrix:
-        if not weighted and not isinstance(lines, Columns) and is_both_ways(graph):
+        if not weighted and not lines.is_full and is_both_ways(graph):
             return lines.step(lines.ones(), Semiring(binary.plus, binary.first))
         out = graph.reduce_rowwise('plus').select('nonzero') if weighted else degrees(graph)
-        return out if isinstance(lines, Columns) else lines.put(read_column(out))
+        return out if lines.is_full else lines.put(read_column(out))
     made: Matrix = found(graph, '%s of edges as %s'
                          % ('weights' if weighted else 'numbers', type(lines).__name__), find)
     return made
@@ -234,10 +233,8 @@ def _weight(G: Matrix, out: Matrix, weighted: bool, check: bool) -> int:
     much."""
     if not weighted:
         return G.nvals
-    least, most = extremes(G) if check else (0, 1)
-    if least < 0 or most * G.nvals >= 1 << 62:
-        raise ValueError('weights are 0 or more, and add up to less than 2^62: here they are %d to '
-                         '%d' % (least, most))
+    if check:
+        check_weights(G)
     return out.reduce_scalar('plus') or 0
 
 

@@ -1,5 +1,5 @@
 """Rounds of traversals that stay at the server. One costs what its front has, and the client
-nothing.
+nothing. In blocks, and where a product is too large for a job, a loop makes them one by one.
 
 A round has to do with what the state holds. Where each edge leads both ways that is little: a
 vertex that is found has been found in the last two levels, or no edge leads to it from the front;
@@ -7,7 +7,7 @@ and no path comes back to lengths below the least that waits, less the heaviest 
 """
 from __future__ import annotations
 
-from typing import Any, Callable, Dict, List, NamedTuple, Optional
+from typing import Any, Callable, List, NamedTuple, Optional
 
 import numpy
 
@@ -17,11 +17,12 @@ from ..matrix import Matrix
 from ..operators import Semiring, asm, binary
 from .cached_properties import found
 from .types import Array
-from .traversal import Vector, can_loop, put_row
+from .traversal import Vector, put_row
 from .utils import Progress, tell
 
 # levels after which a search is taken for a long one
 LONG = 32
+# from a level to the next
 ANY_NEXT = Semiring(binary.any, asm('binary', 'mov64 r0, r1\nadd64 r0, 1\nexit\n', 'next_level'))
 # Lengths are doubled. The lowest bit says that a vertex waits to be pushed.
 WAITS = asm('index', 'mov64 r0, r1\nand64 r0, 1\nexit\n', 'waits')
@@ -31,31 +32,21 @@ NEAR = 'mov64 r0, r2\nsub64 r2, r1\nwide r3, %d\njsle64 r2, r3, 1\nmov64 r0, -1\
 BEYOND_NEAR = NEAR.replace('jsle64', 'jsgt64')
 BEYOND = 1 << 61                                   # above twice any length
 UNROLLED = 8                                       # rounds between two looks at what is final
-Step = Callable[[State], Dict[str, Any]]
 
 
-def advance_front(step: Step, begin: Dict[str, Any], most: int,
-                  heard: Callable[[int], None]) -> State:
-    """The state after rounds of a step, up to the one that leaves its `front` empty, or `most`.
+Heard = Callable[[int, List[Round]], None]
+"""What is told of the rounds of a trip: the number of the first, and what they came to."""
 
-    Where one session has the front, they are a loop that stays at the server, else they are made
-    one by one. `heard(k)` is called after each round that leaves something."""
-    if can_loop(begin['front']):
-        loop = Loop(step, begin)
 
-        def hear_trip(first: int, rounds: List[Round]) -> None:
-            for number, one in enumerate(rounds, first):
-                if one.counts['front']:
-                    heard(number)
-        loop.rounds(empty('front'), most, hear_trip)
-        return loop.state
-    state, number = State(begin), 0
-    while state.front.nvals and number < most:
-        number += 1
-        state = State(step(state))
-        if state.front.nvals:
-            heard(number)
-    return state
+def hear(progress: Progress, word: str, begun: int = 0, of: int = 0,
+         result: Optional[str] = None) -> Heard:
+    """Tells of the rounds of a loop, of which some were made before it: of all, or of those in
+    which a result has entries."""
+    def heard(first: int, rounds: List[Round]) -> None:
+        for number, one in enumerate(rounds, begun + first):
+            if result is None or one.counts[result]:
+                tell(progress, word, number, of)
+    return heard
 
 
 class Reached(NamedTuple):
@@ -87,11 +78,12 @@ def continue_levels(G: Matrix, levels: Array, reached: Reached, depth: Optional[
         new = s.front.mxm(G, ANY_NEXT).ewise_add(s.near, 'zero').select('valueeq', level + k)
         return {'front': new, 'near': new.ewise_add(s.front, 'any')}
     loop = Loop(step, state, ['front'], alike=True)
+    tells = hear(progress, 'level', level, result='front')
 
     def heard(first: int, rounds: List[Round]) -> None:
         new = loop.shown['front'].drain(values=False)
         levels[new.places] = new.rounds + level
-        _tell_levels(progress, level + first, [one.counts['front'] for one in rounds])
+        tells(first, rounds)
     loop.rounds(empty('front'), G.nrows + 1 if depth is None else depth - level, heard)
 
 
@@ -108,19 +100,13 @@ def continue_parents(G: Matrix, parents: Array, reached: Reached, depth: Optiona
         front = new.apply('colindex', right=1)
         return {'front': front, 'near': front.ewise_add(s.front, 'any'), 'new': new}
     loop = Loop(step, state, ['new'], alike=True)
+    tells = hear(progress, 'level', reached.level, result='new')
 
     def heard(first: int, rounds: List[Round]) -> None:
         new = loop.shown['new'].drain()
         parents[new.places] = new.values - 1
-        _tell_levels(progress, reached.level + first, [one.counts['new'] for one in rounds])
+        tells(first, rounds)
     loop.rounds(empty('front'), G.nrows + 1 if depth is None else depth - reached.level, heard)
-
-
-def _tell_levels(progress: Progress, first: int, counts: List[int]) -> None:
-    """Tells of the levels in which some were found."""
-    for number, count in enumerate(counts, first):
-        if count:
-            tell(progress, 'level', number)
 
 
 class Waiting(NamedTuple):

@@ -3,7 +3,7 @@ shortest."""
 from __future__ import annotations
 
 import heapq
-from typing import Any, Dict, Iterable, List, NamedTuple, Optional, Set, Tuple
+from typing import Any, Dict, Iterable, List, Optional, Set, Tuple
 
 import numpy
 
@@ -96,14 +96,6 @@ class PathTree:
         self.lengths.unit = unit
 
 
-class Way(NamedTuple):
-    """How lengths are meant: whether by the values of edges, what is told, and what is looked at
-    beforehand."""
-    weighted: bool
-    progress: Progress
-    check: bool
-
-
 def _by_vertex(vector: Vector) -> Dict[Place, int]:
     return dict(zip(map(Place, vector.at.tolist()), vector.values.tolist()))
 
@@ -122,15 +114,14 @@ def _path(graph: Matrix, vertices: List[Place], far: Dict[Place, int]) -> Path:
     return Path([name_of(graph, at) for at in vertices], [far[at] for at in vertices])
 
 
-def _lengths(G: Matrix, source: Place, GT: Optional[Matrix], way: Way,
-             target: Optional[Place] = None, cutoff: Optional[int] = None) -> Vector:
+def _lengths(G: Matrix, source: Place, GT: Optional[Matrix], weighted: bool,
+             query: Query) -> Vector:
     """How far the vertices are that the source reaches, by edges or by their values."""
-    if not way.weighted and cutoff is not None and cutoff < 0:
+    cutoff, target, check, progress = query
+    if not weighted and cutoff is not None and cutoff < 0:
         return vector_of([], [])                   # the source is farther
-    if way.weighted:
-        found = find_lengths(G, source, GT, Query(cutoff, target, way.check, way.progress))
-    else:
-        found = find_levels(G, Search([source], cutoff, target, way.progress), GT, way.check)
+    found = (find_lengths(G, source, GT, query) if weighted else
+             find_levels(G, Search([source], cutoff, target, progress), GT, check))
     rows, _, values = found.to_coo()
     return Vector(rows, values)
 
@@ -231,7 +222,7 @@ def shortest_path(G: Matrix, source: Vertex, target: Vertex, GT: Optional[Matrix
             raise NoPath('no path leads from %r to %r' % (source, target))
         vertices = _walk(parents, start, end)
         return _path(G, vertices, {at: edges for edges, at in enumerate(vertices)})
-    lengths = _lengths(G, start, GT, Way(True, progress, check), end)
+    lengths = _lengths(G, start, GT, True, Query(None, end, check, progress))
     far = _by_vertex(lengths)
     if end not in far:
         raise NoPath('no path leads from %r to %r' % (source, target))
@@ -289,7 +280,7 @@ def shortest_paths(G: Matrix, source: Vertex, GT: Optional[Matrix] = None,
     """
     order(G, GT)
     at = find_place(G, source)
-    lengths = _lengths(G, at, GT, Way(weighted, progress, check), cutoff=cutoff)
+    lengths = _lengths(G, at, GT, weighted, Query(cutoff, None, check, progress))
     return PathTree(G, at, lengths,
                     _parents(find_vectors(G, GT, check, weighted), at, lengths, weighted))
 
@@ -443,7 +434,7 @@ def k_shortest_paths(G: Matrix, source: Vertex, target: Vertex, k: int, GT: Opti
     if k < 1:
         raise ValueError('a number of paths is 1 or more, not %d' % k)
     back = transpose_of(G, GT, check, values=weighted)
-    home = _lengths(back, end, G, Way(weighted, None, check))
+    home = _lengths(back, end, G, weighted, Query(check=check))
     lines = find_vectors(G, back, False, weighted)
     if G.nvals <= AT_ONCE:
         lines = GraphModel(G, Triples(*G.to_coo(), *G.shape))

@@ -1,6 +1,7 @@
 """Shortest paths from one vertex."""
 from __future__ import annotations
 
+import functools
 from typing import Callable, List, NamedTuple, Optional, Tuple
 
 import numpy
@@ -12,7 +13,7 @@ from .cached_properties import extremes
 from .types import Array, Place, Vertex
 from .registry import algorithm
 from .results import keep_partial, unless_empty
-from .traversal import Traversal, Vector, find_traversal, join, put_known, vector_of
+from .traversal import (Traversal, Vector, find_traversal, is_ample, join, put_known, vector_of)
 from .utils import Progress, beside, find_place, nothing, order, tell
 
 CYCLE = 'a cycle of negative length: paths along it have no least length'
@@ -20,9 +21,6 @@ WRAPS = ('a path is longer than 2^63 - 1, and its length would wrap: divide the 
          '(check=False takes them as they come)')
 MOST = UNREACHED = (1 << 63) - 1
 SHORTEST = Semiring(binary.min, binary.plus)
-# x where it is less than y, else the least number
-LESS = asm('binary', 'mov64 r0, r1\njslt64 r1, r2, 2\nmov64 r0, 1\nlsh64 r0, 63\nexit\n')
-NOT_LESS = -1 << 63
 # 1 where x + y isn't between the least and the greatest number, else 0: the sum has another sign
 # than both, or is one of these
 TOO_LONG = Semiring(binary.max, asm('binary', '''mov64 r0, r1
@@ -45,13 +43,16 @@ rsh64 r1, 63
 mov64 r0, r1
 exit
 '''))
+# x where it is less than y, else the least number
+LESS = asm('binary', 'mov64 r0, r1\njslt64 r1, r2, 2\nmov64 r0, 1\nlsh64 r0, 63\nexit\n')
+NOT_LESS = -1 << 63
 # whether x is less than the thunk, and not the least number
 NEARER = asm('index',
              'sub64 r1, 1\nsub64 r4, 1\nmov64 r0, 1\njslt64 r1, r4, 1\nmov64 r0, 0\nexit\n')
 BY_JOBS = 8                    # a front is large where its edges are an eighth of the vertices
+BACK = 8                       # rounds with a small front before the client takes over again
 # a band is as wide as so many edges of the greatest length, by degree
 WIDE = 8
-BACK = 8                       # rounds with a small front before the client takes over again
 
 
 class Bounds(NamedTuple):
@@ -65,8 +66,8 @@ class Bounds(NamedTuple):
 
 class Lengths:
     """The lengths that are known, and the vertices whose length changed and that weren't taken
-    since. The client has them, or for large fronts the session. Those within the band are the
-    front; the others wait as `far`, where a vertex may stand several times."""
+    since. The client has them, or for large fronts on an ample budget the session. Those within the
+    band are the front; the others wait as `far`, where a vertex may stand several times."""
 
     def __init__(self, lines: Traversal, source: Place, bounds: Bounds, known: Array) -> None:
         self.lines, self.bounds, self.known = lines, bounds, known
@@ -74,7 +75,6 @@ class Lengths:
         self.front = vector_of([source], [0])
         self.end = bounds.width
         self.far: List[Array] = []
-        self.longest = 0
 
     def limit(self) -> int:
         """No path longer than this is of any use; only where no edge is negative."""
@@ -86,7 +86,8 @@ class Lengths:
 
     def advance(self, rounds: 'Rounds') -> None:
         """Lengthens the front by an edge, and keeps those that are shorter than what was known."""
-        rounds.begin(self.longest, self.lines, lambda: self.lines.put(self.front))
+        longest = _longest(self.front.values)
+        rounds.begin(longest, lambda: self.lines.push(self.front, TOO_LONG))
         at, values = self.lines.push(self.front, SHORTEST)
         shorter = (values < self.known[at]) & (values <= self.limit())
         at, values = at[shorter], values[shorter]
@@ -99,7 +100,6 @@ class Lengths:
         self.front = Vector(at, values)
         if not len(at) and self.far:
             self.take(self.waiting())
-        self.longest = _longest(self.front.values)
 
     def open(self, heaviest: int) -> server_loops.Waiting:
         """The vertices that wait, and those whose lengths could be looked at again, in an
@@ -129,10 +129,10 @@ class Lengths:
     def advance_by_jobs(self, rounds: 'Rounds') -> None:
         """Rounds with known lengths in the session, until none changes or fronts have become
         small."""
-        lines, small = self.lines, 0
+        lines, small, longest = self.lines, 0, _longest(self.front.values)
         known, front = lines.put(_reached(self.known)), lines.put(self.front)
         while front.nvals and small < BACK:
-            rounds.begin(self.longest, lines, lambda now=front: now)  # type: ignore[misc]
+            rounds.begin(longest, functools.partial(self._find_wraps, front))
             reached = lines.step(front, SHORTEST)
             if self.bounds.ascending and self.bounds.cutoff is not None:
                 reached = reached.select('valuele', self.bounds.cutoff)
@@ -140,13 +140,17 @@ class Lengths:
             known = known.ewise_add(reached, 'min')
             front = (shorter.select(NEARER, self.end) if self.bounds.width
                      else shorter.select('valuene', NOT_LESS))
-            self.longest += rounds.heaviest
-            if self.longest + rounds.heaviest >= MOST:
-                self.longest = _longest(lines.read(front).values)
+            longest += rounds.heaviest
+            if longest + rounds.heaviest >= MOST:
+                longest = _longest(lines.read(front).values)
             if self.bounds.width and not front.nvals:
                 front = self._next_band(known)
             small = 0 if lines.pays_scan(front.nvals, BY_JOBS) else small + 1
         self._fetch(known, front)
+
+    def _find_wraps(self, front: Matrix) -> Vector:
+        """Where lengths wrap that an edge from a front makes."""
+        return self.lines.read(self.lines.step(front, TOO_LONG))
 
     def _next_band(self, known: Matrix) -> Matrix:
         """As `take`, by jobs. What is behind the band waits: all else that changed was taken."""
@@ -174,11 +178,10 @@ class Rounds:
     def __init__(self, progress: Progress, most: int, heaviest: int) -> None:
         self.progress, self.most, self.heaviest, self.number = progress, most, heaviest, 0
 
-    def begin(self, longest: int, lines: Traversal, front: Callable[[], Matrix]) -> None:
+    def begin(self, longest: int, wraps: Callable[[], Vector]) -> None:
         """A round begins, with lengths of up to `longest`. Where an edge could make one wrap, it is
         looked whether any does."""
-        if longest + self.heaviest >= MOST and (
-                lines.step(front(), TOO_LONG).reduce_scalar('max') or 0):
+        if longest + self.heaviest >= MOST and wraps().values.any():
             raise ValueError(WRAPS)
         if self.number > self.most:
             raise ValueError(CYCLE)
@@ -241,16 +244,17 @@ def _advance(lengths: Lengths, rounds: Rounds, heaviest: Optional[int]) -> None:
     server."""
     lines, progress = lengths.lines, rounds.progress
     while len(lengths.front.at):
-        if lines.pays_scan(len(lengths.front.at), BY_JOBS):
+        # large fronts stay in the session: less to write and to read, and some more steps
+        if lines.pays_scan(len(lengths.front.at), BY_JOBS) and is_ample(lines.graph):
             lengths.advance_by_jobs(rounds)
-        elif heaviest is not None and rounds.number >= server_loops.LONG and lines.may_loop():
+            continue
+        if heaviest is not None and rounds.number >= server_loops.LONG and lines.may_loop():
             if rounds.number:
                 tell(progress, 'round', rounds.number)
             server_loops.continue_lengths(lines.graph, lengths.known, lengths.open(heaviest),
                                           heaviest, progress, rounds.number)
             break
-        else:
-            lengths.advance(rounds)
+        lengths.advance(rounds)
     else:
         tell(progress, 'round', rounds.number)
 
@@ -266,7 +270,7 @@ def count_rounds(lines: Traversal, source: Place, extremes_: Tuple[int, int],
 
 
 @algorithm('lengths of shortest paths from a vertex', 'source', values=True, lengths=True,
-           runs=lambda g: 9 * g.rounds + 4, steps=step_bounds.sssp)
+           runs=lambda g: g.rounds + 8, steps=step_bounds.sssp)
 def sssp(W: Matrix, source: Vertex, WT: Optional[Matrix] = None, progress: Progress = None, *,
          cutoff: Optional[int] = None, target: Optional[Vertex] = None,
          check: bool = True) -> Matrix:
@@ -309,16 +313,14 @@ def sssp(W: Matrix, source: Vertex, WT: Optional[Matrix] = None, progress: Progr
     -----
     Each round lengthens the paths to vertices whose length changed, by one edge; where no edge is
     negative the nearest first, a band of lengths at a time (delta-stepping). The client keeps the
-    lengths; while many vertices of a large graph change at a time, jobs do. On a budget of more
-    than 2^56 steps the rounds behind the 32nd of an undirected graph are a loop that stays at the
-    server, where no edge is negative and there is neither cutoff nor target: it takes less time,
-    and more steps, up to 300 an edge.
+    lengths. On a budget of more than 2^56 steps the rounds behind the 32nd of an undirected graph
+    are a loop that stays at the server, where no edge is negative and there is neither cutoff nor
+    target: it takes less time, and more steps, up to 300 an edge.
 
-    Runs: 1 a round, and 4; 2 more a round with a large front, 6 where a band ends with it. There
-    are as many rounds as edges in the longest of the shortest paths, and 1; with bands some more,
-    but no more than vertices. Steps: up to 7 an edge that leaves a vertex whose length changed, a
-    round; 20 a vertex it leads to where the front is large; 8 an edge and 4 a vertex, once, for the
-    least and the greatest value, which are kept with the matrix.
+    Runs: 1 a round, and 4; 4 more where `WT` is looked at. There are as many rounds as edges in the
+    longest of the shortest paths, and 1; with bands some more, but no more than vertices. Steps: up
+    to 7 an edge that leaves a vertex whose length changed, a round; 8 an edge and 4 a vertex, once,
+    for the least and the greatest value, which are kept with the matrix.
 
     GraphBLAS: `vxm` over min and plus (Bellman and Ford; Meyer and Sanders). LAGraph:
     `LAGr_SingleSourceShortestPath`. networkx: `single_source_bellman_ford_path_length`.

@@ -14,9 +14,7 @@ from .cached_properties import check_undirected, extremes, found, is_transpose
 from .types import Array
 from .registry import BOTH_WAYS, algorithm
 from .traversal import keep, read_column
-from .utils import Progress, order, product, tell
-
-LIGHTEST = ('min', 'first')
+from .utils import Progress, contract, order, tell
 
 
 class Code(NamedTuple):
@@ -123,7 +121,9 @@ def minimum_spanning_forest(W: Matrix, progress: Progress = None, *, check: bool
         # of those without an edge 0, which isn't used
         joined = numpy.zeros(left.nrows, numpy.int64)
         joined[chosen.rows] = met
-        label, left = joined[label], _shrink(left, chosen.rows, met, many)
+        label = joined[label]
+        # one vertex for each component, and the lightest edge between each two
+        left = contract(left, (chosen.rows, met), many, 'min').select('offdiag', 0)
         number += 1
         tell(progress, 'round', number)
     forest = keep(W, _both_ways(taken, code))
@@ -165,14 +165,6 @@ def _ends(parents: Array) -> Array:
     return least[ends]
 
 
-def _shrink(left: Matrix, rows: Array, met: Array, many: int) -> Matrix:
-    """The graph with one vertex for each component, and the lightest edge between each two."""
-    ones, ranks = numpy.ones_like(rows), numpy.argsort(met, kind='stable')
-    tall = keep(left, Triples(rows, met, ones, left.nrows, many))
-    wide = keep(left, Triples(met[ranks], rows[ranks], ones, many, left.nrows))
-    return product(wide, product(left, tall, LIGHTEST), ('min', 'second')).select('offdiag', 0)
-
-
 def _both_ways(taken: List[Array], code: Code) -> Triples:
     """The entries of edges that are given by their numbers, some of them twice."""
     words = numpy.unique(numpy.concatenate([numpy.zeros(0, numpy.int64), *taken]))
@@ -181,8 +173,3 @@ def _both_ways(taken: List[Array], code: Code) -> Triples:
     ranks = numpy.lexsort((columns, rows))
     weights = numpy.tile(code.weights(words), 2) if len(words) else words
     return Triples(rows[ranks], columns[ranks], weights[ranks], code.vertices, code.vertices)
-
-
-def weight_of(forest: Matrix) -> int:
-    """What the edges of a forest weigh together."""
-    return (forest.reduce_scalar('plus') or 0) // 2

@@ -1,11 +1,12 @@
 """Strongly connected components."""
 from __future__ import annotations
 
-from typing import List, Optional, Tuple
+from typing import Dict, List, Optional, Tuple
 
 import numpy
 
 from ..io.matrix_text import Triples
+from ..loops import Loop, State, empty
 from ..matrix import Matrix
 from . import step_bounds
 from .bfs import Search, find_levels
@@ -14,8 +15,8 @@ from .independent_set import draw_numbers
 from .types import Array, Place
 from .registry import algorithm
 from .topological_order import find_topological_levels
-from .traversal import Vector, keep, put_all, put_column, spread
-from .utils import (Progress, as_many, beside, column, loops, nothing, order, product, iterate,
+from .traversal import Vector, keep, put_all, put_column, spread, vector_of
+from .utils import (Progress, as_many, beside, column, iterate, loops, nothing, order, product,
                     settle, tell)
 
 DONE = -1                                          # the part of a vertex whose component is known
@@ -23,8 +24,6 @@ DONE = -1                                          # the part of a vertex whose 
 AT_ONCE, SMALL = step_bounds.FEW_EDGES, step_bounds.MOST_EDGES_READ
 # rounds against the edges before the transpose pays
 PULLS = 16
-# where one of so many vertices is seen, the others are a mask
-MANY = 8
 TRIMS = 32                                         # times that ends of paths are taken off together
 
 
@@ -50,12 +49,6 @@ class Parts:
         self.part = numpy.where(self.part == DONE, DONE, 4 * self.part + kind)
         both = numpy.flatnonzero(kind == 3)
         self.close(both, both[:1])
-
-    def others(self, some: Array) -> Array:
-        """All vertices but these."""
-        others = numpy.ones(self.count, bool)
-        others[some] = False
-        return numpy.flatnonzero(others)
 
 
 @algorithm("the least vertex of each one's strong component", are_vertices=True,
@@ -136,7 +129,7 @@ def _search_around(G: Matrix, GT: Optional[Matrix], parts: Parts) -> None:
     if middle is None:
         return
     forward = find_levels(G, Search([middle])).to_coo()[0]
-    parts.divide(forward, _reaching(G, GT, middle, parts))
+    parts.divide(forward, _reaching(G, GT, middle))
 
 
 def _most_joined(outgoing: Matrix, incoming: Matrix) -> Optional[Place]:
@@ -149,12 +142,12 @@ def _most_joined(outgoing: Matrix, incoming: Matrix) -> Optional[Place]:
     return Place(best) if scores[best] else None
 
 
-def _reaching(G: Matrix, GT: Optional[Matrix], middle: Place, parts: Parts) -> Array:
+def _reaching(G: Matrix, GT: Optional[Matrix], middle: Place) -> Array:
     """The vertices from which a path leads to one. Without a transpose all vertices look along
     their edges, a few times."""
     back = GT if GT is not None else G.kept.get('transpose')
     if back is None:
-        pulled = _pull(G, middle, parts)
+        pulled = _pull(G, middle)
         if pulled is not None:
             return pulled
         back = transpose_of(G, None, False)
@@ -162,27 +155,21 @@ def _reaching(G: Matrix, GT: Optional[Matrix], middle: Place, parts: Parts) -> A
     return at
 
 
-def _pull(G: Matrix, middle: Place, parts: Parts) -> Optional[Array]:
-    """The same against the edges, None where that takes too many rounds. A round looks at all
-    edges, until an eighth of the vertices is seen; then at those of the others alone, which are a
-    mask."""
-    start = numpy.array([middle], numpy.int64)
-    front = seen = put_column(G, Vector(start, numpy.ones_like(start)))
-    unseen: Optional[Matrix] = None
-    for _ in range(PULLS):
-        if unseen is None:
-            came = G.mxv(front, 'any_pair')
-            front = came.ewise_add(seen, 'zero', mask=came.S).select('nonzero')
-            seen = seen.ewise_add(front, 'first')
-        else:
-            front = G.mxv(front, 'any_pair', mask=unseen.S)
-            unseen = _subtract(unseen, front)
-        if not front.nvals:
-            at: Array = (seen if unseen is None else unseen).to_coo()[0]
-            return at if unseen is None else parts.others(at)
-        if unseen is None and MANY * seen.nvals > G.nrows:
-            unseen = _subtract(column(G, 1), seen)
-    return None
+def _pull(G: Matrix, middle: Place) -> Optional[Array]:
+    """The same against the edges: in each round those vertices look along their edges that weren't
+    seen. None where that takes too many rounds."""
+    start = put_column(G, vector_of([middle], [1]))
+
+    def step(s: State) -> Dict[str, Matrix]:
+        front = G.mxv(s.front, 'any_pair', mask=s.unseen.S)
+        return {'front': front, 'unseen': _subtract(s.unseen, front)}
+    loop = Loop(step, {'front': start, 'unseen': _subtract(column(G, 1), start)}, ['front'], True)
+    # a round behind the end would look at the edges of all that weren't seen
+    end = empty('front')._replace(rests=False)
+    if not loop.rounds(end, PULLS, lambda first, rounds: None):
+        return None
+    reached: Array = loop.shown['front'].drain(values=False).places
+    return numpy.append(reached, int(middle))
 
 
 def _subtract(some: Matrix, gone: Matrix) -> Matrix:

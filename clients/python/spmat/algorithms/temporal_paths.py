@@ -14,18 +14,20 @@ import numpy
 from ..io.arrays import is_frame, is_gap
 from ..io.coo import MOST
 from ..io.matrix_text import Triples
-from ..loops import State
+from ..loops import Loop, State, empty
 from ..matrix import Matrix
 from ..metadata import Nodes
 from ..operators import Semiring, asm, binary
 from ..session import Session
-from .server_loops import advance_front
-from .moments import Clock, read_times
+from .server_loops import hear
+from .times import Clock, read_times
 from .types import Place, Vertex, Vertices
-from .single_source_paths import LESS, NOT_LESS
 from .traversal import Vector, put_column, put_row, vector_of
-from .utils import Progress, find_place, find_places, tell
+from .utils import Progress, find_place, find_places
 
+# x where it is less than y, else the least number
+LESS = asm('binary', 'mov64 r0, r1\njslt64 r1, r2, 2\nmov64 r0, 1\nlsh64 r0, 63\nexit\n')
+NOT_LESS = -1 << 63
 # The time at which an event begins, where that isn't before one is there; else the least number
 TAKEN = asm('binary', 'mov64 r0, r2\njsge64 r2, r1, 2\nmov64 r0, 1\nlsh64 r0, 63\nexit\n')
 TAKE, ARRIVE = Semiring(binary.any, TAKEN), Semiring(binary.min, binary.second)
@@ -171,9 +173,9 @@ class Events:
         front = put_row(self.leave, begins)
         if end is not None:
             front = front.select('valuele', end)
-        state = advance_front(lambda s: self._advance(s, end), {'front': front, 'known': front},
-                              count + 1, lambda number: tell(progress, 'round', number))
-        _, at, times = state.known.to_coo()
+        loop = Loop(lambda s: self._advance(s, end), {'front': front, 'known': front})
+        loop.rounds(empty('front'), count + 1, hear(progress, 'round', result='front'))
+        _, at, times = loop.state.known.to_coo()
         found = put_column(self.leave, Vector(at, times))
         found.notes = found.notes._replace(rows=self.nodes)
         return Arrivals(self, found, sources)

@@ -15,9 +15,10 @@ from .bfs import NONE
 from .cached_properties import extremes
 from .types import Array, Place
 from .registry import algorithm
+from .server_loops import hear
 from .single_source_paths import MOST, WRAPS
 from .traversal import keep, put_all
-from .utils import Progress, beside, name_of, nothing, order, tell
+from .utils import Progress, beside, name_of, nothing, order
 
 # An edge takes one from what the vertex that it leads to still waits for.
 TAKEN = Semiring(binary.plus, asm('binary', 'mov64 r0, -1\nexit\n', 'minus_one'))
@@ -79,7 +80,7 @@ class Levels:
     def __init__(self, order: Order, progress: Progress) -> None:
         self.graph = order.graph
         self.numbers: Array = numpy.full(order.graph.nrows, NONE)
-        self.number, self.progress = 0, progress
+        self._tells = hear(progress, 'level')
         first = order.front.to_coo()[1]
         self.count = len(first)
         self.numbers[first] = 0
@@ -89,8 +90,7 @@ class Levels:
         new = loop.shown[name].drain(values=name != 'front')
         self.numbers[new.places] = new.rounds if name == 'front' else new.values
         self.count += len(new.places)
-        for number in range(first, first + len(rounds)):
-            tell(self.progress, 'level', number)
+        self._tells(first, rounds)
 
     def found(self) -> Array:
         """The vertices that have a number."""

@@ -18,14 +18,14 @@ as long by the clock: a pull looks at all rows, and wants the front as a column,
 from __future__ import annotations
 
 import abc
-from typing import Any, Dict, List, NamedTuple, Optional, Sequence, Tuple, cast
+from typing import Any, Dict, List, NamedTuple, Optional, Sequence, cast
 
 import numpy
 
 from ..backends.protocol import AMPLE
 from ..io import matrix_text, parse_integers
 from ..io.matrix_text import Triples
-from ..loops.shown import Push
+from ..loops.round_results import Push
 from ..matrix import Matrix
 from ..operators import Semiring, binary
 from .cached_properties import found, is_both_ways, transpose_of
@@ -51,44 +51,22 @@ def vector_of(at: Sequence[Any], values: Sequence[int]) -> Vector:
 
 
 class Traversal(abc.ABC):
-    """Vectors beside a graph, and how they move along its edges."""
+    """How what fronts have moves along the edges of a graph. Where the session keeps vectors, these
+    are matrices beside the graph."""
 
-    has_matrices = True                            # whether the session keeps vectors
+    has_matrices = False                           # whether the session keeps vectors
+    is_full = False                                # whether these had better have all vertices
 
     def __init__(self, graph: Matrix) -> None:
         self.graph, self.count = graph, graph.nrows
 
     @abc.abstractmethod
-    def put(self, vector: Vector) -> Matrix:
-        """A matrix of a vector."""
-
-    @abc.abstractmethod
-    def fill(self, value: int) -> Matrix:
-        """A matrix with a value for every vertex."""
-
-    @abc.abstractmethod
-    def step(self, front: Matrix, ring: Semiring, mask: Optional[Matrix] = None) -> Matrix:
-        """What comes to each vertex j along the edges (i, j) from the front's vertices i.
+    def push(self, front: Vector, ring: Semiring, values: bool = True) -> Vector:
+        """What comes to each vertex j along the edges (i, j) from the front's vertices i; `values`
+        says whether those are wanted.
 
         The terms are `mul(front(i), edge)`, folded by `add`. `mul` is `first`, `second`, or
         commutative."""
-
-    @abc.abstractmethod
-    def read(self, matrix: Matrix, values: bool = True) -> Vector:
-        """The vector that a matrix is. Without `values` there may be none."""
-
-    @abc.abstractmethod
-    def number(self, vector: Matrix, more: int = 0) -> Matrix:
-        """A vector whose values are the vertices' own numbers, plus `more`."""
-
-    def push(self, front: Vector, ring: Semiring, values: bool = True) -> Vector:
-        """`step`, from entries to entries; `values` says whether those are wanted."""
-        return self.read(self.step(self.put(front), ring), values)
-
-    def ones(self) -> Matrix:
-        """A vector of ones, kept with the graph."""
-        held: Matrix = found(self.graph, type(self).__name__ + ' of ones', lambda: self.fill(1))
-        return held
 
     def pays_scan(self, front: int, part: int = 4) -> bool:
         """Whether a front of so many vertices has so many edges that jobs over all vertices pay.
@@ -103,6 +81,43 @@ class Traversal(abc.ABC):
         """Whether a long search may go on in a loop at the server."""
         return False
 
+    # -- vectors that the session keeps
+
+    def put(self, vector: Vector) -> Matrix:
+        """A matrix of a vector."""
+        raise NotImplementedError
+
+    def fill(self, value: int) -> Matrix:
+        """A matrix with a value for every vertex."""
+        raise NotImplementedError
+
+    def ones(self) -> Matrix:
+        """A vector of ones, kept with the graph."""
+        held: Matrix = found(self.graph, type(self).__name__ + ' of ones', lambda: self.fill(1))
+        return held
+
+    def step(self, front: Matrix, ring: Semiring, mask: Optional[Matrix] = None) -> Matrix:
+        """`push`, of a matrix, under the structure of a mask."""
+        raise NotImplementedError
+
+    def read(self, matrix: Matrix, values: bool = True) -> Vector:
+        """The vector that a matrix is. Without `values` there may be none."""
+        raise NotImplementedError
+
+    def numbers(self) -> Matrix:
+        """A vector of the vertices' own numbers, kept with the graph."""
+        held: Matrix = found(self.graph, type(self).__name__ + ' of numbers',
+                             lambda: self.number(self.ones()))
+        return held
+
+    def number(self, vector: Matrix, more: int = 0) -> Matrix:
+        """A vector whose values are the vertices' own numbers, plus `more`."""
+        raise NotImplementedError
+
+    def turn(self, transpose: Matrix) -> 'Traversal':
+        """The same against the edges."""
+        raise NotImplementedError
+
     def wants_full(self, vector: Matrix) -> bool:  # pylint: disable=unused-argument
         """Whether a vector that isn't full had better have zeros for the other vertices."""
         return False
@@ -110,6 +125,8 @@ class Traversal(abc.ABC):
 
 class Rows(Traversal):
     """Vectors as rows, which push."""
+
+    has_matrices = True
 
     def __init__(self, graph: Matrix) -> None:
         super().__init__(graph)
@@ -131,14 +148,19 @@ class Rows(Traversal):
         return read_vector(matrix.to_text(), 1, values)
 
     def push(self, front: Vector, ring: Semiring, values: bool = True) -> Vector:
-        """By one trip; as jobs where it is refused, so that the error is that of a job."""
-        if self.graph.session.backend.is_estimate:
-            return super().push(front, ring, values)
-        if ring not in self._pushes:
-            self._pushes[ring] = Push(self.graph, ring)
-        row = Triples(numpy.zeros_like(front.at), front.at, front.values, 1, self.count)
-        got = self._pushes[ring](row, values)
-        return super().push(front, ring, values) if got is None else Vector(got.places, got.values)
+        """By one trip; as a job where it is refused, so that the error is that of a job."""
+        got = None
+        if not self.graph.session.backend.is_estimate:
+            if ring not in self._pushes:
+                self._pushes[ring] = Push(self.graph, ring)
+            row = Triples(numpy.zeros_like(front.at), front.at, front.values, 1, self.count)
+            got = self._pushes[ring](row, values)
+        if got is None:
+            return self.read(self.step(self.put(front), ring), values)
+        return Vector(got.places, got.values)
+
+    def turn(self, transpose: Matrix) -> 'Rows':
+        return Rows(transpose)
 
     def may_loop(self) -> bool:
         return is_ample(self.graph) and is_both_ways(self.graph)
@@ -146,6 +168,8 @@ class Rows(Traversal):
 
 class Columns(Traversal):
     """Vectors as columns, which pull along the rows of the transpose."""
+
+    has_matrices = is_full = True
 
     def __init__(self, graph: Matrix, transpose: Optional[Matrix] = None) -> None:
         super().__init__(graph)
@@ -156,6 +180,12 @@ class Columns(Traversal):
 
     def fill(self, value: int) -> Matrix:
         return self.graph.session.full(self.count, 1, value)
+
+    def push(self, front: Vector, ring: Semiring, values: bool = True) -> Vector:
+        return self.read(self.step(self.put(front), ring), values)
+
+    def turn(self, transpose: Matrix) -> 'Columns':
+        return Columns(transpose, self.graph)
 
     def step(self, front: Matrix, ring: Semiring, mask: Optional[Matrix] = None) -> Matrix:
         return self.transpose.mxv(front, swap(ring), mask=None if mask is None else mask.S)
@@ -174,10 +204,8 @@ class Columns(Traversal):
 
 
 class BlockFronts(Traversal):
-    """Vectors that the client has, beside a graph in blocks: each step is one trip to the blocks
+    """Fronts that the client has, beside a graph in blocks: each push is one trip to the blocks
     that have to do with it. Without a transpose all fronts are pushed."""
-
-    has_matrices = False
 
     def __init__(self, graph: Matrix, transpose: Optional[Matrix]) -> None:
         super().__init__(graph)
@@ -189,32 +217,6 @@ class BlockFronts(Traversal):
         rings = ring, swap(ring)
         reached: Vector = backend.step_front(graph, self.transpose, front, rings, is_large)
         return reached
-
-    def put(self, vector: Vector) -> Any:
-        return _Front(vector)
-
-    def fill(self, value: int) -> Any:
-        return _Front(Vector(numpy.arange(self.count), numpy.full(self.count, value)))
-
-    def step(self, front: Any, ring: Semiring, mask: Optional[Matrix] = None) -> Any:
-        return _Front(self.push(front.vector, ring))
-
-    def number(self, vector: Any, more: int = 0) -> Any:
-        return _Front(Vector(vector.vector.at, vector.vector.at + more))
-
-    def read(self, matrix: Any, values: bool = True) -> Vector:
-        vector: Vector = matrix.vector
-        return vector
-
-
-class _Front(NamedTuple):
-    """A vector that the client has, where a matrix is expected."""
-    vector: Vector
-
-    def reduce_scalar(self, op: str) -> Optional[int]:
-        """The greatest value ('max'), None where there is none."""
-        assert op == 'max'
-        return int(self.vector.values.max()) if len(self.vector.at) else None
 
 
 # -- which way to go
@@ -247,25 +249,19 @@ def find_flow(G: Matrix, GT: Optional[Matrix], check: bool, values: bool = False
     return find_vectors(G, GT, check, values)
 
 
-def find_both_directions(G: Matrix, GT: Optional[Matrix],
-                         check: bool) -> Tuple[Columns, Optional[Traversal]]:
-    """How all vertices look along their edges, and against them: None where that is the same."""
+def find_both_directions(G: Matrix, GT: Optional[Matrix], check: bool) -> List[Traversal]:
+    """How all vertices look along their edges, and where that isn't the same, against them."""
     if is_both_ways(G):
-        return Columns(G), None
+        return [Columns(G)]
     if GT is None and G.in_one_place:
-        return Columns(G), Rows(G)
+        return [Columns(G), Rows(G)]
     back = transpose_of(G, GT, check)
-    return Columns(G), Rows(G) if G.in_one_place else Columns(G, back)
+    return [Columns(G), Rows(G) if G.in_one_place else Columns(G, back)]
 
 
 def find_pushes(G: Matrix) -> Traversal:
     """How some vertices look along edges that lead both ways."""
     return Rows(G) if G.in_one_place else Columns(G)
-
-
-def can_loop(*matrices: Matrix) -> bool:
-    """Whether rounds over these may be a loop at the server."""
-    return all(matrix.in_one_place for matrix in matrices)
 
 
 def is_whole(graph: Matrix) -> bool:

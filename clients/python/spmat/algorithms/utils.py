@@ -2,7 +2,8 @@
 changes."""
 from __future__ import annotations
 
-from typing import Any, Callable, Iterable, List, Optional, TypeVar, cast
+import warnings
+from typing import Any, Callable, Iterable, List, Optional, Tuple, TypeVar, cast
 
 import numpy
 
@@ -14,7 +15,7 @@ from ..job_operators import Ring
 from ..matrix import Matrix
 from ..backends.unread import current_price
 from .cached_properties import found
-from .types import Place, Vertex, Vertices
+from .types import Array, Place, Vertex, Vertices
 
 S = TypeVar('S')
 Progress = Optional[Callable[[str, int, int], None]]
@@ -59,6 +60,23 @@ def find_places(graph: Matrix, vertices: Vertices) -> List[Place]:
     return [find_place(graph, vertex) for vertex in cast(Iterable[Vertex], vertices)]
 
 
+def find_sources(graph: Matrix, sources: Optional[Vertices]) -> List[Place]:
+    """The rows of the vertices that are meant: all where none are named."""
+    count = order(graph)
+    return list(map(Place, range(count))) if sources is None else find_places(graph, sources)
+
+
+def warn_of_repeated(graph: Matrix, rows: List[Place]) -> None:
+    """Warns where a vertex that has a name is given twice: each would have a row of its name, and
+    no two rows have one name, so that none has. A price says nothing: the call itself does."""
+    if (current_price() is None and graph.notes.axis(metadata.ROWS).has_names
+        and len(set(rows)) < len(rows)):
+        twice = next(row for at, row in enumerate(rows) if row in rows[:at])
+        warnings.warn('the vertex %r is given twice, and no two rows have one name: the rows of '
+                      'the result have none; list(dict.fromkeys(names)) has each once'
+                      % (name_of(graph, twice),), stacklevel=5)
+
+
 def _is_name(graph: Matrix, one: object) -> bool:
     """Whether a vertex has this name."""
     names = graph.notes.rows
@@ -101,9 +119,7 @@ def name_rows(graph: Matrix, result: Matrix, rows: List[Place]) -> Matrix:
         result.notes = result.notes._replace(directed=metadata.even(graph.notes))
     vertices = metadata.vertices_of(graph.notes)
     if vertices is not None:
-        differ = len(set(rows)) == len(rows)
-        names = vertices.part([int(at) for at in rows]) if differ else metadata.Axis()
-        result.notes = result.notes.with_axes(names, vertices)
+        result.notes = result.notes.with_axes(vertices.part([int(at) for at in rows]), vertices)
     return result
 
 
@@ -145,6 +161,18 @@ def product(a: Matrix, b: Matrix, semiring: Ring, mask: Optional[Matrix] = None)
     return a.mxm(b, semiring, mask=None if mask is None else mask.S, parts=True)
 
 
+def contract(graph: Matrix, groups: Tuple[Array, Array], many: int, add: str) -> Matrix:
+    """The graph whose vertices are groups, so many, of some vertices of a graph: these, ascending,
+    and the number of each one's group. Values of edges between two groups are folded. Runs: 2, more
+    where a product is made by parts."""
+    rows, numbers = groups
+    ones, ranks = numpy.ones_like(rows), numpy.argsort(numbers, kind='stable')
+    keep = graph.session.backend.keep
+    tall = keep(Triples(rows, numbers, ones, graph.nrows, many))
+    wide = keep(Triples(numbers[ranks], rows[ranks], ones, many, graph.nrows))
+    return product(wide, product(graph, tall, (add, 'first')), (add, 'second'))
+
+
 # -- rounds
 
 def tell(progress: Progress, word: str, number: int, of: int = 0) -> None:
@@ -178,36 +206,20 @@ def as_many(before: Matrix, now: Matrix) -> bool:
     return now.nvals == before.nvals
 
 
-class _Settling:
-    """The last three results of a step, and where two that follow differ: that is looked up by jobs
-    in the batches of the next two rounds."""
-
-    def __init__(self, results: List[Any], differ: Any = None, changed: Any = None) -> None:
-        self.results, self.differ, self.changed = results, differ, changed
-
-    def after(self, step: Callable[[Any], Any]) -> '_Settling':
-        """One round more, in one run."""
-        last, new = self.results[-1], step(self.results[-1])
-        changed = None if self.differ is None else self.differ.select('nonzero', 0)
-        differ = last.ewise_mult(self.results[-2], 'ne') if len(self.results) > 1 else None
-        new.wait()                                 # runs the batch
-        return _Settling([*self.results[-2:], new], differ, changed)
-
-    def found(self, before: '_Settling') -> bool:
-        """Whether the two results that were compared by now are the same."""
-        if self.changed is None or self.changed.nvals:
-            return False
-        return bool(before.results[-3].nvals == before.results[-2].nvals)
-
-
 def settle(step: Callable[[Matrix], Matrix], start: Matrix, most: Optional[int] = None) -> Matrix:
     """`start`, `step(start)`, `step(step(start))` and so on, until two that follow are the same.
     Positions may be added on the way, and none may go.
 
     Runs: 1 a round. Round k and the comparison of rounds k-1 and k-2 stand in one batch, so two
     rounds too many are made. Raises NotSettled where `most` rounds are too few."""
-    settled = iterate(_Settling([start]), lambda before: before.after(step),
-                      lambda before, now: now.found(before),
-                      most=None if most is None else most + 3)
-    answer: Matrix = settled.results[0]
-    return answer
+    results, number = [start], 0                   # the last three results
+    differ: Optional[Matrix] = None
+    while most is None or number < most + 3:
+        now, changed = step(results[-1]), None if differ is None else differ.select('nonzero', 0)
+        differ = results[-1].ewise_mult(results[-2], 'ne') if len(results) > 1 else None
+        now.wait()                                 # runs the batch
+        number += 1
+        if changed is not None and not changed.nvals and results[-3].nvals == results[-2].nvals:
+            return results[-2]
+        results = [*results[-2:], now]
+    raise NotSettled('did not converge after %d rounds' % number)

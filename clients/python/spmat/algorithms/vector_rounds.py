@@ -9,16 +9,16 @@ In blocks, and for a price, the client makes the same rounds, with the same numb
 from __future__ import annotations
 
 import math
-from typing import Any, Dict, List, NamedTuple, Optional, Protocol, Tuple
+from typing import Any, Dict, NamedTuple, Optional, Protocol, Tuple
 
 import numpy
 
 from ..loops import Loop, State
-from ..loops.trips import Round
 from ..matrix import Matrix
 from ..operators import Operator, Semiring, asm, binary
 from .cached_properties import is_both_ways, transpose_of
-from .traversal import (Columns, Rows, Traversal, Vector, put_column, read_column, spread)
+from .server_loops import hear
+from .traversal import Columns, Traversal, Vector, spread
 from .types import Array
 from .utils import Progress, tell
 
@@ -40,13 +40,13 @@ class Steps:
                  transpose: Optional[Matrix] = None) -> None:
         self.lines, self.graph, self.count = lines, lines.graph, lines.count
         self._comes = Semiring(binary.plus, binary.times if weighted else binary.first)
-        self._leads = Semiring(binary.plus, binary.times if weighted else binary.second)
         self._is_weighted, self._transpose = weighted, transpose
         self._turned: Optional[Traversal] = None
 
     @property
     def in_session(self) -> bool:
-        """Whether rounds may stay at the server."""
+        """Whether the session makes the rounds. In blocks the client does: a round is a trip then,
+        and as jobs it would be one for each."""
         return self.lines.has_matrices and self.graph.in_one_place
 
     def fill(self, value: int) -> Array:
@@ -67,8 +67,8 @@ class Steps:
         """The sum over the edges that leave each vertex."""
         if self.goes_both_ways:
             return self.comes(numbers)
-        column = put_column(self.graph, _nonzero(numbers))
-        return spread(read_column(self.graph.mxv(column, self._leads)), self.count)
+        # a column beside the graph itself is pulled along its edges: that wants no transpose
+        return spread(Columns(self.graph).push(_nonzero(numbers), self._comes), self.count)
 
     def flow(self, numbers: Matrix, ring: Optional[Semiring] = None) -> Matrix:
         """`comes`, of a matrix."""
@@ -76,17 +76,15 @@ class Steps:
 
     def flow_back(self, numbers: Matrix) -> Matrix:
         """`leads`, of a matrix, once the transpose was found."""
-        if isinstance(self.lines, Columns):
-            return self.graph.mxv(numbers, self._leads)
         assert self._turned is not None
         return self._turned.step(numbers, self._comes)
 
     def find_transpose(self) -> None:
-        """Finds what rows are pushed along against the edges."""
-        if self.in_session and self._turned is None and not isinstance(self.lines, Columns):
+        """Finds the way against the edges."""
+        if self.in_session and self._turned is None:
             alike = self._is_weighted and self.graph.kept.get('values both ways')
-            self._turned = self.lines if alike else Rows(transpose_of(
-                self.graph, self._transpose, False, self._is_weighted))
+            self._turned = self.lines if alike else self.lines.turn(
+                transpose_of(self.graph, self._transpose, False, self._is_weighted))
 
     @property
     def is_mutual(self) -> bool:
@@ -97,8 +95,7 @@ class Steps:
 
     def put(self, numbers: Array) -> Matrix:
         """Numbers as a matrix: a row has no 0, and a column is full."""
-        is_column = isinstance(self.lines, Columns)
-        return self.lines.put(Vector(numpy.arange(self.count), numbers) if is_column
+        return self.lines.put(Vector(numpy.arange(self.count), numbers) if self.lines.is_full
                               else _nonzero(numbers))
 
     def read(self, matrix: Matrix) -> Array:
@@ -242,13 +239,8 @@ class Rounds:
                 self.number += 1
                 tell(progress, 'round', self.number)
             return
-        loop, number = self._loop_of(kind), self.number
-
-        def heard(first: int, rounds: List[Round]) -> None:
-            for at in range(first, first + len(rounds)):
-                tell(progress, 'round', number - begun + at)
-        begun = loop.number
-        loop.rounds(None, count, heard)
+        loop = self._loop_of(kind)
+        loop.rounds(None, count, hear(progress, 'round', self.number - loop.number))
         self.number += count
         self.before = self.now if count == 1 else self.steps.read(loop.state.before)
         self.now = self.steps.read(loop.state.now)

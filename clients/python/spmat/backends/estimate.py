@@ -176,8 +176,7 @@ def size_of(op: Operator) -> Size:
     """An operator's size, by the client. Unforeseen where it is none: who uses it hears why from
     the server."""
     try:
-        steps = (dataflow.steps_of_text(op.text) if op.text is not None
-                 else dataflow.steps_of_code(op.code or b''))
+        steps = dataflow.steps_of(op)
         least: Dict[int, int] = {}
         for step in reversed(steps):
             least[step.slot] = 1 + min((least[slot] for slot in step.next), default=0)

@@ -5,49 +5,28 @@ from __future__ import annotations
 import collections
 from typing import Deque, Dict, Iterable, List, Optional, Tuple
 
-from .._client.commands import Command
+from .._client.commands import Command, Reply
 from .._client.connection import Connection
-from .._client.replies import Reply
 from .._client.reply_checks import ExpectedJob, check_number, check_run
 from ..errors import BudgetExceeded, Refused, without_frames
-from ..limits import MOST_PRICE, MOST_SIDE
-from .names import ServerHandle
+from ..limits import MOST_PRICE, MOST_SIDE, QUEUE
+from .names import SMALL, ServerHandle
 from .protocol import AMPLE, Handle, JobResult, Most, Run
 
 
-class PendingJob:
-    """A job that was handed in: the result's handle, with the name that it will have, and its price
-    once the server answered. So the name is taken until the job ran, whoever holds the result.
-    Where the job is refused, or lost, `cause` says why. `is_wanted` until whoever asked for it was
-    interrupted: its result is nobody's then."""
-
-    __slots__ = ('handle', 'name', 'form', 'most', 'refused', 'is_wanted', 'cause')
-
-    def __init__(self, handle: ServerHandle, form: str, most: Most) -> None:
-        self.handle, self.name, self.form, self.most = handle, handle.key, form, most
-        self.refused, self.is_wanted = False, True
-        self.cause: Optional[BaseException] = None
-
-    def lose(self, cause: BaseException) -> None:
-        """The result is never made."""
-        self.cause = self.handle.lost = self.cause or without_frames(cause)
-
-    def result(self, price: int, steps: int) -> JobResult:
-        """What is told of the job once it ran."""
-        return JobResult(next(iter(self.handle.matrices()), None), self.form, price, steps)
-
-
 class Queue:
-    """Jobs that wait to be run, sent or not, and runs that wait to be sent. `left` is what the
-    budget has for sure: all of it where nobody shares it. `ceiling` is what it can have at most,
-    were all prices settled with nothing."""
+    """Jobs that wait to be run, sent or not, and runs that wait to be sent. A job is known by the
+    handle of its result, which the queue holds until the job ran.
+
+    `left` is what the budget has for sure: all of it where nobody shares it. `ceiling` is what it
+    can have at most, were all prices settled with nothing. `report` gets what a run settled, while
+    somebody wants that."""
 
     def __init__(self, connection: Connection, shared: bool) -> None:
         self._connection, self.shared = connection, shared
-        self._waiting: Dict[str, PendingJob] = {}
+        self._waiting: Dict[str, ServerHandle] = {}
         # in the order in which they will be answered
-        self._running: Deque[List[PendingJob]] = collections.deque()
-        self._results = Run()
+        self._running: Deque[List[ServerHandle]] = collections.deque()
         # entries, at most, of results that aren't known yet
         self._unknown = 0
         # jobs that the server has queued since its last run, as its replies say
@@ -56,6 +35,7 @@ class Queue:
         self._run_lines: List[Tuple[int, int]] = []
         self.left = self.ceiling = 0
         self.runs = 0
+        self.report: Optional[Run] = None
 
     def __len__(self) -> int:
         return len(self._waiting)
@@ -66,43 +46,36 @@ class Queue:
         self.left, self.ceiling = left, left + reserved
 
     @property
-    def running(self) -> int:
-        """Jobs whose run waits to be sent."""
-        return sum(map(len, self._running))
+    def is_idle(self) -> bool:
+        """Whether no job waits, neither for a run nor in one that wasn't sent."""
+        return not self._waiting and not self._running
 
-    def has(self, handles: Iterable[Handle]) -> bool:
-        """Whether one of these is a result that no run stands behind yet."""
+    def run_before(self, handles: Iterable[Handle]) -> None:
+        """A run before a job on these, where one of them is a result that waits for a run, or the
+        queue is full."""
         waiting = self._waiting
-        if waiting:
-            for handle in handles:
-                if handle.key in waiting:
-                    return True
-        return False
-
-    @property
-    def is_long(self) -> bool:
-        """Whether what waits could hold so much memory that it is better run and looked at."""
-        return self._unknown > MOST_SIDE
+        if waiting and (len(waiting) >= QUEUE or any(handle.key in waiting for handle in handles)):
+            self.run_later()
 
     # -- handing in
 
     def is_sure(self, most: Most) -> bool:
         """Whether a job can be refused by nothing but want of memory, so that it needn't be sent at
         once."""
-        terms, steps, _ = most
-        return (self.left - steps >= (AMPLE if self.shared else 0) and terms <= MOST_SIDE
-                and steps <= MOST_PRICE)
+        return (self.left - most.steps >= (AMPLE if self.shared else 0) and most.terms <= MOST_SIDE
+                and most.steps <= MOST_PRICE)
 
-    def add_later(self, job: PendingJob, line: str) -> None:
-        """Hands a job in without sending it."""
-        self.left -= job.most.steps
-        self._waiting[job.name] = job
-        self._unknown += job.most.entries
+    def add_later(self, job: ServerHandle, line: str) -> bool:
+        """Hands a job in without sending it. Whether it is time to send what waits: it is much, or
+        its results could hold so much memory that they are better looked at."""
+        self._note_waiting(job)
+        self._unknown += job.most
         self._connection.put(Command(line, done=lambda reply: self._queued(job, reply),
                                      lost=lambda cause: self._unqueued(job, cause), matters=True,
                                      check=lambda reply: self._check_queued(job, reply)))
+        return self._connection.is_full or self._unknown > MOST_SIDE
 
-    def add_now(self, job: PendingJob, line: str) -> None:
+    def add_now(self, job: ServerHandle, line: str) -> None:
         """Hands a job in. A budget that is too small while jobs wait gets back what these don't
         take, and the job is sent once more. Where that is interrupted, the job may be queued all
         the same."""
@@ -117,45 +90,44 @@ class Queue:
                 raise self._connection.refused from None
             self._hand_in(job, line)
 
-    def _hand_in(self, job: PendingJob, line: str) -> None:
-        command = Command(line, done=lambda reply: self._handed_in(job, reply),
-                          check=lambda reply: self._check_queued(job, reply))
-        try:
-            self._connection.exchange(command)
-        except BaseException:
-            job.is_wanted = not self._connection.owes_to(command)
-            raise
+    def _hand_in(self, job: ServerHandle, line: str) -> None:
+        self._connection.exchange(Command(line, done=lambda reply: self._handed_in(job, reply),
+                                          check=lambda reply: self._check_queued(job, reply)))
 
-    def _handed_in(self, job: PendingJob, reply: Reply) -> None:
-        self._waiting[job.name] = job
-        self.left -= job.most.steps
+    def _handed_in(self, job: ServerHandle, reply: Reply) -> None:
+        self._note_waiting(job)
         self._queued(job, reply)
 
-    def _check_queued(self, job: PendingJob, reply: Reply) -> None:
+    def _note_waiting(self, job: ServerHandle) -> None:
+        self._waiting[job.key] = job
+        self.left -= job.most_steps
+
+    def _check_queued(self, job: ServerHandle, reply: Reply) -> None:
         """ProtocolError where the server says another position than the next, or a price that the
         job can't have."""
-        position = self._queued_there + 1
-        words = ['ok', *reply.words]
-        check_number('POSITION', reply.words[1], (position, position), job.form, words)
-        check_number('PRICE', reply.words[2], (0, min(job.most.steps, MOST_PRICE)), job.form, words)
-        self._queued_there = position
+        position = self._queued_there = self._queued_there + 1
+        if int(reply.words[1]) != position or int(reply.words[2]) > job.most_steps:
+            # one of the two is wrong, and raises
+            words = ['ok', *reply.words]
+            check_number('POSITION', words[2], (position, position), job.form, words)
+            check_number('PRICE', words[3], (0, job.most_steps), job.form, words)
 
-    def _queued(self, job: PendingJob, reply: Reply) -> None:
-        price = job.handle.price = int(reply.words[2])
-        self.left += job.most.steps - price
+    def _queued(self, job: ServerHandle, reply: Reply) -> None:
+        price = job.price = int(reply.words[2])
+        self.left += job.most_steps - price
         if self._connection.refused is not None:
-            job.lose(self._connection.refused)
+            _lose(job, self._connection.refused)
 
-    def _unqueued(self, job: PendingJob, cause: BaseException) -> None:
-        job.refused = True
-        self.left += job.most.steps
-        self._waiting.pop(job.name, None)
-        job.lose(cause)
+    def _unqueued(self, job: ServerHandle, cause: BaseException) -> None:
+        job.is_refused = True
+        self.left += job.most_steps
+        self._waiting.pop(job.key, None)
+        _lose(job, cause)
 
     # -- running
 
     def run_later(self) -> None:
-        """A run behind what waits, not sent yet."""
+        """A run of what waits, not sent yet."""
         if self._waiting:
             jobs = list(self._waiting.values())
             self._waiting.clear()
@@ -166,37 +138,42 @@ class Queue:
                                          matters=True, jobs=len(jobs),
                                          check=lambda reply: self._check_run(jobs, reply)))
 
-    def _check_run(self, jobs: List[PendingJob], reply: Reply) -> None:
+    def _check_run(self, jobs: List[ServerHandle], reply: Reply) -> None:
         """ProtocolError where the lines of a run aren't those of its jobs."""
-        expected = [ExpectedJob(job.name, job.handle.shape, min(job.most.entries, MOST_SIDE),
-                                job.handle.price or 0) for job in jobs if not job.refused]
+        expected = [ExpectedJob(job.key, job.shape, min(job.most, MOST_SIDE), job.price or 0)
+                    for job in jobs if not job.is_refused]
         self._run_lines = check_run(reply.words, reply.lines, expected)
 
-    def _ran(self, jobs: List[PendingJob]) -> None:
-        self._results = Run()
-        for job, (entries, steps) in zip([job for job in jobs if not job.refused], self._run_lines):
-            price = job.handle.price
-            assert price is not None
-            self.left += price - steps
+    def _ran(self, jobs: List[ServerHandle]) -> None:
+        self._done(jobs)
+        jobs = [job for job in jobs if not job.is_refused]
+        for job, (entries, steps) in zip(jobs, self._run_lines):
+            assert job.price is not None
+            self.left += job.price - steps
             self.ceiling -= steps
-            job.handle.note_size(job.handle.shape[0], entries)
-            if job.cause is None:
-                job.handle.ran(entries, steps)
-            self._results.append(job.result(price, steps))
-        self._done(jobs)
+            if job.shape[0] + entries > SMALL:     # a new name stands for what is small
+                job.note_size(job.shape[0], entries)
+            if job.lost is None:
+                job.nvals, job.most, job.steps = entries, entries, steps
+        if self.report is not None:
+            self.report[:] = [JobResult(next(iter(job.matrices()), None), job.form, job.price or 0,
+                                        job.steps or 0) for job in jobs]
 
-    def _not_run(self, jobs: List[PendingJob], cause: BaseException) -> None:
-        self.left = 0 if isinstance(cause, Refused) else self.left     # what was spent is not told
+    def _not_run(self, jobs: List[ServerHandle], cause: BaseException) -> None:
+        if isinstance(cause, Refused):             # which doesn't say what was spent
+            self.left = 0
         for job in jobs:
-            job.lose(cause)
+            _lose(job, cause)
         self._done(jobs)
 
-    def _done(self, jobs: List[PendingJob]) -> None:
+    def _done(self, jobs: List[ServerHandle]) -> None:
         self._queued_there = 0
         self._running.popleft()
-        self._unknown = max(0, self._unknown - sum(job.most.entries for job in jobs))
+        # of those that were handed in at once, none was added
+        self._unknown = max(0, self._unknown - sum(job.most for job in jobs))
 
-    def results(self) -> Run:
-        """What the last run settled."""
-        results, self._results = self._results, Run()
-        return results
+
+def _lose(job: ServerHandle, cause: BaseException) -> None:
+    """The result is never made. The first cause counts."""
+    if job.lost is None:
+        job.lost = without_frames(cause)

@@ -37,8 +37,21 @@ _ROWS, _TERMS, _ANY = Places.ROWS, Places.TERMS, Places.ANY
 
 
 class Budget(NamedTuple):
-    """Steps: left, reserved for jobs that wait, spent. Over TCP it is one for all sessions of the
-    server."""
+    """Steps: left, reserved for jobs that wait, spent.
+
+    Attributes
+    ----------
+    left : int
+        The steps that are left.
+    reserved : int
+        The steps that are reserved for jobs that wait.
+    spent : int
+        The steps that were spent.
+
+    Notes
+    -----
+    Over TCP it is one for all sessions of the server.
+    """
     left: int
     reserved: int
     spent: int
@@ -48,8 +61,19 @@ class Budget(NamedTuple):
 
 
 class JobResult(NamedTuple):
-    """A job that `run` settled: its result (None where nobody holds it any more), its form as the
-    protocol names it, the most steps that it could have taken, and those that it took."""
+    """A job that `run` settled.
+
+    Attributes
+    ----------
+    matrix : Matrix or None
+        Its result; None where nobody holds it any more.
+    form : str
+        Its form as the protocol names it.
+    price : int
+        The most steps that it could have taken.
+    steps : int
+        The steps that it took.
+    """
     matrix: Optional['Matrix']
     form: str
     price: int
@@ -71,16 +95,16 @@ class Handle:
     key = ''                                       # the name at a server, where there is one
     # the entries are sent when a job first wants them
     is_deferred = False
+    price: Optional[int] = None
     steps: Optional[int] = None
+    lost: Optional[BaseException] = None
+    # the transpose, while that is held
+    transposed: Optional['weakref.ref[Handle]'] = None
 
     def __init__(self, backend: 'Backend', shape: Tuple[int, int], nvals: Optional[int] = None,
                  most: int = MOST_SIDE) -> None:
         self.backend, self.shape, self.nvals = backend, shape, nvals
         self.most = most if nvals is None else nvals
-        self.price: Optional[int] = None
-        self.lost: Optional[BaseException] = None
-        # the transpose, while that is held
-        self.transposed: Optional['weakref.ref[Handle]'] = None
         self.facts: Dict[str, Any] = {}            # what algorithms found out about the entries
         self.serial = next(serial)                 # which of two is older
         self._matrices: List['weakref.ref[Matrix]'] = []

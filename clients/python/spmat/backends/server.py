@@ -9,18 +9,18 @@ import itertools
 import re
 from typing import TYPE_CHECKING, Any, Dict, List, Mapping, NamedTuple, Optional
 
-from .._client.commands import Command
-from .._client.connection import Connection, Turn
-from .._client.replies import Reply
+from .._client.commands import Command, Reply
+from .._client.connection import Connection
 from .._client.reply_checks import NOTHING, Limits, check_text, longest_text, sizes_of_text
+from .._client.turns import Turn
 from ..errors import BudgetExceeded, OperatorRefused, Refused, refusal, without_frames
 from ..io import matrix_text
 from ..io.matrix_text import Triples
-from ..limits import MOST_OPERATOR, MOST_SIDE, MOST_TEXT, QUEUE
+from ..limits import MOST_OPERATOR, MOST_SIDE, MOST_TEXT
 from ..operators import Operator, diagnostics
-from .job_queue import PendingJob, Queue
-from .names import DeferredHandle, Names, ServerHandle
-from .protocol import Backend, Budget, Handle, Job, Run, most_of
+from .job_queue import Queue
+from .names import DeferredHandle, ServerNames, ServerHandle
+from .protocol import Backend, Budget, Handle, Job, Most, Run, most_of
 
 if TYPE_CHECKING:
     from ..session import Session
@@ -38,7 +38,7 @@ class ServerBackend(Backend):
 
     def __init__(self, session: 'Session', connection: Connection, shared: bool) -> None:
         self.session, self.connection = session, connection
-        self.names = Names()
+        self.names = ServerNames()
         self.queue = Queue(connection, shared)
         self.jobs = 0
         self._turns = Turn(connection)
@@ -116,13 +116,9 @@ class ServerBackend(Backend):
         with self._turns:
             self.sweep()
             handle = ServerHandle(self, (0, 0), wished=name)
-            try:
-                reply = self.command('matrix ' + handle.key, text,
-                                     lambda rule, at: matrix_text.line_at(text, at),
-                                     sizes_of_text(text))
-            except BaseException:
-                handle.give_back()
-                raise
+            reply = self.command('matrix ' + handle.key, text,
+                                 lambda rule, at: matrix_text.line_at(text, at),
+                                 sizes_of_text(text))
             nrows, ncols, nvals = map(int, reply.words[1:4])
             handle.shape = nrows, ncols
             handle.nvals = handle.most = nvals
@@ -170,7 +166,7 @@ class ServerBackend(Backend):
         self.connection.check_open()
         handle.check_made()
         if handle.waits:
-            self.run()
+            self._run()
             handle.check_made()
 
     # -- operators
@@ -219,10 +215,10 @@ class ServerBackend(Backend):
         entries tells, is sent with the next command that needs an answer, and so is the run before
         it; any other at once."""
         with self._turns:
-            form, operators, operands, shape, thunk, mask = job[:6]
+            operands, mask = job.operands, job.mask
             needed = operands if mask is None else (*operands, mask)
             words, length = [], 0
-            for op in operators:
+            for op in job.operators:
                 uploaded = self._operators.get(op) or self._uploaded(op)
                 words.append(uploaded.name)
                 length += uploaded.instructions
@@ -230,50 +226,53 @@ class ServerBackend(Backend):
                 if handle.lost is not None:
                     handle.check_made()
             words += [handle.key for handle in operands]
-            if thunk is not None:
-                words.append(str(thunk))
+            if job.thunk is not None:
+                words.append(str(job.thunk))
             if mask is not None:
                 words += ['mask', mask.key]
-            if len(self.queue) >= QUEUE or self.queue.has(needed):
-                self.queue.run_later()
+            self.queue.run_before(needed)
+            if self.names.poisons:
+                self.sweep()
             most = most_of(job, length)
-            self.poison()
-            made = ServerHandle(self, shape, None, most.entries, name)
-            self._hand_in(PendingJob(made, form, most),
-                          '%s %s %s' % (form, made.key, ' '.join(words)))
+            made = ServerHandle(self, job.shape, None, most.entries, name)
+            made.form, made.most_steps = job.form, most.steps
+            self._hand_in(made, '%s %s %s' % (job.form, made.key, ' '.join(words)), most)
             self.jobs += 1
             return made
 
-    def _hand_in(self, job: PendingJob, line: str) -> None:
+    def _hand_in(self, made: ServerHandle, line: str, most: Most) -> None:
         """Hands a job in, now or with the next command."""
-        if self.queue.is_sure(job.most):
-            self.queue.add_later(job, line)
-            if self.connection.is_full or self.queue.is_long:
-                self.connection.exchange()
-                # so that a loop of jobs uses the names of what nobody holds again
-                self.sweep()
-            return
-        try:
-            self.queue.add_now(job, line)
-        except BaseException as fault:
-            if job.is_wanted:
-                job.handle.give_back()
-            if isinstance(fault, BudgetExceeded):
+        if not self.queue.is_sure(most):
+            try:
+                self.queue.add_now(made, line)
+            except BudgetExceeded as fault:
                 raise fault.with_advice() from None
-            raise
+        elif self.queue.add_later(made, line):
+            self.connection.exchange()
+            # so that a loop of jobs uses the names of what nobody holds again
+            self.sweep()
 
     def run(self) -> Run:
-        """Runs the jobs that wait."""
+        report = Run()
+        self._run(report)
+        return report
+
+    def _run(self, report: Optional[Run] = None) -> None:
+        """Runs the jobs that wait; what the run settled goes into the report, if one is wanted."""
         with self._turns:
-            self.connection.settle()
-            if not len(self.queue) and not self.queue.running:
-                return Run()
+            if self.connection.owes:
+                self.connection.settle()
+            if self.queue.is_idle:
+                return
             self.queue.run_later()
             self.sweep()
-            self.connection.exchange()
+            self.queue.report = report
+            try:
+                self.connection.exchange()
+            finally:
+                self.queue.report = None
             if self.connection.refused is not None:
                 raise self.connection.refused
-            return self.queue.results()
 
     def lines_of(self, command: str, op: Operator) -> List[str]:
         """What the server says of an operator: `dis` its code, `types` what the verifier knows

@@ -64,10 +64,12 @@ class TracedJob(NamedTuple):
 
 class Traced:
     """What some rounds ask for, of which only the numbers differ: jobs, and which values their
-    results are."""
+    results are. `labels` are the results that each job makes."""
 
     def __init__(self, jobs: List[TracedJob], out: Dict[str, Value]) -> None:
         self.jobs, self.out = jobs, out
+        self.labels = [tuple(name for name, value in out.items() if value == Made(number))
+                       for number in range(len(jobs))]
         self.steps = sum(min(job.most.steps, MOST_PRICE) for job in jobs)      # at most
         self.is_sure = all(job.most.terms <= MOST_SIDE and job.most.steps <= MOST_PRICE
                            for job in jobs)

@@ -1,8 +1,9 @@
 """Matrices in row blocks over several sessions, for graphs that one can't hold.
 
-    from spmat import algorithms, blocks with blocks.Sessions(4) as s:                          #
-    four sessions of this machine
-        G = s.mmread('graph.mtx') print(algorithms.triangle_count(G))
+    from spmat import algorithms, blocks
+    with blocks.Sessions(4) as s:                  # four sessions of this machine
+        G = s.mmread('graph.mtx')
+        print(algorithms.triangle_count(G))
 
 With `blocks.Sessions(blocks.Dask(client))` the sessions are those of the workers of a
 `distributed.Client`. See `Sessions` and `BlockMatrix`; docs/scaling.md says what it costs, and from

@@ -16,7 +16,7 @@ from ..errors import SpmatError
 from ..io import matrix_text
 from ..io.matrix_text import Triples
 from ..operators import Operator, Semiring
-from . import chunked_input, jobs, repartition, row_partition, worker_tasks
+from . import chunked_input, jobs, row_partition, worker_tasks
 from .matrix import BlockMatrix
 from .row_partition import Cut
 from .worker_store import Counts, Piece
@@ -98,12 +98,12 @@ class BlockHandle(Handle):
         """The future of the whole as one piece, or that piece, for all sessions. It is made
         once."""
         if self._whole is None:
-            self._whole = repartition.join_blocks(self)
+            self._whole = jobs.join_blocks(self)
         return self._whole
 
     def recut_at(self, cut: Cut) -> 'BlockHandle':
         """The same matrix, cut at these rows."""
-        return self if cut == self.cut else repartition.recut(self, cut)
+        return self if cut == self.cut else jobs.recut_blocks(self, cut)
 
     def derive(self, futures: Sequence[Any], cut: Cut, ncols: int) -> 'BlockHandle':
         """A matrix that is made of this one, and no job's result."""
@@ -236,13 +236,13 @@ class BlocksBackend(Backend):
         if isinstance(handle, DeferredBlockHandle):
             return matrix_text.write(handle.entries)
         nrows, ncols = handle.shape
-        return row_partition.text_of(nrows, ncols, repartition.read_lines(handle))
+        return row_partition.text_of(nrows, ncols, jobs.read_lines(handle))
 
     def texts(self, handle: Any) -> Iterator[bytes]:
         """The head of the text, and the lines of each block: one block's are held at a time."""
         nrows, ncols = handle.shape
         yield row_partition.head(nrows, ncols, self.count(handle))
-        for lines, _ in repartition.lines(handle):
+        for lines, _ in jobs.iterate_lines(handle):
             yield lines
 
     def read(self, handle: Handle) -> Triples:
@@ -257,7 +257,7 @@ class BlocksBackend(Backend):
             found = None if handle.transposed is None else handle.transposed()
             if found is not None:
                 return found  # type: ignore[no-any-return]
-            handle.turned = repartition.transpose(handle)
+            handle.turned = jobs.transpose_blocks(handle)
             handle.turned.transposed = weakref.ref(handle)
         made: Handle = handle.turned
         return made

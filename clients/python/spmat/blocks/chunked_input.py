@@ -8,7 +8,7 @@ one piece of that file; else the entries are laid into a file for each block fir
 from __future__ import annotations
 
 import abc
-import functools
+import contextlib
 import hashlib
 import itertools
 import os
@@ -32,18 +32,23 @@ WIDTH = 24                                         # bytes of an entry in a spoo
 ENTRIES = 1 << 18                                  # entries that are sorted out at a time
 
 
+def digest_of(text: bytes) -> bytes:
+    """What tells contents apart."""
+    return hashlib.blake2b(text, digest_size=32).digest()
+
+
 def write_text(path: str, text: bytes) -> bytes:
     """Writes a text into a file; what tells its content."""
     with open(path, 'wb') as file:
         file.write(text)
-    return hashlib.blake2b(text, digest_size=32).digest()
+    return digest_of(text)
 
 
 def read_text(path: str, digest: bytes) -> bytes:
     """The text that was written there. ValueError where the file has changed since."""
     with open(path, 'rb') as file:
         text = file.read()
-    if hashlib.blake2b(text, digest_size=32).digest() != digest:
+    if digest_of(text) != digest:
         raise ValueError('the file %s has changed since it was written' % path)
     return text
 
@@ -196,30 +201,23 @@ def _count_rows(counts: Any, rows: Any) -> Any:
 # -- Matrix Market files
 
 def spool_file(source: Any, values: matrix_market.Values = matrix_market.Values(),
-             progress: Progress = None, whole: bool = True,
-             limit: files.Limit = files.Limit()) -> Spooled:
+               progress: Progress = None, whole: bool = True,
+               limit: files.Limit = files.Limit()) -> Spooled:
     """The entries of a file, which is read by pieces; an `array` file at once. What is refused
     names the file. Unless the `whole` is wanted, the other triangle of a symmetric one is left
     out."""
+    # 0 where it isn't known
+    size = 0 if hasattr(source, 'read') or progress is None else os.path.getsize(source)
+
+    def report(done: int) -> None:
+        if progress is not None:
+            progress('read', done, size)
     try:
-        if hasattr(source, 'read'):
-            return _spool_opened(source, values, whole, _choose_report(progress, 0))
-        with files.opened(source, limit) as file:
-            return _spool_opened(file, values, whole,
-                                 _choose_report(progress, os.path.getsize(source)))
+        with (contextlib.nullcontext(source) if hasattr(source, 'read')
+              else files.opened(source, limit)) as file:
+            return _spool_opened(file, values, whole, report)
     except Refused as fault:
         raise fault.of_file(name_of(source)) from None
-
-
-def _choose_report(progress: Progress, size: int) -> Callable[[int], None]:
-    """What is told of so many bytes as they are read; a size of 0 isn't known."""
-    if progress is None:
-        return lambda done: None
-    return functools.partial(_report, progress, size)
-
-
-def _report(progress: Callable[[str, int, int], None], size: int, done: int) -> None:
-    progress('read', done, size)
 
 
 def _spool_opened(file: Any, values: matrix_market.Values, whole: bool,

@@ -8,13 +8,14 @@ import signal
 import time
 import uuid
 import warnings
-from typing import Any, Callable, Dict, Iterable, List, NamedTuple, Optional, Sequence, Tuple, cast
+from typing import (Any, Callable, Dict, Iterable, List, Optional, Sequence, Tuple, Union, cast)
 
 from ..errors import Closed, without_frames
 from . import dask_watch, worker_store, worker_tasks
-from .dask_watch import OURS, Watch, begin_counting, count_repeated
+from .dask_watch import OURS, ResultWatch, begin_counting, count_repeated
 from .errors import AtBlock
-from .executor import Call, Engine, Progress, Version
+from .executor import Engine, Progress, Version
+from .shared_budget import Work
 from .worker_store import Settings, close_store, end_stopped_program, store_of, version_of
 
 LOOK = 1.0                                         # seconds after which it is seen what holds up
@@ -25,10 +26,21 @@ SECONDS = 10.0                                     # to answer, where nobody say
 
 
 class Dask(Engine):
-    """The workers of a `distributed.Client` that the caller made, of whatever cluster: processes of
-    this machine, SSH, Kubernetes. Each worker process has one session. The client stays the
-    caller's, who closes it.
+    """The workers of a Dask cluster. Each worker process has one session.
 
+    Parameters
+    ----------
+    client : distributed.Client
+        One that the caller made, of whatever cluster: processes of this machine, SSH, Kubernetes.
+        It stays the caller's, who closes it.
+
+    Raises
+    ------
+    ValueError
+        Where the cluster has no worker yet.
+
+    Notes
+    -----
     Two settings save text that goes to and fro, and work when a worker is lost; results are right
     without them, too. `distributed.scheduler.work-stealing: false` has each task stay with its
     block, where else workers that wait take tasks from others.
@@ -93,37 +105,34 @@ class Dask(Engine):
 
     # -- calls without tasks
 
-    def ask(self, settings: Settings, function: Callable[..., Any],
-            calls: Sequence[Call]) -> Optional[List[Any]]:
+    def ask(self, settings: Settings, works: Sequence[Work]) -> Optional[List[Any]]:
         """Asks the workers where the pieces lie. Whatever goes wrong, a worker that is lost or
         doesn't answer, a piece that is elsewhere, gives None: then the same is asked by tasks,
         which mend it."""
         try:
-            self._find([call.piece for call in calls])
-            by_worker: Dict[str, List[Tuple[int, str, Call]]] = {}
-            for number, call in enumerate(calls):
-                key = call.piece.key
+            self._find([work.args[0] for work in works])
+            by_worker: Dict[str, List[Tuple[int, str, Work]]] = {}
+            for number, work in enumerate(works):
+                key = work.args[0].key
                 asked = by_worker.setdefault(self._where[key], [])
-                asked.append((number, key, call._replace(piece=None)))
-            replies: Dict[str, Any] = self._client.sync(
-                self._ask_workers, settings, function, by_worker)
+                # the future of the piece stays here
+                asked.append((number, key, work._replace(args=work.args[1:])))
+            replies: Dict[str, Any] = self._client.sync(self._ask_workers, settings, by_worker)
             answers = dict(answer for many in replies.values() for answer in many)
         except Exception:  # pylint: disable=broad-exception-caught  # whatever it is, tasks mend it
             answers = {}
         for answer in answers.values():
-            if answer.fault is not None:
-                raise answer.fault
-        if len(answers) == len(calls) and all(answer.here for answer in answers.values()):
-            return [answers[number].value for number in range(len(calls))]
-        for call in calls:
-            self._where.pop(call.piece.key, None)
+            if isinstance(answer, AtBlock):
+                raise answer
+        if len(answers) == len(works) and None not in answers.values():
+            return [answers[number][0] for number in range(len(works))]
+        for work in works:
+            self._where.pop(work.args[0].key, None)
         return None
 
-    async def _ask_workers(self, settings: Settings, function: Callable[..., Any],
-                     by_worker: Dict[str, Any]) -> Dict[str, Any]:
+    async def _ask_workers(self, settings: Settings, by_worker: Dict[str, Any]) -> Dict[str, Any]:
         seconds = SECONDS if settings.patience is None else settings.patience
-        asked = self._client.run(_answer_calls, settings, function, by_worker,
-                                 workers=list(by_worker))
+        asked = self._client.run(_answer_works, settings, by_worker, workers=list(by_worker))
         return dict(await asyncio.wait_for(asked, seconds))
 
     def _find(self, pieces: Sequence[Any]) -> None:
@@ -155,7 +164,7 @@ class Dask(Engine):
                         progress: Progress) -> List[Any]:
         """The results, once they are there. Where they don't come, it is looked at what holds them
         up."""
-        watch = Watch(self, settings, futures)
+        watch = ResultWatch(self, settings, futures)
         while True:
             try:
                 found = list(self._client.sync(self._gather_for_a_while, futures))
@@ -291,35 +300,27 @@ def _leave() -> None:
     os.kill(os.getpid(), signal.SIGKILL)
 
 
-class Answer(NamedTuple):
-    """What a worker answers: whether it has the piece, and what the function gave, or what came of
-    it."""
-    here: bool
-    value: Any = None
-    fault: Optional[AtBlock] = None
-
-
-async def _answer_calls(settings: Settings, function: Callable[..., Any], by_worker: Dict[str, Any],
-                     dask_worker: Any = None) -> List[Any]:
-    """The answers to the calls for a worker, by their numbers, in a thread so that the worker goes
-    on to answer."""
+async def _answer_works(settings: Settings, by_worker: Dict[str, Any],
+                        dask_worker: Any = None) -> List[Any]:
+    """What comes of the works for a worker, by their numbers."""
     out = []
-    for number, key, call in by_worker[dask_worker.address]:
-        answer = Answer(False)
+    for number, key, work in by_worker[dask_worker.address]:
+        answer = None                              # where the piece isn't here
         if key in dask_worker.data:
-            args = settings, call.label, function, (dask_worker.data[key], *call.args)
-            answer = await asyncio.get_running_loop().run_in_executor(None, _call_function, *args)
+            piece = dask_worker.data[key]
+            answer = await _run_in_thread(_answer_work, settings, work, piece)
         out.append((number, answer))
     return out
 
 
-def _call_function(settings: Settings, label: str, function: Callable[..., Any],
-            args: Tuple[Any, ...]) -> Answer:
+def _answer_work(settings: Settings, work: Work, piece: Any) -> Union[Tuple[Any], AtBlock, None]:
+    """What a function gives for a piece, as a tuple of one; what a session refuses it for; None for
+    another fault, which tasks come upon again."""
     try:
-        return Answer(True, worker_tasks.perform(lambda: store_of(settings), label, function, args))
+        return (worker_tasks.perform(lambda: store_of(settings), work.label, work.function,
+                                     (piece, *work.args)),)
     except AtBlock as at:
-        refused = hasattr(at.fault, 'rule')        # anything else is for tasks to come upon again
-        return Answer(refused, None, at if refused else None)
+        return at if hasattr(at.fault, 'rule') else None
 
 
 async def _run_in_thread(function: Callable[..., Any], *args: Any) -> Any:

@@ -15,7 +15,7 @@ WITHOUT = 60.0                                     # seconds to wait for any wor
 TIMES = 10                                         # times what its kin took, until a part is late
 
 
-class Watch:
+class ResultWatch:
     """What is done about results that don't come, once a second."""
 
     def __init__(self, engine: 'Dask', settings: Settings, futures: List[Any]) -> None:

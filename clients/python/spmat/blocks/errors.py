@@ -56,9 +56,7 @@ def name_block(label: str, fault: BaseException) -> Exception:
 
 def add_block(fault: Refused, block: str) -> Refused:
     """A refusal that names a block."""
-    out = type(fault)(fault.rule, fault.numbers, fault.command, fault.line,
-                      _join_words(fault.detail, block))
-    out = out.of_file(fault.file, fault.said).on_line(fault.text_line)
+    out = _add_words(fault, block).of_file(fault.file, fault.said).on_line(fault.text_line)
     out.block = block  # type: ignore[attr-defined]
     return out
 
@@ -66,14 +64,15 @@ def add_block(fault: Refused, block: str) -> Refused:
 def add_spent(fault: BudgetExceeded, spent: int) -> BudgetExceeded:
     """A refusal for lack of steps with what all sessions have spent, as `spent_in_all` and in its
     words."""
-    out = BudgetExceeded(fault.rule, fault.numbers, fault.command, fault.line,
-                         _join_words(fault.detail, 'all sessions have spent %d' % spent))
-    out.block, out.spent_in_all = getattr(fault, 'block', ''), spent  # type: ignore[attr-defined]
-    return out
+    out: Any = _add_words(fault, 'all sessions have spent %d' % spent)
+    out.block, out.spent_in_all = getattr(fault, 'block', ''), spent
+    return out  # type: ignore[no-any-return]
 
 
-def _join_words(*parts: str) -> str:
-    return '; '.join(part for part in parts if part)
+def _add_words(fault: Refused, words: str) -> Refused:
+    """A refusal of the same class that says more."""
+    detail = '; '.join(part for part in (fault.detail, words) if part)
+    return type(fault)(fault.rule, fault.numbers, fault.command, fault.line, detail)
 
 
 # -- positions that repeat

@@ -7,21 +7,15 @@ text.
 from __future__ import annotations
 
 import abc
-from typing import Any, Callable, Dict, List, NamedTuple, Optional, Sequence, Tuple
+from typing import Any, Callable, Dict, List, Optional, Sequence, Tuple
 
+from .shared_budget import Work
 from .worker_store import Settings
 
 Version = Tuple[str, str]
 Progress = Optional[Callable[[str, int, int], None]]
 """Called in long work with a word, how much is done and of how much: 'blocks' of a job as they
 come, 'read' bytes of a file, 'again' tasks that were done again, in all (of 0)."""
-
-
-class Call(NamedTuple):
-    """A function's call: of a piece, the future of which is given, and of other arguments."""
-    piece: Any
-    label: str
-    args: Sequence[Any]
 
 
 class Engine(abc.ABC):
@@ -46,12 +40,11 @@ class Engine(abc.ABC):
                 progress: Progress = None) -> List[Any]:
         """What the futures give, once they are there. Raises AtBlock for the first that fails."""
 
-    def ask(self, settings: Settings, function: Callable[..., Any],
-            calls: Sequence[Call]) -> Optional[List[Any]]:
-        """What `function(store, piece, *args)` gives for each call, by a way that is shorter than
-        tasks; None where there is none, or it failed. Raises AtBlock for what a session refuses."""
-        # pylint: disable=unused-argument          # an engine without such a way has no use for
-        # them
+    def ask(self, settings: Settings, works: Sequence[Work]) -> Optional[List[Any]]:
+        """What tasks of one function give whose first argument is the future of a piece, by a way
+        that is shorter than tasks; None where there is none, or it failed. Raises AtBlock for what
+        a session refuses."""
+        # pylint: disable=unused-argument,useless-return  # of an engine without such a way
         return None
 
     def frames(self, delayed: Sequence[Any]) -> Sequence[Any]:

@@ -12,16 +12,17 @@ import numpy
 from .. import limits, units
 from ..errors import Refused, TextRefused, refusal
 from ..io import coo, files, matrix_market
-from ..io.columns import Layout, ask_two_kinds
+from ..io.column_names import ask_two_kinds
+from ..io.columns import Layout
 from ..io.files import name_of
-from ..io.formats import Request
+from ..io.formats import Request, check_layout
 from ..io.importers import DupOp, Sources
 from ..io.matrix_text import Triples
 from ..metadata import BY_POSITIONS, as_constant
 from ..operators import Operator, find
-from . import chunked_input, errors, parallel_edgelist, parallel_read, row_partition, worker_tasks
-from .edgelist_partitions import Frame
+from . import chunked_input, errors, parallel_read, row_partition, worker_tasks
 from .executor import Engine, Progress
+from .file_parts import Frame
 from .backend import BlockHandle, BlocksBackend
 from .matrix import BlockMatrix
 from .row_partition import Cut
@@ -115,13 +116,13 @@ class Inputs(Sources[BlockMatrix]):
         it."""
         layout = request.layout
         files.check_length(path, request.max_bytes)
-        reading = parallel_edgelist.Reading(request.directed is not False, request.bipartite,
-                                            dup_op, name, layout.scale, layout.unit)
         made = (None if dup_op is not None or request.directed is False
                 or request.format not in (None, 'mtx') else parallel_read.read_matrix_market(
                     self, path, matrix_market.Values(layout.values, layout.scale), None, name))
+        if made is not None:
+            check_layout(name_of(path), 'mtx', request)
         if made is None and request.format in (None, 'edges', 'csv', 'tsv', 'parquet'):
-            made = parallel_edgelist.read_file(self, path, request, reading)
+            made = parallel_read.read_list(self, path, request, dup_op, name)
         return super()._read(path, request, dup_op, name) if made is None else made
 
     def from_dask_dataframe(self, frame: Any, source: Any = 'source', target: Any = 'target',
@@ -137,11 +138,10 @@ class Inputs(Sources[BlockMatrix]):
         question = ask_two_kinds(str(source), str(target)) if bipartite is None else None
         if question is not None:
             raise ValueError(question)
-        layout = Layout(missing=missing, unit=unit, date_format=date_format)
-        reading = parallel_edgelist.Reading(directed, bool(bipartite), dup_op, name, times=unit)
-        return parallel_edgelist.read_frame(self, frame,
-                                            Frame(None, (source, target), edge_attr, layout),
-                                            reading)
+        layout = Layout(bipartite=bipartite, missing=missing, unit=unit, date_format=date_format)
+        return parallel_read.read_frame(self, frame,
+                                        Frame(None, (source, target), edge_attr, layout),
+                                        Request(None, layout, directed), dup_op, name)
 
     def _fold_file(self, spool: 'chunked_input.Spooled', cut: Optional[Sequence[int]],
                   name: Optional[str], dup_op: DupOp) -> BlockMatrix:

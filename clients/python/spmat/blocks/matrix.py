@@ -1,14 +1,14 @@
 """Matrices in row blocks."""
 from __future__ import annotations
 
-from typing import TYPE_CHECKING, Any, List, NamedTuple, Optional, Sequence, Union
+from typing import TYPE_CHECKING, Any, List, Optional, Sequence, Union
 
 from ..backends.protocol import Handle
 from ..display import html
 from ..errors import SpmatError
 from ..matrix import Matrix
 from ..vector import as_vector
-from . import repartition, row_partition, worker_tasks
+from . import jobs, row_partition, worker_tasks
 from .row_partition import Cut
 from .shared_budget import Work
 from .worker_store import Counts
@@ -24,6 +24,8 @@ class BlockMatrix(Matrix):
     """A matrix in row blocks, each in one of several sessions. A `Sessions` makes them; nothing
     changes one.
 
+    Notes
+    -----
     It is a `spmat.Matrix`, with its methods, operators and masks. What follows says where blocks
     make a difference.
 
@@ -47,8 +49,8 @@ class BlockMatrix(Matrix):
     commute. It makes as many calls of ADD. `Sessions(associative=[..])` says it of operators for
     all products whose `other` is wider than one column.
 
-    `blocks` has what only blocks have; `cut`, `counts`, `recut`, `checkpoint` and `sessions` are
-    short for `blocks.cut` and its kin."""
+    `cut`, `counts`, `recut`, `checkpoint` and `sessions` are what only blocks have; `A.blocks.cut`
+    is `A.cut`."""
 
     handle: 'BlockHandle'
 
@@ -66,70 +68,67 @@ class BlockMatrix(Matrix):
         return show_blocks(self)
 
     @property
-    def blocks(self) -> 'Blocks':
-        """What only matrices in blocks have."""
-        return Blocks(self)
-
-    @property
-    def cut(self) -> Cut:
-        """Where the rows are cut; see `blocks`."""
-        return self.handle.cut
-
-    @property
-    def sessions(self) -> 'Sessions':
-        """The sessions that hold it; see `blocks`."""
-        return self.blocks.sessions
-
-    def counts(self) -> List[Counts]:
-        """The sizes, entries, price and steps of each block; see `blocks`."""
-        return self.blocks.counts()
-
-    def recut(self, cut: Union[Cut, Sequence[int]]) -> 'BlockMatrix':
-        """The same matrix, cut at other rows; see `blocks`."""
-        return self.blocks.recut(cut)
-
-    def checkpoint(self) -> 'BlockMatrix':
-        """The same matrix on texts that stand by themselves; see `blocks`."""
-        return self.blocks.checkpoint()
-
-
-class Blocks(NamedTuple):
-    """The blocks of a matrix."""
-    matrix: BlockMatrix
-
-    @property
-    def sessions(self) -> 'Sessions':
-        """The sessions that hold them."""
-        return self.matrix.handle.backend.sessions
+    def blocks(self) -> 'BlockMatrix':
+        """This matrix, by what only matrices in blocks have: `cut`, `sessions`, `counts`, `recut`
+        and `checkpoint`."""
+        return self
 
     @property
     def cut(self) -> Cut:
         """Where the rows are cut."""
-        return self.matrix.handle.cut
+        return self.handle.cut
+
+    @property
+    def sessions(self) -> 'Sessions':
+        """The sessions that hold the blocks."""
+        return self.handle.backend.sessions
 
     def counts(self) -> List[Counts]:
         """The sizes, entries, price and steps of each block, once all are made."""
-        return self.matrix.handle.counts()
+        return self.handle.counts()
 
-    def recut(self, cut: Union[Cut, Sequence[int]]) -> BlockMatrix:
-        """The same matrix, cut at other rows: by text, without steps. This matrix where it is cut
-        so already."""
+    def recut(self, cut: Union[Cut, Sequence[int]]) -> 'BlockMatrix':
+        """The same matrix, cut at other rows: by text, without steps.
+
+        Parameters
+        ----------
+        cut : Cut or sequence of int
+            Bounds that ascend from 0 to the number of rows: block k has the rows from bound k to
+            below bound k + 1.
+
+        Returns
+        -------
+        BlockMatrix
+            This matrix where it is cut so already.
+
+        Raises
+        ------
+        ValueError
+            Where the bounds don't ascend so."""
         bounds = cut.bounds if isinstance(cut, Cut) else cut
-        wanted = row_partition.check_cut(bounds, self.matrix.nrows)
-        return (self.matrix if wanted == self.cut
-                else self._wrap(self.matrix.handle.recut_at(wanted)))
+        wanted = row_partition.check_cut(bounds, self.nrows)
+        return self if wanted == self.cut else self._wrap(self.handle.recut_at(wanted))
 
-    def checkpoint(self) -> BlockMatrix:
+    def checkpoint(self) -> 'BlockMatrix':
         """The same matrix on texts that stand by themselves: should a worker be lost, nothing that
-        came before is computed again. The texts lie in the sessions' `folder` where there is one,
-        else with the engine's scheduler. For long loops whose result stands on all rounds; a
-        product's result needs none of it (docs/scaling.md)."""
-        return self._wrap(repartition.checkpoint(self.matrix.handle))
+        came before is computed again.
 
-    def _wrap(self, handle: 'BlockHandle') -> BlockMatrix:
-        made = BlockMatrix(self.matrix.session, handle, self.matrix.name)
-        made.notes = self.matrix.notes
-        return as_vector(made) if self.matrix.is_vector else made  # type: ignore[no-any-return]
+        Returns
+        -------
+        BlockMatrix
+            A matrix that no job made any more.
+
+        Notes
+        -----
+        The texts lie in the sessions' `folder` where there is one, else with the engine's
+        scheduler. For long loops whose result stands on all rounds; a product's result needs none
+        of it (docs/scaling.md)."""
+        return self._wrap(jobs.checkpoint_blocks(self.handle))
+
+    def _wrap(self, handle: 'BlockHandle') -> 'BlockMatrix':
+        made = BlockMatrix(self.session, handle, self.name)
+        made.notes = self.notes
+        return as_vector(made) if self.is_vector else made  # type: ignore[no-any-return]
 
 
 # -- what a notebook shows
@@ -168,7 +167,7 @@ def _list_blocks(matrix: BlockMatrix) -> str:
 
 def _first_cells(matrix: BlockMatrix) -> html.Cells:
     """The entries of the corner, of each block that has some of its rows."""
-    cut, sessions = matrix.cut, matrix.blocks.sessions
+    cut, sessions = matrix.cut, matrix.sessions
     futures = matrix.handle.futures
     works = [Work(block, cut.label(block), worker_tasks.first_cells, (futures[block],))
              for block in cut.meeting(0, html.CORNER)]

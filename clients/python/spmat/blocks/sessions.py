@@ -17,10 +17,11 @@ from ..errors import BudgetExceeded, SpmatError
 from ..io import coo
 from ..limits import MOST_STEPS, MOST_WORKERS
 from ..operators import Op, Operator, diagnostics, find
+from ..session import Session
 from . import worker_tasks
 from .backend import BlockHandle, BlocksBackend
 from .errors import AtBlock, VersionMismatch, add_spent, name_block
-from .executor import Call, Engine, Progress
+from .executor import Engine, Progress
 from .importers import Inputs
 from .row_partition import Cut
 from .shared_budget import Ledger, Work
@@ -43,24 +44,41 @@ OF_ONE_SESSION: Dict[str, str] = {
 class Sessions(Inputs):
     """Several sessions that hold matrices in row blocks. Use it in a `with`, or close it.
 
-    `engine` is a number of sessions of this machine, or an engine: `Threads(n)`, `Dask(client)`.
-    `steps` is the budget, one for all sessions together; of less than 2^56 steps each job waits for
-    its end, and is refused for all blocks as one, before any is charged. `workers` are the threads
-    of each session, `program` is as for `Session`. `blocks` is how many blocks a matrix has,
-    without it one a session. `folder` is one that this process and all workers see: texts of blocks
-    that come from here are put there, so that no scheduler holds them. `associative` names
-    operators of which the caller says that they are: products over them go by blocks of B
-    (`BlockMatrix.mxm`). `texts=True` takes each result out as text as soon as it is made
-    (docs/scaling.md has what that costs).
+    Parameters
+    ----------
+    engine : Engine or int, optional
+        A number of sessions of this machine, or an engine: `Threads(n)`, `Dask(client)`.
+    steps : int, optional
+        The budget, one for all sessions together. Of less than 2^56 steps each job waits for its
+        end, and is refused for all blocks as one, before any is charged.
+    workers : int, optional
+        The threads of each session.
+    program : optional
+        As for `Session`.
+    blocks : int, optional
+        How many blocks a matrix has, without it one a session.
+    folder : str, optional
+        One that this process and all workers see: texts of blocks that come from here are put
+        there, so that no scheduler holds them.
+    associative : sequence of operators, optional
+        Operators of which the caller says that they are: products over them go by blocks of B
+        (`BlockMatrix.mxm`).
+    texts : bool, optional
+        Whether each result is taken out as text as soon as it is made (docs/scaling.md has what
+        that costs).
+    progress : callable, optional
+        `progress(word, done, of)` is called in long work: 'blocks' of a job, 'read' bytes of a
+        file, and 'again' with the number of tasks that were done again, because a worker or its
+        program was lost (`again` is that number, too).
+    patience : float, optional
+        How many seconds a worker may say nothing, or its program stand still, until it is taken for
+        lost; None: for ever.
 
-    `progress(word, done, of)` is called in long work: 'blocks' of a job, 'read' bytes of a file,
-    and 'again' with the number of tasks that were done again, because a worker or its program was
-    lost (`again` is that number, too). `patience` is how many seconds a worker may say nothing, or
-    its program stand still, until it is taken for lost; None: for ever.
-
-    All workers have to have one version of this package and of the program, told by the SHA-256 of
-    its file: VersionMismatch otherwise, at once, and for a worker that comes later at its first
-    task."""
+    Raises
+    ------
+    VersionMismatch
+        Unless all workers have one version of this package and of the program, told by the SHA-256
+        of its file: at once, and for a worker that comes later at its first task."""
 
     def __init__(self, engine: Union[Engine, int, None] = None, *, steps: int = MOST_STEPS,
                  workers: int = 1, program: Optional[Program] = None, blocks: Optional[int] = None,
@@ -187,15 +205,19 @@ class Sessions(Inputs):
     def check(self, op: Operator) -> diagnostics.Check:
         """What the verifier says of an operator; see `Session.check`. One of the sessions is
         asked."""
-        return self._ask_one('', worker_tasks.check, op)  # type: ignore[no-any-return]
+        return self._ask_session(Session.check, op)  # type: ignore[no-any-return]
 
     def dis(self, op: Operator) -> str:
         """An operator as assembly text; see `Session.dis`."""
-        return str(self._ask_one('', worker_tasks.dis, op))
+        return str(self._ask_session(Session.dis, op))
 
     def types(self, op: Operator) -> List[str]:
         """What the verifier knows before each instruction; see `Session.types`."""
-        return list(self._ask_one('', worker_tasks.types, op))
+        return list(self._ask_session(Session.types, op))
+
+    def _ask_session(self, method: Callable[[Session, Operator], Any], op: Operator) -> Any:
+        """What one of the sessions says of an operator, whichever."""
+        return self.results([self.submit(0, '', worker_tasks.ask_session, method, op)], [''])[0]
 
     # -- tasks
 
@@ -221,10 +243,6 @@ class Sessions(Inputs):
     def forget(self, handle: BlockHandle) -> None:
         """Takes a result from those that `run` waits for."""
         self._waiting[:] = [one for one in self._waiting if one() not in (None, handle)]
-
-    def _ask_one(self, label: str, function: Callable[..., Any], *args: Any) -> Any:
-        """What a task gives at one of the sessions, whichever."""
-        return self.results([self.submit(0, label, function, *args)], [label])[0]
 
     def submit_batch(self, works: Sequence[Work]) -> List[Any]:
         """The futures of tasks, each of which makes one job at its block. Where the budget is
@@ -256,9 +274,8 @@ class Sessions(Inputs):
         check_queued()
         labels = [work.label for work in works]
         if works and not self.is_metered:
-            calls = [Call(work.args[0], work.label, work.args[1:]) for work in works]
             try:
-                found = self.engine.ask(self.settings, works[0].function, calls)
+                found = self.engine.ask(self.settings, works)
             except AtBlock as at:
                 raise name_block(at.label, at.fault) from None
             if found is not None:

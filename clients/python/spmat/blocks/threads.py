@@ -11,7 +11,7 @@ from ..errors import Closed
 from . import worker_tasks
 from .errors import AtBlock
 from .executor import Engine, Progress, Version
-from .worker_store import Ended, Piece, Settings, Store, version_of
+from .worker_store import EndedSession, Piece, Settings, Store, version_of
 
 # seconds after which it is looked at what holds results up
 LOOK = 1.0
@@ -43,11 +43,25 @@ class Task:
         """Whether the result is there, or has failed."""
         return self.future.done()
 
+    @property
+    def value(self) -> Any:
+        """The result, which is waited for."""
+        first = self.future.result()
+        return first if self.again is None else self.again
+
 
 class Threads(Engine):
-    """Sessions of this machine: a thread and a process `spmat` each. Where one machine has the
-    memory, one session with as many `workers` is faster, as no text goes from one to another;
-    docs/scaling.md has both.
+    """Sessions of this machine: a thread and a process `spmat` each.
+
+    Parameters
+    ----------
+    count : int, optional
+        How many sessions, 1 to 64.
+
+    Notes
+    -----
+    Where one machine has the memory, one session with as many `workers` is faster, as no text goes
+    from one to another; docs/scaling.md has both.
 
     Where a program ends by itself (the system ends what holds the memory), a session is opened anew
     at its next task, and what it held is made again, from the texts and the tasks before. A block
@@ -71,29 +85,27 @@ class Threads(Engine):
                *args: Any) -> Any:
         """Tasks of a place are done one after the other as they come, and a task waits only for
         earlier ones: so none waits for ever."""
-        recipe = Recipe(label, function, _recipes(args))
+        recipe = Recipe(label, function, _map_values(_recipe_of, args))
         task = Task(recipe, concurrent.futures.Future())
-        self._pools[place].submit(self._perform, _Maker(self, settings, place), recipe, args,
-                                  task.future)
+        self._pools[place].submit(self._perform, _Maker(self, settings, place), task, args)
         return task
 
     @staticmethod
-    def _perform(maker: '_Maker', recipe: Recipe, args: Any,
-                 future: 'concurrent.futures.Future[Any]') -> None:
-        if not future.set_running_or_notify_cancel():
+    def _perform(maker: '_Maker', task: Task, args: Any) -> None:
+        if not task.future.set_running_or_notify_cancel():
             return
         try:
-            future.set_result(maker.run(recipe, args))
+            task.future.set_result(maker.run(task.recipe, args))
         # whoever asks for the result gets it
         except BaseException as fault:  # pylint: disable=broad-exception-caught
-            future.set_exception(fault)
+            task.future.set_exception(fault)
 
     def store(self, settings: Settings, place: int) -> Store:
         """The session of a place, opened at its first use, and anew where its program has ended."""
         held = self._stores.get((settings.token, place))
         if held is None or held.is_lost():
             self._stores[settings.token, place] = held = Store(
-                settings, held.ended if held is not None else Ended())
+                settings, held.ended if held is not None else EndedSession())
         return held
 
     def count_again(self, settings: Settings) -> None:
@@ -110,7 +122,7 @@ class Threads(Engine):
         for task, label in zip(futures, labels):
             try:
                 self._wait(settings, task, progress)
-                out.append(_wait_for_value(task))
+                out.append(task.value)
             except BaseException as fault:
                 for other in futures:
                     other.future.cancel()
@@ -166,8 +178,8 @@ class _Maker:
         their texts."""
         for attempt in range(ATTEMPTS):
             try:
-                values = self._find_values(args)
-                recipe.args = _shorten(recipe.args, values)
+                values = _map_values(self._find_value, args)
+                recipe.args = _map_values(_shorten, args)
                 return self._make(recipe, values)
             except AtBlock as at:
                 if not isinstance(at.fault, Closed) or attempt + 1 == ATTEMPTS:
@@ -182,14 +194,13 @@ class _Maker:
             recipe.last = weakref.ref(value)
         return value
 
-    def _find_values(self, args: Any) -> Any:
-        """Arguments with the results of the tasks in them; what is lost is made again, here."""
-        if isinstance(args, Task):
-            value = _wait_for_value(args)
-            if _is_lost(value):
-                value = args.again = self._make_again(args.recipe)
-            return value
-        return type(args)(map(self._find_values, args)) if type(args) in (list, tuple) else args
+    def _find_value(self, arg: Any) -> Any:
+        """The result of a task, or another argument as it is; what is lost is made again, here."""
+        if not isinstance(arg, Task):
+            return arg
+        if _is_lost(arg.value):
+            arg.again = self._make_again(arg.recipe)
+        return arg.value
 
     def _make_again(self, last: Recipe) -> Any:
         """What a recipe gives, and before it what it stands on, as far back as that is lost. By a
@@ -198,60 +209,54 @@ class _Maker:
         waiting = [last]
         while waiting:
             recipe = waiting[-1]
-            before = [one for one in _recipes_in(recipe.args) if one not in made]
-            for one in before:
-                value = one.last()
-                if value is None or _is_lost(value):
-                    waiting.append(one)
-                else:
-                    made[one] = value
+            for one in _list_values(recipe.args):
+                if isinstance(one, Recipe) and one not in made:
+                    value = one.last()
+                    if value is None or _is_lost(value):
+                        waiting.append(one)
+                    else:
+                        made[one] = value
             if waiting[-1] is recipe:
                 waiting.pop()
                 if recipe not in made:
                     self._engine.count_again(self._settings)
-                    made[recipe] = self._make(recipe, _fill_recipe(recipe.args, made))
+                    values = _map_values(lambda arg: made[arg] if isinstance(arg, Recipe)
+                                         else arg, recipe.args)
+                    made[recipe] = self._make(recipe, values)
         return made[last]
-
-
-def _wait_for_value(task: Task) -> Any:
-    """The result of a task, which is waited for."""
-    first = task.future.result()
-    return first if task.again is None else task.again
 
 
 def _is_lost(value: Any) -> bool:
     return isinstance(value, Piece) and value.is_lost()
 
 
-def _recipes(args: Any) -> Any:
-    """Arguments with the recipes of the tasks in them."""
-    if isinstance(args, Task):
-        return args.recipe
-    return type(args)(map(_recipes, args)) if type(args) in (list, tuple) else args
+def _recipe_of(arg: Any) -> Any:
+    """The recipe of a task, or another argument as it is."""
+    return arg.recipe if isinstance(arg, Task) else arg
 
 
-def _recipes_in(args: Any) -> Iterator[Recipe]:
-    """The recipes among arguments."""
-    if isinstance(args, Recipe):
-        yield args
-    elif type(args) in (list, tuple):
-        for one in args:
-            yield from _recipes_in(one)
-
-
-def _fill_recipe(args: Any, made: Dict[Recipe, Any]) -> Any:
-    """Arguments with what the recipes among them gave."""
-    if isinstance(args, Recipe):
-        return made[args]
-    return (type(args)(_fill_recipe(one, made) for one in args) if type(args) in (list, tuple)
-            else args)
-
-
-def _shorten(args: Any, values: Any) -> Any:
-    """Arguments in which vectors and other short texts stand themselves, and not how they were
+def _shorten(arg: Any) -> Any:
+    """The result of a task, where that is a vector or another short text, and not how it was
     made."""
-    if isinstance(args, Recipe):
-        return values if isinstance(values, Piece) and values.has_text and values.is_short else args
+    if not isinstance(arg, Task):
+        return arg
+    value = arg.value
+    is_short = isinstance(value, Piece) and value.has_text and value.is_short
+    return value if is_short else arg.recipe
+
+
+def _map_values(function: Callable[[Any], Any], args: Any) -> Any:
+    """Arguments, in which lists and tuples are gone through, with what a function gives for
+    each."""
     if type(args) in (list, tuple):
-        return type(args)(_shorten(one, value) for one, value in zip(args, values))
-    return args
+        return type(args)(_map_values(function, one) for one in args)
+    return function(args)
+
+
+def _list_values(args: Any) -> Iterator[Any]:
+    """The same arguments, one after the other."""
+    if type(args) in (list, tuple):
+        for one in args:
+            yield from _list_values(one)
+    else:
+        yield args

@@ -155,7 +155,7 @@ def _unpickle_piece(counts: Counts, text: bytes, digest: Optional[bytes]) -> Pie
     return Piece(counts, text=text, digest=digest)
 
 
-class Ended(NamedTuple):
+class EndedSession(NamedTuple):
     """What is known of a session that has ended here, for the next one: its name, and the steps
     that it had spent."""
     name: str = ''
@@ -165,7 +165,7 @@ class Ended(NamedTuple):
 class Store:
     """One worker's session, and which piece is which matrix in it."""
 
-    def __init__(self, settings: Settings, before: Ended = Ended()) -> None:
+    def __init__(self, settings: Settings, before: EndedSession = EndedSession()) -> None:
         if settings.version is not None and version_of(settings.program) != settings.version:
             raise VersionMismatch(
                 'this worker has another version than the others: %s, and %s is expected' %
@@ -234,10 +234,10 @@ class Store:
                     and not len(self._pieces))
 
     @property
-    def ended(self) -> Ended:
+    def ended(self) -> EndedSession:
         """What the next session here has to know of this one: the steps of those before it are in
         it."""
-        return Ended(self.name, self._known)
+        return EndedSession(self.name, self._known)
 
     def budget(self) -> Budget:
         """What this session and those before it here have spent, and what this one has reserved and
@@ -291,7 +291,7 @@ def _count_ticks(group: int) -> Optional[int]:
 
 
 _stores: Dict[str, Store] = {}
-_ended: Dict[str, Ended] = {}                     # sessions that have ended here
+_ended: Dict[str, EndedSession] = {}                     # sessions that have ended here
 _lock = threading.Lock()
 _sweeper: Optional[threading.Thread] = None
 # seconds after which a session ends of which nobody holds a piece
@@ -308,7 +308,8 @@ def store_of(settings: Settings) -> Store:
         if held is None or held.is_lost():
             if held is not None:
                 _ended[settings.token] = held.ended
-            _stores[settings.token] = held = Store(settings, _ended.get(settings.token, Ended()))
+            before = _ended.get(settings.token, EndedSession())
+            _stores[settings.token] = held = Store(settings, before)
         if _sweeper is None:
             _sweeper = threading.Thread(target=_sweep, name='spmat-sweeper', daemon=True)
             _sweeper.start()

@@ -15,13 +15,14 @@ import numpy
 from ..algorithms.traversal import Vector, read_vector
 from ..backends.protocol import Budget
 from ..display import html
-from ..errors import NotMade, TextRefused
-from ..io import coo, matrix_text, parse_integers
+from ..errors import NotMade
+from ..io import coo, matrix_text
 from ..io.matrix_text import Triples
 from ..mask import Mask
-from ..operators import Operator, Semiring, diagnostics
-from . import chunked_input, edgelist_partitions, file_ranges, row_partition
-from .errors import AtBlock, find_repeated
+from ..operators import Operator, Semiring
+from ..session import Session
+from . import chunked_input, row_partition
+from .errors import AtBlock
 from .shared_budget import bound_of, price_of
 from .worker_store import Counts, Piece, Store
 
@@ -57,80 +58,6 @@ def read(store: Store, path: str, digest: bytes) -> Piece:
     """A block from a file that holds its text. ValueError where the file has changed since it was
     written."""
     return source(store, chunked_input.read_text(path, digest))
-
-
-def stamp(store: Store, path: str) -> Optional[file_ranges.Stamp]:
-    """What tells a file apart that this worker sees."""
-    return file_ranges.read_stamp(path)
-
-
-def split_range(store: Store, part: file_ranges.Range, about: file_ranges.About,
-                cut: row_partition.Cut, path: str) -> List[Any]:
-    """The lines of a range of a file by blocks, in another file where a path is given; and last how
-    many lines of the file they are."""
-    parts, lines = file_ranges.split(part, about, cut)
-    return [*(file_ranges.lay_out(parts, path) if path else parts), lines]
-
-
-def of_parts(store: Store, banner: bytes, shape: Tuple[int, int],
-             parts: Sequence[file_ranges.Part]) -> Piece:
-    """A block from its lines in several ranges."""
-    text = row_partition.text_of(*shape, [(part.text(), part.entries) for part in parts])
-    return source(store, banner + text[len(matrix_text.BANNER):])
-
-
-def read_edges(store: Store, source: Sequence[Any], kind: Any,
-               bipartite: bool) -> Optional[edgelist_partitions.EdgePart]:
-    """The edges of a part of a list."""
-    return edgelist_partitions.read_part(kind(*source), bipartite)
-
-
-def names_of(store: Store, part: Optional[edgelist_partitions.EdgePart]) -> Any:
-    """The names that stand in a part, whether its edges have values, what was taken of it, and what
-    was left out."""
-    return (None if part is None
-            else (part.names, part.values is not None, part.summary, part.left_out))
-
-
-def edge_counts(store: Store, part: edgelist_partitions.EdgePart, to: edgelist_partitions.To,
-                edges: Sequence[int]) -> Any:
-    """How many entries of a part lie in the rows from each edge to below the next."""
-    return edgelist_partitions.count_rows(part, to, edges)
-
-
-def split_edges(store: Store, part: edgelist_partitions.EdgePart, to: edgelist_partitions.To,
-                cut: row_partition.Cut, path: str) -> List[file_ranges.Part]:
-    """The lines of each block out of a part, in a file where a path is given."""
-    parts = edgelist_partitions.split_part(part, to, cut)
-    return file_ranges.lay_out(parts, path) if path else parts
-
-
-def of_edges(store: Store, bare: bool, shape: Tuple[int, int], parts: Sequence[file_ranges.Part],
-             op: Optional[Operator], weighted: bool) -> Piece:
-    """A block from its lines in several parts. Edges that repeat are folded, or count once where
-    they have no values."""
-    banner = matrix_text.PATTERN if bare else matrix_text.BANNER
-    try:
-        return of_parts(store, banner, shape, parts)
-    except TextRefused as fault:
-        if fault.rule != 'M8':
-            raise
-    # `matrix_text.write` signs each value where one is below 0
-    unsigned = b''.join(part.text() for part in parts).replace(b'+', b'0')
-    columns = parse_integers.fields(unsigned, range(2 if bare else 3), 2 if bare else 3)
-    rows, at, values = columns[0] - 1, columns[1] - 1, columns[2] if not bare else columns[
-        0] * 0 + 1
-    triples = Triples(rows, at, values, *shape)
-    if op is not None:
-        return store.piece(store.session.from_coo(*triples, dup_op=op))
-    if weighted:
-        again = find_repeated(triples)
-        assert again is not None
-        raise edgelist_partitions.Repeated(int(rows[again]), int(at[again]))
-    first = numpy.unique(rows * max(shape[1], 1) + at, return_index=True)[1]
-    return source(store,
-                  matrix_text.write(Triples(rows[first], at[first], values[first], *shape),
-                                    ones=True))
 
 
 def write(store: Store, piece: Piece, path: str) -> bytes:
@@ -272,19 +199,9 @@ def first_cells(store: Store, piece: Piece) -> List[Tuple[int, int, int]]:
     return html.first_cells(store.matrix(piece)).to_triples()
 
 
-def check(store: Store, op: Operator) -> diagnostics.Check:
-    """What the verifier says of an operator."""
-    return store.session.check(op)
-
-
-def dis(store: Store, op: Operator) -> str:
-    """An operator as assembly text."""
-    return store.session.dis(op)
-
-
-def types(store: Store, op: Operator) -> List[str]:
-    """What the verifier knows before each instruction of an operator."""
-    return store.session.types(op)
+def ask_session(store: Store, method: Callable[[Session, Operator], Any], op: Operator) -> Any:
+    """What the session says of an operator, by one of the methods of sessions."""
+    return method(store.session, op)
 
 
 def budget(store: Store) -> Tuple[str, Budget]:

@@ -1,9 +1,10 @@
 """The command line `spmat-graph COMMAND ..`, which is `python3 -m spmat COMMAND ..`, too.
 
-A command for each algorithm of `spmat.algorithms` (`algorithm_table`), `spy` and `draw`
-(`graph_commands`), `types` and `script` (`session_commands`), and `completion`. Results go to
-standard output, progress to standard error where that is a terminal, and a fault is one line there.
-`exit_status` has the exit statuses. """
+A command for each algorithm of `spmat.algorithms`, `spy` and `draw` (`algorithm_commands`), `types`
+and `script` (`session_commands`), and `completion`. Results go to standard output, progress to
+standard error where that is a terminal, and a fault is one line there. `exit_status` has the exit
+statuses.
+"""
 from __future__ import annotations
 
 import argparse
@@ -14,7 +15,7 @@ from typing import Any, List, NoReturn, Optional
 from .. import __version__
 from ..io.formats import READABLE
 from ..io.matrix_market import ENDINGS
-from . import graph_commands, session_commands
+from . import algorithm_commands, session_commands
 from .exit_status import MEANINGS, PROGRAM, Status, finish
 from .grammar import Parser, add_completion, complete
 
@@ -55,7 +56,7 @@ def parser(program: str = PROGRAM) -> argparse.ArgumentParser:
     made.add_argument('--version', action='version', version='spmat %s, the client' % __version__,
                       help="tell the client's version")
     commands = made.add_subparsers(dest='command', metavar='COMMAND', required=True)
-    graph_commands.add_commands(commands)
+    algorithm_commands.add_commands(commands)
     session_commands.add_commands(commands, () if program == PROGRAM else (FORMER,))
     add_completion(commands)
     return made

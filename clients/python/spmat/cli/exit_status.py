@@ -1,4 +1,4 @@
-"""How a command ends: the exit status of each cause, and the one line that tells it. The manual
+"""How a command ends: the exit status of each cause, and the one line that says it. The manual
 page spmat-graph(1) has the same list."""
 from __future__ import annotations
 
@@ -92,7 +92,7 @@ def reading(file: str) -> Iterator[None]:
 
 
 def causes(fault: BaseException) -> Iterator[BaseException]:
-    """A fault, and what it is told to come from, the first first."""
+    """A fault, and what it comes from, the first first."""
     found: Optional[BaseException] = fault
     while found is not None:
         yield found
@@ -116,11 +116,11 @@ def words_of(fault: BaseException) -> str:
     if isinstance(fault, OSError) and fault.strerror:
         return ('%s: %s' % (os.fsdecode(fault.filename), fault.strerror) if fault.filename
                 else fault.strerror)
-    told = ' '.join(str(fault).split()) or type(fault).__name__
+    words = ' '.join(str(fault).split()) or type(fault).__name__
     if status_of(fault) is Status.FAULT:
         return 'a fault of %s itself: %s: %s (%s=1 shows where)' % (
-            PROGRAM, type(fault).__name__, told, TRACE)
-    return told + describe_flags(fault)
+            PROGRAM, type(fault).__name__, words, TRACE)
+    return words + describe_flags(fault)
 
 
 # Arguments of Python whose flags have other names; '' for what the command line doesn't have.
@@ -140,7 +140,7 @@ def describe_flags(fault: BaseException) -> str:
 
 
 def finish(fault: BaseException) -> int:
-    """Tells a fault on standard error, and gives the status; nothing is told where nobody reads."""
+    """Print a fault on standard error, and give its status; print nothing if nobody reads."""
     status = status_of(fault)
     if status is Status.PIPE:
         # nothing more is to be written to standard output, also not when Python ends

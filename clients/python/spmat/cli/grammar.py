@@ -1,14 +1,15 @@
-"""The grammar of the command line: a parser whose faults are one line, and completion by
+"""The grammar of the command line: a parser whose faults are one line, numbers, and completion by
 argcomplete."""
 from __future__ import annotations
 
 import argparse
 import difflib
+import math
 import os
-import re
-from typing import Any, NoReturn, Optional
+from typing import Any, Callable, List, NoReturn, Optional
 
 from ..extras import import_extra
+from ..io.coo import whole_of_word
 from .exit_status import PROGRAM, Status
 
 SERVERS = ('run', 'serve')                         # words of the program spmat
@@ -38,19 +39,20 @@ class Parser(argparse.ArgumentParser):
             self.register('action', action, Once)
 
     def error(self, message: str) -> NoReturn:
-        found = re.match(r"argument COMMAND: invalid choice: '([^']*)'", message)
-        if found:
-            message = self.no_command(found.group(1))
         self.exit(Status.WORDS, '%s: %s (%s --help)\n' % (PROGRAM, message, self.prog))
 
-    def no_command(self, word: str) -> str:
-        """What is said of a word that is no command."""
+    def _check_value(self, action: argparse.Action, value: Any) -> None:
+        """Refuse a word that is no command in other words than argparse, which lists all."""
+        if action.dest == 'command' and value not in (action.choices or ()):
+            self.error(self.describe_no_command(value, list(action.choices or ())))
+        super()._check_value(action, value)
+
+    def describe_no_command(self, word: str, names: List[str]) -> str:
+        """Say of a word that is no command which was meant."""
         if word in SERVERS:
             return (
                 '`%s` is a command of the server, `spmat %s`; here `%s script FILE` runs a file '
                 'of commands' % (word, word, self.prog))
-        names = next(tuple(action.choices or ()) for action in self._actions
-                     if action.dest == 'command')
         near = difflib.get_close_matches(word.replace('_', '-'), names, 2)
         return 'no command %s%s' % (word, ': did you mean %s?' % ' or '.join(near) if near else '')
 
@@ -61,6 +63,19 @@ def add_command(commands: Any, name: str, summary: str, **settings: Any) -> Pars
     command: Parser = commands.add_parser(name, help=summary, **settings,
                                           formatter_class=argparse.RawDescriptionHelpFormatter)
     return command
+
+
+def read_number(words: str, least: float, most: float = math.inf,
+                whole: bool = True) -> Callable[[str], Any]:
+    """Make what reads the number of an option: a whole one from the least to the most, also 1e9, or
+    any number between them. `words` say which it takes."""
+    def read(word: str) -> Any:
+        number = whole_of_word(word) if whole else float(word)
+        if not (least <= number <= most if whole else least < number < most):
+            raise argparse.ArgumentTypeError('%s, not %s' % (words, word))
+        return number
+    read.__name__ = 'whole number' if whole else 'number'  # as argparse calls it in its errors
+    return read
 
 
 # -- completion

@@ -1,14 +1,9 @@
-"""What the commands share: the options of a graph, progress on a terminal, and results as text."""
+"""The graph of a command: the options that say what is read, and how its vertices are named."""
 from __future__ import annotations
 
 import argparse
-import contextlib
-import heapq
-import importlib.util
-import operator
-import os
 import sys
-from typing import Any, Callable, Iterable, Iterator, List, NamedTuple, Optional, Tuple
+from typing import Any, NamedTuple
 
 from ..algorithms import undirected
 from ..algorithms.registry import Wanted
@@ -17,13 +12,11 @@ from ..io import matrix_market
 from ..io.files import Loaded
 from ..io.columns import Layout
 from ..io.formats import FORMATS, GRAPH_FORMATS, READABLE, Request, format_of
-from ..io.time_values import UNITS
+from ..io.values import UNITS
 from ..matrix import Matrix, bipartite
 from ..metadata import Nodes
-from ..progress import Bar
 from ..session import Session
 from .exit_status import Ended, Status, reading
-from .output import Result, add_form_options, named
 
 UNDIRECTED = ': --undirected takes the graph without directions, weights and loops'
 BOTH_WAYS = ', --both-ways each edge both ways with its value'
@@ -44,7 +37,10 @@ def add_graph_options(command: argparse.ArgumentParser) -> None:
                        help='sources and targets (rows and columns) are two kinds of vertices')
     kinds.add_argument('--one-kind', dest='bipartite', action='store_false',
                        help='.. are one kind, also where the header names two')
-    group = command.add_argument_group('how the file is read')
+    _add_reading_options(command.add_argument_group('how the file is read'))
+
+
+def _add_reading_options(group: Any) -> None:
     group.add_argument('--format', choices=FORMATS,
                        help='what it is (default: by what stands in it)')
     group.add_argument('--delimiter', type=character, metavar='C',
@@ -100,31 +96,6 @@ def check_graph(options: argparse.Namespace) -> None:
             '--bipartite or --undirected')
 
 
-def add_output_options(command: argparse.ArgumentParser, ranked: bool = False) -> None:
-    """Where the result goes, and in which form; how many of it where it is `ranked`."""
-    add_form_options(command, mtx=True)
-    command.set_defaults(top=None)
-    if ranked:
-        command.add_argument('--top', type=int, metavar='N',
-                             help='the N greatest alone, the greatest first')
-    command.add_argument('--output', metavar='FILE',
-                         help='where the result goes (default: standard output)')
-
-
-@contextlib.contextmanager
-def open_progress(options: argparse.Namespace) -> Iterator[Optional[Bar]]:
-    """Show progress if standard error is a terminal and tqdm is installed. Standard output may be
-    the same terminal: write to it after this, or clear the bar before."""
-    if options.quiet or not sys.stderr.isatty() or importlib.util.find_spec('tqdm') is None:
-        yield None
-        return
-    bar = Bar(file=sys.stderr)
-    try:
-        yield bar
-    finally:
-        bar.clear()
-
-
 class Needs(NamedTuple):
     """What an algorithm needs of a graph: its kind, whether values count, and whether rows and
     columns may be of two kinds."""
@@ -151,19 +122,18 @@ def read_graph(session: Session, options: argparse.Namespace, needs: Needs) -> M
     name_vertices(graph, 1 if format_of(text) == 'mtx' else 0)
     if options.bipartite and not needs.rectangular:
         graph = bipartite(graph)
-    if options.undirected and graph.nrows == graph.ncols:
-        graph = copy_names(undirected(graph), graph)
-    elif graph.nrows == graph.ncols and options.both_ways:
-        if options.dup_op is None:                 # else reading made it so
-            graph = copy_names(graph.ewise_add(graph.T, 'min'), graph)
-            graph.notes = graph.notes._replace(directed=False)
-        check_kind(graph, needs.kind, True)
-    elif graph.nrows == graph.ncols:
-        check_kind(graph, needs.kind, graph.directed is False)
-    elif not needs.rectangular:
+    if graph.nrows != graph.ncols:
+        if needs.rectangular:
+            return graph
         raise Ended(Status.FILE,
                     'a graph is a square matrix, and %s has %d rows and %d columns: --bipartite '
                     'takes them as two kinds of vertices' % (file, graph.nrows, graph.ncols))
+    if options.undirected:
+        return undirected(graph)
+    if options.both_ways and options.dup_op is None:       # else reading made it so
+        graph = graph.ewise_add(graph.T, 'min')
+        graph.notes = graph.notes._replace(directed=False)
+    check_kind(graph, needs.kind)
     return graph
 
 
@@ -195,70 +165,13 @@ def name_vertices(graph: Matrix, first: int) -> None:
     graph.notes = graph.notes._replace(rows=rows, columns=columns)
 
 
-def copy_names(made: Matrix, graph: Matrix) -> Matrix:
-    """A matrix with another's names."""
-    made.notes = made.notes._replace(rows=graph.notes.rows, columns=graph.notes.columns)
-    return made
-
-
-def check_kind(graph: Matrix, wanted: Wanted, symmetric: bool) -> None:
-    """Ends the command where a graph isn't of the wanted kind; `symmetric` where its file says
-    so."""
-    if (wanted is not Wanted.ANY and not symmetric
-        and graph.ewise_mult(graph.T, 'pair').nvals < graph.nvals):
+def check_kind(graph: Matrix, wanted: Wanted) -> None:
+    """End the command if a graph isn't of the wanted kind."""
+    if (wanted is not Wanted.ANY and graph.directed is not False
+            and graph.ewise_mult(graph.T, 'pair').nvals < graph.nvals):
         raise Ended(Status.FILE, 'expected an undirected graph, but an edge leads one way alone'
                     + UNDIRECTED + BOTH_WAYS)
     if wanted is Wanted.WITHOUT_LOOPS and graph.select('diag').nvals:
         raise Ended(Status.FILE,
                     'expected a graph without loops, but there is an edge from a vertex to itself'
                     + UNDIRECTED)
-
-
-def check_output(options: argparse.Namespace) -> None:
-    """Says before the work where the words don't go together, or the result, or its picture, can go
-    nowhere."""
-    check_graph(options)
-    if options.mtx and options.top is not None:
-        options.parser.error('argument --top: not with --mtx, which has the whole result')
-    for path in (options.output, getattr(options, 'plot', None)):
-        folder = os.path.dirname(path or '')
-        if folder and not os.path.isdir(folder):
-            raise Ended(Status.OTHER, '%s: no such folder' % folder)
-
-
-@contextlib.contextmanager
-def writing(path: Optional[str]) -> Iterator[None]:
-    """What is done here writes a result, to standard output where there is no path: a failure is
-    told as such."""
-    try:
-        yield
-    except BrokenPipeError:
-        raise
-    except OSError as fault:
-        raise Ended(Status.OTHER,
-                    '%s: not written: %s' %
-                    (path or 'standard output', fault.strerror or fault)) from None
-
-
-def write(options: argparse.Namespace, lines: Iterable[str]) -> None:
-    """Writes a result where it goes."""
-    with writing(options.output):
-        if options.output is None:
-            sys.stdout.writelines(lines)
-            sys.stdout.flush()
-            return
-        with open(options.output, 'w', encoding='utf-8') as file:
-            file.writelines(lines)
-
-
-def rows_of(options: argparse.Namespace, matrix: Matrix, called: str,
-            value_of: Callable[[int], Any] = int) -> Result:
-    """A matrix as rows, one an entry: the names of its row and its column, of a column the row's
-    alone, and the value, which is called so. A result's only column has no name, which tells it
-    from a matrix of one vertex. Nothing is asked of the server once they are handed out."""
-    is_column = matrix.ncols == 1 and matrix.column_nodes is None
-    entries: List[Tuple[Any, ...]] = [
-        *(matrix.by_node(raw=True).items() if is_column else matrix.to_edgelist(raw=True))]
-    if options.top is not None:
-        entries = heapq.nlargest(options.top, entries, key=operator.itemgetter(-1))
-    return named([(*entry[:-1], value_of(entry[-1])) for entry in entries], called, is_column)

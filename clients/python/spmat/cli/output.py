@@ -2,17 +2,27 @@
 rows.
 
 A command adds the options by `add_form_options`, makes a `Result` of what it found, and hands
-`lines(options, result)` to `graph_options.write`. Plain lines have no header; CSV has one, in words
-that `read_graph` knows; JSON is a list with an object a row, or an object alone where the result is
-`single`. Rows may come one by one from a generator. """
+`format_lines(options, result)` to `write`. Plain lines have no header; CSV has one, in words that
+`read_graph` knows; JSON is a list with an object a row, or an object alone where the result is
+`single`. Rows may come one by one from a generator.
+"""
 from __future__ import annotations
 
 import argparse
+import contextlib
 import decimal
+import heapq
+import importlib.util
 import json
-from typing import Any, Iterable, Iterator, NamedTuple, Sequence, Tuple
+import operator
+import os
+import sys
+from typing import (Any, Callable, Iterable, Iterator, List, NamedTuple, Optional, Sequence, Tuple)
 
-from ..io.list_writer import csv_line
+from ..io.writers import csv_line
+from ..matrix import Matrix
+from ..progress import Bar
+from .exit_status import Ended, Status
 
 EDGE = ('source', 'target')
 NODE = ('node',)
@@ -38,7 +48,20 @@ def add_form_options(command: Any, mtx: bool = False) -> None:
                       help='the result as JSON: a list with an object a row')
 
 
-def lines(options: argparse.Namespace, result: Result) -> Iterable[str]:
+def add_output_options(command: argparse.ArgumentParser, ranked: bool = False) -> None:
+    """Where the result goes, and in which form; how many of it where it is `ranked`."""
+    add_form_options(command, mtx=True)
+    command.set_defaults(top=None)
+    if ranked:
+        command.add_argument('--top', type=int, metavar='N',
+                             help='the N greatest alone, the greatest first')
+    command.add_argument('--output', metavar='FILE',
+                         help='where the result goes (default: standard output)')
+
+
+# -- forms
+
+def format_lines(options: argparse.Namespace, result: Result) -> Iterable[str]:
     """A result in the form that the options ask for."""
     if options.json:
         return _format_json(result)
@@ -90,12 +113,85 @@ def _format_cell(cell: Any) -> str:
             if isinstance(cell, decimal.Decimal) else '' if cell is None else str(cell))
 
 
-def named(entries: Iterable[Tuple[Any, ...]], called: str, single_column: bool) -> Result:
+def label_entries(entries: Iterable[Tuple[Any, ...]], called: str, single_column: bool) -> Result:
     """The result of a column, or of a matrix: (name, value) or (name, name, value), with values of
     this name."""
     return Result((*(NODE if single_column else EDGE), called), entries)
 
 
-def number(called: str, value: int) -> Result:
+def label_number(called: str, value: int) -> Result:
     """A result that is one number."""
     return Result((called,), [(value,)], single=True)
+
+
+def is_column(matrix: Matrix) -> bool:
+    """Tell a column from a matrix of one vertex: a result's only column has no name."""
+    return matrix.ncols == 1 and matrix.column_nodes is None
+
+
+def list_entries(options: argparse.Namespace, matrix: Matrix, called: str,
+                 show: Callable[[int], Any] = int) -> Result:
+    """A matrix as rows, one an entry: the names of its row and its column, of a column the row's
+    alone, and what is shown of the value, which is called so. Nothing is asked of the server once
+    they are handed out."""
+    entries: List[Tuple[Any, ...]] = [
+        *(matrix.by_node(raw=True).items() if is_column(matrix) else matrix.to_edgelist(raw=True))]
+    if options.top is not None:
+        entries = heapq.nlargest(options.top, entries, key=operator.itemgetter(-1))
+    return label_entries([(*entry[:-1], show(entry[-1])) for entry in entries], called,
+                         is_column(matrix))
+
+
+# -- where a result goes
+
+def check_output(options: argparse.Namespace) -> None:
+    """Say before the work if the words don't go together, or the result can go nowhere."""
+    if options.mtx and options.top is not None:
+        options.parser.error('argument --top: not with --mtx, which has the whole result')
+    folder = os.path.dirname(options.output or '')
+    if folder and not os.path.isdir(folder):
+        raise Ended(Status.OTHER, '%s: no such folder' % folder)
+
+
+@contextlib.contextmanager
+def writing(path: Optional[str]) -> Iterator[None]:
+    """What is done here writes a result, to standard output where there is no path: a failure is
+    told as such."""
+    try:
+        yield
+    except BrokenPipeError:
+        raise
+    except OSError as fault:
+        raise Ended(Status.OTHER,
+                    '%s: not written: %s' %
+                    (path or 'standard output', fault.strerror or fault)) from None
+
+
+def print_lines(lines: Iterable[str]) -> None:
+    """Write lines to standard output, now."""
+    with writing(None):
+        sys.stdout.writelines(lines)
+        sys.stdout.flush()
+
+
+def write(options: argparse.Namespace, lines: Iterable[str]) -> None:
+    """Write a result where it goes."""
+    if options.output is None:
+        print_lines(lines)
+        return
+    with writing(options.output), open(options.output, 'w', encoding='utf-8') as file:
+        file.writelines(lines)
+
+
+@contextlib.contextmanager
+def open_progress(options: argparse.Namespace) -> Iterator[Optional[Bar]]:
+    """Show progress if standard error is a terminal and tqdm is installed. Standard output may be
+    the same terminal: write to it after this, or clear the bar before."""
+    if options.quiet or not sys.stderr.isatty() or importlib.util.find_spec('tqdm') is None:
+        yield None
+        return
+    bar = Bar(file=sys.stderr)
+    try:
+        yield bar
+    finally:
+        bar.clear()

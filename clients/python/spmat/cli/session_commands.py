@@ -8,12 +8,11 @@ import sys
 from typing import IO, Any, Iterator, List, NamedTuple, Optional, Sequence, Set, Tuple
 
 from .._client.protocol import FORMS, WORDS_WITH_BODY
-from .._client.replies import Reply
 from ..errors import Refused
 from ..io import matrix_text
 from ..operators import KINDS, Operator, READY, asm, c as from_c, code, dataflow, diagnostics
 from ..progress import Bar
-from . import graph_options, output
+from . import output
 from .exit_status import Ended, Status, reading, status_of
 from .grammar import add_command
 from .session_options import add_session_options, open_session
@@ -39,6 +38,9 @@ examples:
   %(prog)s my_operator.asm --kind binary
   %(prog)s gcd.c
   %(prog)s binary.plus"""
+
+
+REPLY = ('line', 'command', 'reply', 'text')       # the fields of a reply
 
 
 class Command(NamedTuple):
@@ -117,28 +119,38 @@ def run_script(options: argparse.Namespace) -> int:
 
 
 def run_commands(stream: IO[bytes], options: argparse.Namespace) -> int:
-    """Run the commands of a stream in one session."""
-    status, names, replies = Status.DONE, Names(), Replies(options)
-    with graph_options.open_progress(options) as progress, open_session(
-        options, progress) as session:
+    """Run the commands of a stream in one session. Print each reply as it comes; as CSV or JSON all
+    of them at the end, a row a command."""
+    status, rows = Status.DONE, []
+    accepted: List[str] = []
+    is_plain = not (options.csv or options.json)
+    with output.open_progress(options) as progress, open_session(options, progress) as session:
         for command in read_script(stream):
+            text = ''
             try:
                 reply = session.connection.command(command.line, command.body, find_line(command))
             except Refused as fault:
                 clear(progress)
                 status = status or status_of(fault)
-                tell_refusal(command, fault, names)
-                replies.add_refusal(command, fault)
-                if not options.keep_going or session.connection.ended is not None:
-                    break
+                tell_refusal(command, fault, accepted)
+                first = ' '.join(map(str, ('no', fault.rule, *fault.numbers)))
+                is_last = not options.keep_going or session.connection.ended is not None
             else:
                 clear(progress)
-                names.note(command.line)
-                replies.add(command, reply)
-            if command.line.split()[0] == 'quit':
-                session.connection.end('the script has ended it')
+                accepted.append(command.line)
+                first = 'ok ' + ' '.join(reply.words)
+                text = ''.join(line + '\n' for line in reply.lines) + reply.body.decode()
+                is_last = command.line.split()[0] == 'quit'
+                if is_plain:
+                    output.print_lines([first + '\n', text])
+                if is_last:
+                    session.connection.end('the script has ended it')
+            if not is_plain:
+                rows.append((command.number, command.line, first, text or None))
+            if is_last:
                 break
-    replies.finish()
+    if not is_plain:
+        output.print_lines(output.format_lines(options, output.Result(REPLY, rows)))
     return status
 
 
@@ -148,40 +160,34 @@ def clear(progress: Optional[Bar]) -> None:
         progress.clear()
 
 
-def tell_refusal(command: Command, fault: Refused, names: 'Names') -> None:
-    """Write the line of a refused command to standard error, with the rule and what it means."""
-    detail = fault.detail or (names.describe_unknown(command.line) if fault.rule == 'S4' else '')
+def tell_refusal(command: Command, fault: Refused, accepted: Sequence[str]) -> None:
+    """Write the line of a refused command to standard error, with the rule and what it means;
+    `accepted` are the lines of the commands before that were not refused."""
+    detail = fault.detail
+    if fault.rule == 'S4' and not detail:
+        detail = describe_unknown(command.line, accepted)
     # without the command
     bare = type(fault)(fault.rule, fault.numbers, line=fault.line, detail=detail)
     print('line %d: `%s` is refused: %s' % (command.number, command.line, bare), file=sys.stderr)
 
 
-class Names:
-    """The names of matrices and operators, and those of jobs that wait."""
-
-    def __init__(self) -> None:
-        self._bound: Set[str] = set()
-        self._waiting: Set[str] = set()
-
-    def note(self, line: str) -> None:
-        """Note what a command did that was answered `ok`."""
-        word, *rest = line.split()
+def describe_unknown(line: str, accepted: Sequence[str]) -> str:
+    """Say which names of a command mean nothing."""
+    bound: Set[str] = set()
+    waiting: Set[str] = set()                      # results of jobs that weren't run
+    for word, *rest in map(str.split, accepted):
         if word in WORDS_WITH_BODY:
-            self._bound.add(rest[0])
+            bound.add(rest[0])
         elif word in FORMS:
-            self._waiting.add(rest[0])
+            waiting.add(rest[0])
         elif word == 'run':
-            self._bound |= self._waiting
-            self._waiting.clear()
-
-    def describe_unknown(self, line: str) -> str:
-        """Say which names of a command mean nothing."""
-        return '; '.join('%s is the result of a job that waits: `run` makes it' % name
-                         if name in self._waiting else 'nothing is called %s' % name
-                         for name in operands(line) if name not in self._bound)
+            bound, waiting = bound | waiting, set()
+    return '; '.join('%s is the result of a job that waits: `run` makes it' % name
+                     if name in waiting else 'nothing is called %s' % name
+                     for name in list_operands(line) if name not in bound)
 
 
-def operands(line: str) -> List[str]:
+def list_operands(line: str) -> List[str]:
     """The names that a command uses: operators, operands and the mask."""
     word, *rest = line.split()
     if word not in FORMS:
@@ -201,40 +207,6 @@ def find_line(command: Command) -> Any:
     if words[0] == 'op' or kind not in ('unary', 'binary', 'index'):
         return None
     return Operator(kind, text=body.decode('utf-8', 'replace')).line_at
-
-
-class Replies:
-    """What the server answers: printed as it comes, or as CSV or JSON at the end, a row a
-    command."""
-
-    def __init__(self, options: argparse.Namespace) -> None:
-        self._options, self._at_once = options, not (options.csv or options.json)
-        self._rows: List[Tuple[int, str, str, Optional[str]]] = []
-
-    def add(self, command: Command, reply: Reply) -> None:
-        """Take a reply."""
-        first = 'ok ' + ' '.join(reply.words)
-        text = ''.join(line + '\n' for line in reply.lines) + reply.body.decode()
-        if not self._at_once:
-            self._rows.append((command.number, command.line, first, text or None))
-            return
-        with graph_options.writing(None):
-            sys.stdout.write(first + '\n' + text)
-            sys.stdout.flush()
-
-    def add_refusal(self, command: Command, fault: Refused) -> None:
-        """Take a refusal."""
-        words = ' '.join(map(str, ('no', fault.rule, *fault.numbers)))
-        self._rows.append((command.number, command.line, words, None))
-
-    def finish(self) -> None:
-        """Print what isn't printed yet."""
-        if self._at_once:
-            return
-        result = output.Result(('line', 'command', 'reply', 'text'), self._rows)
-        with graph_options.writing(None):
-            sys.stdout.writelines(output.lines(self._options, result))
-            sys.stdout.flush()
 
 
 # -- types
@@ -273,25 +245,21 @@ def run_types(options: argparse.Namespace) -> int:
     with open_session(options) as session:
         check = session.check(operator)
     if options.csv or options.json:
-        sys.stdout.writelines(output.lines(options, rows_of(check)))
-        sys.stdout.flush()
+        output.print_lines(output.format_lines(options, list_registers(check)))
     elif check.refusal is None:
         print(check)
     else:
-        print(''.join(line + '\n' for line in diagnostics.table(check.rows)), end='')
+        output.print_lines(line + '\n' for line in diagnostics.table(check.rows))
     if check.refusal is None:
         return 0
     raise check.refusal.of_file(options.operator if operator.text is not None
                                 and check.refusal.rule.startswith('A') else '')
 
 
-def rows_of(check: diagnostics.Check) -> output.Result:
+def list_registers(check: diagnostics.Check) -> output.Result:
     """The instructions and what is known before each, nothing of one that no way leads to."""
     registers = ['r%d' % number for number in range(dataflow.REGISTERS)]
-    rows: List[List[Any]] = []
-    for row in check.rows:
-        known: List[Any] = [None] * len(registers)
-        if len(row) == 2 + len(registers):
-            known = list(row[2:])
-        rows.append([int(row[0]), row[1], *known])
+    unknown: Tuple[None, ...] = (None,) * len(registers)
+    rows = [[int(row[0]), row[1], *(row[2:] if len(row) == 2 + len(registers) else unknown)]
+            for row in check.rows]
     return output.Result(('slot', 'instruction', *registers), rows)

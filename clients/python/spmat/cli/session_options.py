@@ -3,15 +3,16 @@ front of it speaks that."""
 from __future__ import annotations
 
 import argparse
+import contextlib
 import os
-from typing import TYPE_CHECKING, Optional
+from typing import TYPE_CHECKING, Iterator, Optional
 
 from .._client.connection import Progress
 from .._client.transport import Address
-from ..io.coo import whole_of_word
 from ..limits import MOST_STEPS, MOST_WORKERS
 from ..session import Session
 from .exit_status import Ended, Status
+from .grammar import read_number
 
 if TYPE_CHECKING:
     import ssl
@@ -22,9 +23,11 @@ TLS = ('tls', 'cacert', 'cert', 'key')
 def add_session_options(command: argparse.ArgumentParser) -> None:
     """Where the work is done, and within which budget."""
     group = command.add_argument_group('session')
-    group.add_argument('--workers', type=workers, metavar='N',
+    group.add_argument('--workers', metavar='N',
+                       type=read_number('workers are 1 to %d' % MOST_WORKERS, 1, MOST_WORKERS),
                        help='threads, 1 to %d (default: 1)' % MOST_WORKERS)
-    group.add_argument('--steps', type=steps, metavar='N',
+    group.add_argument('--steps', metavar='N',
+                       type=read_number('a budget is 0 to 2^62 steps', 0, MOST_STEPS),
                        help='the budget, 0 to 2^62, also 1e9 (default: 2^62)')
     group.add_argument('--program', metavar='PATH',
                        help='the program (default: the variable SPMAT, then `spmat` on the PATH)')
@@ -44,32 +47,6 @@ def add_session_options(command: argparse.ArgumentParser) -> None:
     group.add_argument('--cert', metavar='FILE',
                        help='the certificate of this client, where the server asks for one')
     group.add_argument('--key', metavar='FILE', help='its key, where that is in a file of its own')
-
-
-def whole_number(word: str) -> int:
-    """A whole number as a word, also 1e9. argparse tells the ValueError of anything else."""
-    return whole_of_word(word)
-
-
-def steps(word: str) -> int:
-    """A budget. ArgumentTypeError outside its range."""
-    return check_range(whole_number(word), 0, MOST_STEPS, 'a budget is 0 to 2^62 steps')
-
-
-def workers(word: str) -> int:
-    """A number of threads. ArgumentTypeError outside its range."""
-    return check_range(whole_number(word), 1, MOST_WORKERS, 'workers are 1 to %d' % MOST_WORKERS)
-
-
-def check_range(number: int, least: int, most: int, words: str) -> int:
-    """A number within its range. ArgumentTypeError outside."""
-    if not least <= number <= most:
-        raise argparse.ArgumentTypeError('%s, not %d' % (words, number))
-    return number
-
-
-for _kind in (whole_number, steps, workers):
-    _kind.__name__ = 'whole number'                # as argparse calls it
 
 
 def address(word: str) -> Address:
@@ -104,37 +81,33 @@ def check_session(options: argparse.Namespace) -> None:
         options.parser.error('--key wants its certificate: --cert FILE')
 
 
-def tls_of(options: argparse.Namespace) -> Optional[ssl.SSLContext]:
-    """What speaks TLS as the options say, None where they don't."""
+@contextlib.contextmanager
+def reading_certificates(what: str, *files: Optional[str]) -> Iterator[None]:
+    """What is done here reads files of TLS. Ended names them, which errors of ssl don't."""
+    try:
+        for path in filter(None, files):
+            with open(path, 'rb'):
+                pass
+        yield
+    except OSError as fault:
+        if fault.filename:
+            raise Ended(Status.FILE, '%s: %s' % (fault.filename, fault.strerror)) from None
+        raise Ended(Status.FILE,
+                    '%s: no %s in PEM format: %s' % (' and '.join(filter(None, files)), what,
+                                                     fault.strerror or fault)) from None
+
+
+def make_tls(options: argparse.Namespace) -> Optional[ssl.SSLContext]:
+    """Make what speaks TLS as the options say, None if they don't."""
     if not any(getattr(options, name) for name in TLS):
         return None
     import ssl
-    try:
-        made = ssl.create_default_context(cafile=check_file(options.cacert))
-    except OSError as fault:
-        raise Ended(Status.FILE,
-                    '%s: no certificates in PEM format: %s' %
-                    (options.cacert, fault.strerror or fault)) from None
+    with reading_certificates('certificates', options.cacert):
+        made = ssl.create_default_context(cafile=options.cacert)
     if options.cert:
-        try:
-            made.load_cert_chain(check_file(options.cert) or '', check_file(options.key))
-        except OSError as fault:
-            raise Ended(Status.FILE,
-                        '%s: no certificate with its key in PEM format: %s' %
-                        (' and '.join(filter(None, (options.cert, options.key))), fault.strerror
-                         or fault)) from None
+        with reading_certificates('certificate with its key', options.cert, options.key):
+            made.load_cert_chain(options.cert, options.key)
     return made
-
-
-def check_file(path: Optional[str]) -> Optional[str]:
-    """A path that can be read: what is told of it elsewhere doesn't name it."""
-    if path:
-        try:
-            with open(path, 'rb'):
-                pass
-        except OSError as fault:
-            raise Ended(Status.FILE, '%s: %s' % (path, fault.strerror)) from None
-    return path
 
 
 def open_session(options: argparse.Namespace, progress: Optional[Progress] = None) -> Session:
@@ -145,7 +118,7 @@ def open_session(options: argparse.Namespace, progress: Optional[Progress] = Non
             steps_given = MOST_STEPS if options.steps is None else options.steps
             return Session(steps_given, options.workers or 1, options.program, progress)
         where = options.connect
-        return Session.connect(where.host, where.port, progress=progress, tls=tls_of(options))
+        return Session.connect(where.host, where.port, progress=progress, tls=make_tls(options))
     except OSError as fault:
         said = fault.strerror or str(fault)
         raise Ended(Status.UNREACHED, '%s: %s' % (os.fsdecode(fault.filename), said)

@@ -2,16 +2,16 @@
 from __future__ import annotations
 
 import math
-from typing import Any, Dict, FrozenSet, List, Mapping, NamedTuple, Sequence, Set
+from typing import Any, Dict, FrozenSet, List, Mapping, Sequence, Set
 
 import numpy
 
 from ..extras import import_extra
 from ..matrix import Matrix
-from ..metadata import without_names
 from ..units import to_decimal
-from . import pictures
-from .pictures import GREY, INK, LINE, LONG, PALE, SHORT, WARM, XY, Colours, Edge, Strokes, Target
+from . import count_in_groups, pictures
+from .pictures import (GREY, INK, LARGE, LINE, LONG, MIDDLE, MOST_LABELS, PALE, SHORT, WARM, XY,
+                       Edge, Look, Strokes, Target)
 
 MOST_VERTICES, MOST_EDGES = 1000, 5000             # of a whole graph
 MOST_ARROWS = 700          # a graph of more edges has lines without arrows
@@ -19,18 +19,7 @@ MOST_EDGE_VALUES = 40      # a graph of more edges shows none of their values
 MOST_LEVELED, MOST_LEVELED_EDGES = 150, 700        # vertices and edges of levels, one by one
 MOST_CIRCLES = 16          # levels that are a circle each; more are a curve
 CROWDED = 45               # vertices one above another that leave no room for names
-MOST_LABELS = 60           # a graph of more vertices has no names on it
 MOST_STRETCH = 1.5         # how many times as wide as high a layout's points are scaled at most
-LARGE, MIDDLE, SMALL = 225., 64., 16.              # areas of dots, in square points
-
-
-class Look(NamedTuple):
-    """What a caller asks for: a value for each vertex that chooses its colour, its size, its text
-    and its position; None for what is left to the picture."""
-    color: Any = None
-    size: Any = None
-    labels: Any = None
-    pos: Any = None
 
 
 def check_is_drawable(G: Matrix) -> None:
@@ -51,7 +40,8 @@ def draw_graph(G: Matrix, look: Look, target: Target) -> Any:
     pairs = {(i, j) for i, j in values if i != j}
     is_directed = any((j, i) not in pairs for i, j in pairs)
     lines = [(i, j) for i, j in sorted(pairs) if is_directed or i < j]
-    colours, areas, texts = choose_colours(G, look), choose_areas(G, look), choose_texts(G, look)
+    colours, areas = pictures.choose_colours(G, look), pictures.choose_areas(G, look)
+    texts = pictures.choose_texts(G, look)
     positions = choose_positions(G, look, pairs)
     side = max(4.8, min(11.0, .9 * math.sqrt(max(1, G.nrows)) + 1.5))
     ax = pictures.open_axes(target, side, side)
@@ -104,41 +94,6 @@ def lay_out(count: int, pairs: Set[Edge]) -> Any:
     positions = positions @ numpy.linalg.svd(positions, full_matrices=False)[2].T
     sides = numpy.ptp(positions, axis=0)
     return positions / numpy.maximum(sides, max(1e-9, sides.max() / MOST_STRETCH))
-
-
-def choose_colours(G: Matrix, look: Look) -> Colours:
-    """Choose a colour for each vertex."""
-    from ..algorithms.results import Communities   # algorithms are slow to import
-    if look.color is None or isinstance(look.color, str):
-        return Colours([look.color or INK] * G.nrows)
-    values = pictures.values_of_vertices(G, look.color, 'color')
-    return pictures.choose_colours(G.nrows, values, isinstance(look.color, Communities))
-
-
-def choose_areas(G: Matrix, look: Look) -> Any:
-    """Choose the area of each vertex' dot. Short names of few vertices fit into the dots."""
-    if look.size is None:
-        few = LARGE if longest_name(G) <= SHORT else MIDDLE
-        return numpy.full(G.nrows, few if G.nrows <= MOST_LABELS else SMALL)
-    if isinstance(look.size, (int, float)):
-        return numpy.full(G.nrows, float(look.size))
-    values = pictures.values_of_vertices(G, look.size, 'size')
-    return pictures.choose_areas(G.nrows, values)
-
-
-def choose_texts(G: Matrix, look: Look) -> Dict[int, str]:
-    """Choose what stands at each vertex."""
-    labels = G.nrows <= MOST_LABELS if look.labels is None else look.labels
-    if isinstance(labels, bool):
-        names = (G.nodes or range(G.nrows)) if labels else ()
-        return {i: str(name) for i, name in enumerate(names)}
-    values = pictures.values_of_vertices(G, labels, 'labels')
-    return {i: str(text) for i, text in values.items()}
-
-
-def longest_name(G: Matrix) -> int:
-    """Count the letters of the longest name of a vertex."""
-    return max((len(str(name)) for name in G.nodes or range(G.nrows)), default=0)
 
 
 def draw_lines(ax: Any, positions: Any, lines: List[Edge], directed: Set[Edge],
@@ -196,7 +151,7 @@ def draw_columns(G: Matrix, at: Mapping[int, int], target: Target,
     is_directed = any((j, i) not in pairs for i, j in pairs)
     deepest = max(at.values(), default=-1)
     columns = order_columns(G.nrows, at, pairs)
-    tallest, longest = max(map(len, columns), default=1), longest_name(G)
+    tallest, longest = max(map(len, columns), default=1), pictures.longest_name(G)
     wide = 1.7 + (.06 * min(LONG, longest) if longest > SHORT else 0)
     high = (.4 if G.nrows <= MOST_LABELS else .2) * tallest
     ax = pictures.open_axes(target, max(5, min(16, wide * len(columns))), max(4, min(9, high)))
@@ -254,32 +209,25 @@ def draw_leveled_dots(ax: Any, G: Matrix, at_xy: Mapping[int, XY], at: Mapping[i
     deepest = max(at.values(), default=-1)
     shades = pictures.shade(numpy.arange(deepest + 1) / max(1, deepest))
     colours = [shades[at[i]] if i in at else PALE for i in range(G.nrows)]
-    areas = choose_areas(G, Look(size=None if G.nrows <= MOST_LABELS else MIDDLE))
+    areas = pictures.choose_areas(G, Look(size=None if G.nrows <= MOST_LABELS else MIDDLE))
     positions = [at_xy[i] for i in range(G.nrows)]
     pictures.draw_dots(ax, positions, colours, areas)
     heights = [y for _, y in positions]
     is_crowded = max(heights, default=0.) - min(heights, default=0.) > CROWDED
     if G.nrows <= MOST_LABELS or not is_crowded:
-        draw_labels(ax, positions, choose_texts(G, Look(labels=True)), colours, areas)
+        draw_labels(ax, positions, pictures.choose_texts(G, Look(labels=True)), colours, areas)
     if len(at) < G.nrows:
         pictures.add_note(ax, 'not reached', (deepest + 1.4, 0), (0, -14), color=GREY,
                           xycoords=('data', 'axes fraction'))
-
-
-def count_between(G: Matrix, at: Mapping[int, int], levels: int) -> Dict[Edge, int]:
-    """Count the entries from each level to each at the server: P G P^T over plus, with P that
-    gathers levels."""
-    vertices = sorted(at)
-    gather = without_names(G.session.from_coo([at[i] for i in vertices], vertices, 1, levels,
-                                              G.nrows))
-    return gather.mxm(G.apply('one'), 'plus_second').mxm(gather.T, 'plus_first').to_dict()
 
 
 def draw_circles(G: Matrix, at: Mapping[int, int], counts: Any, target: Target) -> Any:
     """Draw a circle for each level, whose area follows the logarithm of its vertices, with the
     entries to the next level on a line, and those within it below."""
     ax = pictures.open_axes(target, max(6, 1.7 * len(counts)), 3.6)
-    between = count_between(G, at, len(counts))
+    levels = numpy.full(G.nrows, -1)
+    levels[list(at)] = list(at.values())
+    between = count_in_groups(G, levels, levels).to_dict()
     widest = math.log(max(between.values(), default=1) + 1)
     for (i, j), edges in between.items():
         if j == i + 1:

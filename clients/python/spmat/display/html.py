@@ -9,13 +9,17 @@ and where the budget refuses that, the sizes alone are shown. Matrices in row bl
 from __future__ import annotations
 
 import html
+import itertools
 import math
 from typing import (TYPE_CHECKING, Any, Dict, Iterator, List, Mapping, NamedTuple, Optional,
                     Sequence, Tuple)
 
+import numpy
+
 from ..errors import SpmatError
 from ..metadata import without_names
 from ..units import to_text
+from . import count_in_groups
 
 if TYPE_CHECKING:
     from ..backends.protocol import Budget, JobResult
@@ -74,11 +78,11 @@ def matrix(shown: 'Matrix') -> str:
 def mask(shown: 'Mask') -> str:
     """A mask: of which matrix, where a result may have entries, and that in the corner."""
     of = shown.matrix
-    told = 'no entry' if shown.complement else 'an entry'
+    where = 'no entry' if shown.complement else 'an entry'
     if shown.value:
-        told = 'no entry, or 0' if shown.complement else 'an entry that isn\'t 0'
+        where = 'no entry, or 0' if shown.complement else 'an entry that isn\'t 0'
     about = [sizes(of), 'where %s has %s' % (text_of(of.name) if of.in_one_place else 'the matrix',
-                                             told)]
+                                             where)]
     if not of.in_one_place:
         return headed('Mask', about, '')
     try:
@@ -118,11 +122,11 @@ def sizes(shown: 'Held') -> str:
 
 def known(shown: 'Held') -> List[str]:
     """What is known of a matrix beside its entries."""
-    told = ['undirected'] if shown.directed is False else ['directed'] if shown.directed else []
-    told += (['unit %s' % shown.unit] if shown.unit != 1 else ['values are vertices']
-             if shown.notes.value_names is not None else [])
-    return told + (['named'] if shown.row_nodes is not None or shown.column_nodes is not None
-                   else [])
+    facts = {'directed': shown.directed is True, 'undirected': shown.directed is False,
+             'unit %s' % shown.unit: shown.unit != 1,
+             'values are vertices': shown.unit == 1 and shown.notes.value_names is not None,
+             'named': shown.row_nodes is not None or shown.column_nodes is not None}
+    return [fact for fact, is_so in facts.items() if is_so]
 
 
 def headed(kind: str, about: Sequence[str], rest: str) -> str:
@@ -143,23 +147,20 @@ def few(shown: 'Held') -> Shown:
     for i, j, value in shown.to_triples():
         if i < CORNER and j < CORNER:
             near[i, j] = value
-        cell = _cell(i, shown.nrows), _cell(j, shown.ncols)
+        cell = _cells(i, shown.nrows), _cells(j, shown.ncols)
         counts[cell] = counts.get(cell, 0) + 1
     return Shown(near, counts)
 
 
-def _cell(at: int, count: int) -> int:
-    return at if count <= CELLS else at * CELLS // count
+def _cells(at: Any, count: int) -> Any:
+    """The cell of a raster that a row or a column is in, or those that many are in."""
+    return at * min(CELLS, count) // max(1, count)
 
 
 def many(shown: 'Matrix') -> Shown:
     """What is shown of a matrix of many entries: by one job the corner, by two the raster."""
-    session, (nrows, ncols) = shown.session, shown.shape
-    rows = without_names(session.from_coo([_cell(i, nrows) for i in range(nrows)], range(nrows), 1,
-                                          min(CELLS, nrows), nrows))
-    columns = without_names(session.from_coo(range(ncols), [_cell(j, ncols) for j in range(ncols)],
-                                             1, ncols, min(CELLS, ncols)))
-    near, counts = first_cells(shown), rows.mxm(shown, 'plus_pair').mxm(columns, 'plus_first')
+    near = first_cells(shown)
+    counts = count_in_groups(shown, *(_cells(numpy.arange(side), side) for side in shown.shape))
     return Shown(near.to_dict(), counts.to_dict())
 
 
@@ -216,16 +217,12 @@ def raster(shape: Tuple[int, int], counts: Cells) -> str:
 def _runs(shades: Mapping[Tuple[int, int], int]) -> Iterator[Tuple[Tuple[int, int], int, int]]:
     """Cells beside one another in a row that have one shade: the first, the shade, and how many
     they are."""
-    start, shade, width = (-1, -1), 0, 0
-    for (i, j), next_shade in sorted(shades.items()):
-        if width and (i, j) == (start[0], start[1] + width) and next_shade == shade:
-            width += 1
-            continue
-        if width:
-            yield start, shade, width
-        start, shade, width = (i, j), next_shade, 1
-    if width:
-        yield start, shade, width
+    # of cells beside one another the column and the place in this order differ by the same number
+    cells = enumerate(sorted((*at, shade) for at, shade in shades.items()))
+    for (i, shade, _), run in itertools.groupby(
+            cells, lambda cell: (cell[1][0], cell[1][2], cell[1][1] - cell[0])):
+        columns = [j for _, (_, j, _) in run]
+        yield (i, columns[0]), shade, len(columns)
 
 
 def operator(op: 'Operator') -> str:
@@ -275,15 +272,15 @@ def check(found: 'Check') -> str:
                 colour, said))
 
 
-def budget(told: 'Budget') -> str:
+def budget(shown: 'Budget') -> str:
     """A budget, with a bar of what is spent and reserved."""
-    whole = max(1, sum(told))
+    whole = max(1, sum(shown))
     bar = ''.join('<span style="display:inline-block;height:8px;width:%.1fpx;background:%s"></span>'
                   % (240 * part / whole, colour)
-                  for part, colour in ((told.spent, '#1f4e79'), (told.reserved, '#b5651d'),
-                                       (told.left, '#c9d3dd')))
+                  for part, colour in ((shown.spent, '#1f4e79'), (shown.reserved, '#b5651d'),
+                                       (shown.left, '#c9d3dd')))
     return '<div><b>Budget</b> %s left, %s reserved, %s spent<div>%s</div></div>' % (
-        *(format(number, ',') for number in (told.left, told.reserved, told.spent)), bar)
+        *(format(number, ',') for number in (shown.left, shown.reserved, shown.spent)), bar)
 
 
 def runs(jobs: 'Sequence[JobResult]') -> str:

@@ -1,12 +1,13 @@
 """Parts of pictures: axes to draw on, texts and ticks, colours and legends, dots and edges."""
 from __future__ import annotations
 
+import collections
 import os
 from typing import Any, Dict, List, Mapping, NamedTuple, Optional, Sequence, Tuple, Union
 
 import numpy
 
-from ..errors import DimensionMismatch
+from ..errors import refusal
 from ..extras import import_extra
 from ..matrix import Matrix
 
@@ -19,6 +20,8 @@ MOST_VALUES = 12           # of more different values a colour bar shows the ran
 MOST_HUES = 9              # of more groups the smallest share a grey
 INK, PALE, GREY, WARM, LINE = '#1f4e79', '#c9d3dd', '#5a6672', '#b5651d', '#9aa7b4'
 LEAST_AREA, MOST_AREA = 20., 500.                  # of dots that have a size, in square points
+LARGE, MIDDLE, SMALL = 225., 64., 16.              # areas of other dots
+MOST_LABELS = 60           # a graph of more vertices has no names on it
 
 
 # -- axes
@@ -144,8 +147,8 @@ def values_of_vertices(G: Matrix, given: Any, what: str) -> Dict[int, Any]:
     """
     if isinstance(given, Matrix):
         if given.shape not in ((G.nrows, 1), (1, G.nrows)):
-            raise DimensionMismatch('%s: expected a column of %d rows, a value for each vertex, '
-                                    'got %dx%d' % (what, G.nrows, *given.shape))
+            raise refusal('J5', detail='%s: expected a column of %d rows, a value for each vertex, '
+                          'got %dx%d' % (what, G.nrows, *given.shape))
         given = given.by_node()
     elif hasattr(given, 'to_dict'):                # a Series of pandas
         given = given.to_dict()
@@ -155,9 +158,18 @@ def values_of_vertices(G: Matrix, given: Any, what: str) -> Dict[int, Any]:
         raise TypeError('%s: expected a column, a dict or a value for each vertex, got %r'
                         % (what, given))
     if len(given) != G.nrows:
-        raise DimensionMismatch('%s: expected %d values, one for each vertex, got %d'
-                                % (what, G.nrows, len(given)))
+        raise refusal('J5', detail='%s: expected %d values, one for each vertex, got %d'
+                      % (what, G.nrows, len(given)))
     return dict(enumerate(given))
+
+
+class Look(NamedTuple):
+    """What a caller asks for: a value for each vertex that chooses its colour, its size, its text
+    and its position; None for what is left to the picture."""
+    color: Any = None
+    size: Any = None
+    labels: Any = None
+    pos: Any = None
 
 
 class Colours(NamedTuple):
@@ -169,52 +181,43 @@ class Colours(NamedTuple):
     title: Optional[str] = None
 
 
-def choose_colours(count: int, values: Mapping[int, Any], are_groups: bool) -> Colours:
-    """Colour vertices by their values: groups and names by hues, a few whole numbers by shades,
+def choose_colours(G: Matrix, look: Look) -> Colours:
+    """Choose a colour for each vertex: groups and names by hues, a few whole numbers by shades,
     others by a scale. Vertices without a value are pale."""
+    from ..algorithms.results import Communities   # algorithms are slow to import
+    if look.color is None or isinstance(look.color, str):
+        return Colours([look.color or INK] * G.nrows)
+    values = values_of_vertices(G, look.color, 'color')
+    are_groups, scale = isinstance(look.color, Communities), None
     are_numbers = all(isinstance(value, (int, float, numpy.number)) for value in values.values())
     distinct = sorted(set(values.values())) if are_numbers else []
     if are_groups or not are_numbers:
-        found = _choose_hues(values)
+        colours, legend = _choose_hues(values)
     elif len(distinct) <= MOST_VALUES and all(value == int(value) for value in distinct):
         shares = numpy.arange(len(distinct)) / max(1, len(distinct) - 1)
-        shades = dict(zip(distinct, shade(shares)))
-        found = shades, [(shades[value], format(int(value), ',')) for value in distinct]
+        colours = dict(zip(distinct, shade(shares)))
+        legend = [(colours[value], format(int(value), ',')) for value in distinct]
     else:
-        return _choose_scale(count, values)
-    colours, legend = found
-    dots = [colours[values[i]] if i in values else PALE for i in range(count)]
-    title = 'community (vertices)' if are_groups else None
-    return Colours(dots, legend + _explain_pale(count, values), title=title)
-
-
-def _explain_pale(count: int, values: Mapping[int, Any]) -> List[Tuple[Any, str]]:
-    return [(PALE, 'no value')] if len(values) < count else []
+        bounds = import_extra('matplotlib.colors', 'a picture').Normalize(distinct[0], distinct[-1])
+        scale = import_extra('matplotlib.cm', 'a picture').ScalarMappable(bounds, 'viridis_r')
+        colours, legend = {value: scale.to_rgba(value) for value in distinct}, []
+    dots = [colours[values[i]] if i in values else PALE for i in range(G.nrows)]
+    pale = [(PALE, 'no value')] if len(values) < G.nrows else []
+    return Colours(dots, [*legend, *pale], scale, 'community (vertices)' if are_groups else None)
 
 
 def _choose_hues(values: Mapping[int, Any]) -> Tuple[Dict[Any, Any], List[Tuple[Any, str]]]:
     """Give the largest groups a hue each. A legend names a group by its value, with its size."""
-    sizes: Dict[Any, int] = {}
-    for value in values.values():
-        sizes[value] = sizes.get(value, 0) + 1
-    order = sorted(sizes, key=lambda value: -sizes[value])
-    hues = import_extra('matplotlib', 'a picture').colormaps['tab10'].colors
-    hues = [hue for at, hue in enumerate(hues) if at != 7]         # the eighth is grey
-    colours = {value: hues[at] if at < MOST_HUES else GREY for at, value in enumerate(order)}
-    legend = [(colours[value], '%s (%s)' % (shorten(value), format(sizes[value], ',')))
-              for value in order[:MOST_HUES]]
-    others = len(order) - MOST_HUES
-    return colours, legend + ([(GREY, count_words(others, 'other'))] if others > 0 else [])
-
-
-def _choose_scale(count: int, values: Mapping[int, Any]) -> Colours:
-    """Colour numbers by where they are between the least and the greatest."""
-    colors = import_extra('matplotlib.colors', 'a picture')
-    cm = import_extra('matplotlib.cm', 'a picture')
-    scale = cm.ScalarMappable(colors.Normalize(min(values.values()), max(values.values())),
-                              'viridis_r')
-    dots = [scale.to_rgba(values[i]) if i in values else PALE for i in range(count)]
-    return Colours(dots, _explain_pale(count, values), scale)
+    sizes = collections.Counter(values.values()).most_common()
+    hues = list(import_extra('matplotlib', 'a picture').colormaps['tab10'].colors)
+    del hues[7]                                    # a grey
+    shown = sizes[:MOST_HUES]
+    colours = {**dict.fromkeys(values.values(), GREY),
+               **{value: hue for (value, _), hue in zip(shown, hues)}}
+    legend = [(colours[value], '%s (%s)' % (shorten(value), format(size, ',')))
+              for value, size in shown]
+    others = len(sizes) - len(shown)
+    return colours, legend + ([(GREY, count_words(others, 'other'))] if others else [])
 
 
 def shade(shares: Any) -> Any:
@@ -236,17 +239,38 @@ def add_legend(ax: Any, colours: Colours) -> None:
         bar.ax.tick_params(labelsize=8)
 
 
-def choose_areas(count: int, values: Mapping[int, Any]) -> Any:
-    """Give each vertex a dot whose area grows with its value. ValueError for a value below 0."""
-    numbers = numpy.zeros(count)
+def choose_areas(G: Matrix, look: Look) -> Any:
+    """Choose the area of each vertex' dot, which grows with its value. Short names of few vertices
+    fit into the dots. ValueError for a value below 0."""
+    if look.size is None:
+        few = LARGE if longest_name(G) <= SHORT else MIDDLE
+        return numpy.full(G.nrows, few if G.nrows <= MOST_LABELS else SMALL)
+    if isinstance(look.size, (int, float)):
+        return numpy.full(G.nrows, float(look.size))
+    values = values_of_vertices(G, look.size, 'size')
+    numbers = numpy.zeros(G.nrows)
     numbers[list(values)] = [float(value) for value in values.values()]
-    if count and numbers.min() < 0:
+    if (numbers < 0).any():
         raise ValueError('size: expected numbers of 0 or more, got %g' % numbers.min())
     return LEAST_AREA + (MOST_AREA - LEAST_AREA) * numbers / numpy.max(numbers, initial=1e-300)
 
 
-# -- dots and edges
+def choose_texts(G: Matrix, look: Look) -> Dict[int, str]:
+    """Choose what stands at each vertex."""
+    labels = G.nrows <= MOST_LABELS if look.labels is None else look.labels
+    if isinstance(labels, bool):
+        names = (G.nodes or range(G.nrows)) if labels else ()
+        return {i: str(name) for i, name in enumerate(names)}
+    values = values_of_vertices(G, labels, 'labels')
+    return {i: str(text) for i, text in values.items()}
 
+
+def longest_name(G: Matrix) -> int:
+    """Count the letters of the longest name of a vertex."""
+    return max((len(str(name)) for name in G.nodes or range(G.nrows)), default=0)
+
+
+# -- dots and edges
 
 class Strokes(NamedTuple):
     """How an edge is drawn: its colour and width, how much it bends, whether it has an arrow."""

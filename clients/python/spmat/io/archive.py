@@ -19,7 +19,7 @@ import struct
 import zipfile
 import zlib
 from fractions import Fraction
-from typing import Any, Dict, Iterator, List, Mapping, NamedTuple, Optional, Sequence, Tuple
+from typing import Any, Dict, Iterator, List, Mapping, NamedTuple, Optional, Tuple
 
 import numpy
 
@@ -31,7 +31,7 @@ from . import matrix_market
 from .coo import MOST
 from .exporters import Held
 from .files import RATIO, SMALL, replacing
-from .time_values import UNITS
+from .values import UNITS
 
 CONTENTS = 'matrices.json'
 VERSION = 2                                        # 1 has no units, and no values that are vertices
@@ -160,29 +160,20 @@ def _notes(about: Dict[str, Any], shape: Tuple[int, int]) -> Notes:
     vertices = _decoded(about.get('values'), None, rows)
     # which older files don't say
     words = _typed(about.get('unnamed', ['positions', 'positions']), list, 'unnamed')
-    unnamed = [Unnamed[_typed(word, str, 'unnamed').upper()] for word in words]
+    if len(words) != 2:
+        raise ValueError('unnamed: expected two words, of rows and of columns, got %d' % len(words))
+    first, second = (Unnamed[_typed(word, str, 'unnamed').upper()] for word in words)
     for what in ('directed', 'weighted'):
         if about[what] is not None:
             _typed(about[what], bool, what)
-    unit = about.get('unit', '1')
+    unit, sides = about.get('unit', '1'), about.get('sides', 0)
     if unit not in UNITS and UNIT.fullmatch(str(unit)) is None:
         raise ValueError('a unit is a number above 0, not %.40r' % (unit,))
+    if type(sides) is not int or not -1 <= sides <= 1:
+        raise ValueError('sides are -1, 0 or 1, not %.40r' % (sides,))
     return Notes(rows, columns, about['directed'], about['weighted'],
                  _typed(about['source'], str, 'source'),
-                 as_unit(unit if unit in UNITS else Fraction(unit)), vertices, *_two(unnamed),
-                 _sides(about.get('sides', 0)))
-
-
-def _sides(given: Any) -> int:
-    if given not in (-1, 0, 1) or isinstance(given, (bool, float)):
-        raise ValueError('sides are -1, 0 or 1, not %.40r' % (given,))
-    return int(given)
-
-
-def _two(words: Sequence[Unnamed]) -> Tuple[Unnamed, Unnamed]:
-    if len(words) != 2:
-        raise ValueError('unnamed: expected two words, of rows and of columns, got %d' % len(words))
-    return words[0], words[1]
+                 as_unit(unit if unit in UNITS else Fraction(unit)), vertices, first, second, sides)
 
 
 def _check_vertices(member: Member, text: bytes) -> None:

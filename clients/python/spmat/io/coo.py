@@ -1,11 +1,11 @@
 """Triples from what callers have, looked at before anything is sent: lists, arrays of numpy,
-scipy.sparse."""
+compressed rows or columns, dicts, scipy.sparse. And back."""
 from __future__ import annotations
 
 import math
 import numbers
 import operator
-from typing import Any, Callable, Iterable, List, Mapping, Optional, Tuple
+from typing import Any, Callable, Dict, Iterable, List, Mapping, Optional, Tuple
 
 import numpy
 
@@ -15,6 +15,8 @@ from .arrays import columns_of_frame, is_frame, is_gap, is_many, plain_column
 from .matrix_text import Triples
 
 LEAST, MOST = -1 << 63, (1 << 63) - 1
+ORDERS = {'rowwise': True, 'columnwise': False}
+Columns = Tuple[Any, Any, Any]
 DUP_OP = 'dup_op= folds the values of a position that repeats'
 
 
@@ -143,6 +145,14 @@ def _whole_at(number: Any, what: str, at: int) -> int:
         raise type(fault)('%s (entry %d)' % (fault, at)) from None
 
 
+def _word_at(number: Any, what: str, at: int) -> int:
+    """A whole number within 64 bits; errors name its place."""
+    got = _whole_at(number, what, at)
+    if not LEAST <= got <= MOST:
+        raise ValueError('%s %d is not in -2^63 to 2^63 - 1 (entry %d)' % (what, got, at))
+    return got
+
+
 def side(given: Optional[int], least: int, what: str) -> int:
     """A matrix's size: the given one, or the least that fits. TooLarge above the server's limit."""
     size = least if given is None else whole(given, what)
@@ -167,7 +177,7 @@ def whole_array(many: Any, what: str) -> Any:
     if array.ndim != 1:
         raise ValueError('expected one dimension of %ss, got %d' % (what, array.ndim))
     if array.dtype.kind == 'O' or not len(array):
-        return numpy.array([word(_whole_at(number, what, at), what)
+        return numpy.array([_word_at(number, what, at)
                             for at, number in enumerate(array.tolist())], numpy.int64)
     if array.dtype.kind not in 'biuf':
         since = (
@@ -193,55 +203,44 @@ def from_dense(cells: Any, missing: Any = None) -> Triples:
     """The cells of a table, an array of two dimensions or a list of lists, but for those that are
     `missing` (None: no cell), and masked ones. ValueError with its row and column for a cell that
     holds no value."""
-    if isinstance(cells, numpy.ndarray) and cells.dtype.kind != 'O':
-        return _from_array(cells, missing)
-    ncols = cells.shape[1] if isinstance(cells, numpy.ndarray) else len(cells[0]) if cells else 0
-    rows = _unmasked(cells) if isinstance(cells, numpy.ndarray) else cells
-    if any(len(row) != ncols for row in rows):
-        raise ValueError('rows of %s cells' % ' and '.join(sorted({str(len(row)) for row in rows})))
-    chosen = [(i, j, cell) for i, row in enumerate(rows) for j, cell in enumerate(row)
-              if cell is not MASKED and not _is_missing(cell, missing)]
-    for i, j, cell in chosen:
-        if is_gap(cell):
-            raise _gap(i, j, cell)
-    at, columns, values = zip(*chosen) if chosen else ((), (), ())
-    return Triples(at, columns, values, len(rows), ncols)
+    if not isinstance(cells, numpy.ndarray):
+        cells = _as_objects(cells)
+    hidden: Any = numpy.ma.getmaskarray(cells)  # type: ignore[no-untyped-call]
+    table, chosen = numpy.asarray(cells), ~hidden
 
-
-MASKED = object()                                  # what stands in a cell that an array masks
-
-
-def _unmasked(table: Any) -> List[List[Any]]:
-    """The rows of an array of objects."""
-    hidden: Any = numpy.ma.getmaskarray(table)  # type: ignore[no-untyped-call]
-    return [[MASKED if out else cell for cell, out in zip(row, gone)]
-            for row, gone in zip(numpy.asarray(table).tolist(), hidden)]
-
-
-def _is_missing(cell: Any, missing: Any) -> bool:
-    """Whether a cell is what stands for no entry. NaN stands for all that is missing."""
-    return (missing is not None and (is_gap(cell) if is_gap(missing) else not is_gap(cell)
-                                     and bool(cell == missing)))
-
-
-def _gap(i: int, j: int, cell: Any) -> ValueError:
-    return ValueError(
-        'the cell at row %d, column %d is missing (%s): fill it, or missing=float("nan") leaves '
-        'such cells out' % (i, j, 'nan' if isinstance(cell, float) else repr(cell)))
-
-
-def _from_array(table: Any, missing: Any) -> Triples:
-    hidden: Any = numpy.ma.getmaskarray(table)  # type: ignore[no-untyped-call]
-    values, chosen = numpy.asarray(table), ~hidden
-    gaps = numpy.isnan(values) if values.dtype.kind == 'f' else numpy.zeros(values.shape, bool)
-    if missing is not None:
-        chosen &= ~gaps if is_gap(missing) else gaps | (values != missing)
+    def find(holds: Callable[[Any], bool]) -> Any:
+        """The cells of objects of which something holds."""
+        return numpy.fromiter(map(holds, table.flat), bool, table.size).reshape(table.shape)
+    is_object = table.dtype.kind == 'O'
+    gaps = (find(is_gap) if is_object else numpy.isnan(table) if table.dtype.kind == 'f'
+            else numpy.zeros(table.shape, bool))
+    if missing is not None and is_gap(missing):    # NaN stands for all that is missing
+        chosen &= ~gaps
+    elif missing is not None:
+        chosen &= gaps | ~(find(lambda cell: not is_gap(cell) and bool(cell == missing))
+                           if is_object else table == missing)
     i, j = numpy.nonzero(chosen)
     wrong = gaps[i, j]
     if wrong.any():
-        at = int(wrong.argmax())
-        raise _gap(int(i[at]), int(j[at]), float('nan'))
-    return Triples(i, j, values[i, j], *values.shape)
+        row, column = int(i[wrong.argmax()]), int(j[wrong.argmax()])
+        cell = table[row, column]
+        raise ValueError(
+            'the cell at row %d, column %d is missing (%s): fill it, or missing=float("nan") '
+            'leaves such cells out' % (row, column, 'nan' if isinstance(cell, float)
+                                       else repr(cell)))
+    return Triples(i, j, table[i, j], *table.shape)
+
+
+def _as_objects(rows: List[List[Any]]) -> Any:
+    """A list of rows as an array of whatever their cells are."""
+    ncols = len(rows[0]) if rows else 0
+    if any(len(row) != ncols for row in rows):
+        raise ValueError('rows of %s cells' % ' and '.join(sorted({str(len(row)) for row in rows})))
+    table = numpy.empty((len(rows), ncols), object)
+    for at, row in enumerate(rows):
+        for column, cell in enumerate(row):        # one by one, as a cell may be a list itself
+            table[at, column] = cell
+    return table
 
 
 def indices(n: int) -> Any:
@@ -310,3 +309,77 @@ def unrepeated(triples: Triples, fold: Fold) -> Triples:
         (triples.rows[alone], triples.rows[first]),
         (triples.columns[alone], triples.columns[first]), (triples.values[alone], folded)))
     return Triples(rows, columns, values, triples.nrows, triples.ncols)
+
+
+# -- compressed rows and columns, and dicts
+
+def to_compressed(entries: Columns, count: int) -> Columns:
+    """Where the entries of each row begin, and at last how many there are; their columns and
+    values. Rows ascend."""
+    rows, columns, values = entries
+    return numpy.searchsorted(rows, numpy.arange(count + 1)), columns, values
+
+
+def by_columns(entries: Columns) -> Columns:
+    """Entries by ascending column, and each column's by ascending row: columns, rows, values."""
+    rows, columns, values = entries
+    order = numpy.argsort(columns, kind='stable')
+    return columns[order], rows[order], values[order]
+
+
+def expand(indptr: Any, others: Any, what: str) -> Any:
+    """The row (or column) of each entry, of where the rows begin."""
+    beginnings = whole_array(indptr, 'beginning')
+    if not len(beginnings) or beginnings[0] != 0 or beginnings[-1] != len(others):
+        raise ValueError(
+            'the beginnings of the %ss go from 0 to the number of entries, %d, and not %s' % (
+                what, len(others), 'from %d to %d' % (beginnings[0], beginnings[-1])
+                if len(beginnings) else 'over none'))
+    counts = numpy.diff(beginnings)
+    if (counts < 0).any():
+        at = int((counts < 0).argmax())
+        raise ValueError('the beginnings of the %ss ascend, and %d comes after %d (entry %d)'
+                         % (what, beginnings[at + 1], beginnings[at], at + 1))
+    return numpy.repeat(numpy.arange(len(counts)), counts)
+
+
+def side_of(indptr: Any, given: Optional[int], what: str) -> int:
+    """The number of rows (or columns) that have beginnings. ValueError where another one is
+    given."""
+    count = len(indptr) - 1
+    if given is not None and given != count:
+        raise ValueError('%d %ss are given, and the beginnings are of %d' % (given, what, count))
+    return count
+
+
+def to_dicts(entries: Columns, order: str) -> Dict[int, Dict[int, int]]:
+    """A dict of the entries of each row, or column, that has some."""
+    rows, columns, values = (part.tolist()
+                             for part in (entries if _is_rowwise(order) else by_columns(entries)))
+    out: Dict[int, Dict[int, int]] = {}
+    for row, column, value in zip(rows, columns, values):
+        out.setdefault(row, {})[column] = value
+    return out
+
+
+def from_dicts(nested: Any, order: str) -> Columns:
+    """Rows, columns and values of a dict for each row, or column. TypeError for what is no such
+    dict, and for names."""
+    if not isinstance(nested, dict) or not all(isinstance(inner, dict)
+                                               for inner in nested.values()):
+        raise TypeError('expected {row: {column: value}}, got %s' % (
+            'a dict of other things' if isinstance(nested, dict) else type(nested).__name__))
+    triples = [(row, column, value) for row, inner in nested.items()
+               for column, value in inner.items()]
+    if any(not hasattr(end, '__index__') for row, column, _ in triples for end in (row, column)):
+        raise TypeError(
+            'rows and columns are numbers from 0: s.from_edgelist((a, b, x) for a, inner in '
+            'nested.items() for b, x in inner.items()) takes names')
+    rows, columns, values = zip(*triples) if triples else ((), (), ())
+    return (rows, columns, values) if _is_rowwise(order) else (columns, rows, values)
+
+
+def _is_rowwise(order: str) -> bool:
+    if order not in ORDERS:
+        raise ValueError('order is "rowwise" or "columnwise", not %r' % (order,))
+    return ORDERS[order]

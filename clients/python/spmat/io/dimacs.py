@@ -8,16 +8,16 @@ second's (.col, .clq).
 from __future__ import annotations
 
 import re
-from typing import Any, List, NamedTuple, NoReturn, Optional, Tuple
+from typing import Any, List, NamedTuple, Optional, Tuple
 
 import numpy
 
 from ..errors import ReadError, refusal
 from ..limits import MOST_SIDE
-from .edge_values import scaled_array, whole_values
 from .edges import Edges
-from .matrix_market import even_lines
-from .matrix_text import line_at
+from .matrix_market import Kind, Values, read_quickly
+from .matrix_text import line_at, start_of_line
+from .values import Rounding, whole_values
 
 ARCS = {'sp': b'a', 'max': b'a', 'edge': b'e', 'edges': b'e', 'col': b'e'}
 PASSED = (b'c', b'n', b'x', b'd', b'v')             # comments, and what is told of single vertices
@@ -51,9 +51,8 @@ def read(file: str, text: bytes, values: bool = True,
     edges = (_quickly(file, text, problem, values, scale)
              or _slowly(file, text, problem, values, scale))
     if len(edges.sources) != problem.edges:
-        raise ReadError(file, problem.number,
-                        '%d edges stand there, and this line says %d'
-                        % (len(edges.sources), problem.edges), line_at(text, problem.number))
+        raise _fault(file, text, problem.number, '%d edges stand there, and this line says %d'
+                     % (len(edges.sources), problem.edges))
     return edges, problem
 
 
@@ -62,61 +61,38 @@ def problem_of(file: str, text: bytes) -> Problem:
     for number, line in enumerate(text.split(b'\n'), 1):
         words = line.decode('utf-8', 'replace').split()
         if words and words[0] == 'p':
-            if len(words) != 4 or words[1] not in ARCS or not (words[2].isdigit()
-                                                               and words[3].isdigit()):
-                raise ReadError(file, number,
-                                'a line `p` says the kind (%s), the vertices and the edges'
-                                % ', '.join(sorted(ARCS)), line_at(text, number))
+            if (len(words) != 4 or words[1] not in ARCS
+                or not (words[2].isdigit() and words[3].isdigit())):
+                raise _fault(file, text, number,
+                             'a line `p` says the kind (%s), the vertices and the edges'
+                             % ', '.join(sorted(ARCS)))
             if int(words[2]) > MOST_SIDE:
                 raise refusal('M4', detail='%s vertices (line %d of %s)' % (words[2], number, file))
             return Problem(words[1], int(words[2]), int(words[3]), number)
         if words and words[0] != 'c':
-            raise ReadError(file, number,
-                            'no graph of DIMACS: a line `p KIND VERTICES EDGES` comes first',
-                            line_at(text, number))
+            raise _fault(file, text, number,
+                         'no graph of DIMACS: a line `p KIND VERTICES EDGES` comes first')
     raise ReadError(file, None, 'no graph of DIMACS: it has no line `p KIND VERTICES EDGES`')
 
 
 def _quickly(file: str, text: bytes, problem: Problem, values: bool,
              scale: Optional[float]) -> Optional[Edges]:
-    """All lines at once by numpy, where nothing but edges stands behind the line `p`."""
-    start = _behind(text, problem.number)
-    letter, body = ARCS[problem.kind], text[start:].rstrip()
-    fields = 3 if problem.directed else 2
-    if body.translate(None,
-                      b'0123456789.eE+- \t\r\n' + letter) or re.search(rb'[0-9.]-|-(?![0-9.])',
-                                                                       body):
+    """All lines at once, as those of Matrix Market, where nothing but edges stands behind the line
+    `p`."""
+    body = text[start_of_line(text, problem.number + 1):].rstrip() + b'\n'
+    plain, lines = re.subn(rb'(?m)^%s[ \t]+' % ARCS[problem.kind], b'', body)
+    kind = Kind(False, 'real' if problem.directed else 'pattern', 'general', Values(values, scale))
+    found = (read_quickly(kind, plain, lines, problem.vertices, problem.vertices)
+             if lines == body.count(b'\n') else None)
+    if found is None:
         return None
-    plain, lines = re.subn(rb'(?m)^%s(?=[ \t])' % letter, b'', body)
-    if even_lines(plain, fields) != lines or letter in plain:
-        return None
-    found = numpy.fromstring(plain, numpy.float64, sep=' ')
-    if len(found) != lines * fields:
-        return None
-    found = found.reshape(-1, fields)
-    if (found[:, :2] != numpy.trunc(found[:, :2])).any():
-        return None
-    ends = [found[:, at].astype(numpy.int64) for at in (0, 1)]
-    if any(len(end) and not (1 <= end.min() and end.max() <= problem.vertices) for end in ends):
-        return None
-    weights = scaled_array(found[:, 2], scale) if fields == 3 and values else None
-    if fields == 3 and values and weights is None:
-        return None
-    return Edges(ends[0], ends[1], weights,
-                 lambda at, words: ReadError(file, problem.number + 1 + at, words,
-                                             line_at(text, problem.number + 1 + at)))
-
-
-def _behind(text: bytes, number: int) -> int:
-    """Where the line behind line `number` begins."""
-    at = 0
-    for _ in range(number):
-        at = text.find(b'\n', at) + 1 or len(text)
-    return at
+    return Edges(found.rows + 1, found.columns + 1, None if kind.is_bare else found.values,
+                 lambda at, words: _fault(file, text, problem.number + 1 + at, words))
 
 
 def _slowly(file: str, text: bytes, problem: Problem, values: bool,
             scale: Optional[float]) -> Edges:
+    """Line by line, so that whatever is wrong is named."""
     letter = ARCS[problem.kind]
     numbers: List[int] = []
     ends: Tuple[List[int], List[int]] = ([], [])
@@ -126,26 +102,25 @@ def _slowly(file: str, text: bytes, problem: Problem, values: bool,
         if number <= problem.number or not words or words[0] in PASSED:
             continue
         if words[0] != letter or len(words) != (4 if problem.directed else 3):
-            _wrong(file, text, number,
-                   'an edge of this kind is `%s FROM TO%s`'
-                   % (letter.decode(), ' VALUE' if problem.directed else ''))
+            raise _fault(file, text, number, 'an edge of this kind is `%s FROM TO%s`' % (
+                letter.decode(), ' VALUE' if problem.directed else ''))
         for end, word in zip(ends, words[1:3]):
             if not word.isdigit() or not 1 <= int(word) <= problem.vertices:
-                _wrong(file, text, number,
-                       'a vertex is 1 to %d, not %s' % (problem.vertices,
-                                                        word.decode('utf-8', 'replace')))
+                raise _fault(file, text, number, 'a vertex is 1 to %d, not %s' % (
+                    problem.vertices, word.decode('utf-8', 'replace')))
             end.append(int(word))
         numbers.append(number)
         fields.append(words[-1].decode('utf-8', 'replace'))
+
+    def fault(at: int, words: str) -> ReadError:
+        return _fault(file, text, numbers[at], words)
     weights: Any = None
     if problem.directed and values:
-        weights = numpy.array(whole_values(
-            fields, scale, lambda at, words: ReadError(file, numbers[at], words,
-                                                       line_at(text, numbers[at]))), numpy.int64)
-    columns = [numpy.array(end, numpy.int64) for end in ends]
-    return Edges(columns[0], columns[1], weights,
-                 lambda at, words: ReadError(file, numbers[at], words, line_at(text, numbers[at])))
+        weights = numpy.array(whole_values(fields, fault, Rounding(scale)), numpy.int64)
+    sources, targets = (numpy.array(end, numpy.int64) for end in ends)
+    return Edges(sources, targets, weights, fault)
 
 
-def _wrong(file: str, text: bytes, number: int, words: str) -> NoReturn:
-    raise ReadError(file, number, words, line_at(text, number))
+def _fault(file: str, text: bytes, number: int, words: str) -> ReadError:
+    """The error of a line."""
+    return ReadError(file, number, words, line_at(text, number))

@@ -16,11 +16,10 @@ from ..extras import import_extra
 from ..mask import warn_user
 from ..metadata import (COLUMNS, NOTHING, ROWS, Nodes, Notes, axes_of, check_one_kind, given_axis,
                         list_of_names, vertices_of)
-from ..rescaling import rescaled
-from ..units import Unit, are_decimals, as_unit, is_whole, to_decimals
-from . import compressed, coo, files, matrix_text
-from .dense import dense
-from .file_writers import Written
+from ..units import Unit, are_decimals, as_unit, is_whole, rescaled, to_decimals
+from . import coo, files, matrix_text
+from .arrays import dense
+from .writers import Written
 
 if TYPE_CHECKING:
     from ..session import Session
@@ -45,16 +44,34 @@ class Held(Written):
 
     @property
     def shape(self) -> Tuple[int, int]:
-        """Rows and columns."""
+        """Rows and columns.
+
+        Returns
+        -------
+        tuple of two int
+            `nrows` and `ncols`.
+        """
         return self.nrows, self.ncols
 
     @property
     def nodes(self) -> Optional[List[Any]]:
-        """The names of the vertices: of the rows of a column, of the columns of a row, and of the
-        rows of a square matrix whose columns have the same. None where there are none, or rows and
-        columns have different ones (`row_nodes`, `column_nodes`). Results carry the names of what
-        they are made of. They can be set: `G.nodes = names`; ValueError where one stands twice, or
-        has an end of line in it."""
+        """The names of the vertices.
+
+        They are those of the rows of a column, of the columns of a row, and of the rows of a square
+        matrix whose columns have the same. Results carry the names of what they are made of. They
+        can be set: `G.nodes = names`.
+
+        Returns
+        -------
+        list or None
+            None where there are none, or rows and columns have different ones (`row_nodes`,
+            `column_nodes`).
+
+        Raises
+        ------
+        ValueError
+            Where a name that is set stands twice, or has an end of line in it.
+        """
         if 1 in self.shape and self.shape != (1, 1):
             return self.notes.rows if self.ncols == 1 else self.notes.columns
         axis = vertices_of(self.notes)
@@ -68,7 +85,15 @@ class Held(Written):
 
     @property
     def row_nodes(self) -> Optional[List[Any]]:
-        """The names of the rows, None where they have none. They can be set as `nodes`."""
+        """The names of the rows.
+
+        They can be set as `nodes`.
+
+        Returns
+        -------
+        list or None
+            None where they have none.
+        """
         return self.notes.rows
 
     @row_nodes.setter
@@ -77,7 +102,15 @@ class Held(Written):
 
     @property
     def column_nodes(self) -> Optional[List[Any]]:
-        """The names of the columns, None where they have none. They can be set as `nodes`."""
+        """The names of the columns.
+
+        They can be set as `nodes`.
+
+        Returns
+        -------
+        list or None
+            None where they have none.
+        """
         return self.notes.columns
 
     @column_nodes.setter
@@ -86,17 +119,35 @@ class Held(Written):
 
     @property
     def directed(self) -> Optional[bool]:
-        """False where the matrix is known to be that of an undirected graph, whose entries stand
-        both ways with one value; True where it was read as a directed one; None where nothing is
-        known."""
+        """Whether the matrix is that of a directed graph.
+
+        Returns
+        -------
+        bool or None
+            False where the matrix is known to be that of an undirected graph, whose entries stand
+            both ways with one value; True where it was read as a directed one; None where nothing
+            is known.
+        """
         return self.notes.directed
 
     @property
     def unit(self) -> Unit:
-        """What the stored whole numbers are parts of: x stands for x / unit. It is 100 for what was
-        read with `scale=100`, and 1 unless anything is known. It can be set, `A.unit = 100`, which
-        changes no stored number, so that each stands for another one. Of times it is "s" or the
-        like, which counts as a number of 1. ValueError where it is neither."""
+        """What the stored whole numbers are parts of: x stands for x / unit.
+
+        It can be set, `A.unit = 100`, which changes no stored number, so that each stands for
+        another one.
+
+        Returns
+        -------
+        int or Fraction
+            100 for what was read with `scale=100`, and 1 unless anything is known. Of times it is
+            "s" or the like, which counts as a number of 1.
+
+        Raises
+        ------
+        ValueError
+            Where what is set is neither a number above 0 nor a unit of times.
+        """
         return self.notes.unit
 
     @unit.setter
@@ -142,9 +193,28 @@ class Held(Written):
         return made
 
     def index(self, node: Any, axis: int = 0) -> int:
-        """The row (with `axis=1` the column) of a vertex: the place of its name where rows have
-        names, else the number itself. Where no name is a number, numbers are places as well.
-        ValueError where there is no such vertex."""
+        """The row of a vertex, or with `axis=1` the column.
+
+        It is the place of its name where rows have names, else the number itself. Where no name is
+        a number, numbers are places as well.
+
+        Parameters
+        ----------
+        node : name or int
+            The vertex.
+        axis : int, default 0
+            0 for the row, 1 for the column.
+
+        Returns
+        -------
+        int
+            The place, from 0.
+
+        Raises
+        ------
+        ValueError
+            Where there is no such vertex.
+        """
         names, count = self.notes.names(axis), self.shape[axis]
         if names is not None:
             try:
@@ -162,20 +232,65 @@ class Held(Written):
     # -- what it holds
 
     def to_text(self) -> bytes:
-        """The canonical Matrix Market text: coordinate integer general, entries by ascending row
-        and column. Runs the queue where this matrix waits, as all of the following do."""
+        """The canonical Matrix Market text.
+
+        Returns
+        -------
+        bytes
+            Coordinate integer general, entries by ascending row and column.
+
+        Notes
+        -----
+        Runs the queue where this matrix waits, as all of the following do.
+        """
         raise NotImplementedError
 
     def to_coo(self, *, arrays: Optional[bool] = None, dtype: Any = None) -> Tuple[Any, Any, Any]:
-        """Rows, columns (from 0) and values, by ascending row and column: arrays of numpy, or with
-        `arrays=False` lists. Those of a part count within the part: `from_coo(*part.to_coo(),
-        nodes=part.nodes)` has its names again, and `to_edgelist` gives names. Values are the stored
-        whole numbers, with `dtype=float` what these stand for. In python-graphblas the same
-        name."""
+        """Rows, columns (from 0) and values, by ascending row and column.
+
+        Those of a part count within the part: `from_coo(*part.to_coo(), nodes=part.nodes)` has its
+        names again, and `to_edgelist` gives names.
+
+        Parameters
+        ----------
+        arrays : bool, optional
+            False gives lists in place of arrays of numpy.
+        dtype : type, optional
+            With float, values are what the stored whole numbers stand for; else they are these
+            numbers.
+
+        Returns
+        -------
+        tuple of three arrays or lists
+            Rows, columns and values.
+
+        Notes
+        -----
+        Runs the queue where this matrix waits. In python-graphblas the same name.
+
+        Examples
+        --------
+        >>> s.from_coo([0, 1], [1, 0], [5, 6], 2, 2).to_coo(arrays=False)
+        ([0, 1], [1, 0], [5, 6])
+        """
         return self.entries(arrays=arrays, dtype=dtype)
 
     def entries(self, *, arrays: Optional[bool] = None, dtype: Any = None) -> Tuple[Any, Any, Any]:
-        """Rows, columns and values, as `Matrix.to_coo` has them, also of a vector."""
+        """Rows, columns and values, as `Matrix.to_coo` has them, also of a vector.
+
+        Parameters
+        ----------
+        arrays : bool, optional
+            False gives lists in place of arrays of numpy.
+        dtype : type, optional
+            With float, values are what the stored whole numbers stand for; else they are these
+            numbers.
+
+        Returns
+        -------
+        tuple of three arrays or lists
+            Rows, columns and values.
+        """
         rows, columns, values = self._stored(arrays is not False)
         return rows, columns, self._floats(values) if are_decimals(dtype) else values
 
@@ -196,34 +311,124 @@ class Held(Written):
         return values if raw else to_decimals(values, self.unit)
 
     def to_triples(self) -> List[Tuple[int, int, int]]:
-        """(row, column, value) by ascending row and column; values are the stored whole numbers."""
+        """(row, column, value) of each entry, by ascending row and column.
+
+        Returns
+        -------
+        list of tuples
+            Values are the stored whole numbers.
+        """
         return list(zip(*self._stored(False)))
 
     def to_dict(self) -> Dict[Tuple[int, int], int]:
-        """{(row, column): value}; values are the stored whole numbers. `to_dicts` has a dict for
-        each row."""
+        """{(row, column): value} of each entry.
+
+        `to_dicts` has a dict for each row.
+
+        Returns
+        -------
+        dict
+            Values are the stored whole numbers.
+
+        Examples
+        --------
+        >>> s.from_coo([0, 1], [1, 0], [5, 6], 2, 2).to_dict()
+        {(0, 1): 5, (1, 0): 6}
+        """
         rows, columns, values = self._stored(False)
         return dict(zip(zip(rows, columns), values))
 
     def to_dicts(self, order: str = 'rowwise') -> Dict[int, Dict[int, int]]:
-        """{row: {column: value}}, with `order="columnwise"` {column: {row: value}}, of the stored
-        whole numbers; nothing of a row without entries. In python-graphblas the same name."""
-        return compressed.to_dicts(self._stored(True), order)
+        """{row: {column: value}} of each row that has entries.
+
+        Parameters
+        ----------
+        order : str, default 'rowwise'
+            With "columnwise" it is {column: {row: value}}.
+
+        Returns
+        -------
+        dict of dicts
+            Values are the stored whole numbers; nothing of a row without entries.
+
+        Raises
+        ------
+        ValueError
+            Where `order` is another word.
+
+        Notes
+        -----
+        Runs the queue where this matrix waits. In python-graphblas the same name.
+
+        Examples
+        --------
+        >>> s.from_coo([0, 2], [1, 0], [5, 6], 3, 2).to_dicts()
+        {0: {1: 5}, 2: {0: 6}}
+        """
+        return coo.to_dicts(self._stored(True), order)
 
     def to_csr(self) -> Tuple[Any, Any, Any]:
-        """Compressed rows: for each row where its entries begin, and at last how many there are;
-        then their columns and their stored values. All are arrays of numpy. In python-graphblas the
-        same name."""
-        return compressed.to_compressed(self.entries(), self.nrows)
+        """Compressed rows.
+
+        Returns
+        -------
+        tuple of three arrays
+            For each row where its entries begin, and at last how many there are; then their columns
+            and their stored values. All are arrays of numpy.
+
+        Notes
+        -----
+        Runs the queue where this matrix waits. In python-graphblas the same name.
+        """
+        return coo.to_compressed(self.entries(), self.nrows)
 
     def to_csc(self) -> Tuple[Any, Any, Any]:
-        """Compressed columns: for each column where its entries begin, and at last how many there
-        are; then their rows and their stored values. In python-graphblas the same name."""
-        return compressed.to_compressed(compressed.by_columns(self.entries()), self.ncols)
+        """Compressed columns.
+
+        Returns
+        -------
+        tuple of three arrays
+            For each column where its entries begin, and at last how many there are; then their rows
+            and their stored values.
+
+        Notes
+        -----
+        Runs the queue where this matrix waits. In python-graphblas the same name.
+        """
+        return coo.to_compressed(coo.by_columns(self.entries()), self.ncols)
 
     def to_list(self, missing: Any = None, dtype: Any = None) -> List[Any]:
-        """The values of a column or a row, `missing` where there is no entry: the stored whole
-        numbers, with `dtype=float` what these stand for. DimensionMismatch for another shape."""
+        """The values of a column or a row.
+
+        Parameters
+        ----------
+        missing : object, optional
+            What stands where there is no entry; None without it.
+        dtype : type, optional
+            With float, values are what the stored whole numbers stand for; else they are these
+            numbers.
+
+        Returns
+        -------
+        list
+            A value for each row of a column, for each column of a row.
+
+        Raises
+        ------
+        DimensionMismatch
+            For another shape.
+
+        Notes
+        -----
+        Runs the queue where this matrix waits.
+
+        Examples
+        --------
+        >>> s.from_coo([0, 2], [0, 0], [5, 6], 3, 1).to_list()
+        [5, None, 6]
+        >>> s.from_coo([0, 2], [0, 0], [5, 6], 3, 1).to_list(0)
+        [5, 0, 6]
+        """
         count = self._length('a column or a row')
         rows, columns, values = self.entries(arrays=False, dtype=dtype)
         if len(values) == count:
@@ -233,35 +438,91 @@ class Held(Written):
             out[at] = value
         return out
 
-    def by_node(self, *, raw: bool = False) -> Dict[Any, Any]:
-        """{name: value} of a column or a row, {number: value} where it has no names; nothing of a
-        vertex without an entry. Values are what stored numbers stand for: floats where there is a
-        unit, and the names of vertices where values are vertices, as those of parents and of
-        components are; unless `raw` is set. DimensionMismatch for another shape. In networkx
-        results have this form."""
+    def _vector(self) -> Tuple[Iterable[Any], List[int]]:
+        """The names, or the numbers, of the entries of a column or a row, and their stored
+        values."""
         self._length('a column or a row')
         rows, columns, values = self._stored(False)
         at, names = (rows, self.notes.rows) if self.ncols == 1 else (columns, self.notes.columns)
-        return dict(zip(at if names is None else map(names.__getitem__, at),
-                        self._shown(values, raw)))
+        return (at if names is None else map(names.__getitem__, at)), values
+
+    def by_node(self, *, raw: bool = False) -> Dict[Any, Any]:
+        """{name: value} of a column or a row.
+
+        It is {number: value} where it has no names. A vertex without an entry isn't there.
+
+        Parameters
+        ----------
+        raw : bool, default False
+            Whether values are the stored whole numbers. Else they are what stored numbers stand
+            for: floats where there is a unit, and the names of vertices where values are vertices,
+            as those of parents and of components are.
+
+        Returns
+        -------
+        dict
+            A value for each vertex that has an entry.
+
+        Raises
+        ------
+        DimensionMismatch
+            For another shape.
+
+        Notes
+        -----
+        Runs the queue where this matrix waits. In networkx results have this form.
+
+        Examples
+        --------
+        >>> s.from_coo([0, 2], [0, 0], [5, 6], 3, 1).by_node()
+        {0: 5, 2: 6}
+        """
+        vertices, values = self._vector()
+        return dict(zip(vertices, self._shown(values, raw)))
 
     def sets(self) -> List[Set[Any]]:
-        """The vertices of each group, of a column or a row whose values say which vertices belong
-        together: those of one value are one set, of their names, or of their numbers where there
-        are none. The largest comes first, of equals that of the first vertex. Vertices without an
-        entry are in none. DimensionMismatch for another shape. In networkx functions on components
-        and communities have this form."""
-        self._length('a column or a row')
-        rows, columns, values = self.entries(arrays=False)
-        at, names = (rows, self.notes.rows) if self.ncols == 1 else (columns, self.notes.columns)
+        """The vertices of each group, of a column or a row whose values say which belong together.
+
+        Those of one value are one set. Vertices without an entry are in none.
+
+        Returns
+        -------
+        list of sets
+            Sets of the vertices' names, or of their numbers where there are none. The largest comes
+            first, of equals that of the first vertex.
+
+        Raises
+        ------
+        DimensionMismatch
+            For another shape.
+
+        Notes
+        -----
+        Runs the queue where this matrix waits. In networkx functions on components and communities
+        have this form.
+        """
         found: Dict[int, Set[Any]] = {}
-        for vertex, value in zip(at if names is None else map(names.__getitem__, at), values):
+        for vertex, value in zip(*self._vector()):
             found.setdefault(value, set()).add(vertex)
         return sorted(found.values(), key=len, reverse=True)
 
     def to_edgelist(self, *, raw: bool = False) -> List[Tuple[Any, Any, Any]]:
-        """(row, column, value) of each entry, with names where rows and columns have them, and
-        values as `by_node` has them. In networkx the same name."""
+        """(row, column, value) of each entry, with names where rows and columns have them.
+
+        Parameters
+        ----------
+        raw : bool, default False
+            Whether values are the stored whole numbers. Else they are as `by_node` has them.
+
+        Returns
+        -------
+        list of tuples
+            A tuple for each entry.
+
+        Notes
+        -----
+        Runs the queue where this matrix waits. In networkx the same name.
+        """
         rows, columns, values = self._stored(False)
         first, second = self.notes.rows, self.notes.columns
         return list(zip(rows if first is None else map(first.__getitem__, rows),
@@ -269,11 +530,37 @@ class Held(Written):
                         self._shown(values, raw)))
 
     def top(self, k: int = 10, *, raw: bool = False) -> List[Tuple[Any, ...]]:
-        """The k entries of the greatest values, the greatest first, of equals the first: (name,
-        value) of a column or a row, (name, name, value) of another matrix; numbers where there are
-        no names, and values as `by_node` has them. Of many entries the session finds those from a
-        threshold on, by some 50 small jobs, and these come to the client; all come where the budget
-        has too little left. In pandas `nlargest`."""
+        """The k entries of the greatest values.
+
+        Parameters
+        ----------
+        k : int, default 10
+            How many, 0 or more. `A.apply("ainv").top(k)` has the least.
+        raw : bool, default False
+            Whether values are the stored whole numbers. Else they are as `by_node` has them.
+
+        Returns
+        -------
+        list of tuples
+            (name, value) of a column or a row, (name, name, value) of another matrix; numbers where
+            there are no names. The greatest stands first, of equals the first.
+
+        Raises
+        ------
+        ValueError
+            Where k is below 0.
+
+        Notes
+        -----
+        Of many entries the session finds those from a threshold on, by some 50 small jobs, and
+        these come to the client; all come where the budget has too little left. In pandas
+        `nlargest`.
+
+        Examples
+        --------
+        >>> s.from_coo([0, 1, 2], [0, 0, 0], [5, 9, 6], 3, 1).top(2)
+        [(1, 9), (2, 6)]
+        """
         few: Any = self
         k = coo.whole(k, 'number of entries')
         if k < 0:
@@ -298,10 +585,30 @@ class Held(Written):
         return self.nrows if self.ncols == 1 else self.ncols
 
     def to_dense(self, fill: Any = 0, dtype: Any = None, *, fill_value: Any = None) -> Any:
-        """An array of numpy of this shape, `fill` (also called `fill_value`) where there is no
-        entry: int64, the stored whole numbers, or with `to_dense(float)` float64, what these stand
-        for. One column is an array of shape (n, 1), which refuses to become n x n beside one of
-        shape (n,); a `Vector` gives the latter. In python-graphblas the same name."""
+        """An array of numpy of this shape.
+
+        One column is an array of shape (n, 1), which refuses to become n x n beside one of shape
+        (n,); a `Vector` gives the latter.
+
+        Parameters
+        ----------
+        fill : number, default 0
+            What stands where there is no entry. A type here is `dtype`: `to_dense(float)`.
+        dtype : type, optional
+            With float the array is float64, what the stored whole numbers stand for; else it is
+            int64, these numbers.
+        fill_value : number, optional
+            Another name of `fill`.
+
+        Returns
+        -------
+        numpy.ndarray
+            An array of two dimensions, of int64 or float64.
+
+        Notes
+        -----
+        Runs the queue where this matrix waits. In python-graphblas the same name.
+        """
         fill = fill if fill_value is None else fill_value
         if dtype is None and (isinstance(fill, (type, str)) or hasattr(fill, 'itemsize')
                               and not hasattr(fill, '__float__')):
@@ -314,20 +621,63 @@ class Held(Written):
         return dense(table)
 
     def to_scipy_sparse(self, format: str = 'csr', dtype: Any = None) -> Any:
-        """A matrix of scipy.sparse, of int64, the stored whole numbers, or with `dtype=float` of
-        float64, what these stand for. In python-graphblas `io.to_scipy_sparse`."""
+        """A matrix of scipy.sparse.
+
+        Parameters
+        ----------
+        format : str, default 'csr'
+            The format, by the name that scipy has for it.
+        dtype : type, optional
+            With float values are float64, what the stored whole numbers stand for; else they are
+            int64, these numbers.
+
+        Returns
+        -------
+        scipy.sparse matrix
+            A matrix of the same shape.
+
+        Notes
+        -----
+        Runs the queue where this matrix waits. In python-graphblas `io.to_scipy_sparse`.
+        """
         sparse = import_extra('scipy.sparse', 'to_scipy_sparse')
         rows, columns, values = self.entries(arrays=True, dtype=dtype)
         return sparse.coo_matrix((values, (rows, columns)), self.shape).asformat(format)
 
     def to_networkx(self, directed: Optional[bool] = None, weight: Optional[str] = 'weight',
                     nodes: Optional[Sequence[Any]] = None, *, raw: bool = False) -> Any:
-        """A networkx graph of a square matrix: a Graph where `directed` is False, or isn't given
-        and the matrix is known to be that of an undirected graph, else a DiGraph. (A Graph that is
-        asked for has an edge where one of (i, j) and (j, i) is.) Its nodes are `nodes`, or this
-        matrix's, or 0 to n - 1. Values, as `by_node` has them, are the edges' `weight`, unless that
-        is None, or the matrix came from a graph without weights. In python-graphblas
-        `io.to_networkx`."""
+        """A networkx graph of a square matrix.
+
+        Parameters
+        ----------
+        directed : bool, optional
+            Whether it is a DiGraph. Where it isn't given, it is a Graph if the matrix is known to
+            be that of an undirected graph, else a DiGraph. A Graph that is asked for has an edge
+            where one of (i, j) and (j, i) is.
+        weight : str or None, default 'weight'
+            The attribute of edges that has the values. They have none where it is None, or the
+            matrix came from a graph without weights.
+        nodes : list, optional
+            The nodes of the graph; without it those of this matrix, or 0 to n - 1.
+        raw : bool, default False
+            Whether values are the stored whole numbers. Else they are as `by_node` has them.
+
+        Returns
+        -------
+        networkx.Graph or networkx.DiGraph
+            A graph with a node for each row and an edge for each entry.
+
+        Raises
+        ------
+        DimensionMismatch
+            Where the matrix isn't square.
+        ValueError
+            Where there are not as many nodes as rows.
+
+        Notes
+        -----
+        Runs the queue where this matrix waits. In python-graphblas `io.to_networkx`.
+        """
         networkx = import_extra('networkx', 'to_networkx')
         if self.nrows != self.ncols:
             raise refusal('J5',
@@ -352,8 +702,19 @@ class Held(Written):
         return graph
 
     def mmwrite(self, target: Any) -> None:
-        """Writes the text to a path, or to a file opened in binary. It warns where values have a
-        unit, which the text has not. In python-graphblas `io.mmwrite`."""
+        """Writes the text to a path, or to a file opened in binary.
+
+        It warns where values have a unit, which the text has not.
+
+        Parameters
+        ----------
+        target : path or file
+            Where the text goes.
+
+        Notes
+        -----
+        Runs the queue where this matrix waits. In python-graphblas `io.mmwrite`.
+        """
         if self.unit != 1:
             warn_user('mmwrite writes the stored whole numbers, which are %s times what they stand '
                       'for: to_csv writes decimals, and save() keeps the unit' % self.unit,

@@ -123,49 +123,16 @@ class Loaded(io.BytesIO):
 
 # -- reading
 
+Look = Callable[[int, bytes], None]
+
+
 class _Counted(io.RawIOBase):
-    """A file whose first bytes were read already, and that counts what is read of it."""
+    """A file whose first bytes were read already, and that counts what is read of it. `look` sees
+    each piece, and how many bytes there were with it."""
 
-    def __init__(self, start: bytes, rest: IO[bytes]) -> None:
+    def __init__(self, file: IO[bytes], start: bytes = b'', look: Optional[Look] = None) -> None:
         super().__init__()
-        self._start, self._rest = start, rest
-        self.count = 0
-
-    def readable(self) -> bool:
-        return True
-
-    def readinto(self, target: Any) -> int:
-        """The next bytes, into a buffer."""
-        taken = self._start[:len(target)] or self._rest.read(len(target)) or b''
-        self._start = self._start[len(taken):] if self._start else b''
-        target[:len(taken)] = taken
-        self.count += len(taken)
-        return len(taken)
-
-    def readall(self) -> bytes:
-        """All bytes that are left."""
-        whole, self._start = self._start + self._rest.read(), b''
-        self.count += len(whole)
-        return whole
-
-
-class Limit(NamedTuple):
-    """How many bytes a file may have, unpacked: as the caller says; else a packed file as many as
-    `market` where it is a Matrix Market file, and others above `SMALL` so many times its length as
-    `RATIO` says."""
-    max_bytes: Optional[int] = None
-    market: Optional[int] = None
-
-
-class _Bounded(io.RawIOBase):
-    """A file whose length is looked at while it is read, so that what is too long is seen before it
-    fills the memory."""
-
-    def __init__(self, name: str, file: IO[bytes], packed: Optional[_Counted],
-                 limit: Limit) -> None:
-        super().__init__()
-        self._name, self._file, self._packed, self._limit = name, file, packed, limit
-        self._most, self._count = limit.max_bytes, 0
+        self._file, self._start, self._look, self.count = file, start, look, 0
 
     def readable(self) -> bool:
         return True
@@ -181,18 +148,38 @@ class _Bounded(io.RawIOBase):
         return b''.join(iter(lambda: self._next(PIECE), b''))
 
     def _next(self, size: int) -> bytes:
-        piece = self._file.read(size)
-        if not self._count and self._packed is not None and self._most is None and is_market(piece):
-            self._most = self._limit.market
-        self._count += len(piece)
-        if self._most is not None and self._count > self._most:
-            raise too_long(self._name, self._most, self._packed is not None)
-        if (self._most is None and self._packed is not None and self._count > SMALL
-            and self._count > RATIO * self._packed.count):
-            raise ReadError(self._name, None,
-                            'it unpacks to more than %d times its length: max_bytes= says how '
-                            'many bytes it may have' % RATIO)
+        piece = self._start[:size] or self._file.read(size) or b''
+        self._start = self._start[len(piece):] if self._start else b''
+        self.count += len(piece)
+        if self._look is not None:
+            self._look(self.count, piece)
         return piece
+
+
+class Limit(NamedTuple):
+    """How many bytes a file may have, unpacked: as the caller says; else a packed file as many as
+    `market` where it is a Matrix Market file, and others above `SMALL` so many times its length as
+    `RATIO` says."""
+    max_bytes: Optional[int] = None
+    market: Optional[int] = None
+
+    def look(self, name: str, packed: Optional[_Counted]) -> Look:
+        """What looks at the length of a file while it is read, so that what is too long is seen
+        before it fills the memory."""
+        most = self.max_bytes
+
+        def look(count: int, piece: bytes) -> None:
+            nonlocal most
+            if count == len(piece) and packed is not None and most is None and is_market(piece):
+                most = self.market
+            if most is not None and count > most:
+                raise too_long(name, most, packed is not None)
+            if (most is None and packed is not None and count > SMALL
+                and count > RATIO * packed.count):
+                raise ReadError(name, None,
+                                'it unpacks to more than %d times its length: max_bytes= says how '
+                                'many bytes it may have' % RATIO)
+        return look
 
 
 def is_market(text: bytes) -> bool:
@@ -203,8 +190,7 @@ def is_market(text: bytes) -> bool:
 def too_long(name: str, most: int, packed: bool = False) -> ReadError:
     """The error of a file that has more bytes than it may have."""
     return ReadError(name, None, 'it has more than %s bytes%s: max_bytes= says how many it may have'
-                     % (
-                         format(most, ','), ', once it is unpacked' if packed else ''))
+                     % (format(most, ','), ', once it is unpacked' if packed else ''))
 
 
 @contextlib.contextmanager
@@ -224,16 +210,18 @@ def opened(source: Any, limit: Limit = Limit()) -> Iterator[IO[bytes]]:
         start = plain.read(LONGEST_MARK)
         if isinstance(start, str):
             raise TypeError('open the file in binary: open(path, "rb")')
-        counted = _Counted(start, plain)
-        whole: Any = io.BufferedReader(counted)
         packer = packer_of(start)
-        if packer is None:
-            yield (whole if limit.max_bytes is None
-                   else io.BufferedReader(_Bounded(name, whole, None, limit)))
-            return
-        with _faults_named(name, packer):
-            yield io.BufferedReader(_Bounded(name, stack.enter_context(packer.open(whole)), counted,
-                                             limit))
+        if packer is None and limit.max_bytes is None and plain is not source and plain.seekable():
+            plain.seek(0)
+            yield plain                            # whose bytes are read at once, and not copied
+        elif packer is None:
+            yield io.BufferedReader(_Counted(plain, start, limit.look(name, None)))
+        else:
+            packed = _Counted(plain, start)
+            whole: Any = io.BufferedReader(packed)
+            with _faults_named(name, packer):
+                unpacked = stack.enter_context(packer.open(whole))
+                yield io.BufferedReader(_Counted(unpacked, b'', limit.look(name, packed)))
 
 
 @contextlib.contextmanager
@@ -268,9 +256,8 @@ def check_length(source: Any, max_bytes: Optional[int]) -> None:
     """ReadError for a path whose file has more bytes already than it may have once it is
     unpacked."""
     check_max_bytes(max_bytes)
-    if max_bytes is not None and isinstance(source,
-                                            (str, os.PathLike)) and os.path.isfile(
-                                                source) and os.path.getsize(source) > max_bytes:
+    if (max_bytes is not None and isinstance(source, (str, os.PathLike))
+        and os.path.isfile(source) and os.path.getsize(source) > max_bytes):
         raise too_long(name_of(source), max_bytes)
 
 

@@ -167,26 +167,26 @@ def check_format(file: str, text: bytes, format: Optional[str]) -> str:
 def check_layout(file: str, format: str, request: Request) -> None:
     """ReadError where a caller says how a list is written, of a file that is none: the words would
     do nothing."""
-    given = {name: getattr(request.layout, name) for name in ('delimiter', 'header', 'columns',
-                                                              'nodetype')}
-    if format == 'mtx':
-        given['nodelist'] = request.nodelist
-    named = [name for name, value in given.items() if value is not None]
+    named = ['nodelist'] if format == 'mtx' and request.nodelist is not None else []
+    named += [name for name in ('delimiter', 'header', 'columns', 'nodetype',
+                                *(('unit', 'date_format') if format == 'mtx' else ()))
+              if getattr(request.layout, name) is not None]
     if named:
+        mend = ('; G.unit = %r says of the matrix that it has times' % request.layout.unit
+                if named[0] == 'unit' else '')
         raise ReadError(file, None,
-                        named[0] + '= is for a list of edges, and this is a file of the format '
-                        + format)
+                        named[0] + '= is for a list of edges, and this is a file of the format %s%s'
+                        % (format, mend))
 
 
 # -- reading it
 
-def read(file: str, text: bytes, request: Request, folds: bool,
-         tell: Optional[Progress] = None) -> Graph:
+def read(file: str, text: bytes, request: Request, tell: Optional[Progress] = None) -> Graph:
     """The matrix of a file of another format than Matrix Market; of an undirected graph the lower
     triangle alone. `tell` is told of the phases: 'reading' of the bytes, 'names' of the edges."""
     tell = tell if tell is not None else lambda what, done, of: None
     tell('reading', 0, len(text))
-    edges, how = _edges_of(file, text, request, folds)
+    edges, how = _edges_of(file, text, request)
     tell('reading', len(text), len(text))
     count = len(edges.sources)
     tell('names', 0, count)
@@ -195,10 +195,10 @@ def read(file: str, text: bytes, request: Request, folds: bool,
     return graph
 
 
-def _edges_of(file: str, text: bytes, request: Request, folds: bool) -> Tuple[Edges, How]:
+def _edges_of(file: str, text: bytes, request: Request) -> Tuple[Edges, How]:
     """The edges of a file, and what becomes of them."""
     format, layout = check_format(file, text, request.format), request.layout
-    how = How(request.directed is not False, request.nodelist, request.bipartite, folds)
+    how = How(request.directed is not False, request.nodelist, request.bipartite)
     if format in GRAPH_FORMATS:
         if how.bipartite:
             raise ReadError(file, None, '%s has one kind of vertices: bipartite=True is for lists'

@@ -10,9 +10,10 @@ from typing import Any, Callable, List, NamedTuple, Optional, Sequence, Tuple
 from ..errors import ReadError
 from ..extras import describe_missing, import_extra
 from .columns import Comments, Head, Layout, choose_columns
-from .edges import WHOLE, Edges, edges_of_frame, whole_values_of
+from .edge_sources import convert_values, edges_of_frame
+from .edges import WHOLE, Edges
+from .lists import SAMPLE, blank_comments
 from .matrix_text import line_at
-from .tables import SAMPLE, blank_comments
 
 CALLED = {'graphml': 'GraphML', 'gexf': 'GEXF', 'gml': 'GML'}
 VALUES = ('weight', 'value')                       # attributes of edges, the first that one has
@@ -66,14 +67,9 @@ def _values_of(held: List[Any], attribute: Optional[str], layout: Layout,
     ReadError names the edge."""
     if attribute is None:
         return None, ''
-    values = [data.get(attribute, 1) for data in held]
-    try:
-        found, done = whole_values_of(values, layout.scale, None, fault_of)
-    except (TypeError, ValueError) as fault:
-        place = re.search(r'\(entry (\d+)\)', str(fault))
-        words = str(fault) if place is None else str(fault).replace(' ' + place.group(), '')
-        raise fault_of(int(place.group(1)) if place is not None else 0,
-                       'the attribute %r: %s' % (attribute, words)) from None
+    found, done = convert_values(
+        [data.get(attribute, 1) for data in held], layout,
+        lambda at, why: fault_of(at, 'the attribute %r: %s' % (attribute, why)))
     return found, '; ' + done if done else ''
 
 

@@ -18,21 +18,19 @@ from ..errors import Refused, refusal
 from ..limits import MOST_SIDE
 from ..metadata import BY_POSITIONS, Notes
 from ..units import as_unit
-from . import files
+from . import files, parse_integers
 from .coo import DUP_OP, LEAST
-from .edge_values import NOT_WHOLE, check_scale, scaled_array, whole_of
 from .matrix_text import Triples, line_at
+from .values import NOT_WHOLE, Rounding, check_scale, scaled_array, whole_of
 
 FIELDS = {'integer': 'integer', 'unsigned-integer': 'integer', 'pattern': 'pattern', 'real': 'real',
-          'double': 'real',
-          'complex': 'complex'}
+          'double': 'real', 'complex': 'complex'}
 SYMMETRIES = ('general', 'symmetric', 'skew-symmetric')
-_DIGITS = b'+-0123456789 \t\r\n'
+NUMBERS = b'+-0123456789 \t\r\n'
 NO_MARKET = (
     'this is no Matrix Market file, which begins with %%MatrixMarket: read_graph reads other '
     'formats, too')
 ENDINGS, load = files.ENDINGS, files.load          # a file, also packed
-BYTE_ORDER_MARK = b'\xef\xbb\xbf'
 COMMAND = 'mmread'                                 # what refusals of a file name as their command
 
 
@@ -78,12 +76,17 @@ class Kind(NamedTuple):
         return {'pattern': 0, 'complex': 2}.get(self.field, 1) + (0 if self.array else 2)
 
     @property
+    def is_bare(self) -> bool:
+        """Whether each entry is 1."""
+        return self.field == 'pattern' or not self.values.read
+
+    @property
     def notes(self) -> Notes:
         """What is known of the matrix."""
-        weighted = self.field != 'pattern' and self.values.read
+        scale = None if self.is_bare else self.values.scale
         return BY_POSITIONS._replace(directed=False if self.symmetry == 'symmetric' else None,
-                                     weighted=weighted, unit=as_unit(self.values.scale) if weighted
-                                     and self.values.scale is not None else 1)
+                                     weighted=not self.is_bare,
+                                     unit=1 if scale is None else as_unit(scale))
 
 
 def is_plain(text: bytes) -> bool:
@@ -105,9 +108,8 @@ def kind_of(text: bytes, values: Values = Values()) -> Kind:
     if len(words) != 5:
         raise line.refused('M1')
     form, field, symmetry = (word.lower() for word in words[2:])
-    if words[1].lower() != 'matrix' or form not in ('coordinate',
-                                                    'array') or symmetry not in SYMMETRIES + (
-                                                        'hermitian',):
+    if (words[1].lower() != 'matrix' or form not in ('coordinate', 'array')
+        or symmetry not in (*SYMMETRIES, 'hermitian')):
         raise line.refused('M2')
     if field not in FIELDS or (form, field) == ('array', 'pattern'):
         raise line.refused('M2',
@@ -129,17 +131,21 @@ class Reader:
 
     def __init__(self, file: Any, values: Values = Values()) -> None:
         self._file, self._number = file, 0
-        first = self._next().text
-        self.kind = kind_of(first[3:] if first[:3] == BYTE_ORDER_MARK else first, values)
+        self.kind = kind_of(files.without_mark(self._next().text), values)
         line = self._next()
         while line.text and not line.fields:
             line = self._next()
         if len(line.fields) != (2 if self.kind.array else 3):
             raise (line if line.text else Line(self._number + 1, b'')).refused('M3')
         self.nrows, self.ncols, *rest = (line.number_of(field, 'M3') for field in line.fields)
-        self.count = rest[0] if rest else _cells(self.kind.symmetry, self.nrows, self.ncols)
+        self.count = rest[0] if rest else _count_cells(self.kind.symmetry, self.nrows, self.ncols)
         self._sizes = line
-        self._check_sizes()
+        if max(self.nrows, self.ncols) > MOST_SIDE:
+            raise line.refused('M4')
+        if self.kind.symmetry != 'general' and self.nrows != self.ncols:
+            raise line.refused('M12')
+        if self.kind.array and self.count > MOST_SIDE:
+            raise line.refused('M4', '%d values' % self.count)
 
     def _next(self) -> Line:
         text = self._file.readline()
@@ -147,14 +153,6 @@ class Reader:
             raise TypeError('open the file in binary: open(path, "rb")')
         self._number += 1 if text else 0
         return Line(self._number, text)
-
-    def _check_sizes(self) -> None:
-        if max(self.nrows, self.ncols) > MOST_SIDE:
-            raise self._sizes.refused('M4')
-        if self.kind.symmetry != 'general' and self.nrows != self.ncols:
-            raise self._sizes.refused('M12')
-        if self.kind.array and self.count > MOST_SIDE:
-            raise self._sizes.refused('M4', '%d values' % self.count)
 
     def check_count(self) -> None:
         """M4 where one matrix of a session can't have the entries."""
@@ -181,9 +179,8 @@ class Reader:
                 break
             piece += self._file.readline()
             lines, left = piece.count(b'\n') + (not piece.endswith(b'\n')), self.count - had
-            usual = lines == left if self.kind.array else lines <= left
             triples: Optional[Triples] = None
-            if usual:
+            if lines == left if self.kind.array else lines <= left:
                 triples = read_quickly(self.kind, piece, lines, self.nrows, self.ncols)
             if triples is None:
                 triples = self._read_slowly(piece, left)
@@ -197,7 +194,8 @@ class Reader:
     def _read_slowly(self, piece: bytes, left: int) -> Triples:
         """Line by line, so that the first that breaks a rule is named."""
         entries: List[Tuple[int, int, int]] = []
-        places = _places(self.kind.symmetry, self.nrows, self.ncols)
+        places = zip(*_grid(self.kind.symmetry, self.nrows, self.ncols)) if self.kind.array else ()
+        cells = iter(places)
         for line in itertools.starmap(Line, enumerate(piece.split(b'\n'), self._number + 1)):
             if not line.fields:
                 continue
@@ -206,7 +204,7 @@ class Reader:
             if len(line.fields) != self.kind.width:
                 raise line.refused('M5')
             if self.kind.array:
-                entries.append((*next(places), _value_of(line, line.fields, self.kind)))
+                entries.append((*next(cells), _value_of(line, line.fields, self.kind)))
             else:
                 entries.append(_entry_of(line, self.kind, self.nrows, self.ncols))
         rows, columns, values = numpy.array(entries, numpy.int64).reshape(-1, 3).T
@@ -226,17 +224,6 @@ def parse(text: bytes, values: Values = Values()) -> Tuple[Triples, str]:
     return triples, reader.kind.symmetry
 
 
-def mirrored(triples: Triples, symmetry: str) -> Triples:
-    """All entries, from those of the lower triangle."""
-    if symmetry == 'general':
-        return triples
-    sign = -1 if symmetry == 'skew-symmetric' else 1
-    rows, columns, values, nrows, ncols = triples
-    off = rows != columns
-    return Triples(numpy.concatenate((rows, columns[off])), numpy.concatenate((columns, rows[off])),
-                   numpy.concatenate((values, sign * values[off])), nrows, ncols)
-
-
 def find_repeated(file: Any, wanted: Optional[Collection[Tuple[int,
         int]]] = None) -> Optional[Refused]:
     """The refusal (M8) of the first line whose position was given before; where some positions are
@@ -253,33 +240,57 @@ def find_repeated(file: Any, wanted: Optional[Collection[Tuple[int,
     return None
 
 
-def _cells(symmetry: str, nrows: int, ncols: int) -> int:
+# -- triangles
+
+def mirrored(triples: Triples, symmetry: str) -> Triples:
+    """All entries, from those of the lower triangle."""
+    if symmetry == 'general':
+        return triples
+    sign = -1 if symmetry == 'skew-symmetric' else 1
+    rows, columns, values, nrows, ncols = triples
+    off = rows != columns
+    return Triples(numpy.concatenate((rows, columns[off])), numpy.concatenate((columns, rows[off])),
+                   numpy.concatenate((values, sign * values[off])), nrows, ncols)
+
+
+def lowered(triples: Triples, symmetry: str) -> Triples:
+    """Entries of the upper triangle in the lower one."""
+    if symmetry == 'general':
+        return triples
+    sign = -1 if symmetry == 'skew-symmetric' else 1
+    rows, columns, values, nrows, ncols = triples
+    return Triples(numpy.maximum(rows, columns), numpy.minimum(rows, columns),
+                   numpy.where(rows < columns, sign * values, values), nrows, ncols)
+
+
+def _count_cells(symmetry: str, nrows: int, ncols: int) -> int:
     return {'general': nrows * ncols, 'symmetric': nrows * (nrows + 1) // 2,
             'skew-symmetric': nrows * (nrows - 1) // 2}[symmetry]
 
 
-def _places(symmetry: str, nrows: int, ncols: int) -> Iterator[Tuple[int, int]]:
+def _grid(symmetry: str, nrows: int, ncols: int) -> Tuple[Any, Any]:
     """The positions of an `array`'s values, in order: by columns, of a symmetric one the lower
     triangle."""
-    for j in range(ncols):
-        for i in range({'general': 0, 'symmetric': j, 'skew-symmetric': j + 1}[symmetry], nrows):
-            yield i, j
+    if symmetry == 'general':
+        at = numpy.arange(nrows * ncols)
+        return at % max(nrows, 1), at // max(nrows, 1)
+    columns, rows = numpy.triu_indices(nrows, 0 if symmetry == 'symmetric' else 1)
+    return rows, columns
 
+
+# -- entries
 
 def _value_of(line: Line, fields: List[bytes], kind: Kind) -> int:
     """The value in the fields behind an entry's place: 1 where there are none, or they aren't read;
     else a whole number within 64 bits."""
-    if kind.field == 'pattern' or not kind.values.read:
+    if kind.is_bare:
         return 1
     word = fields[0].decode('ascii', 'replace')
     try:
-        if kind.field == 'integer' and kind.values.scale is None:
-            value = int(word)
-            exact = decimal.Decimal(value)
-        else:
-            exact = decimal.Decimal(word.lower().replace('d', 'e'))
         if '_' in word:
             raise ValueError
+        exact = decimal.Decimal(int(word) if kind.field == 'integer' and kind.values.scale is None
+                                else word.lower().replace('d', 'e'))
     except (ValueError, decimal.InvalidOperation):
         raise line.refused('M5') from None
     if kind.symmetry == 'skew-symmetric' and exact == LEAST:
@@ -301,58 +312,54 @@ def _entry_of(line: Line, kind: Kind, nrows: int, ncols: int) -> Tuple[int, int,
 
 def read_quickly(kind: Kind, body: bytes, count: int, nrows: int, ncols: int) -> Optional[Triples]:
     """All lines at once by numpy; None where something is unusual or wrong."""
-    each = kind.width
-    allowed = _DIGITS + (b'.eE' if kind.field in ('real', 'complex') else b'')
-    if body.translate(None, allowed):
-        return None
-    if even_lines(body, each) != count:
-        return None
-    numbers = numpy.fromstring(body, numpy.int64 if kind.field in ('integer', 'pattern')
-                               else numpy.float64, sep=' ')
-    if len(numbers) != each * count:
+    columns = parse_integers.read_plain(body, kind.width) or _read_numbers(kind, body)
+    if columns is None or len(columns[0]) != count:
         return None
     i, j = (_grid(kind.symmetry, nrows, ncols) if kind.array
-            else (numbers[0::each] - 1, numbers[1::each] - 1))
-    values = _read_values(kind, numbers[0 if kind.array else 2::max(each, 1)], count)
-    outside = (i < 0) | (i >= nrows) | (j < 0) | (j >= ncols) | (i != numpy.trunc(i)) | (
-        j != numpy.trunc(j))
-    if values is None or outside.any() or (kind.symmetry == 'skew-symmetric' and (i == j).any()):
+            else (columns[0] - 1, columns[1] - 1))
+    values = (numpy.ones(count, numpy.int64) if kind.is_bare
+              else _whole_values(columns[0 if kind.array else 2], kind.values.scale))
+    outside = (i < 0) | (i >= nrows) | (j < 0) | (j >= ncols)
+    if values is None or outside.any():
         return None
-    return Triples(i.astype(numpy.int64), j.astype(numpy.int64), values, nrows, ncols)
+    # the least number has no negative
+    if kind.symmetry == 'skew-symmetric' and ((i == j) | (values == LEAST)).any():
+        return None
+    return Triples(i, j, values, nrows, ncols)
 
 
-def _read_values(kind: Kind, found: Any, count: int) -> Any:
+def _read_numbers(kind: Kind, body: bytes) -> Optional[List[Any]]:
+    """The fields of lines with signs, points, tabs or several blanks: places as whole numbers,
+    values as floats, which hold small whole numbers alone."""
+    width, places = kind.width, 0 if kind.array else 2
+    allowed = NUMBERS + (b'.eE' if kind.field in ('real', 'complex') else b'')
+    lines = parse_integers.count_even_lines(body, width)
+    if body.translate(None, allowed) or not lines:
+        return None
+    try:
+        numbers = numpy.fromstring(body, numpy.float64, sep=' ')
+    except (ValueError, DeprecationWarning):       # of what is no number, as numpy will have it
+        return None
+    if len(numbers) != width * lines or not _is_number(body.rsplit(None, 1)[-1]):
+        return None
+    columns = [numbers[at::width] for at in range(width)]
+    if any((column != numpy.trunc(column)).any() or (numpy.abs(column) > MOST_SIDE).any()
+           for column in columns[:places]):
+        return None
+    return [column.astype(numpy.int64) for column in columns[:places]] + columns[places:]
+
+
+def _is_number(word: bytes) -> bool:
+    """Whether this is a number: numpy's reader ends amid the last one without a word, at 2 of
+    `2-1`."""
+    try:
+        float(word)
+    except ValueError:
+        return False
+    return True
+
+
+def _whole_values(found: Any, scale: Optional[float]) -> Any:
     """The values of entries as whole numbers; None where they have to be looked at one by one."""
-    if kind.field == 'pattern' or not kind.values.read:
-        return numpy.ones(count, numpy.int64)
-    return scaled_array(found.astype(numpy.float64) if kind.field == 'integer' else found,
-                        kind.values.scale)
-
-
-def even_lines(body: bytes, each: int) -> Optional[int]:
-    """The number of lines, where each has so many fields between blanks; else None."""
-    marks = numpy.frombuffer(body if body.endswith(b'\n') else body + b'\n', numpy.uint8)
-    begins = marks > 32
-    begins[1:] &= marks[:-1] <= 32
-    fields = numpy.cumsum(begins)[marks == 10]
-    return None if (fields != each * numpy.arange(1, len(fields) + 1)).any() else len(fields)
-
-
-def _grid(symmetry: str, nrows: int, ncols: int) -> Tuple[Any, Any]:
-    """The positions of `_places`, as arrays."""
-    if symmetry == 'general':
-        at = numpy.arange(nrows * ncols)
-        return at % nrows, at // nrows
-    columns, rows = numpy.triu_indices(nrows, 0 if symmetry == 'symmetric' else 1)
-    return rows, columns
-
-
-def lowered(triples: Triples, symmetry: str) -> Triples:
-    """Entries of the upper triangle in the lower one."""
-    if symmetry == 'general':
-        return triples
-    sign = -1 if symmetry == 'skew-symmetric' else 1
-    rows, columns, values, nrows, ncols = triples
-    above = rows < columns
-    return Triples(numpy.maximum(rows, columns), numpy.minimum(rows, columns),
-                   numpy.where(above, sign * values, values), nrows, ncols)
+    return (found if found.dtype.kind == 'i' and scale is None
+            else scaled_array(found.astype(numpy.float64), Rounding(scale)))

@@ -178,13 +178,17 @@ def swapped(text: bytes) -> bytes:
     return write(Triples(columns, rows, values, ncols, nrows))
 
 
-def line_at(text: bytes, at: int) -> str:
-    """Line `at` of a text, from 1, cut where it is long; empty where there is none."""
+def start_of_line(text: bytes, at: int) -> int:
+    """Where line `at` of a text, from 1, begins: at its end where there is none."""
     start = 0
     for _ in range(at - 1):
-        start = text.find(b'\n', start) + 1
-        if not start:
-            return ''
+        start = text.find(b'\n', start) + 1 or len(text)
+    return start
+
+
+def line_at(text: bytes, at: int) -> str:
+    """Line `at` of a text, from 1, cut where it is long; empty where there is none."""
+    start = start_of_line(text, at)
     end = text.find(b'\n', start)
     line = text[start:] if end < 0 else text[start:end]
     return line[:100].decode('utf-8', 'replace').strip() + ('..' if len(line) > 100 else '')

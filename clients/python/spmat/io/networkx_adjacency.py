@@ -1,28 +1,19 @@
 """The adjacency of a networkx graph as triples, in whole columns rather than edge by edge."""
 from __future__ import annotations
 
+import bisect
 import itertools
-import operator
-from typing import (Any, Callable, Dict, Iterator, List, NamedTuple, NoReturn, Optional, Sequence,
-                    Tuple)
+from typing import Any, Dict, List, Optional, Sequence, Tuple
 
 import numpy
 
 from ..errors import refusal
 from ..limits import MOST_SIDE
 from ..metadata import Nodes, Notes
-from .coo import LEAST, MOST, checked, whole
-from .edge_values import Rounding, check_scale, scaled_one
 from .matrix_text import Triples
+from .values import Rounding, whole_numbers
 
 Neighbours = Dict[Any, Any]
-
-
-class Asked(NamedTuple):
-    """What a caller asks beside: whether it folds parallel edges, and what weights are multiplied
-    by before they are rounded."""
-    folds: bool = False
-    scale: Optional[float] = None
 
 
 def neighbourhoods(graph: Any) -> Dict[Any, Neighbours]:
@@ -38,12 +29,12 @@ def row_numbers(counts: List[int]) -> Any:
 
 
 def triples_of(graph: Any, weight: Optional[str], nodelist: Optional[Sequence[Any]],
-               asked: Asked = Asked()) -> Tuple[Triples, Notes]:
+               folds: bool = False, scale: Optional[float] = None) -> Tuple[Triples, Notes]:
     """The triples of a graph, and its nodes. Entry (i, j) is the edge from node i to node j; an
     undirected edge stands both ways, a loop once. Edges that leave `nodelist` are left out.
-    Parallel edges are entries of one position where the caller folds them. TypeError where it is no
-    graph, or the weight no attribute; ValueError names the edge with parallel ones, or with a
-    weight that isn't whole."""
+    Parallel edges are entries of one position where the caller folds them. Weights are multiplied
+    by a scale and rounded. TypeError where it is no graph, or the weight no attribute; ValueError
+    names the edge with parallel ones, or with a weight that isn't whole."""
     if not hasattr(graph, 'adjacency') or not hasattr(graph, 'is_multigraph'):
         raise TypeError('expected a graph of networkx, got %s' % type(graph).__name__)
     if callable(weight):
@@ -54,23 +45,30 @@ def triples_of(graph: Any, weight: Optional[str], nodelist: Optional[Sequence[An
     near = neighbourhoods(graph)
     nodes = Nodes(near if nodelist is None else nodelist)
     _check_nodes(nodes, near)
-    blocks = _blocks(near, nodes, nodelist is not None)
-    rows = (_one_by_one(blocks, nodes, asked.folds) if graph.is_multigraph()
-            else _each_once(blocks, weight is not None))
-    rounding = Rounding(asked.scale)
-    triples = _triples(rows, nodes, weight, rounding)
-    weighted = weight is not None and any(weight in held for held in rows.held)
+    blocks = list(near.values())
+    if nodelist is not None:
+        blocks = [{end: held for end, held in near[node].items() if end in nodes.places}
+                  for node in nodes]
+    counts, ends, held = (_list_parallel(blocks, nodes, folds) if graph.is_multigraph() else (
+        list(map(len, blocks)), list(itertools.chain.from_iterable(blocks)),
+        [data for block in blocks for data in block.values()] if weight is not None else []))
+
+    def wrong(at: int, why: Exception) -> Exception:
+        row = bisect.bisect_right(list(itertools.accumulate(counts)), at)
+        return type(why)('the edge from %r to %r: %s' % (nodes[row], ends[at], why))
+    rounding = Rounding(scale)
+    values = (numpy.ones(len(ends), numpy.int64) if weight is None
+              else whole_numbers([data.get(weight, 1) for data in held], rounding, wrong, 'weight'))
+    is_plain = all(type(node) is int for node in nodes) and nodes == list(range(len(nodes)))
+    columns = ends if is_plain else map(nodes.places.__getitem__, ends)
+    triples = Triples(row_numbers(counts), numpy.fromiter(columns, numpy.int64, len(ends)), values,
+                      len(nodes), len(nodes))
+    weighted = weight is not None and any(weight in data for data in held)
     return triples, Notes(nodes, nodes, bool(graph.is_directed()), weighted, str(rounding))
 
 
-class _Rows(NamedTuple):
-    """The edges of each node in order: how many there are, where they lead, and what each holds."""
-    counts: List[int]
-    ends: List[Any]
-    held: List[Any]
-
-
 def _check_nodes(nodes: Nodes, near: Dict[Any, Neighbours]) -> None:
+    """ValueError for nodes that stand twice, or not in the graph; TooLarge for too many."""
     if len(nodes.places) != len(nodes):
         raise ValueError('a node stands twice in nodelist')
     for node in nodes:
@@ -80,24 +78,10 @@ def _check_nodes(nodes: Nodes, near: Dict[Any, Neighbours]) -> None:
         raise refusal('M4', detail='%d nodes' % len(nodes))
 
 
-def _blocks(near: Dict[Any, Neighbours], nodes: Nodes, some: bool) -> List[Neighbours]:
-    """The neighbours of each node, among `nodes` where these are not all."""
-    places = nodes.places
-    if some:
-        return [{end: held for end, held in near[node].items() if end in places} for node in nodes]
-    return list(near.values())
-
-
-def _each_once(blocks: List[Neighbours], weighted: bool) -> _Rows:
-    """Each edge, and what it holds where that is asked."""
-    ends = list(itertools.chain.from_iterable(blocks))
-    return _Rows(list(map(len, blocks)), ends, [held for many in blocks for held in many.values()]
-                 if weighted else [])
-
-
-def _one_by_one(blocks: List[Neighbours], nodes: Nodes, folds: bool) -> _Rows:
-    """Each of a multigraph's parallel edges by itself. ValueError where there are any and nobody
-    folds them."""
+def _list_parallel(blocks: List[Neighbours], nodes: Nodes,
+                   folds: bool) -> Tuple[List[int], List[Any], List[Any]]:
+    """Of each node of a multigraph the number of its edges; where each edge leads, and what it
+    holds. ValueError where there are parallel ones and nobody folds them."""
     counts: List[int] = []
     ends: List[Any] = []
     held: List[Any] = []
@@ -111,52 +95,4 @@ def _one_by_one(blocks: List[Neighbours], nodes: Nodes, folds: bool) -> _Rows:
             ends.extend([end] * len(keys))
             held.extend(keys.values())
         counts.append(len(ends) - before)
-    return _Rows(counts, ends, held)
-
-
-def _triples(rows: _Rows, nodes: Nodes, weight: Optional[str], rounding: Rounding) -> Triples:
-    plain = all(type(node) is int for node in nodes) and nodes == list(range(len(nodes)))
-    ends = rows.ends if plain else list(map(nodes.places.__getitem__, rows.ends))
-    values: Any = 1 if weight is None else _weights(rows, nodes, weight, rounding)
-    firsts = row_numbers(rows.counts)
-    values = values if weight is None else numpy.fromiter(values, numpy.int64, len(values))
-    return checked(firsts, numpy.fromiter(ends, numpy.int64, len(ends)), values, len(nodes),
-                   len(nodes))
-
-
-def _weights(rows: _Rows, nodes: Nodes, weight: str, rounding: Rounding) -> List[int]:
-    """The weights in whole numbers of 64 bits; an edge without one has 1."""
-    found = [held.get(weight, 1) for held in rows.held]
-    if rounding.scale is not None:
-        return _each(found, rows, nodes,
-                     lambda value: scaled_one(value, check_scale(rounding.scale), rounding,
-                                              'weight'))
-    try:
-        values = list(map(operator.index, found))
-    except TypeError:
-        values = _each(found, rows, nodes, lambda value: whole(value, 'weight'))
-    if values and not (LEAST <= min(values) and max(values) <= MOST):
-        at = next(at for at, value in enumerate(values) if not LEAST <= value <= MOST)
-        _wrong(ValueError('%d is not in -2^63 to 2^63 - 1' % values[at]), at, rows, nodes)
-    return values
-
-
-def _each(found: List[Any], rows: _Rows, nodes: Nodes, one: Callable[[Any], int]) -> List[int]:
-    out = []
-    for at, value in enumerate(found):
-        try:
-            out.append(one(value))
-        except (TypeError, ValueError) as fault:
-            _wrong(fault, at, rows, nodes)
-    return out
-
-
-def _wrong(fault: Exception, at: int, rows: _Rows, nodes: Nodes) -> NoReturn:
-    """The fault of one edge, with the edge."""
-    raise type(fault)('the edge from %r to %r: %s' % (nodes[_row_of(at, rows.counts)],
-                                                      rows.ends[at], fault)) from None
-
-
-def _row_of(at: int, counts: Sequence[int]) -> int:
-    ends: Iterator[int] = itertools.accumulate(counts)
-    return next(row for row, end in enumerate(ends) if at < end)
+    return counts, ends, held

@@ -1,4 +1,5 @@
-"""Numbers out of matrix text, by numpy: of each line the fields that are asked for alone.
+"""Numbers out of matrix text, by numpy: of each line the fields that are asked for alone; and
+whether lines have as many fields as they should.
 
 A number ends at a byte below `-`: a blank, or LF. The eight bytes before that end are taken as one
 word; the bytes of it that are no digit of the number are masked out, and three multiplications join
@@ -8,7 +9,7 @@ takes a word or two more.
 from __future__ import annotations
 
 import functools
-from typing import Any, List, Sequence
+from typing import Any, List, Optional, Sequence
 
 import numpy
 
@@ -18,7 +19,11 @@ CHUNK = 1 << 17
 SHORT = 1 << 14
 # digits of a word, and the bytes of the three words that a number may have
 WORD, LONGEST = 8, 24
-MINUS = 45
+MINUS, LF = 45, 10
+# digits of a number that is below 2^63 for certain; of one more digit it may be
+SURE = 18
+# bytes of lines whose fields are counted together
+PIECE = 1 << 20
 
 
 def fields(text: bytes, wanted: Sequence[int] = (1, 2), per_line: int = 3) -> List[Any]:
@@ -29,6 +34,10 @@ def fields(text: bytes, wanted: Sequence[int] = (1, 2), per_line: int = 3) -> Li
         numbers = (numpy.fromstring(text, numpy.int64, sep=' ') if text
                    else numpy.zeros(0, numpy.int64))
         return [numbers[field::per_line].copy() for field in wanted]
+    return _read_chunks(text, wanted, per_line)
+
+
+def _read_chunks(text: bytes, wanted: Sequence[int], per_line: int) -> List[Any]:
     if len(text) <= 2 * CHUNK:
         return _fields(memoryview(text), wanted, per_line)
     parts, at = [], 0
@@ -37,6 +46,63 @@ def fields(text: bytes, wanted: Sequence[int] = (1, 2), per_line: int = 3) -> Li
         parts.append(_fields(memoryview(text)[at:end], wanted, per_line))
         at = end
     return [numpy.concatenate(some) for some in zip(*parts)]
+
+
+def read_plain(body: bytes, per_line: int) -> Optional[List[Any]]:
+    """All fields of lines that are written as `fields` wants them; None of other lines."""
+    if body.translate(None, b'0123456789- \n') or not body.endswith(b'\n'):
+        return None
+    # a sign stands behind a blank, and before a digit
+    if (b'-' in body
+        and (b'--' in body or b'- ' in body or b'-\n' in body
+             or body.count(b'-') != body.count(b' -'))):
+        return None
+    marks = numpy.frombuffer(body, numpy.uint8)
+    ends = numpy.flatnonzero(marks < MINUS)
+    if (len(ends) % per_line or (marks[ends[per_line - 1::per_line]] != LF).any()
+        or len(ends) != per_line * body.count(b'\n')):
+        return None
+    lengths = numpy.diff(ends, prepend=-1)
+    if lengths.min() < 2:
+        return None
+    # not by numpy's own reader, which takes numbers beyond 64 bits for others
+    columns = _read_chunks(body, range(per_line), per_line)
+    if lengths.max() > SURE + 1:
+        minus = marks[ends - lengths + 1] == MINUS
+        if (lengths - minus > SURE + 2).any():
+            return None
+        # a number of one digit more that is beyond 64 bits comes out with the other sign
+        for at, column in enumerate(columns):
+            if ((column < 0) != minus[at::per_line])[column != 0].any():
+                return None
+    return columns
+
+
+def count_even_lines(body: bytes, width: int, delimiter: Optional[str] = None) -> Optional[int]:
+    """The number of lines that aren't blank, where each of these has so many fields, parted by
+    blanks or by a byte; else None."""
+    start = count = 0
+    while start < len(body):
+        end = body.find(b'\n', start + PIECE) + 1 or len(body)
+        piece = body[start:end] if body.endswith(b'\n', start, end) else body[start:end] + b'\n'
+        marks = numpy.frombuffer(piece, numpy.uint8)
+        if delimiter is None:
+            parts = marks > 32                     # the first byte of each field
+            parts[1:] &= marks[:-1] <= 32
+        else:
+            parts = marks == ord(delimiter)
+        parts |= marks == LF
+        events = numpy.flatnonzero(parts)
+        ends = numpy.flatnonzero(marks[events] == LF)
+        widths: Any = numpy.diff(ends, prepend=-1) - (delimiter is None)
+        for odd in numpy.flatnonzero(widths != width).tolist():
+            before = int(events[ends[odd - 1]]) + 1 if odd else 0
+            if piece[before:int(events[ends[odd]])].strip():
+                return None
+            count -= 1
+        count += len(widths)
+        start = end
+    return count
 
 
 def _fields(text: memoryview, wanted: Sequence[int], per_line: int) -> List[Any]:

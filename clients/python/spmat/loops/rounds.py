@@ -1,27 +1,21 @@
-"""What the rounds of a loop ask for, found out ahead of them, and how it is written as commands.
+"""What the rounds of a loop ask for, found out ahead of them.
 
 The step is called once for each round, in order, before the round is sent. So a round is what the
 step asks for in it, whatever it makes of the number of the round, and what is known of results
 (names, units, directions) is known of this round's. A step that is called works on matrices of a
 `TraceBackend`: it has all that matrices have.
-
-Each round's text is made once for the names that it reads and writes. What a round makes gets a
-free name of the loop's, so that nothing is copied where results become the next state; names rotate
-by themselves. `run` stands only before a job that wants a result, so the last jobs of a round share
-a run with the next round's first.
 """
 from __future__ import annotations
 
 import inspect
-from typing import (TYPE_CHECKING, Any, Callable, Dict, FrozenSet, List, Mapping, NamedTuple,
-                    Optional, Sequence, Tuple, Union)
+from typing import (TYPE_CHECKING, Any, Callable, Dict, List, Mapping, NamedTuple, Optional,
+                    Sequence, Tuple)
 
-from ..backends.names import OwnNames, ServerHandle
-from ..backends.protocol import Handle
-from ..backends.trace import (Given, Jobs, Made, NotAlike, NotTraced, TraceBackend, Traced,
-                              TracedJob, Value)
-from ..errors import UnitsDiffer
-from ..limits import QUEUE
+from .. import oversized_jobs
+from ..backends.protocol import Handle, Job
+from ..backends.trace import (Jobs, Made, NotAlike, NotTraced, TraceBackend, Traced, TracedJob,
+                              Value)
+from ..errors import TooLarge, UnitsDiffer
 from ..matrix import Matrix
 from ..metadata import Notes
 
@@ -30,17 +24,12 @@ if TYPE_CHECKING:
 
 # of rounds that differ in more than numbers, which are known at a time
 MOST_KINDS = 64
+# rounds that go together of which a job could be too large
+MOST_UNSURE = 4
 CHANGED = (
     'the step asked for other jobs for round %d when it was called for it again: what it asks '
     'for has to follow from the state and the number of the round. To go on with another step, '
     'make a loop of `loop.state` with it')
-MOST_TEMPLATES = 512                               # which are kept at a time
-# words of the replies to a job and to a run, and of each line of that
-QUEUED, RAN, LINE = 4, 4, 5
-Source = Union[Matrix, ServerHandle]
-"""A matrix of the session, or the owner of what a round made, of which nobody has a matrix yet."""
-Sources = Dict[str, Source]
-"""The state's matrices by their names in the loop."""
 
 
 class State(Dict[str, Any]):
@@ -105,7 +94,8 @@ def results(step: Step, state: State, number: int) -> Dict[str, Any]:
                 % (name, state[name].unit, made.unit))
     return out
 
-class Alike(NamedTuple):
+
+class AlikeRounds(NamedTuple):
     """Rounds that are alike: one of them, and the slope and the start of each number."""
     one: RoundJobs
     lines: List[Tuple[int, int]]
@@ -116,7 +106,7 @@ class Alike(NamedTuple):
                                                for slope, start in self.lines))
 
 
-class Rounds:
+class TracedRounds:
     """The rounds of a step, as it asks for them. Of a step that is known to be `alike` in all
     rounds the first two are enough: the numbers of others are slope * round + start."""
 
@@ -143,7 +133,7 @@ class Rounds:
         except Exception as fault:  # pylint: disable=broad-exception-caught
             # it is raised if the loop comes to that round
             self._fault = fault
-        self._alike = self._alike_ones() if alike else None
+        self._alike = self._find_alike() if alike else None
 
     def ask(self, number: int) -> Optional[RoundJobs]:
         """What a round asks for; rounds are asked for in order. None where the step ends in an
@@ -156,6 +146,21 @@ class Rounds:
             except Exception as fault:  # pylint: disable=broad-exception-caught  # as above
                 self._fault = fault
         return self._ahead.get(number)
+
+    def ask_some(self, first: int, most: int, left: int) -> List[RoundJobs]:
+        """What the next rounds ask for, at most so many, that take no more steps than are left
+        together; few of which a job could be refused for its size."""
+        found: List[RoundJobs] = []
+        steps, is_sure = 0, True
+        while len(found) < most:
+            asked = self.ask(first + len(found))
+            if asked is None:
+                break
+            steps, is_sure = steps + asked.traced.steps, is_sure and asked.traced.is_sure
+            if max(1, steps) > left or (len(found) >= MOST_UNSURE and not is_sure):
+                break
+            found.append(asked)
+        return found
 
     def check(self, number: int) -> None:
         """Raises what the step ends in where it is called for a round, which is the next one that
@@ -253,198 +258,56 @@ class Rounds:
                 raise ValueError('%s, which is shown, is %dx%d in round 1 and %dx%d in round %d'
                                  % (name, *shape, *here, number))
 
-    def _alike_ones(self) -> 'Alike':
+    def _find_alike(self) -> 'AlikeRounds':
         self.check(2)
         first, second = self.first, self._ahead[2]
         if first.traced is not second.traced:
             raise NotAlike('a step that is said to be alike in all rounds is not')
-        return Alike(second, [(b - a, a - (b - a)) for a, b in zip(first.numbers, second.numbers)])
+        return AlikeRounds(second, [(b - a, a - (b - a))
+                                    for a, b in zip(first.numbers, second.numbers)])
 
 
-# -- rounds as text
+# -- a round that is made by itself
+
+def make_round(session: 'Session', asked: RoundJobs, state: State) -> Dict[str, Matrix]:
+    """The results of a round whose jobs are handed in one by one."""
+    made: List[Matrix] = []
+    numbers = iter(asked.numbers)
+
+    def matrix_of(value: Value) -> Matrix:
+        if isinstance(value, Handle):
+            return Matrix(session, value)
+        found: Matrix = made[value.job] if isinstance(value, Made) else state[value.name]
+        return found
+    for job in asked.traced.jobs:
+        operands, mask = (list(map(matrix_of, job.operands)),
+                          None if job.mask is None else matrix_of(job.mask))
+        made.append(submit_traced(session, job, operands, mask, next(numbers) if job.is_numbered
+                                  else None))
+    got: Dict[str, Matrix] = {}
+    for name, value in asked.traced.out.items():
+        got[name] = asked.outside[name] if name in asked.outside else matrix_of(value)
+        if isinstance(value, Made):
+            got[name].name, got[name].notes = name, asked.notes[name]
+    return got
 
 
-class Pending(NamedTuple):
-    """A job that is queued and not run: the server's name that it binds, its results, how many
-    rounds ago it was asked for, and whether it is to be shown."""
-    name: str
-    results: Tuple[str, ...]
-    back: int
-    shown: bool
+def submit_traced(session: 'Session', job: TracedJob, operands: List[Matrix],
+                  mask: Optional[Matrix], thunk: Optional[int]) -> Matrix:
+    """A job of a round, by parts where the step asks for it so. Where it is too large, the refusal
+    says how large it is."""
+    under, others = (None if mask is None else mask.handle,
+                     [operand.handle for operand in operands[1:]])
 
-
-class Counted(NamedTuple):
-    """Where the number of entries of some results of a round stands among the words of the
-    replies."""
-    word: int
-    back: int
-    results: Tuple[str, ...]
-
-
-class Template(NamedTuple):
-    """The commands of a round under certain names: text with places for numbers; how many words are
-    replied, where counts stand among them, which results are shown, in order; the state behind it:
-    owners of what jobs make, names of what was the state's before, and None for what the step has
-    from outside; and the jobs that are left behind it."""
-    pieces: List[bytes]
-    words: int
-    counts: List[Counted]
-    shows: List[Tuple[int, Tuple[str, ...]]]
-    commands: int
-    after: Dict[str, Union[ServerHandle, str, None]]
-    pending: Tuple[Pending, ...]
-
-    def text(self, numbers: Sequence[int]) -> bytes:
-        """The commands of a round with these numbers."""
-        out = [self.pieces[0]]
-        for number, piece in zip(numbers, self.pieces[1:]):
-            out += [b'%d' % number, piece]
-        return b''.join(out)
-
-    def state(self, before: Sources, outside: Dict[str, Matrix]) -> Sources:
-        """The state behind a round, of that before it, and of what the step has from outside."""
-        return {name: outside[name] if source is None else before[source] if isinstance(source, str)
-                else source
-                for name, source in self.after.items()}
-
-
-class Begin(NamedTuple):
-    """What a round begins with: the state, names that it mustn't write, and jobs that are
-    queued."""
-    state: Sources
-    held: FrozenSet[str]
-    pending: Tuple[Pending, ...]
-
-
-def key_of(source: Source) -> str:
-    """The server's name of a matrix."""
-    return source.key if isinstance(source, ServerHandle) else source.handle.key
-
-
-def keys_of(sources: Sources) -> Tuple[str, ...]:
-    """The server's names of a state's matrices."""
-    return tuple(map(key_of, sources.values()))
-
-
-class Renderer:
-    """Rounds as text."""
-
-    def __init__(self, session: 'Session', show: Sequence[str], size: int) -> None:
-        self._session, self._show = session, show
-        self._templates: Dict[Tuple[Traced, Tuple[str, ...], FrozenSet[str], Tuple[Pending, ...]],
-                              Template] = {}
-        self.names = OwnNames(session.backend, size)
-
-    def template(self, traced: Traced, begin: Begin) -> Template:
-        """The commands of a round."""
-        key = (traced, keys_of(begin.state), begin.held, begin.pending)
-        if key not in self._templates:
-            if len(self._templates) >= MOST_TEMPLATES:
-                self._templates.clear()
-            ops = [[self._session.backend.upload(op).name.encode() for op in job.operators]
-                   for job in traced.jobs]
-            self._templates[key] = _Writing(self.names, traced, ops, Results(traced, self._show),
-                                            begin).made()
-        return self._templates[key]
-
-    def hand_over(self, owner: ServerHandle) -> None:
-        """An owner that a matrix has from now on: no round writes its name any more."""
-        self.names.hand_over(owner)
-        self._templates.clear()
-
-
-class Results:
-    """The results of a round: which of them each job makes, and which jobs are shown."""
-
-    def __init__(self, traced: Traced, show: Sequence[str]) -> None:
-        self._labels: Dict[Value, List[str]] = {}
-        for name, value in traced.out.items():
-            if isinstance(value, Made):
-                self._labels.setdefault(value, []).append(name)
-        self._shown = {traced.out[name] for name in show if isinstance(traced.out[name], Made)}
-
-    def labels(self, job: int) -> Tuple[str, ...]:
-        """The results that a job makes."""
-        return tuple(self._labels.get(Made(job), ()))
-
-    def is_shown(self, job: int) -> bool:
-        """Whether a job's result is shown."""
-        return Made(job) in self._shown
-
-
-class _Writing:
-    """The text of one round as it is written. `ops` are the operators' names of each job."""
-
-    def __init__(self, names: OwnNames, traced: Traced, ops: List[List[bytes]], results: Results,
-                 begin: Begin) -> None:
-        self._names, self._traced, self._ops, self._results, self._state = (names, traced, ops,
-                                                                            results, begin.state)
-        self._pending = list(begin.pending)
-        self._taken = {*keys_of(begin.state), *begin.held, *(job.name for job in begin.pending)}
-        self._text: List[bytes] = []
-        self._pieces: List[bytes] = []
-        self._made: Dict[int, ServerHandle] = {}
-        self._words = self._commands = 0
-        self._counts: List[Counted] = []
-        self._shows: List[Tuple[int, Tuple[str, ...]]] = []
-
-    def made(self) -> Template:
-        for number, job in enumerate(self._traced.jobs):
-            self._job(number, job)
-        self._pieces.append(b''.join(self._text))
-        after = {name: self._after(self._traced.out[name]) for name in self._state}
-        left = tuple(job._replace(back=job.back + 1) for job in self._pending)
-        return Template(self._pieces, self._words, self._counts, self._shows, self._commands, after,
-                        left)
-
-    def _after(self, value: Value) -> Union[ServerHandle, str, None]:
-        return (None if isinstance(value, Handle) else value.name if isinstance(value, Given)
-                else self._made[value.job])
-
-    def _key(self, value: Value) -> str:
-        """The server's name of a value."""
-        return value.key if isinstance(value, Handle) else key_of(
-            self._state[value.name] if isinstance(value, Given) else self._made[value.job])
-
-    def _job(self, number: int, job: TracedJob) -> None:
-        operands = list(map(self._key, job.operands))
-        mask = None if job.mask is None else self._key(job.mask)
-        waiting = {one.name for one in self._pending}
-        if len(waiting) >= QUEUE or mask in waiting or not waiting.isdisjoint(operands):
-            self._run()
-        owner = self._made[number] = self._names.free(self._taken)
-        self._taken.add(owner.key)
-        line = b' '.join([job.form.encode(), owner.key.encode(), *self._ops[number],
-                          *(key.encode() for key in operands)])
-        if job.is_numbered:
-            self._pieces.append(b''.join(self._text) + line + b' ')
-            self._text, line = [], b''
-        self._text.append(line + (b' mask ' + mask.encode() if mask is not None else b'') + b'\n')
-        self._words += QUEUED
-        self._commands += 1
-        self._pending.append(Pending(owner.key, self._results.labels(number), 0,
-                                     self._results.is_shown(number)))
-
-    def _run(self) -> None:
-        text, words, counts, shows = run_of(self._pending, self._words)
-        self._text.append(text)
-        self._words = words
-        self._counts += counts
-        self._shows += shows
-        self._commands += 1 + len(shows)
-        self._pending = []
-
-
-def run_of(pending: Sequence[Pending],
-           words: int) -> Tuple[bytes, int, List[Counted], List[Tuple[int, Tuple[str, ...]]]]:
-    """A run of some jobs behind so many words of replies: its commands, the words then, where
-    counts stand, and what is shown."""
-    words += RAN
-    counts, text = [], [b'run\n']
-    for job in pending:
-        if job.results:
-            counts.append(Counted(words + 3, job.back, job.results))
-        words += LINE
-    shown = [job for job in pending if job.shown]
-    text += [b'show %s\n' % job.name.encode() for job in shown]
-    return b''.join(text), words, counts, [(job.back, job.results) for job in shown]
+    def submit(first: Matrix) -> Matrix:
+        return Matrix(session,
+                      session.backend.submit(Job(job.form, job.operators, (first.handle, *others),
+                                                 job.shape, thunk, under)))
+    try:
+        return (oversized_jobs.in_parts(operands[0], submit) if job.is_by_parts
+                else submit(operands[0]))
+    except TooLarge as fault:
+        whole = Job(job.form, job.operators, tuple(operand.handle for operand in operands),
+                    job.shape, thunk, under)
+        raise oversized_jobs.explained(fault, whole,
+                                       operands if mask is None else [*operands, mask]) from None

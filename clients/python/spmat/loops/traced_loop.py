@@ -12,16 +12,16 @@ without trips.
 from __future__ import annotations
 
 import time
-from typing import (TYPE_CHECKING, Any, Callable, Dict, List, Mapping, NamedTuple, Optional,
-                    Sequence, Set, Tuple, Union, cast)
+from typing import (TYPE_CHECKING, Any, Callable, Dict, List, Mapping, Optional, Sequence, Set,
+                    Union, cast)
 
 from ..backends.trace import TraceHandle
+from ..backends.unread import Unread, current_price
 from ..errors import NotSettled, Refused
 from ..io.coo import whole
-from ..backends.unread import Unread, current_price
-from .rounds import Rounds, State, of_two, results
-from .shown import Body, Shown
-from .trips import Counts, Round, Trips
+from .round_results import Body, Shown
+from .rounds import State, TracedRounds, of_two, results
+from .trips import Counts, Place, Round, Trips, Until, count_entries, first_met, place_behind
 
 if TYPE_CHECKING:
     from ..algorithms.utils import Progress
@@ -33,27 +33,7 @@ QUICK, LONG = .002, .05
 Each = Callable[[int, Counts], Any]
 
 
-class Until(NamedTuple):
-    """An end: the results that it looks at, whether it is met by their numbers of entries in a
-    round and in the one before, and whether rounds behind it cost next to nothing, should they work
-    on these results."""
-    names: Tuple[str, ...]
-    met: Callable[[Counts, Counts], bool]
-    rests: bool = False
-
-
-def empty(name: str) -> Until:
-    """The end of a loop: this result has no entry."""
-    return Until((name,), lambda counts, _: counts[name] == 0, True)
-
-
-def steady(name: str) -> Until:
-    """The end of a loop: this result has as many entries as in the round before. Their values may
-    still change: a loop over values returns the difference, and ends where that is `empty`."""
-    return Until((name,), lambda counts, before: counts[name] == before.get(name))
-
-
-def _until(end: Union[Until, Callable[[Counts], bool]]) -> Until:
+def _as_until(end: Union[Until, Callable[[Counts], bool]]) -> Until:
     if isinstance(end, Until):
         return end
     function: Any = end
@@ -65,16 +45,40 @@ def _until(end: Union[Until, Callable[[Counts], bool]]) -> Until:
 
 
 class Loop:
-    """A step that is made again and again: `spmat.loop` makes one. `number` rounds are made;
-    `state` has the matrices behind them, by name (`loop.state.front`, or `loop.state["front"]`);
-    `shown` the entries of what is shown, for all rounds (`loop.shown["front"].places`)."""
+    """A step that is made again and again: `spmat.loop` makes one.
+
+    Parameters
+    ----------
+    step : callable
+        `step(s, k)` makes of the matrices `s` in round k, from 1, the next ones, by name.
+    state : dict
+        The matrices that the first round begins with, by name: of one session.
+    show : sequence of str, optional
+        Results that are rows or columns; their entries come to the client in each round.
+    alike : bool, default False
+        Whether the step is known to ask for the same jobs in all rounds, but for their numbers.
+        Then the first two rounds are enough: other numbers are `slope * round + start`.
+
+    Attributes
+    ----------
+    number : int
+        How many rounds are made.
+    state : State
+        The matrices behind them, by name: `loop.state.front`, or `loop.state["front"]`.
+    shown : dict
+        The entries of what is shown, for all rounds, by name: `loop.shown["front"].places`.
+
+    Notes
+    -----
+    `spmat.loop` says what a step may ask for, and what is raised.
+    """
 
     def __init__(self, step: Callable[..., Mapping[str, Any]], state: Mapping[str, Any],
                  show: Sequence[str] = (), alike: bool = False) -> None:
-        self._step, begun = of_two(step), _checked(state)
-        self._state, self._made = begun, 0         # where no trips are
-        # of all results of the last round, where no trips are
-        self._last: Counts = {}
+        self._step, begun = of_two(step), _check_state(state)
+        # where no trips are; what is known of matrices stands with them
+        self._own_place = Place(0, dict(begun), {}, {})
+        self._longest_side = max(int(side) for matrix in begun.values() for side in matrix.shape)
         # rounds that are made, where fewer are known by their names
         self._end: Optional[int] = None
         self._careful = False                      # something was refused
@@ -84,54 +88,91 @@ class Loop:
         self._trips: Optional[Trips] = None
         first = next(iter(begun.values()))
         if current_price() is None and all(matrix.in_one_place for matrix in begun.values()):
-            rounds = Rounds(first.session, self._step, begun, self._show, alike)
+            rounds = TracedRounds(first.session, self._step, begun, self._show, alike)
             self.shown.update((name, Shown(shape)) for name, shape in rounds.shown.items())
             self._results = set(rounds.first.traced.out)
             self._trips = Trips(first.session, rounds, begun, self._show)
-            if not self._trips.bearable(1):
+            if not self._trips.choose_rounds(1):
                 first.session.budget()             # which may have more than is known
 
     def __repr__(self) -> str:
-        return '<Loop of %s, %d rounds made>' % (', '.join(self._names()), self.number)
+        return '<Loop of %s, %d rounds made>' % (', '.join(self._place.state), self.number)
 
-    def _names(self) -> List[str]:
-        return list(self._state) if self._trips is None else list(self._trips.place.state)
+    @property
+    def _place(self) -> Place:
+        return self._own_place if self._trips is None else self._trips.place
 
     @property
     def number(self) -> int:
-        """How many rounds are made."""
-        if self._end is not None:
-            return self._end
-        return self._made if self._trips is None else self._trips.place.number
+        """How many rounds are made.
+
+        Returns
+        -------
+        int
+            0 before the first one.
+        """
+        return self._place.number if self._end is None else self._end
 
     @property
     def state(self) -> State:
-        """The matrices behind the last round. Where an end was met amid a trip, the trip's rounds
-        up to it are made again for this."""
+        """The matrices behind the last round.
+
+        Returns
+        -------
+        State
+            The matrices by name, also as attributes.
+
+        Notes
+        -----
+        Where an end was met amid a trip, the trip's rounds up to it are made again for this.
+        """
         price = current_price()
         if price is not None:
             self._foresee(price, 0, 0)
             return State(price.loops[id(self)][1])
         self._catch_up()
-        if self._trips is None:
-            return State(self._state)
-        self._trips.settle()
-        return self._trips.matrices()
+        if self._trips is not None:
+            self._trips.settle()
+        return self._matrices()
+
+    def _matrices(self) -> State:
+        return State(self._place.state) if self._trips is None else self._trips.matrices()
 
     def run(self, until: Union[Until, Callable[[Counts], bool]], most: Optional[int] = None,
             each: Optional[Each] = None, progress: 'Progress' = None) -> int:
-        """Makes rounds until an end is met: `spmat.empty("front")`, `spmat.steady("known")`, or a
-        function of the numbers of entries, a dict by name. The number of rounds that this took.
+        """Makes rounds until an end is met.
 
-        `each(k, counts)` is called for each round up to the end, in order, and `progress("round",
-        k, 0)`. More rounds than `most` (by default one more than rows or columns of the largest
-        matrix) are a NotSettled, a RuntimeError, behind which the state is there. A few rounds
-        behind the end may be made in vain, and cost steps: with `empty` up to 128, else up to those
-        that take 2 ms; with `advance` none."""
-        end, begun = _until(until), self._resumed()
-        most = self._default() if most is None else whole(most, 'number of rounds')
+        Parameters
+        ----------
+        until : Until or callable
+            `spmat.empty("front")`, `spmat.steady("known")`, or a function of the numbers of
+            entries, a dict by name.
+        most : int, optional
+            The most rounds. By default one more than rows or columns of the largest matrix.
+        each : callable, optional
+            `each(k, counts)` is called for each round up to the end, in order.
+        progress : callable, optional
+            `progress("round", k, 0)` is called likewise.
+
+        Returns
+        -------
+        int
+            The number of rounds that this took.
+
+        Raises
+        ------
+        NotSettled
+            Where the end isn't met by then, behind which the state is there: it is a RuntimeError.
+
+        Notes
+        -----
+        A few rounds behind the end may be made in vain, and cost steps: with `empty` up to 128,
+        else up to those that take 2 ms; with `advance` none.
+        """
+        end, begun = _as_until(until), self._resumed()
+        most = 1 + self._longest_side if most is None else whole(most, 'number of rounds')
         self._check_names(end.names)
-        if not self.rounds(end, most, _tells(each, progress, 0)):
+        if not self.rounds(end, most, _report_rounds(each, progress, 0)):
             raise NotSettled(
                 'did not converge after %d rounds: most= allows more, and advance() makes '
                 'rounds without an end; the state is that behind them' % most)
@@ -140,34 +181,58 @@ class Loop:
 
     def advance(self, rounds: int = 1, each: Optional[Each] = None,
                 progress: 'Progress' = None) -> None:
-        """Makes so many rounds, none in vain. `each` and `progress` are as in `run`."""
+        """Makes so many rounds, none in vain.
+
+        Parameters
+        ----------
+        rounds : int
+            How many.
+        each : callable, optional
+            As for `run`.
+        progress : callable, optional
+            As for `run`; the third argument is how many rounds there are to be.
+        """
         self._resumed()
         rounds = whole(rounds, 'number of rounds')
-        self.rounds(None, rounds, _tells(each, progress, rounds))
+        self.rounds(None, rounds, _report_rounds(each, progress, rounds))
 
     def rounds(self, end: Optional[Until], most: int,
-               heard: Callable[[int, List[Round]], Any]) -> bool:
-        """Makes rounds until an end is met, or so many; whether it was met. `heard(first, rounds)`
-        is told of all rounds of a trip."""
+               report: Callable[[int, List[Round]], Any]) -> bool:
+        """Makes rounds until an end is met, or so many; whether it was met.
+
+        Parameters
+        ----------
+        end : Until or None
+            The end; None where so many rounds are wanted.
+        most : int
+            The most rounds.
+        report : callable
+            `report(first, rounds)` gets all rounds of a trip, of which the first has this number.
+
+        Returns
+        -------
+        bool
+            Whether the end was met. Within `spmat.price` always True.
+        """
         price = current_price()
         if price is not None:
             self._foresee(price, most, most if end is None else min(1, most))
             return True
         rests = end is None or self._rests(end)
         goal, size = self.number + most, FIRST if rests else 1
-        before = self._counts()
+        before = self._place.counts or count_entries(self._matrices())
         while self.number < goal:
             begun, first = time.monotonic(), self.number + 1
             rounds = self._by_trip(rests, size, goal)
             by_trip = rounds is not None
             rounds = self._by_itself(end) if rounds is None else rounds
-            met = _first_met(end, before, rounds)
+            met = first_met(end, before, rounds)
             before = rounds[-1].counts
             kept = rounds if met is None else rounds[:met + 1]
             if by_trip:
                 self._accept(rounds, None if met is None else first + met)
             self._note(first, kept)
-            heard(first, kept)
+            report(first, kept)
             if met is not None:
                 return True
             size = self._next_size(size, rests, time.monotonic() - begun)
@@ -184,10 +249,8 @@ class Loop:
             got = results(self._step, State(now), number + round_)
             return State((name, got[name]) for name in now)
         if id(self) not in price.loops:
-            again = (0 if self._end is None or self._trips is None
-                     else self._end - self._trips.place.number)
-            begun = State(self._state) if self._trips is None else self._trips.matrices()
-            price.loops[id(self)] = self, price.repeat(made, begun, again, again)
+            again = number - self._place.number
+            price.loops[id(self)] = self, price.repeat(made, self._matrices(), again, again)
         price.loops[id(self)] = self, price.repeat(made, price.loops[id(self)][1], most, least)
 
     def _rests(self, end: Until) -> bool:
@@ -202,7 +265,7 @@ class Loop:
         if trips is None or self._careful:
             return None
         while len(trips.under_way) < (2 if rests else 1) and trips.next < goal:
-            asked = trips.bearable(min(size, goal - trips.next))
+            asked = trips.choose_rounds(min(size, goal - trips.next))
             if not asked:
                 break
             trips.post(asked)
@@ -228,23 +291,21 @@ class Loop:
         trips, number = self._trips, self.number + 1
         try:
             got = self._by_step(end) if trips is None else trips.make_one()
-            bodies = {name: _body(got[name]) for name in self._show}
+            bodies = {name: _read_body(got[name]) for name in self._show}
         except Refused as fault:
             fault.round = number
             raise
-        made = Round({name: matrix.nvals for name, matrix in got.items()}, bodies)
         for name in self._show:
             self.shown.setdefault(name, Shown(got[name].shape))
         if trips is None:
-            self._state, self._made, self._last = (State((name, got[name]) for name in self._state),
-                                                   number, made.counts)
+            self._own_place = place_behind(self._own_place, got)
         else:
             trips.accept_one(got)
-        return [made]
+        return [Round(count_entries(got), bodies)]
 
     def _by_step(self, end: Optional[Until]) -> Dict[str, Any]:
         """The results of the next round, by the step."""
-        got = results(self._step, self._state, self.number + 1)
+        got = results(self._step, State(self._place.state), self.number + 1)
         self._results = set(got)
         self._check_names(end.names if end is not None else ())
         for matrix in got.values():
@@ -262,23 +323,15 @@ class Loop:
             for number, one in enumerate(rounds, first):
                 self.shown[name].add(number, one.counts[name], one.bodies[name])
 
-    def _counts(self) -> Counts:
-        """The numbers of entries of all results of the last round; before there was one, of the
-        state."""
-        if self._trips is not None:
-            return self._trips.place.counts
-        return self._last or {name: matrix.nvals for name, matrix in self._state.items()}
-
     def _catch_up(self) -> None:
         """Makes the rounds again that came before an end amid a trip."""
         if current_price() is not None:
             return
         end, self._end = self._end, None
         if end is not None:
-            assert self._trips is not None
             show, self._show = self._show, []
             try:
-                self.rounds(None, end - self._trips.place.number, lambda first, rounds: None)
+                self.rounds(None, end - self.number, lambda first, rounds: None)
             finally:
                 self._show = show
 
@@ -289,11 +342,6 @@ class Loop:
             self._trips.resume()
         return self.number
 
-    def _default(self) -> int:
-        shapes = ([matrix.shape for matrix in self._state.values()] if self._trips is None
-                  else list(self._trips.rounds.shapes.values()))
-        return int(max(max(shape) for shape in shapes)) + 1
-
     def _check_names(self, names: Sequence[str]) -> None:
         if self._results is not None:
             for name in names:
@@ -302,34 +350,24 @@ class Loop:
                                      % (name, ', '.join(sorted(self._results))))
 
 
-def _tells(each: Optional[Each], progress: 'Progress',
+def _report_rounds(each: Optional[Each], progress: 'Progress',
            of: int) -> Callable[[int, List[Round]], None]:
     """Tells both of rounds, of which the first has this number."""
-    def heard(first: int, rounds: List[Round]) -> None:
+    def report(first: int, rounds: List[Round]) -> None:
         for number, one in enumerate(rounds, first):
             if each is not None:
                 each(number, one.counts)
             if progress is not None:
                 progress('round', number, of)
-    return heard
+    return report
 
 
-def _first_met(end: Optional[Until], before: Counts, rounds: List[Round]) -> Optional[int]:
-    """The first of some rounds in which an end is met."""
-    if end is not None:
-        for at, one in enumerate(rounds):
-            if end.met(one.counts, before):
-                return at
-            before = one.counts
-    return None
-
-
-def _body(matrix: Any) -> Body:
+def _read_body(matrix: Any) -> Body:
     text = matrix.to_text()
     return Body(text, 0, len(text))
 
 
-def _checked(state: Mapping[str, Any]) -> State:
+def _check_state(state: Mapping[str, Any]) -> State:
     """The state as it begins. TypeError or ValueError where it is none."""
     if not isinstance(state, Mapping) or not state:
         raise TypeError('the state of a loop is its matrices by name, such as {"front": F}, not %r'
@@ -348,10 +386,7 @@ def _checked(state: Mapping[str, Any]) -> State:
 
 def loop(step: Callable[..., Mapping[str, Any]], state: Mapping[str, Any],
          show: Sequence[str] = ()) -> Loop:
-    """A loop whose rounds stay at the server: `step(s, k)` makes of the matrices `s` (`s.front`, or
-    `s["front"]`) in round k, from 1, the next ones, which it returns by name. Names that it leaves
-    out stay as they are. It may leave out k (a second parameter with a value by default isn't k),
-    and return more results than the state has, to show or count them.
+    """A loop whose rounds stay at the server.
 
         NEXT = spmat.semiring("any", spmat.asm("binary", "mov64 r0, r1\\nadd64 r0, 1\\nexit"))
         # the level, and one
@@ -365,17 +400,41 @@ def loop(step: Callable[..., Mapping[str, Any]], state: Mapping[str, Any],
         # which vertices were found, and in which round each
         search.shown["front"].places, search.shown["front"].rounds
 
+    Parameters
+    ----------
+    step : callable
+        `step(s, k)` makes of the matrices `s` (`s.front`, or `s["front"]`) in round k, from 1, the
+        next ones, which it returns by name. Names that it leaves out stay as they are. It may leave
+        out k (a second parameter with a value by default isn't k), and return more results than
+        the state has, to show or count them.
+    state : dict
+        The matrices that the first round begins with, by name: of one session.
+    show : sequence of str, optional
+        Results that are rows or columns; their entries come to the client in each round.
+
+    Returns
+    -------
+    Loop
+        No round of it is made yet.
+
+    Raises
+    ------
+    NotTraced
+        Where the step asks for entries: it is a TypeError.
+    NotAlike
+        Where it makes matrices itself in each round, or asks for something else where it is called
+        again for a round, behind an end: it is a ValueError.
+
+    Notes
+    -----
     The step is called once for each round, in order and up to 128 rounds ahead, with matrices that
     have no entries: the round is what it asks for. So it may make of k what it likes, and decides
     nothing about data by Python: that is select, masks, and 1x1 matrices, as reduce_rowwise makes
     of a row. It has all methods of a matrix but those that read entries (`nvals`, `to_coo`, `T`,
     `reduce_scalar`). Matrices from outside the step are constants, which are made before the loop.
 
-    `show` names results that are rows or columns; their entries come to the client in each round.
     Jobs are those that the step asks for; runs as few as they need. In blocks, on a budget that may
-    not do for a trip of rounds, and where something is refused, rounds are made one by one. Raises
-    TypeError where the step asks for entries (NotTraced), and ValueError (NotAlike) where it makes
-    matrices itself in each round, or asks for something else where it is called again for a round,
-    behind an end. A refusal is raised as without a loop, with `.round`; the state is that before
-    this round. Ctrl-C leaves the loop as it is: `run` goes on. Threads take turns between trips."""
+    not do for a trip of rounds, and where something is refused, rounds are made one by one. A
+    refusal is raised as without a loop, with `.round`; the state is that before this round. Ctrl-C
+    leaves the loop as it is: `run` goes on. Threads take turns between trips."""
     return Loop(step, state, show)

@@ -1,25 +1,24 @@
-"""The entry point networkx.backends: an object with the functions that are served, which says of a
-call whether it can and should be run."""
+"""The entry point networkx.backends: an object with the functions that are served, which converts
+graphs, and says of a call whether it can and should be run."""
 from __future__ import annotations
 
 # networkx calls these by its own arguments
 # pylint: disable=unused-argument
 
+import contextlib
 import functools
 import importlib
 import inspect
 import os
 import threading
-from typing import Any, Callable, Dict, Mapping, NamedTuple, Optional, Tuple, TypeVar, Union
+from typing import Any, Callable, Dict, List, Mapping, Optional, Tuple, Union
 
 import networkx as nx
 
 from .. import errors
 from . import process_session
 from .backend_info import NEVER, SERVED
-from .convert import (convert_from_nx, convert_to_nx, fold_of, forget_changed, find_conversion,
-                      odd_graph, read_values)
-from .spmat_graph import BOUND, SpmatGraph
+from .spmat_graph import SpmatGraph
 
 MORE_STEPS = (
     'a greater nx.config.backends.spmat.steps opens another session, and 0 gives the most that '
@@ -27,50 +26,153 @@ MORE_STEPS = (
 FALLS_BACK = (errors.TooLarge, errors.OutOfMemory, errors.NoThread)
 # arguments that name an edge attribute where a function reads any
 WEIGHTS = ('weight', 'distance')
+# how a function takes the weights of parallel edges together, if not by the shortest, as paths do
+FOLDS = {'pagerank': 'plus', 'dag_longest_path_length': 'max'}
+# where `__networkx_cache__` of a graph has its conversion, besides where networkx keeps it
+CACHE_KEY = 'spmat: the graph on the server'
+
+_SPANNING = ('minimum_spanning_edges maximum_spanning_edges minimum_spanning_tree '
+             'maximum_spanning_tree')
+# What isn't served of some graphs that networkx itself takes, or took in some version.
+NOT_DIRECTED = frozenset(('transitivity square_clustering s_metric ' + _SPANNING).split())
+NOT_MULTI = frozenset(('core_number k_core k_shell k_crust k_corona k_truss onion_layers power '
+                       'dag_longest_path_length ' + _SPANNING).split())
+# Functions whose weights may be below 0.
+SIGNED = frozenset((
+    'all_pairs_bellman_ford_path_length floyd_warshall single_source_bellman_ford_path_length '
+    'bellman_ford_path_length negative_edge_cycle single_source_bellman_ford '
+    'single_source_bellman_ford_path bellman_ford_path bellman_ford_predecessor_and_distance '
+    'all_shortest_paths average_neighbor_degree dag_longest_path_length ' + _SPANNING).split())
+# Arguments that are served by their defaults alone, and why.
+DECLINED: Dict[Tuple[str, str], str] = {
+    (name, argument): reason for names, argument, reason in (
+        ('eccentricity', 'sp', 'lengths that are given'),
+        ('clustering average_clustering', 'weight', 'weights are folded by cube roots'),
+        ('transitive_closure_dag', 'topo_order', 'an order that is given decides what is closed'),
+        ('bellman_ford_predecessor_and_distance', 'target',
+         'one target, of which networkx gives more'),
+        ('pagerank', 'nstart', 'ranks to begin with'),
+        ('betweenness_centrality', 'k',
+         'some sources, which networkx weighs otherwise from version to version'),
+        ('betweenness_centrality', 'endpoints', 'the ends of paths'),
+        (_SPANNING, 'algorithm',
+         'other algorithms take other edges of one weight, in another order'),
+    ) for name in names.split()}
 
 # whether networkx hands this thread's call over by itself
 _handed = threading.local()
 
-Arguments = Mapping[str, Any]
-Refusal = Callable[[Arguments], Optional[str]]
-Function = TypeVar('Function', bound=Callable[..., Any])
+
+# -- conversion
+
+def find_oddity(graph: Any) -> Optional[str]:
+    """Say why a graph can't be read by its adjacency; None if it can, or has been read."""
+    if find_conversion(graph) is not None:
+        return None
+    if not isinstance(graph, nx.Graph):
+        return 'no graph of networkx: %s' % type(graph).__name__
+    if type(graph).__getitem__ is not nx.Graph.__getitem__ or not hasattr(graph, '_adj'):
+        return 'a %s, whose neighbours are not those of its adjacency' % type(graph).__name__
+    return None
 
 
-class Terms(NamedTuple):
-    """What a function is served for: whether of directed graphs, undirected ones and multigraphs,
-    whether with weights below 0, and a reason against given arguments."""
-    directed: bool = True
-    undirected: bool = True
-    multigraph: bool = True
-    negative: bool = False
-    unless: Optional[Refusal] = None
+def _is_view(graph: Any) -> bool:
+    """Whether a graph shows another one, whose changes clear nothing that networkx keeps with this
+    one."""
+    return '_graph' in getattr(graph, '__dict__', {})
 
 
-ANY = Terms()
-UNDIRECTED = Terms(directed=False)
-DIRECTED = Terms(undirected=False)
-SIMPLE = Terms(multigraph=False)
-SIMPLE_UNDIRECTED = Terms(directed=False, multigraph=False)
-SIGNED = Terms(negative=True)
+def _find_cache(graph: Any) -> Dict[Any, Any]:
+    """Where networkx keeps what was made of a graph until it is changed; a dict of one's own if it
+    keeps nothing."""
+    keeps = nx.config.cache_converted_graphs and not _is_view(graph)
+    kept: Optional[Dict[Any, Any]] = getattr(graph, '__networkx_cache__', None) if keeps else None
+    return {} if kept is None else kept
 
 
-def serves(terms: Terms) -> Callable[[Function], Function]:
-    """Mark a function as served on terms; one without a mark is served of any graph whose weights
-    are 0 or more."""
-    def mark(function: Function) -> Function:
-        setattr(function, 'terms', terms)
-        return function
-    return mark
+def find_conversion(graph: Any) -> Optional[SpmatGraph]:
+    """Find the conversion of a graph that is kept with it, whatever attributes it was for."""
+    return graph if isinstance(graph, SpmatGraph) else _find_cache(graph).get(CACHE_KEY)
 
 
-@functools.lru_cache(maxsize=None)
-def find_function(name: str) -> Callable[..., Any]:
-    """Find what serves networkx' function of a name; its module is imported when it is first asked
-    for."""
-    module = importlib.import_module('.' + SERVED[name].module, __package__)
-    function: Callable[..., Any] = getattr(module, name)
-    return function
+def _convert(graph: Any) -> SpmatGraph:
+    """Convert a graph, or find its conversion. NotImplementedError if it is none of networkx'
+    own."""
+    made = find_conversion(graph)
+    if made is None:
+        odd = find_oddity(graph)
+        if odd is not None:
+            raise NotImplementedError(odd)
+        made = _find_cache(graph)[CACHE_KEY] = SpmatGraph(graph)
+    return made
 
+
+def forget_changed(graph: Any, attributes: List[Any]) -> None:
+    """Have networkx forget what was made of a graph if the values of an edge attribute have changed
+    since, as by `G[u][v]["weight"] = 5`, of which networkx notices nothing. Views are never
+    kept."""
+    if isinstance(graph, SpmatGraph) or not hasattr(graph, 'adjacency'):
+        return
+    if _is_view(graph):
+        graph.__networkx_cache__ = None            # networkx keeps nothing with it then
+        return
+    made = find_conversion(graph)
+    if (made is not None and process_session.setting('compare_weights')
+            and not made.has_values_of(graph, attributes)):
+        graph.__networkx_cache__.clear()
+
+
+def convert_from_nx(graph: Any, *, edge_attrs: Optional[Dict[str, Any]] = None,
+                    node_attrs: Optional[Dict[str, Any]] = None, preserve_edge_attrs: bool = False,
+                    preserve_node_attrs: bool = False, preserve_graph_attrs: bool = False,
+                    name: Optional[str] = None, graph_name: Optional[str] = None) -> SpmatGraph:
+    """Convert a networkx graph, as networkx asks a backend to.
+
+    Parameters
+    ----------
+    graph : networkx.Graph or SpmatGraph
+        The graph. If a SpmatGraph is kept with it, that one is taken.
+    edge_attrs, node_attrs : dict, optional
+        Attributes that the function reads, with their defaults.
+    preserve_edge_attrs, preserve_node_attrs, preserve_graph_attrs : bool
+        Whether to convert all attributes.
+    name, graph_name : str, optional
+        The names of the function and of its argument.
+
+    Returns
+    -------
+    SpmatGraph
+
+    Raises
+    ------
+    NotImplementedError
+        If this is no graph of networkx' own kinds; networkx does the work itself then.
+    """
+    made = _convert(graph)
+    if made is not graph:
+        made.keep_attributes(graph, preserve_node_attrs or bool(node_attrs),
+                             preserve_edge_attrs or bool(edge_attrs), preserve_graph_attrs)
+        for attribute, default in (edge_attrs or {}).items():
+            # the function says why; networkx would keep it as a graph that can't be converted
+            with contextlib.suppress(NotImplementedError):
+                made.values(attribute, default, FOLDS.get(name or '', 'min'))
+    return made
+
+
+def convert_to_nx(thing: Any, *, name: Optional[str] = None) -> Any:
+    """Convert a SpmatGraph back, with the attributes that were converted, as `G.copy()` gives it.
+
+    Parameters
+    ----------
+    thing : object
+        A SpmatGraph, or anything else, which is returned as it is.
+    name : str, optional
+        The name of the function that gave it.
+    """
+    return thing.to_networkx() if isinstance(thing, SpmatGraph) else thing
+
+
+# -- calls
 
 class Backend:
     """The object that networkx calls: a function for each that is served, and what networkx asks of
@@ -81,33 +183,34 @@ class Backend:
 
     @staticmethod
     def can_run(name: str, args: Any, kwargs: Dict[str, Any]) -> Union[bool, str]:
-        """True: a call that has to be left to networkx is told so by `should_run`, or by the
-        function, whose words networkx shows. (Of what this says networkx shows nothing; its own
-        tests alone ask for it.) Forgets what was made of a graph whose weights changed since."""
+        """True: why a call is left to networkx say `should_run` and the function, whose words
+        networkx shows. (Of what this says networkx shows nothing; its own tests alone ask for it.)
+        Forgets what was made of a graph whose weights changed since."""
         _handed.over = False
-        arguments = _bound(name, args, kwargs)
+        arguments = _bind(name, args, kwargs)
         if arguments is not None:
             forget_changed(next(iter(arguments.values())),
-                           [arguments[key] for key in _weight_arguments(name)
+                           [arguments[key] for key in _list_weights(name)
                             if arguments[key] is not None])
-        return (_is_tested() and Backend.reason(name, args, kwargs)) or True
+        is_tested = bool(os.environ.get('NETWORKX_TEST_BACKEND'))
+        return (is_tested and Backend.reason(name, args, kwargs)) or True
 
     @staticmethod
     def reason(name: str, args: Any, kwargs: Mapping[str, Any]) -> Optional[str]:
-        """Why a call is left to networkx, in words: arguments, kinds of graphs and weights for
-        which the answer would differ. None where it is not, or its arguments don't fit, which
-        networkx says better."""
-        arguments = _bound(name, args, kwargs)
-        return None if arguments is None else _reason(name, arguments)
+        """Say why a call is left to networkx: arguments, kinds of graphs and weights for which the
+        answer would differ. None if it isn't, or its arguments don't fit, which networkx says
+        better."""
+        arguments = _bind(name, args, kwargs)
+        return None if arguments is None else _find_reason(name, arguments)
 
     @staticmethod
     def should_run(name: str, args: Any, kwargs: Dict[str, Any]) -> Union[bool, str]:
-        """True where the graph has so many edges that it pays, or is on the server, where the
-        answer is networkx', and a session can be had; else why not, in words. networkx asks this
-        only of calls that it hands over by itself."""
+        """True if the graph has so many edges that it pays, or is on the server, the answer is
+        networkx', and a session can be had; else why not, in words. networkx asks this only of
+        calls that it hands over by itself."""
         graph = args[0] if args else next(iter(kwargs.values()))
-        said = None if isinstance(graph, SpmatGraph) else _little(name, graph)
-        said = said or Backend.reason(name, args, kwargs) or process_session.missing()
+        said = (_is_too_small(name, graph) or Backend.reason(name, args, kwargs)
+                or process_session.find_failure())
         _handed.over = said is None
         return said or True
 
@@ -127,6 +230,15 @@ class Backend:
 
 
 backend = Backend()
+
+
+@functools.lru_cache(maxsize=None)
+def find_function(name: str) -> Callable[..., Any]:
+    """Find what serves networkx' function of a name; its module is imported when it is first asked
+    for."""
+    module = importlib.import_module('.' + SERVED[name].module, __package__)
+    function: Callable[..., Any] = getattr(module, name)
+    return function
 
 
 def serve(name: str, /, *args: Any, **kwargs: Any) -> Any:
@@ -168,8 +280,8 @@ def serve(name: str, /, *args: Any, **kwargs: Any) -> Any:
 
 
 def _answer(name: str, call: Callable[[], Any]) -> Any:
-    """What a call gives. Where the program died before it, or in it, once more with another;
-    NoSession where that one dies, too."""
+    """What a call gives. If the program died before it, or in it, once more with another; NoSession
+    if that one dies, too."""
     for is_last in (False, True):
         try:
             return call()
@@ -183,32 +295,33 @@ def _answer(name: str, call: Callable[[], Any]) -> Any:
     return None
 
 
-def _little(name: str, graph: Any) -> Optional[str]:
-    """Why it doesn't pay to hand a call over, in words; None where it does."""
+# -- what is left to networkx
+
+def _is_too_small(name: str, graph: Any) -> Optional[str]:
+    """Say why it doesn't pay to hand a call over; None if it does, or the graph is on the
+    server."""
+    if isinstance(graph, SpmatGraph):
+        return None
     least = process_session.setting('least_edges')
     if least < 0:
         pays = SERVED[name].pays
         least = pays.first if find_conversion(graph) is None else pays.again
     if least == NEVER:
         return 'networkx has it at hand'
-    many = _edges(graph, least)
+    many = _count_edges(graph, least)
     return None if many >= least else 'only %d edges' % many
 
 
-def _is_tested() -> bool:
-    """Whether networkx' own tests run with this backend."""
-    return bool(os.environ.get('NETWORKX_TEST_BACKEND'))
-
-
-def _bound(name: str, args: Any, kwargs: Mapping[str, Any]) -> Optional[Arguments]:
-    """The arguments of a call by their names; None where they don't fit, which networkx says
-    better."""
-    try:
-        bound = _signature(name).bind(*args, **kwargs)
-    except TypeError:
-        return None
-    bound.apply_defaults()
-    return bound.arguments
+def _count_edges(graph: Any, enough: int) -> int:
+    """The number of a graph's edges; of a large graph no more than that they are enough."""
+    if not hasattr(graph, 'adjacency'):
+        return int(graph.number_of_edges())
+    ends = 0
+    for _, near in graph.adjacency():
+        ends += len(near)
+        if ends >= 2 * enough:
+            break
+    return ends if graph.is_directed() else ends // 2
 
 
 def _dispatched(name: str) -> Any:
@@ -224,61 +337,55 @@ def _signature(name: str) -> inspect.Signature:
 
 
 @functools.lru_cache(maxsize=None)
-def _weight_arguments(name: str) -> Tuple[str, ...]:
-    """The arguments that name an edge attribute. The distance of `descendants_at_distance` is a
-    number."""
+def _list_weights(name: str) -> Tuple[str, ...]:
+    """The arguments that name an edge attribute."""
     function = _dispatched(name)
     reads = function.edge_attrs is not None or function.preserve_edge_attrs
     return tuple(key for key in WEIGHTS if reads and key in _signature(name).parameters)
 
 
-def _edges(graph: Any, enough: int) -> int:
-    """The number of a graph's edges; of a large graph no more than that they are enough."""
-    if not hasattr(graph, 'adjacency'):
-        return int(graph.number_of_edges())
-    ends = 0
-    for _, near in graph.adjacency():
-        ends += len(near)
-        if ends >= 2 * enough:
-            break
-    return ends if graph.is_directed() else ends // 2
+def _bind(name: str, args: Any, kwargs: Mapping[str, Any]) -> Optional[Dict[str, Any]]:
+    """The arguments of a call by their names; None if they don't fit, which networkx says
+    better."""
+    try:
+        bound = _signature(name).bind(*args, **kwargs)
+    except TypeError:
+        return None
+    bound.apply_defaults()
+    return bound.arguments
 
 
-def _reason(name: str, arguments: Arguments) -> Optional[str]:
-    """Why a call is left to networkx, in words; None where it is not."""
-    terms: Terms = getattr(find_function(name), 'terms', ANY)
+def _find_reason(name: str, arguments: Dict[str, Any]) -> Optional[str]:
+    """Say why a call is left to networkx; None if it isn't."""
     graph = next(iter(arguments.values()))
-    odd = odd_graph(graph)
+    odd = find_oddity(graph)
     if odd:
         return odd
-    if not (terms.directed if graph.is_directed() else terms.undirected):
-        return 'not of %s graphs' % ('directed' if graph.is_directed() else 'undirected')
-    if graph.is_multigraph() and not terms.multigraph:
+    if graph.is_directed() and name in NOT_DIRECTED:
+        return 'not of directed graphs'
+    if graph.is_multigraph() and name in NOT_MULTI:
         return 'not of multigraphs'
-    said = terms.unless(arguments) if terms.unless else None
-    if said:
-        return said
-    for key in _weight_arguments(name):
-        if arguments[key] is not None:
-            said = _weights(name, graph, arguments, key, terms.negative)
-            if said:
-                return said
-    return None
+    for key, value in arguments.items():
+        if (name, key) in DECLINED and value != _signature(name).parameters[key].default:
+            return DECLINED[name, key]
+    return next(filter(None, (_find_reason_by_weights(name, graph, arguments, key)
+                              for key in _list_weights(name) if arguments[key] is not None)), None)
 
 
-def _weights(name: str, graph: Any, arguments: Arguments, key: str,
-             negative: bool) -> Optional[str]:
-    """Why the values of an edge attribute don't do, in words."""
+def _find_reason_by_weights(name: str, graph: Any, arguments: Dict[str, Any],
+                            key: str) -> Optional[str]:
+    """Say why the values of an edge attribute don't do. What is read of them stays with the
+    conversion, which follows."""
     attribute = arguments[key]
     if callable(attribute):
         return '%s is a function, and not the name of an edge attribute' % key
-    default = arguments.get('default_weight', 1)
     try:
-        found = read_values(graph, attribute, default, fold_of(name))
+        made = _convert(graph)
+        if made is not graph:
+            made.keep_attributes(graph, False, True, False)
+        found = made.values(attribute, arguments.get('default_weight', 1), FOLDS.get(name, 'min'))
     except NotImplementedError as fault:
         return str(fault)
-    if not negative and found.least < 0:
+    if name not in SIGNED and found.least < 0:
         return 'the edge attribute %r has values below 0' % attribute
-    if max(found.most, -found.least) * (len(graph) + 1) >= BOUND:
-        return 'the edge attribute %r: lengths of paths beyond 64 bits' % attribute
     return None

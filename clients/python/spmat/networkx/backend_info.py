@@ -2,8 +2,7 @@
 their defaults. It imports nothing else of spmat that it needn't."""
 from __future__ import annotations
 
-import os
-from typing import Any, Callable, Dict, List, NamedTuple
+from typing import Any, Dict, List, NamedTuple
 
 DEFAULTS: Dict[str, Any] = {'program': '', 'connect': '', 'steps': 0, 'workers': 0,
                             'least_edges': -1, 'scale': 0, 'compare_weights': True}
@@ -45,56 +44,42 @@ class Served(NamedTuple):
 
 # the functions of each module, by when they pay
 _TABLE: Dict[str, Dict[Pays, str]] = {
-    'all_pairs_lengths': {
-        PRODUCTS: 'all_pairs_shortest_path_length',
+    'all_pairs': {
         MUCH: 'all_pairs_dijkstra_path_length all_pairs_bellman_ford_path_length floyd_warshall '
               'power average_shortest_path_length wiener_index closeness_centrality '
-              'harmonic_centrality global_efficiency eccentricity diameter radius periphery center',
+              'harmonic_centrality global_efficiency eccentricity diameter radius periphery center '
+              'betweenness_centrality',
+        PRODUCTS: 'all_pairs_shortest_path_length pagerank',
         WALK: 'shortest_path_length'},
-    'centrality': {
-        PRODUCTS: 'pagerank',
-        MUCH: 'betweenness_centrality'},
-    'clustering': {
-        MUCH: 'triangles transitivity clustering average_clustering generalized_degree '
-              'square_clustering'},
-    'components': {
+    'connectivity': {
+        MUCH: 'overall_reciprocity reciprocity transitive_closure',
+        PRODUCTS: 's_metric transitive_closure_dag transitive_reduction number_of_walks',
+        WEIGHTS: 'average_neighbor_degree is_forest is_branching',
+        ROUNDS: 'strongly_connected_components number_strongly_connected_components '
+                'is_semiconnected attracting_components dag_longest_path_length',
         WALK: 'connected_components number_connected_components is_connected '
               'node_connected_component weakly_connected_components '
-              'number_weakly_connected_components is_weakly_connected',
-        ROUNDS: 'strongly_connected_components number_strongly_connected_components '
-                'is_semiconnected attracting_components',
-        KNOWN: 'is_tree is_arborescence',
-        WEIGHTS: 'is_forest is_branching'},
-    'dag': {
-        MUCH: 'transitive_closure',
-        PRODUCTS: 'transitive_closure_dag transitive_reduction number_of_walks',
-        ROUNDS: 'dag_longest_path_length'},
-    'degree': {
+              'number_weakly_connected_components is_weakly_connected descendants ancestors '
+              'bfs_layers',
         KNOWN: 'degree_centrality in_degree_centrality out_degree_centrality isolates '
-               'number_of_isolates number_of_selfloops',
-        PRODUCTS: 's_metric',
-        WEIGHTS: 'average_neighbor_degree',
-        MUCH: 'overall_reciprocity reciprocity'},
-    'k_core': {
-        ROUNDS: 'core_number k_shell k_crust k_corona onion_layers maximal_independent_set',
-        PRODUCTS: 'k_core k_truss'},
+               'number_of_isolates number_of_selfloops is_tree is_arborescence'},
+    'density': {
+        MUCH: 'triangles transitivity clustering average_clustering generalized_degree '
+              'square_clustering',
+        PRODUCTS: 'k_core k_truss',
+        WEIGHTS: 'minimum_spanning_edges maximum_spanning_edges minimum_spanning_tree '
+                 'maximum_spanning_tree',
+        ROUNDS: 'core_number k_shell k_crust k_corona onion_layers maximal_independent_set'},
     'shortest_paths': {
-        KNOWN: 'single_source_shortest_path single_target_shortest_path predecessor dijkstra_path '
-               'bellman_ford_path all_shortest_paths',
         WEIGHTS: 'multi_source_dijkstra multi_source_dijkstra_path single_source_dijkstra '
                  'single_source_dijkstra_path dijkstra_predecessor_and_distance '
                  'single_source_bellman_ford single_source_bellman_ford_path '
-                 'bellman_ford_predecessor_and_distance'},
-    'single_source_lengths': {
-        WALK: 'single_source_shortest_path_length single_target_shortest_path_length descendants '
-              'ancestors bfs_layers',
-        WEIGHTS: 'single_source_dijkstra_path_length multi_source_dijkstra_path_length '
-                 'single_source_bellman_ford_path_length bellman_ford_path_length '
-                 'negative_edge_cycle',
-        KNOWN: 'dijkstra_path_length'},
-    'spanning_tree': {
-        WEIGHTS: 'minimum_spanning_edges maximum_spanning_edges minimum_spanning_tree '
-                 'maximum_spanning_tree'},
+                 'bellman_ford_predecessor_and_distance single_source_dijkstra_path_length '
+                 'multi_source_dijkstra_path_length single_source_bellman_ford_path_length '
+                 'bellman_ford_path_length negative_edge_cycle',
+        WALK: 'single_source_shortest_path_length single_target_shortest_path_length',
+        KNOWN: 'single_source_shortest_path single_target_shortest_path predecessor dijkstra_path '
+               'bellman_ford_path all_shortest_paths dijkstra_path_length'},
 }
 SERVED: Dict[str, Served] = {
     name: Served(module, pays) for module, classes in _TABLE.items()
@@ -151,6 +136,10 @@ def _settings_class() -> Any:
         compare_weights: bool
 
         def _on_setattr(self, key: str, value: Any) -> Any:
+            default = DEFAULTS.get(key)
+            if type(value) is type(default) and value == default:
+                return value
+            from .process_session import check_setting     # not while networkx is imported
             return check_setting(key, value)
     Settings.__qualname__ = 'Settings'             # by which pickle finds it here
     _classes.append(Settings)
@@ -161,81 +150,3 @@ def __getattr__(name: str) -> Any:
     if name == 'Settings':
         return _settings_class()
     raise AttributeError('module %r has no attribute %r' % (__name__, name))
-
-
-def check_setting(name: str, value: Any) -> Any:
-    """Check a setting, and bring it into one form. ValueError if no session can be opened with
-    it."""
-    default = DEFAULTS.get(name)
-    if name not in CHECKS or (type(value) is type(default) and value == default):
-        return value
-    return CHECKS[name](value)
-
-
-def _program(value: Any) -> Any:
-    if isinstance(value, (str, os.PathLike)):
-        return os.fspath(value)
-    if (isinstance(value, (list, tuple)) and value
-        and all(isinstance(word, (str, os.PathLike)) for word in value)):
-        return tuple(map(os.fspath, value))
-    raise ValueError(
-        'program is the path of the program, or the words that start it, as a text or a list; '
-        'not %r' % (value,))
-
-
-def _connect(value: Any) -> str:
-    if isinstance(value, str) and ('/' in value or not value):
-        return value
-    host, colon, port = value.rpartition(':') if isinstance(value, str) else ('', '', '')
-    if not colon or not port.isdigit() or not 1 <= int(port) <= 65535:
-        raise ValueError(
-            'connect is HOST:PORT, as "127.0.0.1:7171", or the path of a socket file, with a '
-            'slash; not %r' % (value,))
-    return '%s:%s' % (host, port)
-
-
-def _steps(value: Any) -> int:
-    from ..limits import MOST_STEPS
-    return _within('steps', value, 0, MOST_STEPS, '0 (as many as there can be) to 2^62, also 1e9')
-
-
-def _workers(value: Any) -> int:
-    from ..limits import MOST_WORKERS
-    return _within('workers', value, 0, MOST_WORKERS,
-                   '0 (one for each processor) to %d' % MOST_WORKERS)
-
-
-def _least_edges(value: Any) -> int:
-    return _within('least_edges', value, -1, 1 << 62,
-                   '0 or more, or -1 (a number for each function)')
-
-
-def _scale(value: Any) -> int:
-    return _within('scale', value, 0, 1 << 62,
-                   '0 (weights are whole multiples of a power of ten or two) or more, also 1e6')
-
-
-def _compare_weights(value: Any) -> bool:
-    if isinstance(value, str) and value.lower() in ('true', 'false'):
-        return value.lower() == 'true'
-    if value in (True, False):
-        return bool(value)
-    raise ValueError('compare_weights is True or False, not %r' % (value,))
-
-
-def _within(name: str, value: Any, least: int, most: int, said: str) -> int:
-    """A whole number, also as a word as the command line takes it."""
-    from ..io.coo import whole, whole_of_word
-    try:
-        number = whole_of_word(value) if isinstance(value, str) else whole(value)
-    except (TypeError, ValueError):
-        raise ValueError('%s: a whole number, %s; not %r' % (name, said, value)) from None
-    if not least <= number <= most:
-        raise ValueError('%s: %s; not %r' % (name, said, value))
-    return number
-
-
-CHECKS: Dict[str, Callable[[Any], Any]] = {'program': _program, 'connect': _connect,
-                                           'steps': _steps, 'workers': _workers,
-                                           'least_edges': _least_edges, 'scale': _scale,
-                                           'compare_weights': _compare_weights}

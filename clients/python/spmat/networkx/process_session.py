@@ -1,6 +1,7 @@
-"""The one session of a process, as `nx.config.backends.spmat` describes it."""
+"""The one session of a process, as the settings `nx.config.backends.spmat` describe it."""
 from __future__ import annotations
 
+import fractions
 import os
 import threading
 import time
@@ -11,20 +12,78 @@ import networkx as nx
 
 from .._client.server_program import Program
 from ..errors import SpmatError
-from ..limits import MOST_STEPS
+from ..limits import MOST_STEPS, MOST_WORKERS
 from ..session import Session
-from .backend_info import DEFAULTS, check_setting
+from .backend_info import DEFAULTS
 
-MOST_WORKERS = 8
+MOST_DEFAULT_WORKERS = 8
 # how long a session that couldn't be opened isn't tried again by priority
 SECONDS = 30.0
+# the least and the greatest value of the settings that are numbers, and what they mean
+RANGES = {'steps': (0, MOST_STEPS, '0 (as many as there can be) to 2^62, also 1e9'),
+          'workers': (0, MOST_WORKERS, '0 (one for each processor) to %d' % MOST_WORKERS),
+          'least_edges': (-1, 1 << 62, '0 or more, or -1 (a number for each function)'),
+          'scale': (0, 1 << 62, '0 (weights are whole multiples of a power of ten or two) or '
+                    'more, also 1e6')}
 
 
-class NoSession(RuntimeError):
-    """No session can be opened with the settings; the cause is what came of it."""
+# -- settings
+
+def check_setting(name: str, value: Any) -> Any:
+    """Check a setting, and bring it into one form. ValueError if no session can be opened with
+    it."""
+    if name in RANGES:
+        return _check_number(name, value)
+    return {'program': _check_program, 'connect': _check_address,
+            'compare_weights': _check_flag}.get(name, lambda given: given)(value)
 
 
-class Settings(NamedTuple):
+def _check_number(name: str, value: Any) -> int:
+    least, most, meaning = RANGES[name]
+    try:
+        number = fractions.Fraction(str(value))    # a text, too, as the command line takes it
+    except ValueError:
+        number = fractions.Fraction(1, 2)
+    if number.denominator != 1:
+        raise ValueError('%s: a whole number, %s; not %r' % (name, meaning, value))
+    if not least <= number <= most:
+        raise ValueError('%s: %s; not %r' % (name, meaning, value))
+    return int(number)
+
+
+def _check_program(value: Any) -> Any:
+    if isinstance(value, (str, os.PathLike)):
+        return os.fspath(value)
+    if (isinstance(value, (list, tuple)) and value
+            and all(isinstance(word, (str, os.PathLike)) for word in value)):
+        return tuple(map(os.fspath, value))
+    raise ValueError('program is the path of the program, or the words that start it, as a text '
+                     'or a list; not %r' % (value,))
+
+
+def _check_address(value: Any) -> str:
+    if isinstance(value, str):
+        _, colon, port = value.rpartition(':')
+        is_port = bool(colon) and port.isdigit() and 1 <= int(port) <= 65535
+        if '/' in value or not value or is_port:
+            return value
+    raise ValueError('connect is HOST:PORT, as "127.0.0.1:7171", or the path of a socket file, '
+                     'with a slash; not %r' % (value,))
+
+
+def _check_flag(value: Any) -> bool:
+    for flag in (True, False):
+        if value == flag or isinstance(value, str) and value.lower() == str(flag).lower():
+            return flag
+    raise ValueError('compare_weights is True or False, not %r' % (value,))
+
+
+def setting(name: str) -> Any:
+    """Look up a setting: the default if networkx doesn't know the backend's settings."""
+    return getattr(getattr(nx.config.backends, 'spmat', None), name, DEFAULTS[name])
+
+
+class Wanted(NamedTuple):
     """What a session is opened with. `connect` is `HOST:PORT` of `spmat serve` or the path of its
     socket file, or empty for a program of one's own."""
     program: Program
@@ -33,40 +92,36 @@ class Settings(NamedTuple):
     workers: int
 
 
+def read_settings() -> Wanted:
+    """Read the settings as they are now; 0 steps are as many as a session can have, 0 workers one
+    for each processor, 8 at most."""
+    processors = (len(os.sched_getaffinity(0)) if hasattr(os, 'sched_getaffinity')
+                  else os.cpu_count() or 1)
+    return Wanted(setting('program'), setting('connect'), setting('steps') or MOST_STEPS,
+                  setting('workers') or min(MOST_DEFAULT_WORKERS, processors))
+
+
+# -- the session
+
+class NoSession(RuntimeError):
+    """No session can be opened with the settings; the cause is what came of it."""
+
+
 class Failure(NamedTuple):
     """Settings with which no session could be opened, when that was tried, and what came of it."""
-    wanted: Settings
+    wanted: Wanted
     when: float
     words: str
 
 
 class Warned:
-    """What calls by priority have met: the last failure, and whether this process was told of
-    one."""
+    """What calls by priority have met: the last failure, and whether this process was warned."""
     last: Optional[Failure] = None
     is_told = False
 
 
 _lock = threading.RLock()
-_open: Dict[Tuple[int, Settings], Session] = {}
-
-
-def setting(name: str) -> Any:
-    """A value of `nx.config.backends.spmat`, or the default where networkx doesn't know the
-    backend's settings."""
-    return check_setting(name,
-                         getattr(getattr(nx.config.backends, 'spmat', None), name, DEFAULTS[name]))
-
-
-def settings() -> Settings:
-    """The settings as they are now; 0 steps are as many as a session can have, 0 workers one for
-    each processor, 8 at most."""
-    workers = setting('workers') or min(MOST_WORKERS, _processors())
-    return Settings(setting('program'), setting('connect'), setting('steps') or MOST_STEPS, workers)
-
-
-def _processors() -> int:
-    return len(os.sched_getaffinity(0)) if hasattr(os, 'sched_getaffinity') else os.cpu_count() or 1
+_open: Dict[Tuple[int, Wanted], Session] = {}
 
 
 def session() -> Session:
@@ -86,35 +141,22 @@ def session() -> Session:
         left. It is a RuntimeError.
     """
     with _lock:
-        key = (os.getpid(), settings())
+        key = (os.getpid(), read_settings())
         held = _open.get(key)
         if held is not None and held.connection.usable():
             return held
-        # one session a process; those of a parent are left alone
-        for old in list(_open):
-            last = _open.pop(old)
-            if old[0] == key[0]:
-                last.close()
+        close()
+        # a parent's sessions are forgotten, and left to the parent
+        _open.clear()
         try:
-            _open[key] = _opened(key[1])
+            _open[key] = _open_session(key[1])
         except (OSError, SpmatError) as fault:
-            raise NoSession('spmat has no session: %s' % _words(key[1], fault)) from fault
+            raise NoSession('spmat has no session: %s' % _describe(key[1], fault)) from fault
         Warned.last = None
         return _open[key]
 
 
-def _words(wanted: Settings, fault: BaseException) -> str:
-    """What came of it, and which setting it comes from."""
-    said = str(fault)
-    if isinstance(fault, OSError) and fault.strerror:
-        said = fault.strerror + (': ' + str(fault.filename) if fault.filename else '')
-    if wanted.connect:
-        return '%s (nx.config.backends.spmat.connect is %r)' % (said, wanted.connect)
-    return ('%s (nx.config.backends.spmat.program is %r)' % (said, wanted.program) if wanted.program
-            else said)
-
-
-def _opened(wanted: Settings) -> Session:
+def _open_session(wanted: Wanted) -> Session:
     if '/' in wanted.connect:
         return Session.connect(wanted.connect)
     if wanted.connect:
@@ -123,11 +165,21 @@ def _opened(wanted: Settings) -> Session:
     return Session(wanted.steps, wanted.workers, wanted.program or None)
 
 
-def missing() -> Optional[str]:
-    """Why no session can be had, in words, for a call that networkx hands over by itself: None
-    where one is open, or can be opened. The first such call of a process warns; after a failure
-    some time passes before it is tried again, unless settings change."""
-    wanted, now, last = settings(), time.monotonic(), Warned.last
+def _describe(wanted: Wanted, fault: BaseException) -> str:
+    """Say why no session was opened, and which setting that comes from."""
+    said = str(fault)
+    if isinstance(fault, OSError) and fault.strerror:
+        said = fault.strerror + (': ' + str(fault.filename) if fault.filename else '')
+    name = 'connect' if wanted.connect else 'program'
+    value = getattr(wanted, name)
+    return '%s (nx.config.backends.spmat.%s is %r)' % (said, name, value) if value else said
+
+
+def find_failure() -> Optional[str]:
+    """Say why no session can be had, for a call that networkx hands over by itself: None if one is
+    open, or can be opened. The first such call of a process warns; after a failure some time passes
+    before it is tried again, unless settings change."""
+    wanted, now, last = read_settings(), time.monotonic(), Warned.last
     if last is not None and last.wanted == wanted and now - last.when < SECONDS:
         return last.words
     try:
@@ -140,16 +192,16 @@ def missing() -> Optional[str]:
 
 
 def warn(words: str) -> None:
-    """Tells a process once that networkx does the work, although spmat has priority."""
+    """Warn once a process that networkx does the work, although spmat has priority."""
     with _lock:
-        told, Warned.is_told = Warned.is_told, True
-    if not told:
+        is_told, Warned.is_told = Warned.is_told, True
+    if not is_told:
         warnings.warn('%s; networkx does the work itself. This is said once' % words,
                       RuntimeWarning, stacklevel=2)
 
 
 def close() -> None:
-    """Ends this process's session; the next call opens another."""
+    """End this process's session; the next call opens another."""
     with _lock:
         for key in [key for key in _open if key[0] == os.getpid()]:
             _open.pop(key).close()

@@ -1,16 +1,19 @@
 """A networkx graph as matrices of the process's session, made when they are first asked for."""
 from __future__ import annotations
 
-from typing import Any, Callable, Dict, Iterable, Iterator, List, Optional, Tuple
+import itertools
+from typing import (Any, Callable, Container, Dict, Iterable, Iterator, List, Optional, Sequence,
+                    Tuple)
 
 import networkx as nx
+import numpy
 
 from .. import algorithms
+from ..io.networkx_adjacency import neighbourhoods, row_numbers
 from ..matrix import Matrix
-from ..metadata import Notes
-from ..session import Session
-from . import graph_arrays
-from .graph_arrays import Key, Positions, Values
+from ..metadata import Nodes, Notes
+from . import edge_weights
+from .edge_weights import Key, Values
 from .process_session import session
 
 # what a weight times the nodes stays below: networkx' integers don't wrap
@@ -28,20 +31,50 @@ class SpmatGraph:
     ----------
     graph : networkx.Graph
         The graph to read.
+
+    Attributes
+    ----------
+    nodes : Nodes
+        The nodes, in the graph's order.
+    rows, columns : numpy.ndarray
+        Where the graph has edges, in the order of its adjacency. An undirected edge has two such
+        entries, a loop one; parallel edges share theirs.
+    counts : numpy.ndarray or None
+        How many edges each entry has; None if each has one.
+    loops : dict
+        The number of edges from a node to itself, by its index.
     """
     __networkx_backend__ = 'spmat'
 
     def __init__(self, graph: Any) -> None:
-        self.at: Positions = graph_arrays.positions(graph)
-        self.nodes, self.index = self.at.nodes, self.at.nodes.places
+        adjacency = neighbourhoods(graph)
+        self.nodes = Nodes(graph)
         self.kind = graph.__class__
+        self._directed, self._multigraph = graph.is_directed(), graph.is_multigraph()
+        self.rows = row_numbers(list(map(len, adjacency.values())))
+        ends: Iterable[Any] = itertools.chain.from_iterable(adjacency.values())
+        if not (set(map(type, self.nodes)) <= {int}
+                and self.nodes == list(range(len(self.nodes)))):
+            ends = map(self.index.__getitem__, ends)
+        self.columns = numpy.fromiter(ends, numpy.int64, len(self.rows))
+        counts = numpy.ones(len(self.rows), numpy.int64)
+        if self._multigraph:
+            counts = numpy.array([len(keys) for near in adjacency.values()
+                                  for keys in near.values()], numpy.int64)
+        at = self.rows == self.columns
+        self.loops = dict(zip(self.rows[at].tolist(), counts[at].tolist()))
+        self.counts = counts if (counts > 1).any() else None
         self.graph: Dict[Any, Any] = {}
         self.node_data: Optional[Dict[Any, Dict[Any, Any]]] = None
         self.edge_data: Optional[List[Any]] = None
-        self._directed, self._multigraph = graph.is_directed(), graph.is_multigraph()
         self._values: Dict[Key, Values] = {}
         self._matrices: Dict[Any, Matrix] = {}
         self._answers: Dict[str, List[int]] = {}
+
+    @property
+    def index(self) -> Dict[Any, int]:
+        """The number of each node."""
+        return self.nodes.places
 
     # -- what networkx asks of a graph
 
@@ -70,23 +103,8 @@ class SpmatGraph:
     order = number_of_nodes = __len__
     has_node = __contains__
 
-    @property
-    def entries(self) -> int:
-        """The number of positions that have an edge; an undirected edge has two."""
-        return len(self.at.rows)
-
-    @property
-    def parallel(self) -> bool:
-        """Whether two edges share a position."""
-        return self.at.counts is not None
-
-    @property
-    def loops(self) -> Dict[int, int]:
-        """The edges from a node to itself, by its index."""
-        return self.at.loops
-
     def number_of_edges(self) -> int:
-        ends = self.entries if self.at.counts is None else sum(self.at.counts)
+        ends = len(self.rows) if self.counts is None else int(self.counts.sum())
         return ends if self._directed else (ends + sum(self.loops.values())) // 2
 
     def nbunch_iter(self, nbunch: Any = None) -> Iterator[Any]:
@@ -103,7 +121,7 @@ class SpmatGraph:
         if not name.startswith('_') and hasattr(nx.Graph, name):
             raise AttributeError(
                 "%r is with the networkx graph that this one was made of: this one stays on the "
-                "server, for networkx' functions, as " 'nx.triangles(H), and for H.matrix()' % name)
+                "server, for networkx' functions, as nx.triangles(H), and for H.matrix()" % name)
         raise AttributeError('%r object has no attribute %r' % (type(self).__name__, name))
 
     def __getstate__(self) -> Dict[str, Any]:
@@ -113,71 +131,68 @@ class SpmatGraph:
 
     # -- attributes
 
-    def keep(self, graph: Any, nodes: bool, edges: bool, of_graph: bool) -> None:
-        """Holds on to attributes of the graph that this one was made of."""
+    def keep_attributes(self, graph: Any, nodes: bool, edges: bool, of_graph: bool) -> None:
+        """Hold on to attributes of the graph that this one was made of."""
         if nodes and self.node_data is None:
             self.node_data = dict(graph.nodes(data=True))
         if edges and self.edge_data is None:
-            self.edge_data = graph_arrays.edge_data(graph)
-            if len(self.edge_data) != self.entries:
+            data = edge_weights.list_edge_data(graph)
+            if len(data) != len(self.rows):
                 raise NotImplementedError('the graph was changed since it was converted')
+            self.edge_data = data
         if of_graph:
             self.graph = dict(graph.graph)
 
     def has_values_of(self, graph: Any, names: List[Any]) -> bool:
-        """Whether the graph that this one was made of has the values of these edge attributes that
-        it had then."""
-        known = {key: values.read for key, values in self._values.items() if key[0] in names}
-        data = graph_arrays.edge_data(graph) if known else []
-        return all(graph_arrays.attribute_values(data, *key[:3]) == read
-                   for key, read in known.items())
+        """Tell whether the graph that this one was made of still has the values of these edge
+        attributes that it had then."""
+        known = {key: values.read for key, values in self._values.items() if key.name in names}
+        data = edge_weights.list_edge_data(graph) if known else []
+        return all(edge_weights.list_attribute(data, key) == read for key, read in known.items())
 
-    def take(self, values: Dict[Key, Values]) -> None:
-        """Values of edge attributes that were read already."""
-        self._values.update(values)
+    def _make_key(self, name: Any, default: Any, fold: str) -> Key:
+        return edge_weights.make_key(name, default, fold if self._multigraph else None)
 
     def values(self, name: Any, default: Any = 1, fold: str = 'min') -> Values:
-        """An edge attribute at each position: of parallel edges the least ('min'), greatest or
-        their sum. NotImplementedError where one is no multiple of a unit (`weight_scaling`), or the
+        """Read an edge attribute at each entry: of parallel edges the least ('min'), the greatest
+        or their sum. NotImplementedError if one is no multiple of a unit (`edge_weights`), or the
         length of a path could pass 64 bits."""
-        key = graph_arrays.key_of(name, default, fold if self._multigraph else None)
+        key = self._make_key(name, default, fold)
         if key not in self._values:
             if self.edge_data is None:
                 raise NotImplementedError('the edge attribute %r was not converted' % (name,))
-            found = graph_arrays.values(self.edge_data, *key)
+            found = edge_weights.read_values(self.edge_data, key)
             if max(found.most, -found.least) * (len(self) + 1) >= BOUND:
-                raise NotImplementedError('the edge attribute %r: lengths of paths beyond 64 bits' %
-                                          (name,))
+                raise NotImplementedError('the edge attribute %r: lengths of paths beyond 64 bits'
+                                          % (name,))
             self._values[key] = found
         return self._values[key]
 
     # -- matrices
 
-    def derive_matrix(self, key: Any, make: Callable[[], Matrix]) -> Matrix:
-        """A matrix that is kept as long as its session lives."""
-        return self._cache_matrix(key, lambda _: make())
-
-    def _cache_matrix(self, key: Any, make: Callable[[Session], Matrix]) -> Matrix:
-        """The same, made in the session that is given."""
-        now = session()
+    def hold(self, key: Any, make: Callable[[], Matrix]) -> Matrix:
+        """Make a matrix, or take the one that was made of this key in the session that is open."""
         held = self._matrices.get(key)
-        if held is None or held.session is not now:
-            self._matrices[key] = held = make(now)
+        if held is None or held.session is not session():
+            self._matrices[key] = held = make()
         return held
 
-    def cache_answer(self, key: str, make: Callable[[], List[int]]) -> List[int]:
-        """An answer by index that several functions use; callers don't change it."""
+    def hold_answer(self, key: str, make: Callable[[], List[int]]) -> List[int]:
+        """Make an answer by index that several functions use; callers don't change it."""
         if key not in self._answers:
             self._answers[key] = make()
         return self._answers[key]
 
-    def _send_matrix(self, now: Session, values: Any, back: bool) -> Matrix:
-        rows, columns = (self.at.columns, self.at.rows) if back else (self.at.rows, self.at.columns)
-        if isinstance(values, list):
-            values = graph_arrays.sequence(values, self.entries)
-        made = now.from_coo(rows, columns, values, len(self), len(self))
-        made.notes = Notes(directed=self.is_directed())
-        return made
+    def _put(self, key: Any, values: Callable[[], Any], back: bool) -> Matrix:
+        """A matrix of these values, turned round if `back` is set and the graph is directed."""
+        is_turned = back and self._directed
+        ends = (self.columns, self.rows) if is_turned else (self.rows, self.columns)
+
+        def make() -> Matrix:
+            made = session().from_coo(*ends, values(), len(self), len(self))
+            made.notes = Notes(directed=self.is_directed())
+            return made
+        return self.hold((key, is_turned), make)
 
     def matrix(self, weight: Optional[Any] = None, default: Any = 1, fold: str = 'min',
                back: bool = False) -> Matrix:
@@ -204,13 +219,10 @@ class SpmatGraph:
         NotImplementedError
             If a value is no multiple of a unit, or lengths of paths could pass 64 bits.
         """
-        back = back and self._directed
         if weight is None:
-            return self._cache_matrix((None, back), lambda now: self._send_matrix(now, 1, back))
-        key = (*graph_arrays.key_of(weight, default, fold if self._multigraph else None), back)
-        return self._cache_matrix(key,
-                                  lambda now: self._send_matrix(
-                                      now, self.values(weight, default, fold).many, back))
+            return self._put(None, lambda: 1, back)
+        return self._put(self._make_key(weight, default, fold),
+                         lambda: self.values(weight, default, fold).many, back)
 
     @property
     def A(self) -> Matrix:
@@ -222,53 +234,38 @@ class SpmatGraph:
         """Ones where there is an edge, turned round."""
         return self.matrix(back=True)
 
-    def many(self, back: bool = False) -> Matrix:
+    def many(self) -> Matrix:
         """How many edges lead from i to j."""
-        if not self.parallel:
-            return self.matrix(back=back)
-        return self._cache_matrix(('many', back and self._directed),
-                                  lambda now: self._send_matrix(
-                                      now, self.at.counts, back and self._directed))
+        return self.A if self.counts is None else self._put('many', lambda: self.counts, False)
 
     @property
     def both(self) -> Optional[Matrix]:
-        """The transpose for algorithms that take one: the graph itself where it is undirected, and
-        none where it isn't."""
+        """The transpose for algorithms that take one: the graph itself if it is undirected, and
+        none if it isn't."""
         return None if self._directed else self.A
 
     @property
     def simple(self) -> Matrix:
         """Ones without loops."""
-        return self.derive_matrix('simple',
-                                  lambda: self.A.select('offdiag')) if self.loops else self.A
+        if not self.loops:
+            return self.A
+        return self.hold('simple', lambda: self.A.select('offdiag'))
 
     @property
     def near(self) -> Matrix:
         """Ones both ways, without loops."""
-        return self.derive_matrix('near',
-                                  lambda: algorithms.undirected(
-                                      self.A, self.AT)) if self._directed else self.simple
-
-    @property
-    def around(self) -> Matrix:
-        """Ones both ways, with loops."""
-        return self.derive_matrix('around',
-                                  lambda: self.A.ewise_add(
-                                      self.AT, 'first')) if self._directed else self.A
+        if not self._directed:
+            return self.simple
+        return self.hold('near', lambda: algorithms.undirected(self.A, self.AT))
 
     def spots(self, nodes: Iterable[Any], value: int = 1) -> Matrix:
         """A column with entries at some nodes."""
         at = sorted({self.index[node] for node in nodes})
         return session().from_coo(at, [0] * len(at), value, len(self), 1)
 
-    def spots_row(self, nodes: Iterable[Any]) -> Matrix:
-        """A row of ones at some nodes: a product with it costs what their edges cost."""
-        at = sorted({self.index[node] for node in nodes})
-        return session().from_coo([0] * len(at), at, 1, 1, len(self))
-
-    def full(self, value: int = 1) -> Matrix:
-        """A column of one value."""
-        return session().full(len(self), 1, value)
+    def column(self, values: Any) -> Matrix:
+        """A column of one value, or of a value for each node."""
+        return session().from_coo(range(len(self)), [0] * len(self), values, len(self), 1)
 
     # -- results
 
@@ -279,14 +276,45 @@ class SpmatGraph:
 
     def rows_of(self, matrix: Matrix, first: int = 0) -> Iterator[Tuple[Any, Dict[Any, int]]]:
         """A matrix as (node, {node: value}), a pair for each row; row 0 is node `first`."""
-        rows, columns, values = matrix.entries(arrays=False)
-        ends = list(map(self.nodes.__getitem__, columns))
-        at = 0
-        for i in range(matrix.nrows):
-            start = at
-            while at < len(rows) and rows[at] == i:
-                at += 1
-            yield self.nodes[first + i], dict(zip(ends[start:at], values[start:at]))
+        rows, columns, values = matrix.entries(arrays=True)
+        ends = numpy.searchsorted(rows, numpy.arange(matrix.nrows + 1)).tolist()
+        near, found = list(map(self.nodes.__getitem__, columns.tolist())), values.tolist()
+        for i, (start, end) in enumerate(zip(ends, ends[1:])):
+            yield self.nodes[first + i], dict(zip(near[start:end], found[start:end]))
+
+    def to_networkx(self, keep: Optional[Container[Any]] = None,
+                    links: Optional[Tuple[Sequence[int], Sequence[int]]] = None) -> Any:
+        """Make a networkx graph of the nodes in `keep`, or all, and of the edges between them, or
+        of those at the rows and columns in `links`; with the attributes that were converted."""
+        graph = self.kind()
+        graph.graph.update(self.graph)
+        data = self.node_data
+        graph.add_nodes_from((node, dict(data[node]) if data else {}) for node in self
+                             if keep is None or node in keep)
+        rows, columns = self.rows, self.columns
+        chosen = numpy.ones(len(rows), bool) if self._directed else rows <= columns
+        if keep is not None:
+            is_in = numpy.array([node in keep for node in self], bool)
+            chosen &= is_in[rows] & is_in[columns]
+        if links is not None:
+            i, j = (numpy.array(ends, numpy.int64) for ends in links)
+            chosen &= numpy.isin(rows * len(self) + columns, i * len(self) + j)
+        graph.add_edges_from(self._list_edges(numpy.flatnonzero(chosen)))
+        return graph
+
+    def _list_edges(self, chosen: Any) -> Iterator[Tuple[Any, ...]]:
+        """What `add_edges_from` takes for each of these entries."""
+        data, counts = self.edge_data, self.counts
+        for at, i, j in zip(chosen.tolist(), self.rows[chosen].tolist(),
+                            self.columns[chosen].tolist()):
+            u, v = self.nodes[i], self.nodes[j]
+            if not self._multigraph:
+                yield u, v, dict(data[at]) if data else {}
+                continue
+            keys = data[at] if data else {key: {} for key in range(1 if counts is None
+                                                                   else counts[at])}
+            for key, had in keys.items():
+                yield u, v, key, dict(had)
 
 
 def graph(G: Any) -> SpmatGraph:
@@ -314,6 +342,6 @@ def graph(G: Any) -> SpmatGraph:
     >>> nx.number_connected_components(H)
     1
     """
-    from .convert import convert_from_nx
+    from .backend import convert_from_nx           # which imports this module
     return convert_from_nx(G, preserve_edge_attrs=True, preserve_node_attrs=True,
                            preserve_graph_attrs=True)

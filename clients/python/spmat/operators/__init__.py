@@ -30,8 +30,20 @@ Op = Union[str, Operator, Callable[..., Any]]
 
 @dataclass(frozen=True)
 class Semiring:
-    """Two binary operators for products, given as operators, by name or as functions: terms `mul(a,
-    b)`, folded by `add` with ascending index."""
+    """Two binary operators for products: terms `mul(a, b)`, folded by `add` with ascending index.
+
+    Parameters
+    ----------
+    add : Operator, str or callable
+        What folds terms: an operator, the name of a ready one, or a function.
+    mul : Operator, str or callable
+        What makes a term of two entries, given likewise.
+
+    Examples
+    --------
+    >>> spmat.Semiring("min", "plus")
+    <semiring min_plus>
+    """
     add: Operator
     mul: Operator
 

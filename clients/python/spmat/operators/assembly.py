@@ -25,8 +25,8 @@ class Operation(NamedTuple):
 
     The others are laws of all words, by which expressions become simpler. x op `neutral` is x.
     Where it `commutes`, x op y is y op x, and it associates. Where it is `bitwise`, each bit
-    depends on the same bit of both. x op x is x where it is `idempotent`, and 0 where it `cancels`.
-    x op y is z for no x but `undone(z, y)`."""
+    depends on the same bit of both. x op x is x where it is `idempotent`, and 0 where it
+    `cancels`."""
     code: int
     value: Meaning
     sign: str = ''
@@ -35,8 +35,13 @@ class Operation(NamedTuple):
     bitwise: bool = False
     idempotent: bool = False
     cancels: bool = False
-    undone: Optional[Meaning] = None
     signed: bool = False
+
+
+def wrap(number: int) -> int:
+    """The signed word of 64 bits that a whole number wraps to."""
+    low = number & WORDS - 1
+    return low - WORDS if low >> 63 else low
 
 
 def truncated(a: int, b: int) -> int:
@@ -45,10 +50,8 @@ def truncated(a: int, b: int) -> int:
 
 
 OPERATIONS: Dict[str, Operation] = {
-    'add': Operation(0, lambda a, b: a + b, '+', neutral=0, commutes=True,
-                     undone=lambda a, b: a - b),
-    'sub': Operation(1, lambda a, b: a - b, '-', neutral=0, cancels=True,
-                     undone=lambda a, b: a + b),
+    'add': Operation(0, lambda a, b: a + b, '+', neutral=0, commutes=True),
+    'sub': Operation(1, lambda a, b: a - b, '-', neutral=0, cancels=True),
     'mul': Operation(2, lambda a, b: a * b, '*', neutral=1, commutes=True),
     'div': Operation(3, lambda a, b: a % WORDS // (b % WORDS) if b else 0, neutral=1),
     'sdiv': Operation(3, truncated, neutral=1, signed=True),
@@ -61,10 +64,18 @@ OPERATIONS: Dict[str, Operation] = {
     'mod': Operation(9, lambda a, b: a % WORDS % (b % WORDS) if b else a),
     'smod': Operation(9, lambda a, b: a - b * truncated(a, b), signed=True),
     'xor': Operation(10, lambda a, b: a ^ b, '^', neutral=0, commutes=True, bitwise=True,
-                     cancels=True, undone=lambda a, b: a ^ b),
+                     cancels=True),
     'mov': Operation(11, lambda a, b: b),
     'arsh': Operation(12, lambda a, b: a >> (b & 63), '>>', neutral=0),
 }
+MEANINGS: Dict[str, Meaning] = {
+    **{name: each.value for name, each in OPERATIONS.items()},
+    'eq': lambda a, b: int(a == b),
+    'slt': lambda a, b: int(a < b),
+    'ult': lambda a, b: int(a % WORDS < b % WORDS),
+    'set': lambda a, b: int(a & b != 0)}
+"""What operations, and the conditions by which functions choose, give of two signed words, before
+it wraps."""
 CONDITIONS = {1: 'jeq', 2: 'jgt', 3: 'jge', 4: 'jset', 5: 'jne', 6: 'jsgt', 7: 'jsge', 10: 'jlt',
               11: 'jle', 12: 'jslt', 13: 'jsle'}
 """Jumps by the codes of their conditions."""

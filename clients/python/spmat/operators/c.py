@@ -12,7 +12,7 @@ from typing import List, Optional, Tuple
 from ..errors import CompileError
 from . import Operator
 from .clang import compile_source, find
-from .object_file import BtfTypes, Function, Malformed, ObjectFile, read_lines
+from .object_file import Function, Malformed, ObjectFile
 
 KINDS = {1: 'unary', 2: 'binary', 4: 'index'}
 CALL = 0x85                                        # the opcode
@@ -90,7 +90,9 @@ def c(source: str, name: Optional[str] = None, *, clang: Optional[str] = None,
     ImportError
         If pyelftools is missing (extra `c`).
 
-    Notes ----- Sums, differences and products wrap. Division by 0 and a shift of 64 or more are
+    Notes
+    -----
+    Sums, differences and products wrap. Division by 0 and a shift of 64 or more are
     undefined in C, so ask first: `y ? x / y : 0`. A loop needs a constant count, `#pragma unroll`
     before it, and no `break`. A server may refuse the rest, as OperatorRefused: an array that is
     indexed by a variable (V13), a stack byte that isn't set (V16).
@@ -157,13 +159,12 @@ def operator_of(made: bytes, source: str, name: Optional[str] = None) -> Operato
     it can't be one."""
     try:
         object_file = ObjectFile(made)
-        types = BtfTypes(object_file.section('.BTF'))
-        function = _choose(object_file, name)
-        kind = _kind(function.name, types)
-        lines = read_lines(object_file.section('.BTF.ext'), types, function.section)
     except Malformed as fault:
         raise CompileError("what clang made can't be read: %s" % fault) from None
+    function = _choose(object_file, name)
+    kind = _kind(function.name, object_file)
     end = function.start + len(function.code)
+    lines = object_file.lines.get(function.section, [])
     places = tuple(((at - function.start) // 8, line) for at, line in lines
                    if function.start <= at < end)
     operator = FromC(kind, code=function.code, name=function.name,
@@ -189,22 +190,19 @@ def _choose(object_file: ObjectFile, name: Optional[str]) -> Function:
     return functions[seen[0]]
 
 
-def _kind(function: str, types: BtfTypes) -> str:
+def _kind(function: str, object_file: ObjectFile) -> str:
     """The kind of operator that a function's types make it."""
-    signature = types.signature(function)
-    if signature is None:
+    if function not in object_file.types:
         raise CompileError('clang said nothing of the types of `%s`: is it written in C?' %
                            function)
-    result, parameters = signature
-    fault = types.fault(result)
-    if fault:
+    result, *parameters = object_file.types[function]
+    if result:
         raise CompileError('the result of `%s` is %s; it has to be `int64_t` or `uint64_t`' % (
-            function, fault))
-    for number, parameter in enumerate(parameters):
-        fault = types.fault(parameter)
+            function, result))
+    for number, fault in enumerate(parameters, 1):
         if fault:
             raise CompileError('parameter %d of `%s` is %s; each has to be `int64_t` or '
-                               '`uint64_t`' % (number + 1, function, fault))
+                               '`uint64_t`' % (number, function, fault))
     if len(parameters) not in KINDS:
         raise CompileError('`%s` has %d parameters; an operator has 1 (x), 2 (x, y) or 4 (x, row, '
                            'column, thunk)' % (function, len(parameters)))

@@ -39,7 +39,7 @@ typedef unsigned long uint64_t;
 ERRORS = ('return-type', 'uninitialized', 'sometimes-uninitialized', 'division-by-zero',
           'shift-count-overflow', 'shift-count-negative', 'array-bounds',
           'implicit-function-declaration')
-FLAGS = ['--target=bpfel', '-O2', '-g', '-ffreestanding', '-fno-jump-tables', '-fwrapv',
+FLAGS = ['--target=bpfel', '-O2', '-gdwarf-4', '-ffreestanding', '-fno-jump-tables', '-fwrapv',
          '-fno-crash-diagnostics', '-fno-color-diagnostics', '-Wno-everything',
          *('-Werror=' + name for name in ERRORS)]
 GET = ('On Debian: apt-get install clang-19. The variable SPMAT_CLANG names one that is not on the '

@@ -7,10 +7,10 @@ Jumps go forward only, so one walk over the slots is enough.
 """
 from __future__ import annotations
 
-import struct
-from typing import Any, Dict, Iterator, List, NamedTuple, Optional, Tuple
+from typing import Dict, List, NamedTuple, Optional, Tuple
 
 from . import assembly
+from .operator import Operator
 
 STACK_TOP, REGISTERS = 10, 11
 GIVEN = {'unary': (1,), 'binary': (1, 2), 'index': (1, 2, 3, 4)}
@@ -87,16 +87,19 @@ def tag(kinds: Dict[str, Way]) -> str:
     return UNSET if UNSET in kinds or not kinds else next(iter(kinds)) if len(kinds) == 1 else 'm'
 
 
-# -- steps of text and of code
+# -- steps
 
-def steps_of_text(text: str) -> List[Step]:
-    """The instructions of assembly text that stands for a program."""
+def steps_of(operator: Operator) -> List[Step]:
+    """The instructions of an operator whose text or code stands for a program. What has no mnemonic
+    reads and writes nothing: a server refuses it."""
+    text = operator.text
+    if text is None:
+        text = ''.join(line + '\n' for _, line in operator.lines())
     return [_step_of_line(line) for line in assembly.lines_of(text)]
 
 
 def _step_of_line(line: assembly.Line) -> Step:
     form = assembly.OPERANDS.get(line.mnemonic, '')
-    after = line.slot + (2 if line.mnemonic == 'wide' else 1)
     reads: List[int] = []
     writes: Optional[int] = None
     jump: Optional[int] = None
@@ -107,69 +110,25 @@ def _step_of_line(line: assembly.Line) -> Step:
         if register is not None and letter in 'DR':
             writes = register
         if letter == 'J':
-            jump = int(operand) if operand.lstrip('+-').isdigit() else 0
+            jump = int(operand) if _is_number(operand) else 0
     copies = None
     if line.mnemonic == 'mov64' and reads:
         copies = reads[0], 0
-    elif line.mnemonic == 'add64' and len(reads) == 1 and writes is not None:
-        number = line.operands[1]
-        copies = (writes, int(number)) if number.lstrip('+-').isdigit() else None
-    return Step(line.slot, _following(line.mnemonic, after, jump),
+    elif line.mnemonic == 'add64' and len(reads) == 1 and _is_number(line.operands[1]):
+        copies = reads[0], int(line.operands[1])
+    return Step(line.slot, _following(line, jump),
                 tuple(reads if line.mnemonic != 'exit' else [0]), writes, copies, line.text)
 
 
-def _following(mnemonic: str, after: int, jump: Optional[int]) -> Tuple[int, ...]:
-    if mnemonic == 'exit':
+def _is_number(text: str) -> bool:
+    return text.lstrip('+-').isdigit()
+
+
+def _following(line: assembly.Line, jump: Optional[int]) -> Tuple[int, ...]:
+    """The slots that may follow an instruction, which may jump over so many."""
+    after = line.slot + (2 if line.mnemonic == 'wide' else 1)
+    if line.mnemonic == 'exit':
         return ()
     if jump is None:
         return (after,)
-    return (after + jump,) if mnemonic in ('ja', 'ja32') else (after, after + jump)
-
-
-def steps_of_code(code: bytes) -> List[Step]:
-    """The instructions of code that stands for a program. Source: RFC 9669, sections 3 to 5."""
-    slots = list(struct.iter_unpack('<BBhi', code[:len(code) // 8 * 8]))
-    return list(_decoded(slots))
-
-
-def _decoded(slots: List[Tuple[Any, ...]]) -> Iterator[Step]:
-    at = 0
-    while at < len(slots):
-        opcode, registers, offset, immediate = slots[at]
-        target, source = registers & 15, registers >> 4
-        after = at + (2 if opcode == 0x18 else 1)
-        text = '%02x %02x %d %d' % (opcode, registers, offset, immediate)
-        if opcode & 7 in (5, 6):
-            yield _jump(at, opcode, target, source, immediate if opcode == 0x06 else offset, text)
-        else:
-            reads, writes, copies = _used(opcode, target, source, immediate, offset)
-            yield Step(at, (after,), reads, writes, copies, text)
-        at = after
-
-
-def _jump(at: int, opcode: int, target: int, source: int, by: int, text: str) -> Step:
-    if opcode == 0x95:
-        return Step(at, (), (0,), None, None, text)
-    if opcode in (0x05, 0x06):
-        return Step(at, (at + 1 + by,), (), None, None, text)
-    reads = (target, source) if opcode & 8 else (target,)
-    return Step(at, (at + 1, at + 1 + by), reads, None, None, text)
-
-
-def _used(opcode: int, target: int, source: int, immediate: int,
-          offset: int) -> Tuple[Tuple[int, ...], Optional[int], Optional[Tuple[int, int]]]:
-    """The registers that arithmetic, a load or a store reads, the one that it writes, and what it
-    copies."""
-    family = opcode & 7
-    if family in (4, 7):
-        by_register, operation = opcode & 8, opcode >> 4
-        reads = (*((source,) if by_register and operation != 13 else ()),
-                 *((target,) if operation != 11 else ()))
-        if opcode == 0xbf and not offset:
-            return reads, target, (source, 0)
-        return reads, target, (target, immediate) if opcode == 0x07 else None
-    if family == 1:
-        return (source,), target, None
-    if family == 0:
-        return (), target, None
-    return ((target, source) if family == 3 else (target,)), None, None
+    return (after + jump,) if line.mnemonic in ('ja', 'ja32') else (after, after + jump)

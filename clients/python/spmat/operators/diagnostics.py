@@ -97,7 +97,7 @@ def rows_of(lines: List[str], types: List[str]) -> List[List[str]]:
 def rows_before(operator: Operator, slot: int) -> List[List[str]]:
     """The rows of one that is refused, up to the instruction of a slot, as the client reckons
     them."""
-    steps = steps_of(operator)
+    steps = dataflow.steps_of(operator)
     before = dataflow.walk(operator.kind, steps)
     out = []
     for step in steps:
@@ -107,13 +107,6 @@ def rows_before(operator: Operator, slot: int) -> List[List[str]]:
                                                      for kinds in held]
             out.append([str(step.slot), step.text, *tags])
     return out
-
-
-def steps_of(operator: Operator) -> List[dataflow.Step]:
-    """The instructions of an operator, as text or code has them."""
-    if operator.text is not None:
-        return dataflow.steps_of_text(operator.text)
-    return dataflow.steps_of_code(operator.code or b'')
 
 
 def _one_of_two(text: str) -> str:
@@ -144,7 +137,7 @@ def explain_refusal(operator: Operator, refused: OperatorRefused) -> OperatorRef
 def register_of(operator: Operator, rule: str, slot: int) -> str:
     """The register that is read there and unset on some path, or set differently on two, with the
     paths."""
-    steps = steps_of(operator)
+    steps = dataflow.steps_of(operator)
     step = next((step for step in steps if step.slot == slot), None)
     state = dataflow.walk(operator.kind, steps).get(slot)
     if step is None or state is None:
@@ -316,7 +309,7 @@ def code_of(op: Op, kind: Optional[str] = None) -> Listing:
 def longest_way(op: Operator) -> int:
     """The steps of an operator's longest way, whatever its conditions say."""
     most: Dict[int, int] = {}
-    for step in reversed(steps_of(op)):
+    for step in reversed(dataflow.steps_of(op)):
         most[step.slot] = 1 + max((most.get(slot, 0) for slot in step.next), default=0)
     return most.get(0, 0)
 

@@ -1,28 +1,23 @@
 """Object files of clang's BPF target: the functions in them, what they reach outside themselves,
-and the types in their BTF.
+their types, and the lines that they come from.
 
-pyelftools reads the ELF file. It knows no BTF, which clang writes with `-g`; source: the kernel's
-description of it (Documentation/bpf/btf.rst). Nothing here looks at the instructions.
+pyelftools reads the ELF file, and its DWARF, which clang writes with `-g`. Nothing here looks at
+the instructions.
 """
 from __future__ import annotations
 
 import io
-import struct
-from typing import Any, Dict, Iterator, List, NamedTuple, Optional, Tuple
+from typing import Any, Dict, Iterator, List, NamedTuple, Tuple
 
 from ..extras import import_extra
 
-INTEGER, POINTER, ARRAY, STRUCT, UNION, ENUM, TYPEDEF, VOLATILE = 1, 2, 3, 4, 5, 6, 8, 9
-CONST, RESTRICT, FUNC, PROTOTYPE = 10, 11, 12, 13
-VARIABLE, DATA, FLOAT, DECLARATION_TAG, TYPE_TAG, WIDE_ENUM = 14, 15, 16, 17, 18, 19
-# Bytes that follow a type's first twelve, and those that follow for each member.
-MORE = {INTEGER: (4, 0), ARRAY: (12, 0), STRUCT: (0, 12), UNION: (0, 12), ENUM: (0, 8),
-        PROTOTYPE: (0, 8), VARIABLE: (4, 0), DATA: (0, 12), DECLARATION_TAG: (4, 0),
-        WIDE_ENUM: (0, 12)}
-PASSED_OVER = (TYPEDEF, VOLATILE, CONST, RESTRICT, TYPE_TAG)
-WORDS = {POINTER: 'a pointer', ARRAY: 'an array', STRUCT: 'a struct', UNION: 'a union',
-         ENUM: 'an enum of 32 bits', WIDE_ENUM: 'an enum', FLOAT: 'a floating-point number'}
-BTF_MAGIC = b'\x9f\xeb'
+PASSED_OVER = ('DW_TAG_typedef', 'DW_TAG_const_type', 'DW_TAG_volatile_type',
+               'DW_TAG_restrict_type', 'DW_TAG_atomic_type')
+MOST_NAMES = 64                                    # of one type: a broken file goes in a circle
+INTEGERS = (2, 5, 6, 7, 8)                         # encodings of DWARF: bool, numbers, characters
+KINDS = {'DW_TAG_pointer_type': 'a pointer', 'DW_TAG_array_type': 'an array',
+         'DW_TAG_structure_type': 'a struct', 'DW_TAG_union_type': 'a union',
+         'DW_TAG_enumeration_type': 'an enum', 'DW_TAG_base_type': 'a floating-point number'}
 
 
 class Malformed(ValueError):
@@ -42,26 +37,45 @@ class Function(NamedTuple):
 
 
 class ObjectFile:
-    """What is read of an object file: its functions and the bytes of its sections, by name. Raises
-    Malformed where it is none, ImportError without pyelftools."""
+    """What is read of an object file: its functions by name; `types`, of each function what is
+    wrong with its result and with each parameter as an integer of 64 bits, in words; and `lines`,
+    by section the byte from which on a line's code stands, with the line. Raises Malformed where it
+    is none, ImportError without pyelftools."""
 
     def __init__(self, data: bytes) -> None:
         reader = import_extra('elftools.elf.elffile', 'an operator in C')
-        self.functions: Dict[str, Function] = {}
+        self.types: Dict[str, List[str]] = {}
+        self.lines: Dict[str, List[Tuple[int, int]]] = {}
         try:
             file = reader.ELFFile(io.BytesIO(data))
             if file.elfclass != 64 or not file.little_endian:
                 raise ValueError('not a little-endian ELF64 object')
             sections = list(file.iter_sections())
-            self._bytes = {each.name: _bytes_of(each) for each in reversed(sections)}
-            for function in _functions(sections):
-                self.functions[function.name] = function
+            self.functions = {each.name: each for each in _functions(sections)}
+            if file.has_dwarf_info():
+                # pyelftools knows no relocations of BPF; the numbers in their place are right for
+                # the one file of source, each within its section
+                self._read_dwarf(file.get_dwarf_info(relocate_dwarf_sections=False),
+                                 _sections_of_lines(sections))
         except Exception as fault:  # pylint: disable=broad-exception-caught  # of any kind
             raise Malformed('a broken object file: %s' % fault) from None
 
-    def section(self, name: str) -> bytes:
-        """The bytes of a section, none where there is no such section."""
-        return self._bytes.get(name, b'')
+    def _read_dwarf(self, dwarf: Any, sections: Iterator[str]) -> None:
+        for unit in dwarf.iter_CUs():
+            for entry in unit.get_top_DIE().iter_children():
+                if entry.tag == 'DW_TAG_subprogram' and 'DW_AT_name' in entry.attributes:
+                    parameters = [each for each in entry.iter_children()
+                                  if each.tag == 'DW_TAG_formal_parameter']
+                    self.types[_name_of(entry)] = list(map(_describe_fault, [entry, *parameters]))
+            section = ''
+            for state in (each.state for each in dwarf.line_program_for_CU(unit).get_entries()):
+                if state is not None:
+                    section = section or next(sections, '')
+                    if state.line and not state.end_sequence:
+                        self.lines.setdefault(section, []).append((state.address, state.line))
+                    section = '' if state.end_sequence else section
+        for lines in self.lines.values():
+            lines.sort(key=lambda line: line[0])
 
 
 def _bytes_of(section: Any) -> bytes:
@@ -104,105 +118,34 @@ def _relocations(sections: List[Any], at: int) -> Iterator[Tuple[int, int]]:
                 yield each['r_offset'], each['r_info_sym']
 
 
-# -- types
+def _sections_of_lines(sections: List[Any]) -> Iterator[str]:
+    """The section of each sequence of lines in their order: a sequence begins with an address in
+    it, which a relocation names."""
+    tables = [each for each in sections if each['sh_type'] == 'SHT_SYMTAB']
+    for at, section in enumerate(sections):
+        if section.name == '.debug_line':
+            for _, number in sorted(_relocations(sections, at)):
+                yield _section_name(sections, tables[0].get_symbol(number)['st_shndx'])
 
-class Type(NamedTuple):
-    """A type of BTF: its kind, name, its size or the type that it is made of, and the types of its
-    members."""
-    kind: int
-    name: str
-    rest: int
-    members: List[int]
+
+def _name_of(entry: Any) -> str:
+    return str(entry.attributes['DW_AT_name'].value.decode('utf-8', 'replace'))
 
 
-class BtfTypes:
-    """The types of the BTF section of an object file."""
-
-    def __init__(self, data: bytes) -> None:
-        self.data, self.strings = data, 0
-        self.types: List[Optional[Type]] = [None]
-        if not data:
-            return
-        if data[:2] != BTF_MAGIC:
-            raise Malformed('no types of functions')
-        try:
-            self._read()
-        except (struct.error, ValueError, OverflowError) as fault:
-            raise Malformed('broken types of functions: %s' % fault) from None
-
-    def _read(self) -> None:
-        head, at, size, strings, _ = struct.unpack_from('<IIIII', self.data, 4)
-        self.strings = head + strings
-        at += head
-        end = at + size
-        while at < end:
-            name, info, rest = struct.unpack_from('<III', self.data, at)
-            kind, count = info >> 24 & 31, info & 0xffff
-            once, each = MORE.get(kind, (0, 0))
-            at += 12 + once
-            members = [struct.unpack_from('<II', self.data, at + 8 * k)[1] for k in range(count)
-                       ] if kind == PROTOTYPE else []
-            at += each * count
-            self.types.append(Type(kind, self.string(name), rest, members))
-
-    def string(self, offset: int) -> str:
-        """The text at an offset of the section's strings."""
-        at = self.strings + offset
-        return self.data[at:self.data.index(b'\0', at)].decode('utf-8', 'replace')
-
-    def signature(self, function: str) -> Optional[Tuple[int, List[int]]]:
-        """The result's type and the parameters' of a function, None where nothing is said of it."""
-        for type_ in self.types:
-            if type_ and type_.kind == FUNC and type_.name == function:
-                prototype = self._type(type_.rest)
-                return (prototype.rest, prototype.members) if prototype else None
-        return None
-
-    def _type(self, number: int) -> Optional[Type]:
-        if number >= len(self.types):
-            raise Malformed('a type that is not there')
-        return self.types[number]
-
-    def fault(self, number: int) -> str:
-        """What is wrong with a type that has to be an integer of 64 bits, in words; nothing where
-        it is one."""
-        type_ = self._type(number)
-        names = []
-        while type_ and type_.kind in PASSED_OVER:
-            names.append(type_.name)
-            type_ = self._type(type_.rest)
-            if len(names) > len(self.types):
-                raise Malformed('a type that is made of itself')
-        if type_ is None:
+def _describe_fault(entry: Any) -> str:
+    """What is wrong with the type of a result or a parameter, which has to be an integer of 64
+    bits, in words; nothing where it is one."""
+    names: List[str] = []
+    while len(names) < MOST_NAMES:
+        if 'DW_AT_type' not in entry.attributes:
             return 'void'
-        name = next((name for name in names if name), type_.name)
-        if type_.kind != INTEGER:
-            return '%s%s' % (WORDS.get(type_.kind, 'no number'), ' (`%s`)' % name if name else '')
-        return '' if type_.rest == 8 else '`%s`, which has %d bits' % (name, 8 * type_.rest)
-
-
-def read_lines(data: bytes, types: BtfTypes, section: str) -> List[Tuple[int, int]]:
-    """Where code comes from, by the bytes of .BTF.ext: pairs of a byte in a section and a line of
-    the source, by ascending bytes."""
-    out: List[Tuple[int, int]] = []
-    if len(data) < 24 or data[:2] != BTF_MAGIC:
-        return out
-    try:
-        head, _, _, at, size = struct.unpack_from('<IIIII', data, 4)
-        at += head
-        end = at + size
-        record, = struct.unpack_from('<I', data, at)
-        if record < 16:
-            raise ValueError('records of %d bytes' % record)
-        at += 4
-        while at + 8 <= end:
-            name, count = struct.unpack_from('<II', data, at)
-            at += 8
-            for number in range(count):
-                place, _, _, line = struct.unpack_from('<IIII', data, at + record * number)
-                if line >> 10 and types.string(name) == section:
-                    out.append((place, line >> 10))
-            at += record * count
-    except (struct.error, ValueError, OverflowError) as fault:
-        raise Malformed('broken lines: %s' % fault) from None
-    return sorted(out)
+        entry = entry.get_DIE_from_attribute('DW_AT_type')
+        names.append(_name_of(entry) if 'DW_AT_name' in entry.attributes else '')
+        if entry.tag not in PASSED_OVER:
+            break
+    name = next((name for name in names if name), '')
+    size = entry.attributes['DW_AT_byte_size'].value if entry.tag != 'DW_TAG_pointer_type' else 8
+    if entry.tag == 'DW_TAG_base_type' and entry.attributes['DW_AT_encoding'].value in INTEGERS:
+        return '' if size == 8 else '`%s`, which has %d bits' % (name, 8 * size)
+    bits = ' of %d bits' % (8 * size) if entry.tag == 'DW_TAG_enumeration_type' else ''
+    return '%s%s%s' % (KINDS.get(entry.tag, 'no number'), bits, ' (`%s`)' % name if name else '')

@@ -66,18 +66,42 @@ class Operator:
 
     @property
     def body(self) -> bytes:
-        """What is uploaded: the assembly text, or the code in hexadecimal."""
+        """What is uploaded: the assembly text, or the code in hexadecimal.
+
+        Returns
+        -------
+        bytes
+            The text, or two digits for each byte of the code.
+        """
         return self.text.encode() if self.text is not None else (self.code or b'').hex().encode()
 
     @property
     def bare_text(self) -> str:
-        """The instructions of the text, a line each, without comments."""
+        """The instructions of the text, a line each, without comments.
+
+        Returns
+        -------
+        str
+            The lines; empty where there is code alone.
+        """
         return ''.join(line + '\n' for _, line in self.slots())
 
     def line_at(self, rule: str, at: int) -> str:
-        """The line that a refusal names: A rules name lines of the text, V rules slots, of which
-        `wide` has two. Where there is code alone, the slot's hexadecimal digits. Empty where there
-        is none."""
+        """The line that a refusal names.
+
+        Parameters
+        ----------
+        rule : str
+            The rule: A rules name lines of the text, V rules slots, of which `wide` has two.
+        at : int
+            The number of the line, from 1, or of the slot, from 0.
+
+        Returns
+        -------
+        str
+            The line. Where there is code alone, the slot's hexadecimal digits. Empty where there is
+            none.
+        """
         if self.text is None:
             return (self.code or b'')[8 * at:8 * at + 8].hex() if rule.startswith('V') else ''
         if rule.startswith('A'):
@@ -86,7 +110,15 @@ class Operator:
         return next((line for slot, line in self.slots() if slot == at), '')
 
     def slots(self) -> Iterator[Tuple[int, str]]:
-        """The slot of each instruction of the text, with its line, without comments."""
+        """The slot of each instruction of the text, with its line, without comments.
+
+        Yields
+        ------
+        slot : int
+            The slot, from 0; `wide` takes two.
+        line : str
+            The instruction.
+        """
         slot = 0
         for line in map(bare, (self.text or '').split('\n')):
             if line:
@@ -94,22 +126,55 @@ class Operator:
                 slot += 2 if line.split()[0] == 'wide' else 1
 
     def lines(self) -> List[Tuple[int, str]]:
-        """The slot of each instruction, and its assembly text: of code, too."""
+        """The slot of each instruction, and its assembly text: of code, too.
+
+        Returns
+        -------
+        list of tuple
+            A slot and a line for each instruction, in order.
+        """
         return lines_of_code(self.code or b'') if self.text is None else list(self.slots())
 
     def origin(self) -> Tuple[str, str]:
-        """The language that it was written in, and its source: the assembly text, where nothing
-        else is known."""
+        """The language that it was written in, and its source.
+
+        Returns
+        -------
+        tuple of str
+            Both: 'assembly' and the assembly text, where nothing else is known.
+        """
         if self.text is not None:
             return 'assembly', self.text
         return 'assembly', ''.join(text + '\n' for _, text in self.lines())
 
     def bind_right(self) -> Operator:
-        """Make OP(x, thunk) of a binary OP, as an index operator; one instruction more."""
+        """Make OP(x, thunk) of a binary OP, as an index operator; one instruction more.
+
+        Returns
+        -------
+        Operator
+            The index operator, whose name ends in `_right` where this one has a name.
+
+        Raises
+        ------
+        TypeError
+            If this isn't a binary operator.
+        """
         return self._after(_RIGHT, '_right')
 
     def bind_left(self) -> Operator:
-        """Make OP(thunk, x) of a binary OP, as an index operator; two instructions more."""
+        """Make OP(thunk, x) of a binary OP, as an index operator; two instructions more.
+
+        Returns
+        -------
+        Operator
+            The index operator, whose name ends in `_left` where this one has a name.
+
+        Raises
+        ------
+        TypeError
+            If this isn't a binary operator.
+        """
         return self._after(_LEFT, '_left')
 
     def _after(self, moves: Tuple[Tuple[str, str], ...], tail: str) -> Operator:

@@ -251,18 +251,35 @@ def bound_of(steps: Callable[[CallSizes], Any], sizes: CallSizes) -> Optional[Bo
 
 
 def price(call: Callable[[], Any]) -> Price:
-    """What a call costs, as `spmat.price(lambda: spmat.algorithms.triangle_count(G))`: `least` and
-    `most` steps of the whole call, before it does any work. No job is queued, and no step is spent.
+    """What a call costs, before it does any work.
 
+    No job is queued, and no step is spent. A call is priced by
+    `spmat.price(lambda: spmat.algorithms.triangle_count(G))`.
+
+    Parameters
+    ----------
+    call : callable
+        A function that makes the call, without arguments of its own.
+
+    Returns
+    -------
+    Price
+        The `least` and the `most` steps of the whole call. `most` is None where no bound is known:
+        where the caller's own code looks at a result and goes on by it. What came before counts in
+        `least` then. `steps` are those that have to be left for that no job is refused, `jobs`
+        those that can be foreseen, and `complete` says whether these are all.
+
+    Notes
+    -----
     Of jobs the most is what they can take by their operands' entries. Of an algorithm that looks at
     results amid its work it is the bound that its docstring names: by the sizes of the graph, which
     the client reads once, and by the rounds that there can be. What is found out of a graph once is
-    counted where it isn't known. Where the caller's own code looks at a result and goes on by it,
-    `most` is None, and what came before counts in `least`. A graph that an algorithm would refuse
-    is taken for one that it takes.
+    counted where it isn't known. A graph that an algorithm would refuse is taken for one that it
+    takes.
 
-    In this thread; other threads go on. Of matrices in row blocks no entries are read, and bounds
-    are as for any graph of so many vertices and edges."""
+    The call is priced in this thread; other threads go on. Of matrices in row blocks no entries are
+    read, and bounds are as for any graph of so many vertices and edges.
+    """
     made = Price()
     with pricing(made):
         try:

@@ -189,10 +189,11 @@ class CallSizes:
 
     def check_transpose(self, values: bool = False, makes: bool = False) -> int:
         """The steps of the check of a transpose that is given, or of finding out whether one is
-        needed, where the algorithm makes it."""
+        needed, where the algorithm makes it. Searches in blocks always find that out."""
         given = self.given.get('GT', self.given.get('WT'))
         if given is None:
-            return self.check_both_ways if makes and not values else 0
+            looks = makes or not self.graph.in_one_place
+            return self.check_both_ways if looks and not values else 0
         held = self.graph.kept.get('transpose')
         if not self.given.get('check', True) or held is not None and is_same(held, given):
             return 0

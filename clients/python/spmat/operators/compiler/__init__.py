@@ -1,11 +1,11 @@
 """Operators from Python functions.
 
-A function is called with words that are no numbers yet (`words`, `operands`). Each operation makes
-a shared, simplified expression (`expressions`), and each truth of a condition forks the run, with
-what is known by then answered (`exploration`). The expression's decision graph becomes blocks and
-forward jumps (`emission`), on registers and then the stack, and assembly text (`registers`). Before
-its first use the code is called beside the function (`check`). `compile_function` goes through
-these steps, and `cache` knows when a function has to be compiled again.
+A function is called with words that are no numbers yet (`words`). Each operation makes a shared,
+simplified expression (`expressions`), and each truth of a condition forks the run, with what is
+known by then answered (`exploration`). The expression's decision graph becomes blocks and forward
+jumps (`emission`), on registers and then the stack, and assembly text (`registers`).
+`compile_function` goes through these steps, and calls the code beside the function before its first
+use. `cache` knows when a function has to be compiled again.
 
 No source is needed, so a function may come from a file, a notebook, `python3 -c` or the prompt, and
 what it calls may be any Python.
@@ -20,14 +20,12 @@ from typing import Any, Callable, Optional, Tuple
 
 from ...errors import CompileError
 from .. import Operator, READY
-from ..ready_digests import name_of_text
+from ..functions import Operand, whole
+from ..other_names import name_of_text
 from .cache import code_of
-from .compile_function import NAMES, name_of, positional
-from .check import Machine
+from .compile_function import NAMES, find_positional, name_of
 from .exploration import call
-from .operands import Operand, whole
-from .registers import Instruction
-
+from .registers import Instruction, Machine
 
 
 @dataclass(frozen=True, repr=False, eq=False)
@@ -86,22 +84,15 @@ def source_of(function: Callable[..., Any]) -> str:
 def kind_by_parameters(function: Callable[..., Any]) -> str:
     """The kind of operator that a function's parameters make it: of one, of two, and of three or
     four."""
-    own = positional(function)
-    if own is None:
-        return 'binary'
-    names, least, more = own
-    count = min(len(names), max(least, 1)) if not more or names else 2
+    names, least, most = find_positional(function)
+    count = min(len(names), max(least, 1)) if names or not most else 2
     return {1: 'unary', 2: 'binary'}.get(count, 'index')
 
 
 def kind_of(function: Callable[..., Any], bound: bool) -> str:
     """The kind of operator that a function is wanted as by `apply`: unary, or where an operand is
     bound binary; of three or four parameters (x, row, column, thunk) index."""
-    own = positional(function)
-    if own is None:
-        return 'binary' if bound else 'unary'
-    names, least, more = own
-    count = 2 if bound else 1
-    if least <= count <= len(names) or more and least <= count:
+    _, least, most = find_positional(function)
+    if least <= (2 if bound else 1) <= most:
         return 'binary' if bound else 'unary'
     return 'index' if least in (3, 4) else 'binary'

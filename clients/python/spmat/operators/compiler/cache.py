@@ -46,7 +46,7 @@ def code_of(kind: str, function: Function, name: Optional[str] = None,
     """The code of a function as an operator of a kind: compiled once for each function, kind, and
     values of the variables that it names."""
     try:
-        seen = _seen(function, set())
+        seen = _describe(function, set())
         held = _cache.setdefault(function, {})
     except (_Unknown, TypeError):                  # TypeError: no hash, or no weak reference
         return compile_function(kind, function, name, check)
@@ -59,102 +59,95 @@ def code_of(kind: str, function: Function, name: Optional[str] = None,
     return found[1]
 
 
-def _seen(value: Any, met: Set[int]) -> Any:
+def _describe(value: Any, met: Set[int]) -> Any:
     """What decides what a function does, as something that can be compared; of what it names too.
     Raises _Unknown."""
     kind = type(value)                             # a subclass may have attributes that change
     if kind in PLAIN:
         return kind, value
     if isinstance(value, types.FunctionType):
-        return _function(value, met)
+        return _describe_function(value, met)
     if kind is functools.partial and not vars(value):
-        return [_seen(each, met) for each in (value.func, value.args, value.keywords)]
+        return [_describe(each, met) for each in (value.func, value.args, value.keywords)]
     if kind in (tuple, list) and len(value) <= MOST_ITEMS:
-        return kind, [_seen(each, met) for each in value]
+        return kind, [_describe(each, met) for each in value]
     if kind is dict and len(value) <= MOST_ITEMS:
-        return [(_seen(key, met), _seen(each, met)) for key, each in value.items()]
-    if kind is types.BuiltinFunctionType and value.__module__ in PURE:
-        return value if value.__name__ not in DYNAMIC else _unknown()
+        return [(_describe(key, met), _describe(each, met)) for key, each in value.items()]
+    if (kind is types.BuiltinFunctionType and value.__module__ in PURE
+            and value.__name__ not in DYNAMIC):
+        return value
+    if isinstance(value, (staticmethod, classmethod, property)):
+        inner = ([value.fget, value.fset, value.fdel] if isinstance(value, property) else
+                 [value.__func__])
+        return kind, [_describe(each, met) for each in inner]
     if isinstance(value, type):
-        return _class(value, met)
+        return _describe_class(value, met)
     again = getattr(value, 'function', None) if isinstance(value, Operator) else None
     if isinstance(again, types.FunctionType):      # an operator that is a part of this one
-        return _function(again, met)
+        return _describe_function(again, met)
     raise _Unknown
 
 
-def _class(kind: type, met: Set[int]) -> Any:
+def _describe_class(kind: type, met: Set[int]) -> Any:
     """A class, with the attributes that it and those above it have now."""
     if not kind.__flags__ & HEAP_TYPE or id(kind) in met:
         return kind
     met.add(id(kind))
     if type(kind) is not type:
         raise _Unknown
-    own = [(name, _attribute(each, met)) for name, each in vars(kind).items()
+    own = [(name, _describe(each, met)) for name, each in vars(kind).items()
            if not isinstance(each, types.GetSetDescriptorType)]
-    return [kind, own, [_class(above, met) for above in kind.__bases__]]
+    return [kind, own, [_describe_class(above, met) for above in kind.__bases__]]
 
 
-def _attribute(value: Any, met: Set[int]) -> Any:
-    """An attribute of a class: of a method or a property its functions."""
-    if isinstance(value, (staticmethod, classmethod)):
-        return type(value), _seen(value.__func__, met)
-    if isinstance(value, property):
-        return [_seen(each, met) for each in (value.fget, value.fset, value.fdel)]
-    return _seen(value, met)
-
-
-def _unknown() -> Any:
-    raise _Unknown
-
-
-def _function(function: types.FunctionType, met: Set[int]) -> Any:
+def _describe_function(function: types.FunctionType, met: Set[int]) -> Any:
     if id(function) in met:
         return None
     met.add(id(function))
-    if _imports(function.__code__):
+    if _has_import(function.__code__):
         raise _Unknown
-    parts: List[Any] = [function.__code__, *(_seen(each, met) for each in (
+    parts: List[Any] = [function.__code__, *(_describe(each, met) for each in (
         function.__defaults__, function.__kwdefaults__, vars(function)))]
     for cell in function.__closure__ or ():
         try:
-            parts.append(_seen(cell.cell_contents, met))
+            parts.append(_describe(cell.cell_contents, met))
         except ValueError:                         # nothing is in it yet
             parts.append(None)
-    parts.extend(_named(function, name, met) for name in _names(function.__code__))
+    parts.extend(_describe_named(function, name, met) for name in _list_names(function.__code__))
     return parts
 
 
 @functools.lru_cache(maxsize=4096)
-def _imports(code: types.CodeType) -> bool:
+def _has_import(code: types.CodeType) -> bool:
     """Whether code imports a module, of which nothing is known then."""
     return any(each.opname == 'IMPORT_NAME' for each in dis.get_instructions(code)) or any(
-        _imports(each) for each in code.co_consts if isinstance(each, types.CodeType))
+        _has_import(each) for each in code.co_consts if isinstance(each, types.CodeType))
 
 
-def _names(code: types.CodeType) -> List[str]:
+def _list_names(code: types.CodeType) -> List[str]:
     """The names that code refers to, and the code inside it."""
     inner = [name for each in code.co_consts if isinstance(each, types.CodeType)
-             for name in _names(each)]
+             for name in _list_names(each)]
     return [*code.co_names, *inner]
 
 
-def _named(function: types.FunctionType, name: str, met: Set[int]) -> Any:
+def _describe_named(function: types.FunctionType, name: str, met: Set[int]) -> Any:
     """A global of this name, or a builtin; of a module what is named beside it."""
     found = function.__globals__.get(name, vars(builtins).get(name, met))
     if found is met:                               # the name of an attribute
         return None
     if isinstance(found, types.ModuleType):
-        return _module(found, _names(function.__code__), met)
-    return _seen(found, met)
+        return _describe_module(found, _list_names(function.__code__), met)
+    return _describe(found, met)
 
 
-def _module(module: types.ModuleType, names: List[str], met: Set[int]) -> Any:
+def _describe_module(module: types.ModuleType, names: List[str], met: Set[int]) -> Any:
     """What a module, and its modules, have under the names that code refers to."""
     if id(module) in met:
         return module.__name__
     met.add(id(module))
     beside = [vars(module)[each] for each in names if each in vars(module)]
     return [module.__name__, *(
-        _module(each, names, met) if isinstance(each, types.ModuleType) else _seen(each, met)
+        _describe_module(each, names, met) if isinstance(each, types.ModuleType) else
+        _describe(each, met)
         for each in beside)]

@@ -1,20 +1,25 @@
 """An operator from a function: its ways are explored, and become expressions, blocks, instructions
-on registers, and text."""
+on registers, and text. Before its first use the code is compared with the function.
+"""
 from __future__ import annotations
 
+import collections
 import functools
 import inspect
+import random
+import re
 import types
 import warnings
-from typing import Any, Callable, List, NamedTuple, Optional, Sequence, Set, Tuple
+from typing import Any, Callable, Dict, Iterator, List, NamedTuple, Optional, Sequence, Set, Tuple
 
 from ...errors import CompileError
-from .check import Machine, check as compare, numbers_in
+from ..assembly import MEANINGS, wrap
+from ..functions import whole
 from .emission import Emission
-from .exploration import Explored, Impure, Line, Path, call, describe_line, explore, is_users
-from .expressions import Node, below
-from .packed_lookup import other_forms
-from .registers import Instruction, allocate, resolve, size_of, text_of, tidy
+from .exploration import (Explored, Impure, Line, Path, Ranges, call, describe_line, explore,
+                          is_users)
+from .expressions import Graph, LEAST, MOST, Node, below
+from .registers import Instruction, Machine, Reg, allocate, ins, resolve, size_of, text_of, tidy
 from .words import Word, node_of
 
 NAMES = {'unary': ('x',), 'binary': ('x', 'y'), 'index': ('x', 'row', 'column', 'thunk')}
@@ -23,11 +28,20 @@ KINDS = {'unary': 'a unary operator is a function of x',
          'index': 'an index operator is a function of x, row, column, thunk, or of the first of '
                   'these'}
 MOST_SLOTS = 4096
+ANY_NUMBER = 1 << 20                               # of operands
 TOO_LONG = '%d instructions in %d slots, and an operator has at most %d slots of code'
 IMPURE = ('it does something else each time it is called: an operator is made of operands alone, '
           'without random numbers, clocks, files, or variables that it changes')
+DIFFERENT = ('of %s it gives %d, and as an operator %d: it is not the same at each call, or asks '
+             'what only a number answers (`is`, isinstance, type(), repr())')
 RAISES = 'it raises %s: %s%s; an operator has a value for all operands'
 NO_RESULT = 'it returns None: end each way with `return`'
+MOST_SHIFT = 30                                    # by which a shift is a product with a number
+WORD, MOST_GROUPS = 64, 4                          # bits; groups of those that come together
+MOST_NAMED = 8                                     # numbers of the function's that are compared
+MOST_SIDE = 1 << 24                                # of rows and columns
+EDGES = (0, 1, -1, 2, 3, -3, 5, 7, 10, 11, 63, 64, 100, -100, 1 << 31, -1 << 31, 1 << 40, MOST,
+         LEAST)
 Function = Callable[..., Any]
 
 
@@ -52,21 +66,23 @@ def compile_function(kind: str, function: Function, name: Optional[str] = None,
     called = name or name_of(function)
     try:
         names = parameters(kind, function)
-        explored, compiled = _shortest(function, names, len(NAMES[kind]))
+        root, tree, shared = _explore_ways(kind, function, names)
+        forms = [root, *other_forms(shared.graph, tree)]
+        compiled = min(map(_write_code, forms), key=lambda code: len(code.instructions))
         if check:
-            compare(function, Machine(compiled.instructions), len(NAMES[kind]), len(names),
-                    _numbers(function, explored.root))
+            _compare(kind, function, names, Machine(compiled.instructions),
+                     _find_numbers(function, root))
     except (CompileError, Impure) as fault:
         place = getattr(fault, 'place', None) or _find_definition(function)
         raise CompileError('`%s`%s: %s' % (called, ' (%s)' % place if place else '',
                                            IMPURE if isinstance(fault, Impure) else fault)
                            ) from fault.__cause__
-    for (_, line), text in explored.shared.warnings.items():
-        _warn('`%s`: %s' % (called, text), line)
+    for (_, line), text in shared.warnings.items():
+        _warn_of_line('`%s`: %s' % (called, text), line)
     return compiled
 
 
-def _warn(text: str, line: Optional[Line]) -> None:
+def _warn_of_line(text: str, line: Optional[Line]) -> None:
     """Warns of a line of the user's, as if that line had."""
     if line is None:
         warnings.warn(text, RuntimeWarning, stacklevel=2)
@@ -74,37 +90,90 @@ def _warn(text: str, line: Optional[Line]) -> None:
         warnings.warn_explicit(text, RuntimeWarning, *line)
 
 
-def _shortest(function: Function, names: Sequence[str], count: int) -> Tuple[Explored, Compiled]:
-    """The shorter code of two ways to explore: ranges answer questions, or they don't, which may
-    leave more in common."""
-    best: Optional[Tuple[Explored, Compiled]] = None
-    operands = [*names, *NAMES['index'][len(names):count]]
-    for by_range in (True, False):
-        try:
-            found = explore(operands, functools.partial(_result, function, len(names)), by_range)
-            forms = other_forms(found.shared.graph, found.tree)
-            codes = [_code(root) for root in (found.root, *forms)]
-        except CompileError:
-            if best is None:
-                raise
-            break
-        choices = [(found, code) for code in codes]
-        best = min([best, *choices] if best is not None else choices,
-                   key=lambda each: len(each[1].instructions))
-        if not found.shared.pruned or all(n.op != 'select' for n in below(found.root)):
-            break
-    assert best is not None
-    return best
+def _explore_ways(kind: str, function: Function,
+              names: Sequence[str]) -> Explored:
+    """All ways through a function as one expression."""
+    operands = [*names, *NAMES[kind][len(names):]]
+    run = functools.partial(_take_way, function, len(names))
+    try:
+        return explore(operands, run)
+    except CompileError:                           # on a way that ranges may rule out
+        return explore(operands, run, by_range=True)
 
 
-def _code(root: Node) -> Compiled:
+def _write_code(root: Node) -> Compiled:
     """The code of an expression."""
     emission = Emission(root)
     code = resolve(tidy(allocate(emission.out, emission.words)))
+    if len(code) == 3 and code[1][0] == 'lsh64':   # the server runs a product as a compiled loop
+        to, by = code[1][1]
+        if isinstance(by, int) and not isinstance(by, Reg) and by <= MOST_SHIFT:
+            code[1] = ins('mul64', to, 1 << by)
     slots = sum(map(size_of, code))
     if slots > MOST_SLOTS:
         raise CompileError(TOO_LONG % (len(code), slots, MOST_SLOTS))
     return Compiled(text_of(code), tuple(code))
+
+
+# -- choices between numbers, in forms that may be shorter than a search by jumps
+
+def other_forms(graph: Graph, tree: Node) -> List[Node]:
+    """Other forms of a tree of choices, if these are between numbers alone."""
+    arms = [tree]
+    for n in arms:                                 # which grow on the way
+        arms += [arm for arm in n.args[1:] if n.op == 'select' and arm not in arms]
+    if any(n.op not in ('const', 'select') for n in arms) or len(arms) <= 3:
+        return []
+    forms = _pack_answers(graph, tree), _choose_by_bits(graph, sorted(arms, key=lambda n: n.at))
+    return [form for form in forms if form is not None]
+
+
+def _pack_answers(graph: Graph, tree: Node) -> Optional[Node]:
+    """A look-up by one word of few values, `(3, 1, 4, 1)[x % 4]`, as a shift of one number that
+    holds all answers; None where another word is asked too, or the answers don't fit."""
+    word = tree.args[0].args[0]
+    low, high = Ranges().of(word)
+    if low != 0 or high >= WORD:
+        return None
+    answers: List[int] = []
+    for value in range(high + 1):
+        n = tree
+        while n.op == 'select':
+            a, b = n.args[0].args
+            if a is not word or b.op != 'const':
+                return None
+            n = n.args[1 if MEANINGS[n.args[0].op](value, b.number) else 2]
+        answers.append(n.number)
+    least = min(0, *answers)                       # answers below 0 are counted from the least
+    width = (max(answers) - least).bit_length()
+    if width * len(answers) > WORD:
+        return None
+    packed = sum(answer - least << width * value for value, answer in enumerate(answers))
+    shifted = graph.make('rsh', graph.const(packed), graph.make('mul', word, graph.const(width)))
+    answer = graph.make('and', shifted, graph.const((1 << width) - 1))
+    return graph.make('add', answer, graph.const(least))
+
+
+def _choose_by_bits(graph: Graph, arms: List[Node]) -> Optional[Node]:
+    """Answers that are sums of bits, as the states of an automaton are: the bits that come together
+    in all answers, group after group. A choice is behind its arms."""
+    numbers = [n.number for n in arms if n.op == 'const']
+    groups: Dict[Tuple[int, ...], int] = collections.defaultdict(int)
+    for at in range(WORD - 1):
+        groups[tuple(number >> at & 1 for number in numbers)] |= 1 << at
+    groups.pop((0,) * len(numbers), None)
+    if min(numbers) < 0 or not 1 < len(groups) <= MOST_GROUPS:
+        return None
+    made = graph.const(0)
+    for bits in groups.values():
+        more = (graph.const(made.number | bits) if made.op == 'const' else
+                graph.node('or', made, graph.const(bits)))
+        found: Dict[Node, Node] = {}
+        for n in arms:
+            found[n] = ((more if n.number & bits else made) if n.op == 'const' else
+                        graph.select(n.args[0], found[n.args[1]], found[n.args[2]]))
+        made = found[arms[-1]]
+    return made
 
 
 # -- parameters
@@ -112,47 +181,44 @@ def _code(root: Node) -> Compiled:
 def parameters(kind: str, function: Function) -> List[str]:
     """The names of the operands that a function takes. An index operator's may take the first ones
     alone; there parameters with defaults keep these, unless it takes all four."""
-    own = positional(function)
+    names, least, most = find_positional(function)
     wanted = NAMES[kind]
-    if own is None:
-        return list(wanted)
-    names, least, more = own
     count = len(wanted)
-    if kind == 'index' and not (least <= count <= len(names) or more):
+    if kind == 'index' and not least <= count <= most:
         count = max(1, least)
-    if count > len(wanted) or not least <= count <= (count if more else len(names)):
+    if count > len(wanted) or not least <= count <= most:
         raise CompileError('%s, and this one takes %s' % (KINDS[kind], inspect.signature(function)))
     return [*names, *wanted[len(names):]][:count]
 
 
-def positional(function: Function) -> Optional[Tuple[List[str], int, bool]]:
-    """The names of a function's positional parameters, how many of them have no default, and
-    whether it takes more than these; None where it doesn't say (some that are written in C). Where
-    a keyword is wanted without a default, no number of operands is enough."""
+def find_positional(function: Function) -> Tuple[List[str], int, int]:
+    """The names of a function's positional parameters, and how many operands it takes at the least
+    and at the most. Any number where it doesn't say (some that are written in C). Where a keyword
+    is wanted without a default, no number of operands is enough."""
     try:
         found = list(inspect.signature(function).parameters.values())
     except ValueError:
-        return None
+        return [], 0, ANY_NUMBER
     names = [each for each in found
              if each.kind in (each.POSITIONAL_ONLY, each.POSITIONAL_OR_KEYWORD)]
     least = sum(each.default is each.empty for each in names)
     if any(each.kind == each.KEYWORD_ONLY and each.default is each.empty for each in found):
-        least = 1 << 20
-    return ([each.name for each in names], least,
-            any(each.kind == each.VAR_POSITIONAL for each in found))
+        least = ANY_NUMBER
+    has_more = any(each.kind == each.VAR_POSITIONAL for each in found)
+    return [each.name for each in names], least, ANY_NUMBER if has_more else len(names)
 
 
 # -- one way
 
-def _result(function: Function, used: int, path: Path) -> Node:
+def _take_way(function: Function, used: int, path: Path) -> Node:
     """One way through a function: its result."""
     result, raised = None, None                    # type: Any, Optional[Exception]
     try:
-        result = call(function, [Word(path, node) for node in path.operands[:used]])
+        result = call(function, [Word(path, node) for node in path.shared.operands[:used]])
     except Exception as fault:  # pylint: disable=broad-exception-caught  # whatever it raises
         raised = fault
     if path.note_probe(raised):
-        return path.operands[0]
+        return path.shared.operands[0]
     if path.refused is None and raised is not None:
         raise _locate_fault(RAISES % (type(raised).__name__, raised, path.conditions()),
                       _find_raise(raised)) from raised
@@ -187,7 +253,7 @@ def _find_raise(fault: BaseException) -> Optional[Line]:
 
 # -- the function's own code
 
-def _code_of(function: Function) -> Optional[types.CodeType]:
+def _find_code(function: Function) -> Optional[types.CodeType]:
     """The code of a function, of a partial one, a method, or an object that can be called."""
     inner = inspect.unwrap(getattr(function, 'func', function))
     return getattr(inner, '__code__', None) or getattr(type(inner).__call__, '__code__', None)
@@ -195,18 +261,76 @@ def _code_of(function: Function) -> Optional[types.CodeType]:
 
 def _find_definition(function: Function) -> str:
     """The line at which a function begins."""
-    code = _code_of(function)
+    code = _find_code(function)
     return describe_line((code.co_filename, code.co_firstlineno)) if code is not None else ''
 
 
-def _numbers(function: Function, root: Node) -> Set[int]:
-    """The numbers that a function's code and its expression name."""
-    code, found = _code_of(function), set()        # type: Optional[types.CodeType], Set[int]
-    seen, wait = set(), [root]
+# -- the comparison
+
+def _compare(kind: str, function: Function, names: Sequence[str], machine: Machine,
+             numbers: Set[int]) -> None:
+    """Compares the values of a function with those of its code. CompileError where they differ.
+
+    The function is called twice: with words that are known, which wrap as an operator's do, and
+    where nothing wrapped with plain ints. The second finds what a function asks that only a number
+    answers. Calls are on edges, on random words, and on `numbers` and those beside them. It is no
+    proof."""
+    count, used = len(NAMES[kind]), len(names)
+    run = functools.partial(_take_way, function, used)
+    for operands in _make_samples(count, numbers):
+        result = machine.call(operands)
+        expected: List[Optional[int]] = []
+        try:
+            root, _, shared = explore(names, run, operands[:used])
+            expected.append(root.number)
+        except CompileError:                       # it fails where an operator has an answer
+            continue
+        # a number beyond 64 bits has another value in Python, and may be too large to make
+        if not shared.graph.wrapped:
+            expected.append(_call_plainly(function, operands[:used]))
+        for value in expected:
+            if value is not None and result != wrap(value):
+                raise CompileError(DIFFERENT % (', '.join(map(str, operands[:used])), value,
+                                                result))
+
+
+def _call_plainly(function: Function, operands: Sequence[int]) -> Optional[int]:
+    """What a function gives of numbers; None where it fails, as by a division by 0, which an
+    operator answers."""
+    try:
+        return whole(call(function, operands))
+    except Exception:  # pylint: disable=broad-exception-caught  # whatever a function raises
+        return None
+
+
+def _make_samples(count: int, numbers: Set[int]) -> Iterator[List[int]]:
+    """Operands of calls, of which one is an edge, a number that the function names, or one beside
+    it; the same each time."""
+    dice = random.Random(count)
+    named = sorted(numbers.difference(EDGES), key=abs)[:MOST_NAMED]
+    for number in (*EDGES, *(near for each in named for near in (each - 1, each, each + 1))):
+        for at in range(count):
+            operands = [dice.choice(EDGES) if dice.random() < 0.4 else dice.randrange(-40, 40)
+                        for _ in range(count)]
+            operands[at] = wrap(number)
+            if count == 4:
+                operands[1:3] = [each % MOST_SIDE for each in operands[1:3]]
+            yield operands
+
+
+def _find_numbers(function: Function, root: Node) -> Set[int]:
+    """The numbers that a function's code and its expression name, also as text, in tuples, and in
+    the code inside it."""
+    found = {n.number for n in below(root) if n.op == 'const'}
+    wait: List[Any] = [_find_code(function)]
     while wait:
-        n = wait.pop()
-        if n not in seen:
-            seen.add(n)
-            wait += n.args
-            found |= {n.number} if n.op == 'const' else set()
-    return found | numbers_in(code) if code is not None else found
+        each = wait.pop()
+        if isinstance(each, types.CodeType):
+            wait += each.co_consts
+        elif isinstance(each, (tuple, frozenset)):
+            wait += each
+        elif isinstance(each, str):
+            found.update(map(int, re.findall('[0-9]{1,18}', each)))
+        elif isinstance(each, int) and LEAST <= each <= MOST:
+            found.add(int(each))
+    return found

@@ -16,8 +16,8 @@ from types import CodeType, FrameType
 from typing import Any, Callable, Dict, Iterator, List, NamedTuple, Optional, Sequence, Tuple
 
 from ...errors import CompileError
-from ..assembly import OPERATIONS, WORDS
-from .expressions import Condition, FOLD, Graph, LEAST, MOST, Node, text_of
+from ..assembly import MEANINGS, OPERATIONS, WORDS
+from .expressions import Condition, Graph, LEAST, MOST, Node, text_of
 
 MOST_WAYS, MOST_QUESTIONS, MOST_VALUES = 1024, 256, 256
 LONGEST_QUOTE = 60
@@ -129,7 +129,7 @@ class Ranges:
         exact, positive = other_low == other_high, low >= 0 and other_low > 0
         if n.op in ('add', 'sub', 'mul', *(('arsh', 'lsh', 'sdiv') if exact else ()),
                     *(('div',) if positive else ())):
-            return [FOLD[n.op](x, y) for x in (low, high) for y in (other_low, other_high)]
+            return [MEANINGS[n.op](x, y) for x in (low, high) for y in (other_low, other_high)]
         if n.op == 'select':
             return low, high, other_low, other_high
         if n.op in OPERATIONS and OPERATIONS[n.op].bitwise:
@@ -154,13 +154,15 @@ def _of_bits(op: str, one: Range, other: Range) -> Sequence[int]:
 
 
 class Exploration:
-    """What all ways through a function share. `by_range` says whether ranges answer questions, and
-    `pruned` whether one has. `caught` says of points of all ways whether the function catches an
-    error that is raised there."""
+    """What all ways through a function share. `operands` are numbers where these are known.
+    `by_range` says whether ranges answer all questions. `caught` says of points of all ways whether
+    the function catches an error that is raised there."""
 
-    def __init__(self, names: Sequence[str], by_range: bool) -> None:
+    def __init__(self, names: Sequence[str], operands: Optional[Sequence[int]] = None,
+                 by_range: bool = False) -> None:
         self.graph, self.names, self.by_range = Graph(), names, by_range
-        self.pruned = False
+        self.operands = ([self.graph.leaf('arg', at) for at in range(len(names))]
+                         if operands is None else list(map(self.graph.const, operands)))
         self.caught: Dict[Point, bool] = {}
         self.warnings: Dict[Tuple[str, Optional[Line]], str] = {}
 
@@ -179,9 +181,9 @@ class Path:
         self.points = 0                            # at which an error might have been raised
         self.facts: Dict[Node, bool] = {}
         self.ranges = Ranges()
-        self.operands = [self.graph.leaf('arg', at) for at in range(len(exploration.names))]
-        for side in self.operands[1:3] if len(self.operands) == 4 else []:
-            self.ranges.within(side, *SIDE)
+        for side in exploration.operands[1:3] if len(exploration.operands) == 4 else []:
+            if side.op == 'arg':
+                self.ranges.within(side, *SIDE)
 
     def fault(self, text: str) -> CompileError:
         """What is wrong, to be raised. It counts also where the function catches it."""
@@ -216,13 +218,12 @@ class Path:
 
     def truth(self, c: Node) -> Optional[bool]:
         """Whether a condition holds, where this way knows it."""
-        if c in self.facts or not self.shared.by_range:
-            return self.facts.get(c)
-        answer = self._by_range(c)
-        self.shared.pruned |= answer is not None
-        return answer
-
-    def _by_range(self, c: Node) -> Optional[bool]:
+        if c in self.facts:
+            return self.facts[c]
+        # ranges answer what is asked of one word, so that loops end; other questions stay, so that
+        # ways have more in common
+        if c.args[1].op != 'const' and not self.shared.by_range:
+            return None
         (low, high), (other_low, other_high) = map(self.ranges.of, c.args)
         if c.op == 'slt' or c.op == 'ult' and min(low, other_low) >= 0:
             return True if high < other_low else False if low >= other_high else None
@@ -320,10 +321,10 @@ class Explored(NamedTuple):
     shared: Exploration
 
 
-def explore(names: Sequence[str], run: Callable[[Path], Node], by_range: bool) -> Explored:
-    """All ways through a function as one expression; `run` takes one. Where ranges answer no
-    questions there are more ways, but they may be more alike."""
-    shared = Exploration(names, by_range)
+def explore(names: Sequence[str], run: Callable[[Path], Node],
+            operands: Optional[Sequence[int]] = None, by_range: bool = False) -> Explored:
+    """All ways through a function as one expression; `run` takes one."""
+    shared = Exploration(names, operands, by_range)
     graph = shared.graph
     plan: Answers = []
     done: List[Tuple[Node, Node]] = []             # the arms of planned questions that are explored

@@ -9,9 +9,9 @@ code.
 """
 from __future__ import annotations
 
-from typing import Any, Callable, Dict, List, Optional, Sequence, Set, Tuple
+from typing import Any, Dict, List, Optional, Sequence, Set, Tuple
 
-from ..assembly import OPERATIONS, WORDS
+from ..assembly import MEANINGS, OPERATIONS, wrap
 
 LEAST, MOST = -1 << 63, (1 << 63) - 1
 CONDITIONS = ('eq', 'slt', 'ult', 'set')
@@ -19,21 +19,6 @@ COMMUTE = (*(op for op, each in OPERATIONS.items() if each.commutes), 'eq', 'set
 LEAVES = ('arg', 'const')
 SHIFTS = ('lsh', 'rsh', 'arsh')
 MOST_HOLES = 3                                     # in which arms may differ and still be merged
-
-
-def wrap(number: int) -> int:
-    """The signed word of 64 bits that a whole number wraps to."""
-    low = number & WORDS - 1
-    return low - WORDS if low >> 63 else low
-
-
-FOLD: Dict[str, Callable[[int, int], int]] = {
-    **{op: each.value for op, each in OPERATIONS.items()},
-    'eq': lambda a, b: int(a == b),
-    'slt': lambda a, b: int(a < b),
-    'ult': lambda a, b: int(a % WORDS < b % WORDS),
-    'set': lambda a, b: int(a & b != 0)}
-"""What each operation and condition gives of two signed words, before it wraps."""
 
 
 class Node:
@@ -84,19 +69,8 @@ def below(root: Node) -> List[Node]:
 
 def size(root: Node) -> int:
     """About how many instructions compute this."""
-    found: Set[Node] = set()
-    wait, total = [root], 0
-    while wait:
-        n = wait.pop()
-        if n in found or n.op in LEAVES:
-            continue
-        found.add(n)
-        wait.extend(n.args)
-        if n.op == 'select':
-            total += 1 + (n.args[1].op == 'const') + (n.args[2].op == 'const')
-        elif n.op not in CONDITIONS:
-            total += 1
-    return total
+    return sum(1 + (n.op == 'select') * sum(arm.op == 'const' for arm in n.args[1:])
+               for n in below(root) if n.op not in LEAVES)
 
 
 SIGNS = {**{op: each.sign for op, each in OPERATIONS.items() if each.sign},
@@ -118,12 +92,12 @@ def text_of(n: Node, names: Sequence[str], deep: int = 3) -> str:
 # -- nodes, simplified
 
 class Graph:
-    """Makes nodes, each once."""
+    """Makes nodes, each once. `wrapped` says whether a number didn't fit in a word."""
 
     def __init__(self) -> None:
+        self.wrapped = False
         self._nodes: Dict[Any, Node] = {}
         # ways that are run again ask the same
-        self._simplified: Dict[Tuple[str, Node, Node], Node] = {}
         self._chosen: Dict[Tuple[Condition, Node, Node], Node] = {}
 
     def node(self, op: str, *args: Node) -> Node:
@@ -142,29 +116,22 @@ class Graph:
 
     def const(self, number: int) -> Node:
         """A number, wrapped."""
-        return self.leaf('const', wrap(int(number)))
+        word = wrap(number)
+        self.wrapped |= word != number
+        return self.leaf('const', word)
 
     # -- operations
 
     def make(self, op: str, a: Node, b: Node) -> Node:
         """An operation, simplified."""
-        key = op, a, b
-        found = self._simplified.get(key)
-        if found is None:
-            found = self._simplified[key] = self._make(op, a, b)
-        return found
-
-    def _make(self, op: str, a: Node, b: Node) -> Node:
         if a.op == b.op == 'const':
-            return self.const(FOLD[op](a.number, b.number))
+            return self.const(MEANINGS[op](a.number, b.number))
         if op in COMMUTE and (a.op == 'const' or b.op != 'const' and a.at > b.at):
             a, b = b, a
         if op == 'sub' and b.op == 'const':
             return self.make('add', a, self.const(-b.number))
         if b.op == 'const' and _of_numbers(a):
             return self.select(a.args[0], *(self.make(op, arm, b) for arm in a.args[1:]))
-        if a.op == 'const' and _of_numbers(b):
-            return self.select(b.args[0], *(self.make(op, a, arm) for arm in b.args[1:]))
         simpler = self._by_number(op, a, b.number) if b.op == 'const' else self._of_two(op, a, b)
         return simpler or self.node(op, a, b)
 
@@ -177,17 +144,15 @@ class Graph:
             return self.make(op, a, self.const(k & 63))
         if k == 0 and op in ('mul', 'and'):
             return self.const(0)
-        if op == 'mul' and k == -1:
-            return self.make('sub', self.const(0), a)
         before = a.args[1].number if a.op == op and a.args[1].op == 'const' else None
         if before is not None and (law.commutes or op == 'arsh'):
-            both = min(63, before + k) if op == 'arsh' else FOLD[op](before, k)
+            both = min(63, before + k) if op == 'arsh' else MEANINGS[op](before, k)
             return self.make(op, a.args[0], self.const(both))
         return None
 
     def _of_two(self, op: str, a: Node, b: Node) -> Optional[Node]:
         """An operation of two nodes of which the right one is no number, where it is something
-        simpler: numbers are added last, and choices of 0 swallow operations."""
+        simpler: choices of 0 swallow operations."""
         law = OPERATIONS[op]
         masks = b.op == 'and' and b.args[1].op == 'const'
         if op in SHIFTS and masks and b.args[1].number & 63 == 63:
@@ -196,13 +161,6 @@ class Graph:
             return a if law.idempotent else self.const(0)
         if law.bitwise and a.flag and b.flag:
             return self.select(a.args[0], *(self.make(op, arm, b) for arm in a.args[1:]))
-        if op in ('add', 'sub') and 'add' in (a.op, b.op):
-            (left, more), (right, less) = split_sum(a), split_sum(b)
-            if less and left is None:
-                return self.make(op, self.const(more - less), right or b)
-            if less or left is not None and more:
-                rest = self.make(op, left or a, right or b)
-                return self.make('add', rest, self.const(FOLD[op](more, less)))
         for one, other in ((a, b), (b, a)):
             if _of_numbers(one, zero=True) and (law.commutes or op == 'sub' and one is b):
                 arms = [self._with_arm(op, other, arm) for arm in one.args[1:]]
@@ -210,9 +168,9 @@ class Graph:
         return None
 
     def _with_arm(self, op: str, n: Node, k: Node) -> Node:
-        """An operation with a number that was an arm. A choice stays one node, to which the number
-        is added."""
-        if n.op == 'select' and op in ('add', 'sub') and k.number:
+        """An operation with a number that was an arm. The other word stays as it is, so that both
+        arms begin with it, and the number is added on one way alone."""
+        if n.op != 'const' and op in ('add', 'sub') and k.number:
             return self.node('add', n, k if op == 'add' else self.const(-k.number))
         return self.make(op, n, k)
 
@@ -223,7 +181,7 @@ class Graph:
         if op in COMMUTE and (a.op == 'const' or b.op != 'const' and a.at > b.at):
             a, b = b, a
         if a.op == b.op == 'const':
-            return None, bool(FOLD[op](a.number, b.number))
+            return None, bool(MEANINGS[op](a.number, b.number))
         if a is b and op != 'set':
             return None, op == 'eq'
         if a.op == 'const':                        # k < b where not b < k + 1
@@ -240,16 +198,13 @@ class Graph:
         """A condition of a word and a number."""
         k = b.number
         if a.op == 'select' and a.args[1].op == a.args[2].op == 'const':
-            yes, no = (bool(FOLD[op](arm.number, k)) for arm in a.args[1:])
+            yes, no = (bool(MEANINGS[op](arm.number, k)) for arm in a.args[1:])
             return (None, yes) if yes == no else (a.args[0], yes)
         if op == 'slt' and k == LEAST or op in ('ult', 'set') and k == 0:
             return None, False
         one_bit = k > 0 and k & (k - 1) == 0
         if op == 'eq' and a.op == 'and' and (k == 0 or one_bit and a.args[1] is b):
             return self.node('set', *a.args), k != 0
-        undone = OPERATIONS[a.op].undone if op == 'eq' and a.op in OPERATIONS else None
-        if undone is not None and a.args[1].op == 'const':
-            return self.condition(op, a.args[0], self.const(undone(k, a.args[1].number)))
         return self.node(op, a, b), True
 
     # -- choices
@@ -258,6 +213,9 @@ class Graph:
         """`yes` where a condition holds, else `no`."""
         yes = yes.args[1] if yes.op == 'select' and yes.args[0] is c else yes
         no = no.args[2] if no.op == 'select' and no.args[0] is c else no
+        (base, more), (other, less) = split_sum(yes), split_sum(no)
+        if base is other and base is not None and more and less:
+            yes = self.node('add', no, self.const(more - less))
         return yes if yes is no else self.node('select', c, yes, no)
 
     def choice(self, condition: Condition, yes: Node, no: Node) -> Node:
@@ -273,18 +231,14 @@ class Graph:
         return found
 
     def _choice(self, c: Node, yes: Node, no: Node) -> Node:
-        best = self.select(c, yes, no)
+        two_arms = self.select(c, yes, no)
         if yes.op in LEAVES and no.op in LEAVES:
-            return best
-        least = size(best)
-        for apart in (True, False):
-            try:
-                made = merged(self, c, yes, no, apart)
-            except (Different, RecursionError):
-                continue
-            if size(made) < least:
-                best, least = made, size(made)
-        return best
+            return two_arms
+        try:
+            merged = Merge(self, c).of(yes, no)
+        except (Different, RecursionError):
+            return two_arms
+        return merged if size(merged) < size(two_arms) else two_arms
 
     def test(self, value: Node, yes: Node, no: Node) -> Node:
         """`yes` where a word isn't 0, else `no`."""
@@ -312,17 +266,12 @@ class Different(Exception):
     """Two expressions differ in too many places."""
 
 
-def merged(graph: Graph, c: Node, yes: Node, no: Node, apart: bool) -> Node:
-    """`yes` where a condition holds, else `no`, as one expression. Numbers may stay `apart` from
-    the choice: 8 or 5 is 5 and (3 or 0). Raises Different."""
-    return _Merge(graph, c, apart).of(yes, no)
+class Merge:
+    """One value where a condition holds and another where it doesn't, as one expression: the
+    choices that it has made, and the pairs that it has merged. Raises Different."""
 
-
-class _Merge:
-    """One merge: the choices that it has made, and the pairs that it has merged."""
-
-    def __init__(self, graph: Graph, c: Node, apart: bool) -> None:
-        self.graph, self.c, self.apart = graph, c, apart
+    def __init__(self, graph: Graph, c: Node) -> None:
+        self.graph, self.c = graph, c
         self.holes: Set[Node] = set()
         self.known: Dict[Tuple[Node, Node], Node] = {}
 
@@ -338,7 +287,7 @@ class _Merge:
         (base, more), (other, less) = split_sum(a), split_sum(b)
         if base is other:
             hole = self._hole(self.graph.const(more - less), self.graph.const(0))
-            if base is None and self.apart and less:
+            if base is None and less:              # 8 or 5 is 5 and (3 or 0)
                 return self.graph.node('add', hole, b)
             return self.graph.make('add', b, hole)
         if a.op != b.op or a.op in LEAVES:

@@ -1,25 +1,26 @@
 """Instructions on numbered words, and the same on registers and the stack, as assembly text.
 
 An instruction is a mnemonic and its operands, which are words, numbers, or text (labels, r10).
-Operations have their result apart from their operands until `allocate` makes BPF's instructions of
-two operands of them: `neg64 d, a` and `add64 d, a, b`. Words are numbered: 0 is the result, 1 to 4
-are the operands, and each other word is written once or by moves.
+Words are numbered: 0 is the result, 1 to 4 are the operands of a call. Code runs forward, so one
+pass from its end knows what is needed later.
 
-Words that are needed at one time get different registers; words that are moved into one another
-get the same one where they may. A word for which none is left is stored where it is written and
-loaded where it is read. Code runs forward, so one pass from its end knows what is needed.
+Words that are needed at one time get different registers; words that are moved into one another get
+the same one where they may. Where registers don't suffice, two of them are left free for words on
+the stack, which are loaded before they are read, and stored when they are written.
 """
 from __future__ import annotations
 
 import collections
-from typing import Dict, List, Optional, Set, Tuple, Union
+import operator
+from typing import Any, Callable, Dict, List, Optional, Sequence, Set, Tuple, Union
 
 from ...errors import CompileError
+from ..assembly import OPERATIONS, WORDS, wrap
 
 REGISTERS, PLACES = 10, 64                         # and of 8 bytes on the stack
+LOADED = 2                                         # words of the stack in one instruction
 FIXED = 5                                          # words with a register of their own number
 OPERANDS = 0b11110                                 # as bits: they are there together
-MOST_SHIFT = 30                                    # by which a shift is a product with a number
 FULL = 'more values are needed at a time than the registers and 512 bytes of stack hold'
 
 
@@ -59,26 +60,17 @@ def is_move(each: Instruction) -> bool:
     return each[0] == 'mov64' and isinstance(each[1][1], Reg)
 
 
-def has_separate_result(each: Instruction) -> bool:
-    """Whether this is an operation whose result stands apart from its operands."""
-    return (not is_jump(each) and each[0] not in ('stx64', 'ldx64') and
-            len(each[1]) == (2 if each[0] == 'neg64' else 3))
-
-
 def word_written(each: Instruction) -> Optional[Reg]:
     """The word that an instruction writes."""
-    if is_jump(each) or each[0] in ('stx64', 'label', 'exit'):
-        return None
-    to = each[1][0]
-    assert isinstance(to, Reg)
-    return to
+    to = each[1][0] if each[1] and not is_jump(each) else None
+    return to if isinstance(to, Reg) else None
 
 
 def words_read(each: Instruction) -> List[Reg]:
     """The words that an instruction reads."""
     if each[0] == 'exit':
         return [Reg(0)]
-    first = 1 if each[0] in ('mov64', 'wide', 'ldx64') or has_separate_result(each) else 0
+    first = 1 if each[0] in ('mov64', 'wide') else 0
     return [operand for operand in each[1][first:] if isinstance(operand, Reg)]
 
 
@@ -94,16 +86,16 @@ def needed_later(code: Code) -> List[int]:
     at: Dict[Operand, int] = {}
     out: List[int] = []
     for each in reversed(code):
+        # jumps lead forward, so what a label's code needs is known by then
         if is_jump(each):
             live = at[each[1][-1]] | (0 if each[0] == 'ja' else live)
         elif each[0] == 'exit':
             live = 0
         out.append(live)
         to = word_written(each)
-        if to is None or live >> to & 1:
-            live &= ~(1 << to) if to is not None else -1
-            for word in words_read(each):
-                live |= 1 << word
+        live &= ~(1 << to) if to is not None else -1
+        for word in words_read(each):
+            live |= 1 << word
         if each[0] == 'label':
             at[each[1][0]] = live
     return out[::-1]
@@ -114,45 +106,16 @@ def needed_later(code: Code) -> List[int]:
 def allocate(code: Code, words: int) -> Code:
     """The code on registers 0 to 9. CompileError where more words are needed at a time than
     registers and stack hold."""
-    code = _with_two_operands(code)
-    unspillable: Set[int] = {0}                    # the result, and what was loaded or is stored
-    places: List[int] = []                         # of each the words that can't share it, as bits
-    while True:
-        apart = _interference(code, words)
-        registers, without = _assign(code, apart)
-        if without is None:
-            return [(each[0], tuple(Reg(registers[operand]) if isinstance(operand, Reg) else operand
-                                    for operand in each[1])) for each in code]
-        for word in _cheapest_to_spill(code, apart, without, unspillable):
-            at = next((at for at, others in enumerate(places) if not others >> word & 1),
-                      len(places))
-            if at == PLACES:
-                raise CompileError(FULL)
-            places[at:at + 1] = [apart[word] | (places[at] if at < len(places) else 0)]
-            code, more = _spill(code, word, -8 * at - 8, words)
-            unspillable |= {word, *range(words, more)}
-            words = more
+    apart = _find_interference(code, words)
+    places = _assign_places(code, apart, REGISTERS)
+    if max(places.values()) >= REGISTERS:          # again, with two registers less for words
+        places = _assign_places(code, apart, REGISTERS - LOADED)
+    if max(places.values()) >= REGISTERS + PLACES:
+        raise CompileError(FULL)
+    return [placed for each in code for placed in _add_loads(each, places)]
 
 
-def _with_two_operands(code: Code) -> Code:
-    """BPF's operations, which change their left word: it is moved there first. What nobody reads is
-    left out."""
-    out: Code = []
-    for each, live in zip(code, needed_later(code)):
-        to = word_written(each)
-        if to is not None and not live >> to & 1:
-            continue
-        if to is not None and has_separate_result(each):
-            left, rest = each[1][1], each[1][2:]
-            assert not isinstance(left, str)
-            if left != to or not isinstance(left, Reg):
-                out.append(move(to, left))
-            each = ins(each[0], to, *rest)
-        out.append(each)
-    return out
-
-
-def _interference(code: Code, words: int) -> List[int]:
+def _find_interference(code: Code, words: int) -> List[int]:
     """Of each word, as bits, those that it can't share a register with."""
     apart = [0] + [OPERANDS] * (FIXED - 1) + [0] * (words - FIXED)
     for each, live in zip(code, needed_later(code)):
@@ -160,7 +123,7 @@ def _interference(code: Code, words: int) -> List[int]:
         if to is None:
             continue
         others = live & ~(1 << to)
-        if is_move(each):
+        if is_move(each):                          # both have the same value then
             others &= ~(1 << int(each[1][1]))
         apart[to] |= others
         while others:
@@ -170,9 +133,10 @@ def _interference(code: Code, words: int) -> List[int]:
     return apart
 
 
-def _assign(code: Code, apart: List[int]) -> Tuple[Dict[int, int], Optional[int]]:
-    """A register for each word, or the word for which none was left. Words are looked at from the
-    end of the code, so that what moves lead to has its register before what they come from."""
+def _assign_places(code: Code, apart: List[int], registers: int) -> Dict[int, int]:
+    """A place for each word: one of so many registers, or from REGISTERS on of the stack. Words are
+    looked at from the end of the code, so that what moves lead to has its register before what they
+    come from."""
     moves: Dict[int, List[int]] = collections.defaultdict(list)
     for each in reversed(code):
         if is_move(each):
@@ -180,49 +144,36 @@ def _assign(code: Code, apart: List[int]) -> Tuple[Dict[int, int], Optional[int]
             moves[source].append(to)
             moves[to].append(source)
     found = {word: word for word in range(FIXED)}
-    users = [1 << word if word < FIXED else 0 for word in range(REGISTERS)]
+    # a bit for each word, so that one `and` says whether a place is free
+    users: Dict[int, int] = collections.defaultdict(int)
+    users.update((word, 1 << word) for word in range(FIXED))
+    everywhere = [*range(registers), *range(REGISTERS, REGISTERS + len(apart))]
     for each in reversed(code):
         for word in words_in(each):
-            if word in found:
-                continue
-            wanted = [found[other] for other in moves[word] if other in found]
-            free = [one for one in (*wanted, *range(REGISTERS)) if not users[one] & apart[word]]
-            if not free:
-                return found, word
-            found[word] = free[0]
-            users[free[0]] |= 1 << word
-    return found, None
+            if word not in found:
+                wanted = [found[other] for other in moves[word] if found.get(other, REGISTERS)
+                          < registers]
+                found[word] = next(one for one in (*wanted, *everywhere)
+                                   if not users[one] & apart[word])
+                users[found[word]] |= 1 << word
+    return found
 
 
-def _cheapest_to_spill(code: Code, apart: List[int], without: int,
-                       unspillable: Set[int]) -> List[int]:
-    """The words to be put on the stack: used seldom, and needed together with many others. They are
-    about half of those that are too many at a time, so that few rounds are enough."""
-    used = collections.Counter(int(word) for each in code for word in words_in(each))
-    near = [word for word in range(len(apart)) if word not in unspillable and
-            (word == without or apart[without] >> word & 1)]
-    if not near:
-        raise CompileError(FULL)
-    near.sort(key=lambda word: used[word] / bin(apart[word]).count('1'))
-    most = max(bin(live).count('1') for live in needed_later(code))
-    return near[:max(1, (most - REGISTERS) // 2)]
-
-
-def _spill(code: Code, word: int, at: int, words: int) -> Tuple[Code, int]:
-    """The code with a word at a place on the stack, and the number of words that it uses now."""
-    out = [ins('stx64', 'r10', at, Reg(word))] if word < FIXED else []
-    for each in code:
-        is_read, is_written = word in words_read(each), word_written(each) == word
-        if is_read or is_written:
-            each = each[0], tuple(Reg(words) if isinstance(operand, Reg) and operand == word else
-                                  operand for operand in each[1])
-        if is_read:
-            out.append(ins('ldx64', Reg(words), 'r10', at))
-        out.append(each)
-        if is_written:
-            out.append(ins('stx64', 'r10', at, Reg(words)))
-        words += is_read or is_written
-    return out, words
+def _add_loads(each: Instruction, places: Dict[int, int]) -> Code:
+    """An instruction on registers, between the loads and the store of what it has on the stack."""
+    spare = [Reg(REGISTERS - 1 - at) for at in range(LOADED)]
+    at = {word: Reg(places[word]) if places[word] < REGISTERS else spare.pop()
+          for word in dict.fromkeys(words_in(each))}
+    spilled = {word: 8 * (REGISTERS - 1 - places[word]) for word in at
+               if places[word] >= REGISTERS}
+    if is_move(each) and spilled:                  # a load or a store is the move
+        at = dict.fromkeys(at, min(at.values()))
+    to = word_written(each)
+    loads = [ins('ldx64', at[word], 'r10', spilled[word]) for word in dict.fromkeys(
+        words_read(each)) if word in spilled]
+    stores = [ins('stx64', 'r10', spilled[to], at[to])] if to is not None and to in spilled else []
+    operands = tuple(at[operand] if isinstance(operand, Reg) else operand for operand in each[1])
+    return [*loads, (each[0], operands), *stores]
 
 
 # -- without what does nothing
@@ -230,11 +181,35 @@ def _spill(code: Code, word: int, at: int, words: int) -> Tuple[Code, int]:
 def tidy(code: Code) -> Code:
     """The code without moves to the same register, jumps to the next instruction or to a jump, and
     what no way leads to."""
-    code = [each for each in code if not (is_move(each) and each[1][0] == each[1][1])]
+    code = _drop_repeated_moves(code)
     before: Code = []
     while code != before:
         before, code = code, _thread_jumps(code)
     return code
+
+
+def _drop_repeated_moves(code: Code) -> Code:
+    """The code without moves of what a register holds already, on each way."""
+    known: Set[Tuple[str, str]] = set()            # registers, and what was moved there
+    at: Dict[Operand, Set[Tuple[str, str]]] = {}   # of a label, what is known at each jump to it
+    out: Code = []
+    is_reached = True
+    for each in code:
+        if each[0] == 'label':
+            known = at.get(each[1][0], known) & (known if is_reached else at.get(each[1][0], known))
+            is_reached = True
+        if is_jump(each):
+            at[each[1][-1]] = at.get(each[1][-1], known) & known
+        is_reached &= each[0] not in ('ja', 'exit')
+        to = word_written(each)
+        if to is not None:
+            pair = str(to), str(each[1][1]) if each[0] in ('mov64', 'wide') else ''
+            if pair in known or pair[::-1] in known or pair[0] == pair[1]:
+                continue
+            known = {other for other in known if pair[0] not in other}
+            known |= {pair} if pair[1] else set()
+        out.append(each)
+    return out
 
 
 def _thread_jumps(code: Code) -> Code:
@@ -247,8 +222,8 @@ def _thread_jumps(code: Code) -> Code:
         if not is_reached or each[0] == 'label' and each[1][0] not in named:
             continue
         if is_jump(each):
-            target = _past_labels(code, at[each[1][-1]])
-            if _past_labels(code, number + 1) == target:
+            target = _skip_labels(code, at[each[1][-1]])
+            if _skip_labels(code, number + 1) == target:
                 continue
             there = code[target]
             if there[0] == 'ja':
@@ -259,19 +234,14 @@ def _thread_jumps(code: Code) -> Code:
     return out
 
 
-def _past_labels(code: Code, number: int) -> int:
+def _skip_labels(code: Code, number: int) -> int:
     while code[number][0] == 'label':
         number += 1
     return number
 
 
 def resolve(code: Code) -> Code:
-    """The code with numbers of slots in place of labels, and a shift alone as the product that the
-    server runs as a compiled loop."""
-    if len(code) == 3 and code[1][0] == 'lsh64':
-        to, by = code[1][1]
-        if not isinstance(by, (Reg, str)) and by <= MOST_SHIFT:
-            code = [code[0], ins('mul64', to, 1 << by), code[2]]
+    """The code with numbers of slots in place of labels."""
     slots: Dict[object, int] = {}
     slot = 0
     for each in code:
@@ -297,3 +267,54 @@ def size_of(each: Instruction) -> int:
 def text_of(code: Code) -> str:
     """Assembly text of instructions without labels."""
     return ''.join((each[0] + ' ' + ', '.join(map(str, each[1]))).strip() + '\n' for each in code)
+
+
+# -- the machine
+
+HOLDS: Dict[str, Callable[..., Any]] = {
+    'jeq64': operator.eq, 'jne64': operator.ne, 'jset64': lambda a, b: a & b != 0,
+    'jslt64': operator.lt, 'jsle64': operator.le, 'jsgt64': operator.gt, 'jsge64': operator.ge,
+    'jlt64': lambda a, b: a % WORDS < b % WORDS, 'jle64': lambda a, b: a % WORDS <= b % WORDS,
+    'jgt64': lambda a, b: a % WORDS > b % WORDS, 'jge64': lambda a, b: a % WORDS >= b % WORDS,
+    'ja': lambda: True}
+ACTS = {op + '64': each.value for op, each in OPERATIONS.items()}
+
+
+class Machine:
+    """Instructions that are called, as the server does (RFC 9669, sections 4 and 5, as functions
+    need it). Jumps in them count slots."""
+
+    def __init__(self, code: Sequence[Instruction]) -> None:
+        self._slots: Dict[int, Instruction] = {}
+        slot = 0
+        for each in code:
+            self._slots[slot] = each
+            slot += size_of(each)
+
+    def call(self, operands: Sequence[int]) -> int:
+        """The value of a call of signed words."""
+        registers = [0, *operands, *[0] * 9]
+        stack: Dict[int, int] = {}
+        slot = 0
+        while True:
+            name, given = self._slots[slot]
+            slot += size_of((name, given))
+            if name == 'exit':
+                return registers[0]
+            values: List[Any] = [registers[each] if isinstance(each, Reg) else each
+                                 for each in given]
+            if name[0] == 'j':
+                slot += values[-1] if HOLDS[name](*values[:-1]) else 0
+            elif name == 'stx64':
+                stack[values[1]] = values[2]
+            else:
+                registers[int(given[0])] = _compute_result(name, values, stack)
+
+
+def _compute_result(name: str, values: List[Any], stack: Dict[int, int]) -> int:
+    """What an instruction leaves in its register."""
+    if name == 'wide':
+        return int(values[1])
+    if name == 'ldx64':
+        return stack[values[2]]
+    return wrap(-values[0] if name == 'neg64' else ACTS[name](values[0], values[1]))

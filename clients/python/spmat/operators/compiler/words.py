@@ -1,16 +1,29 @@
-"""Words that are no numbers yet: each operation makes an expression, and each question (`if`,
-`and`, `min`) a choice. Operations that the machine doesn't have as Python means them (floor
-division and its rest, shifts by any amount) are made here of those that it has.
+"""Words that are no numbers yet, with Python's operations on whole numbers: each operation makes an
+expression, and each question (`if`, `and`, `min`) a choice. Operations that the machine doesn't
+have as Python means them (floor division and its rest, shifts by any amount) are made here of those
+that it has.
 """
 from __future__ import annotations
 
+import decimal
+import fractions
 import operator
-from typing import Any, Callable, Dict, Optional
+from typing import Any, Callable, Dict, NoReturn, Optional, Tuple
 
+from ..assembly import wrap
+from ..functions import Operand, cdiv, cmod, rsh, udiv, ult, where, whole
 from .exploration import MOST_VALUES, Path
-from .expressions import Condition, LEAST, MOST, Node, text_of, wrap
-from .operands import Operand, cdiv, cmod, no_number, udiv, ult, where, whole
+from .expressions import Condition, LEAST, MOST, Node, text_of
 
+DIVIDED = 'x / y is a float in Python: x // y rounds down, cdiv(x, y) toward 0'
+POWER = 'a power wants a whole number that is known beforehand, at least 0, and no modulus'
+POWER_OF_OPERAND = 'a power of an operand has no code, but 2 ** x is 1 << x'
+NO_TEXT = ('an operand has no text (str, print, f-strings): it is no number yet when the function '
+           'is looked at')
+NO_SEVERAL = ('an operand is one number, and a %s holds several (compared by %s): x in '
+              'list(values) looks for it among them')
+NO_SEQUENCE = ('an operand is one number: it has no length and no items, and numpy makes no array '
+               'of it (spmat.where, min and max take it)')
 NUMBER = ('expected a number here (for an index, range(), or a function in C such as math.isqrt), '
           'but %%s may be any: only what has at most %d values, as x %%%% 8, becomes one' %
           MOST_VALUES)
@@ -22,14 +35,31 @@ UNSIGNED = ('; words wrap by themselves, so leave a mask of 64 bits out: ult, ud
             'take words without their sign')
 BY_ZERO = 'a division by 0'
 BY_NEGATIVE = 'a shift by a negative number'
-DIVIDED = ': as an operator x // 0 is 0, and x % 0 is x'
-SHIFTED = ': as an operator x << y is 0, and x >> y the sign of x'
+AS_DIVIDED = ': as an operator x // 0 is 0, and x % 0 is x'
+AS_SHIFTED = ': as an operator x << y is 0, and x >> y the sign of x'
 DIVISIONS, SHIFTS = ('floordiv', 'floormod'), ('lshift', 'rshift')
+
+
+def _operation(name: str) -> Tuple[Any, Any]:
+    """An operation, and the one of which this is the right operand."""
+    return (lambda self, other: self.operate(name, self, other),
+            lambda self, other: self.operate(name, other, self))
+
+
+def _comparison(name: str) -> Any:
+    return lambda self, other: self.compare(name, self.comparable(name, other))
+
+
+def _refused(text: str) -> Any:
+    def method(self: 'Word', *_: Any) -> NoReturn:
+        raise self.path.fault(text)
+    return method
 
 
 class Word(Operand):
     """A 64-bit word on one way through a function."""
     __slots__ = ('path', 'node')
+    __array_ufunc__ = None                         # numpy's numbers leave operations to this class
 
     def __init__(self, path: Path, node: Node) -> None:
         self.path, self.node = path, node
@@ -37,6 +67,8 @@ class Word(Operand):
 
     def __repr__(self) -> str:
         return text_of(self.node, self.path.shared.names)
+
+    # -- what is asked of a number
 
     def __bool__(self) -> bool:
         return self.path.holds(self.node)
@@ -50,8 +82,80 @@ class Word(Operand):
     def __hash__(self) -> int:
         return hash(self.path.number(self.node, HASHED))
 
-    def fault(self, text: str) -> Exception:
-        return self.path.fault(text)
+    def __float__(self) -> float:
+        raise self.path.fault(no_number(0.0, 'float()'))
+
+    # -- operations
+
+    __add__, __radd__ = _operation('add')
+    __sub__, __rsub__ = _operation('sub')
+    __mul__, __rmul__ = _operation('mul')
+    __and__, __rand__ = _operation('and')
+    __or__, __ror__ = _operation('or')
+    __xor__, __rxor__ = _operation('xor')
+    __lshift__, __rlshift__ = _operation('lshift')
+    __rshift__, __rrshift__ = _operation('rshift')
+    __floordiv__, __rfloordiv__ = _operation('floordiv')
+    __mod__, __rmod__ = _operation('floormod')
+    __lt__, __le__, __gt__ = map(_comparison, ('lt', 'le', 'gt'))
+    __ge__, __eq__, __ne__ = map(_comparison, ('ge', 'eq', 'ne'))
+    __truediv__ = __rtruediv__ = _refused(DIVIDED)
+    __rpow__ = _refused(POWER_OF_OPERAND)
+    __str__ = __format__ = _refused(NO_TEXT)
+    __iter__ = __len__ = __getitem__ = __contains__ = _refused(NO_SEQUENCE)
+
+    def __neg__(self) -> Any:
+        return 0 - self
+
+    def __invert__(self) -> Any:
+        return self ^ -1
+
+    def __abs__(self) -> Any:
+        return where(self < 0, -self, self)
+
+    def __divmod__(self, other: Any) -> Any:
+        return self // other, self % other
+
+    def __rdivmod__(self, other: Any) -> Any:
+        return other // self, other % self
+
+    def __pow__(self, power: Any, modulus: Any = None) -> Any:
+        number = None if isinstance(power, Word) else whole(power)
+        if number is None or number < 0 or modulus is not None:
+            raise self.path.fault(POWER)
+        out, square = 1, self                      # type: Any, Any
+        while number:
+            out = out * square if number & 1 else out
+            number >>= 1
+            square = square * square if number else square
+        return out
+
+    def __round__(self, digits: Optional[int] = None) -> Any:
+        if digits is not None and digits < 0:
+            raise self.path.fault('round(x, %d) has no code: (x + 5) // 10 * 10 rounds to tens' %
+                                  digits)
+        return self
+
+    def __pos__(self) -> Any:
+        return self
+
+    __trunc__ = __floor__ = __ceil__ = conjugate = __pos__
+    real = numerator = property(__pos__)
+
+    def bit_length(self) -> Any:
+        """As of an int of Python: the bits of the number without its sign."""
+        rest, count = abs(self), 0                 # type: Any, Any
+        for bits in (32, 16, 8, 4, 2, 1):
+            more = rsh(rest, bits) != 0
+            rest, count = where(more, rsh(rest, bits), rest), count + bits * more
+        return count + rest
+
+    def bit_count(self) -> Any:
+        """As of an int of Python: how many bits are set in the number without its sign."""
+        x = abs(self)
+        x = x - (rsh(x, 1) & 0x5555555555555555)
+        x = (x & 0x3333333333333333) + (rsh(x, 2) & 0x3333333333333333)
+        return rsh((x + rsh(x, 4) & 0x0f0f0f0f0f0f0f0f) * 0x0101010101010101, 56)
 
     def operate(self, name: str, a: Any, b: Any) -> Any:
         if any(not isinstance(each, (Word, int, float, complex, str)) and whole(each) is None
@@ -74,10 +178,10 @@ class Word(Operand):
             return None
         if k == 0 and name in DIVISIONS:
             self.path.raise_if_caught((None, True), ZeroDivisionError(BY_ZERO))
-            raise self.fault(BY_ZERO)
+            raise self.path.fault(BY_ZERO)
         if k < 0 and name in SHIFTS:
             self.path.raise_if_caught((None, True), ValueError(BY_NEGATIVE))
-            raise self.fault(BY_NEGATIVE)
+            raise self.path.fault(BY_NEGATIVE)
         if LEAST <= k <= MOST:
             return None
         if name in SHIFTS:
@@ -85,7 +189,24 @@ class Word(Operand):
         quotient = -(self < 0) if k > 0 else -(self > 0)
         return quotient if name == 'floordiv' else self - quotient * k
 
+    # -- comparisons and choices
+
+    def comparable(self, name: str, other: Any) -> Any:
+        """What a word is compared with: of another kind of number that is whole the int, so that
+        77 is Decimal(77) here, too. What holds several values is refused: Python would call it
+        unequal without a word."""
+        if isinstance(other, Word) or whole(other) is not None:
+            return other
+        several = isinstance(other, (list, tuple, set, frozenset, dict))
+        if several or hasattr(other, '__array__') and not isinstance(other, float):
+            raise self.path.fault(NO_SEVERAL % (type(other).__name__, name))
+        if isinstance(other, decimal.Decimal) and other.is_finite():
+            other = fractions.Fraction(other)
+        is_whole = isinstance(other, fractions.Fraction) and other.denominator == 1
+        return int(other) if is_whole else other
+
     def compare(self, name: str, other: Any) -> Any:
+        """A comparison with another word or a number: 1 or 0."""
         number = 0 if isinstance(other, Word) else whole(other)
         if number is None and (other is None or not isinstance(other, (str, float))):
             return NotImplemented
@@ -104,6 +225,17 @@ class Word(Operand):
         known = path.truth(c.args[0]) if c.op == 'select' else None
         tested = c if known is None else c.args[1 if known else 2]
         return Word(path, path.graph.test(tested, yes, no))
+
+
+def no_number(value: Any, called: str = '') -> str:
+    """What is said of a value that is no whole number."""
+    if not isinstance(value, (float, complex)):
+        return '%s is no whole number: %.40r' % (type(value).__name__, value)
+    fix = ' (fixed point: count in thousandths, say)'
+    if isinstance(value, float) and value.is_integer() and abs(value) < 1 << 63 and not called:
+        fix = ', here %d' % value
+    return '%s is a float, which has no code in an operator: take whole numbers%s' % (
+        called or repr(value), fix)
 
 
 def node_of(path: Path, value: Any, op: str = 'result') -> Node:
@@ -135,7 +267,7 @@ def flag(path: Path, condition: Condition) -> Word:
 
 # -- Python's operations by the machine's
 
-def _machine(op: str, x: Word, y: Any) -> Word:
+def _operate(op: str, x: Word, y: Any) -> Word:
     """The machine's operation, as it is."""
     return Word(x.path, x.path.graph.make(op, x.node, node_of(x.path, y)))
 
@@ -152,20 +284,21 @@ def _is_small(y: Word) -> Any:
         path.raise_if_caught(negative, ValueError(BY_NEGATIVE))
     low, high = path.ranges.of(y.node)
     if high < 0:
-        path.warn(BY_NEGATIVE, SHIFTED)
+        path.warn(BY_NEGATIVE, AS_SHIFTED)
         return 0
     return low >= 0 and high < 64 or ult(y, 64)
 
 
-def _left(x: Word, y: Word) -> Any:
-    return where(_is_small(y), _machine('lsh', x, y), 0)
+def _shift_left(x: Word, y: Word) -> Any:
+    x.path.graph.wrapped |= x.path.ranges.of(y.node)[0] > 63       # Python's number is no word
+    return where(_is_small(y), _operate('lsh', x, y), 0)
 
 
-def _right(x: Word, y: Word) -> Any:
-    return _machine('arsh', x, where(_is_small(y), y, 63))
+def _shift_right(x: Word, y: Word) -> Any:
+    return _operate('arsh', x, where(_is_small(y), y, 63))
 
 
-def _simple_division(op: str, x: Word, y: Word) -> Any:
+def _divide_simply(op: str, x: Word, y: Word) -> Any:
     """Quotients (div) and rests (mod) that need no look at signs, else None."""
     path, k = x.path, y.node.number if y.node.op == 'const' else 0
     low, high = path.ranges.of(y.node)
@@ -174,7 +307,7 @@ def _simple_division(op: str, x: Word, y: Word) -> Any:
         path.raise_if_caught(zero, ZeroDivisionError(BY_ZERO))
         low, high = path.ranges.of(y.node)
     if low == high == 0:
-        path.warn(BY_ZERO, DIVIDED)
+        path.warn(BY_ZERO, AS_DIVIDED)
         return x if op == 'mod' else 0 * x
     if k > 0 and k & (k - 1) == 0:
         return x >> k.bit_length() - 1 if op == 'div' else x & k - 1
@@ -182,7 +315,7 @@ def _simple_division(op: str, x: Word, y: Word) -> Any:
 
 
 def _floordiv(x: Word, y: Word) -> Any:
-    simple = _simple_division('div', x, y)
+    simple = _divide_simply('div', x, y)
     if simple is not None:
         return simple
     low, high = x.path.ranges.of(y.node)
@@ -195,7 +328,7 @@ def _floordiv(x: Word, y: Word) -> Any:
 
 
 def _floormod(x: Word, y: Word) -> Any:
-    simple = _simple_division('mod', x, y)
+    simple = _divide_simply('mod', x, y)
     if simple is not None:
         return simple
     low, high = x.path.ranges.of(y.node)
@@ -209,5 +342,6 @@ def _floormod(x: Word, y: Word) -> Any:
 
 
 MEANINGS: Dict[str, Callable[[Word, Word], Any]] = {
-    'ult': _less, 'lshift': _left, 'rshift': _right, 'floordiv': _floordiv, 'floormod': _floormod}
+    'ult': _less, 'lshift': _shift_left, 'rshift': _shift_right, 'floordiv': _floordiv,
+    'floormod': _floormod}
 """Python's operations that the machine has not as they are."""

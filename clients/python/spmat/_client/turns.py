@@ -1,5 +1,4 @@
-"""Ctrl-C amid a command: held back while something would be lost by it, and let through while a
-reply is awaited.
+"""Who may use a session, and when: one thread at a time, and Ctrl-C where nothing is lost by it.
 
 A session stays in step as long as each command is sent whole and each reply read whole. So what
 Python does on SIGINT, which is to raise KeyboardInterrupt wherever it is, is put off until the
@@ -9,15 +8,19 @@ thread gets signals, so only there anything is done.
 from __future__ import annotations
 
 import contextlib
+import sys
 import threading
 from signal import SIGINT
-from typing import Any, Callable, Iterator, Optional
+from typing import TYPE_CHECKING, Any, Callable, Iterator, Optional, Type
 
 try:
     # the same without enums, which would take a third of what a job costs here
     import _signal as signal  # type: ignore[import]
 except ImportError:
     import signal
+
+if TYPE_CHECKING:
+    from .connection import Connection
 
 Handler = Callable[[int, Any], Any]
 
@@ -70,3 +73,38 @@ class Guard:
             before(number, frame)
         else:
             self._held = True
+
+
+class Turn:
+    """The turn of one thread, in a `with`, in which commands are made and what they do is noted.
+    What comes between a command and the note of it ends the session; Ctrl-C is put off until the
+    note is made, or the reply is awaited. Closed where the session has ended."""
+
+    def __init__(self, connection: Connection) -> None:
+        self._connection = connection
+
+    def __enter__(self) -> None:
+        connection = self._connection
+        connection.lock.acquire()  # pylint: disable=consider-using-with  # __exit__ releases it
+        try:
+            connection.guard.__enter__()           # pylint: disable=unnecessary-dunder-call
+            try:
+                connection.check_open()
+            except BaseException:
+                connection.guard.__exit__(*sys.exc_info())
+                raise
+        except BaseException:
+            connection.lock.release()
+            raise
+
+    def __exit__(self, kind: Optional[Type[BaseException]], fault: Optional[BaseException],
+                 trace: Any) -> None:
+        connection = self._connection
+        try:
+            if kind is not None and not issubclass(kind, Exception) and not connection.owes:
+                connection.end('amid its work came ' + kind.__name__, kill=True)
+        finally:
+            try:
+                connection.guard.__exit__(kind, fault, trace)
+            finally:
+                connection.lock.release()

@@ -1,5 +1,8 @@
-"""What a matrix holds, written out with its names: CSV, lists of edges, parquet, tables of
-pandas."""
+"""What a matrix holds, written out with its names: CSV, lists of edges, parquet, tables of pandas.
+
+Lists are written such that reading gives the same edges again: names are quoted where they have to
+be, and refused where no list has them.
+"""
 from __future__ import annotations
 
 import contextlib
@@ -8,17 +11,26 @@ import io
 import itertools
 import os
 import tempfile
-from typing import IO, Any, Callable, Dict, Iterable, Iterator, List, Optional, Sequence, Tuple
+import warnings
+from typing import (IO, Any, Callable, Dict, Iterable, Iterator, List, Optional, Sequence, Tuple)
 
+from ..errors import ReadError
 from ..extras import import_extra
 from ..metadata import NOTHING, Notes, vertices_of
 from ..units import Unit, is_whole, to_decimal, to_decimals, to_text
-from . import files, list_writer
+from . import files, lists
+from .columns import Layout
+from .edges import WHOLE
+from .formats import describe_other, format_of
+from .graph_formats import has_dictionaries
+from .values import is_missing
 
 EDGE = ('source', 'target', 'weight')
 NODE = ('node', 'value')
 # lines that are looked at before they are written
 SAMPLE = 200
+MARKS = ('#', '%', '\ufeff')                       # what a line begins with that is no row
+OTHERWISE = 'save() keeps such names, or set others, as G.nodes = names'
 
 
 class Written:
@@ -74,14 +86,6 @@ class Written:
         """The names of the vertices that values are, where these are written."""
         return None if raw or scale is not None else self.notes.value_names
 
-    def _fields(self, given: Optional[Sequence[str]]) -> Sequence[str]:
-        """The names of the fields. ValueError where other numbers of them are given."""
-        wanted = NODE if self._is_vector() else EDGE
-        if given is not None and len(given) != len(wanted):
-            raise ValueError('expected %d fields, such as %r, got %d'
-                             % (len(wanted), wanted, len(given)))
-        return given if given is not None else wanted
-
     def to_csv(self, target: Any = None, fields: Optional[Sequence[str]] = None, *, sep: str = ',',
                header: bool = True, scale: Optional[float] = None,
                raw: bool = False) -> Optional[str]:
@@ -93,8 +97,12 @@ class Written:
         that come back as others, such as tuples, or '1', which `nodetype=str` reads as text, and
         for vertices without an edge, which a list of edges doesn't name: `save` keeps them, and
         `read_graph(.., nodelist=G.nodes)` has them again. In pandas `to_csv`."""
-        named = self._fields(fields)
-        lines = self._lines(self._columns(scale, raw, to_text), sep, named if header else None)
+        known = NODE if self._is_vector() else EDGE
+        fields = known if fields is None else fields
+        if len(fields) != len(known):
+            raise ValueError('expected %d fields, such as %r, got %d'
+                             % (len(known), known, len(fields)))
+        lines = self._lines(self._columns(scale, raw, to_text), sep, fields if header else None)
         if target is None:
             return ''.join(lines)
         with _opened(target) as file:
@@ -105,14 +113,14 @@ class Written:
                fields: Optional[Sequence[str]]) -> Iterable[str]:
         """The lines of a list, which is looked at before anything is written."""
         count = 1 if self._is_vector() else 2
-        lines = list_writer.Lists(sep, columns[:count],
-                                  fields).lines(columns[count] if len(columns) > count else None)
+        ends, values = columns[:count], columns[count:]
+        lines = _write_lines(ends, values, sep, fields)
         if count == 1:
             return lines
-        list_writer.warn_of_isolated(self._count_isolated(columns[0], columns[1]))
+        _warn_of_isolated(self._count_isolated(*ends))
         first = list(itertools.islice(lines, SAMPLE))
-        list_writer.check_reading(sep, first, fields is not None, len(columns))
-        list_writer.warn_of_types(dict.fromkeys(itertools.chain(*columns[:2])))
+        _check_reading(sep, first, fields is not None, len(columns))
+        _warn_of_types(dict.fromkeys(itertools.chain(*ends)))
         return itertools.chain(first, lines)
 
     def _count_isolated(self, sources: Sequence[Any], targets: Sequence[Any]) -> int:
@@ -154,15 +162,18 @@ class Written:
         as `edge_attr`, unless that is None. `from_pandas_edgelist` takes it again. In networkx the
         same name."""
         pandas = import_extra('pandas', 'to_pandas_edgelist')
+
+        def take(names: Optional[Sequence[Any]], at: Any) -> Any:
+            """The names at some places, as an array of a kind that pandas chooses."""
+            return (at if names is None else pandas.Series(
+                list(names), dtype=None if names else object).take(at).to_numpy())
         rows, columns, values = self.entries(arrays=True)
-        table: Dict[str, Any] = {}
-        for called, names, at in ((source, self.notes.rows, rows),
-                                  (target, self.notes.columns, columns)):
-            table[called] = at if names is None else _taken(names, at)
+        table: Dict[str, Any] = {source: take(self.notes.rows, rows),
+                                 target: take(self.notes.columns, columns)}
         if edge_attr is not None:
             unit, vertices = self._divisor(scale, raw), self._vertices(scale, raw)
             shown = values / scale if scale is not None else to_decimals(values, unit)
-            table[edge_attr] = shown if vertices is None else _taken(vertices, values)
+            table[edge_attr] = shown if vertices is None else take(vertices, values)
         return pandas.DataFrame(table)
 
     def to_parquet(self, path: Any, *, scale: Optional[float] = None, raw: bool = False) -> None:
@@ -171,22 +182,16 @@ class Written:
         if not any(importlib.util.find_spec(engine) for engine in ('pyarrow', 'fastparquet')):
             import_extra('pyarrow', 'to_parquet')
         table = self.to_pandas(scale=scale, raw=raw)
-        if not self._is_vector():
-            list_writer.warn_of_isolated(self._count_isolated(table.iloc[:, 0], table.iloc[:, 1]),
-                                         3)
-        table = table.to_frame().reset_index() if self._is_vector() else table
+        if self._is_vector():
+            table = table.to_frame().reset_index()
+        else:
+            _warn_of_isolated(self._count_isolated(table.iloc[:, 0], table.iloc[:, 1]), 3)
         path = os.path.abspath(os.fspath(path))
         with tempfile.TemporaryDirectory(dir=os.path.dirname(path)) as folder:
             # as fastparquet writes to paths alone
             part = os.path.join(folder, 'part')
             table.to_parquet(part, index=False)
             os.replace(part, path)
-
-
-def _taken(names: Sequence[Any], at: Any) -> Any:
-    """The names at some places, as an array of a kind that pandas chooses."""
-    import pandas
-    return pandas.Series(list(names), dtype=None if names else object).take(at).to_numpy()
 
 
 @contextlib.contextmanager
@@ -200,3 +205,106 @@ def _opened(target: Any) -> Iterator[IO[str]]:
             io.TextIOWrapper(binary, 'utf-8', newline='') as file:
         yield file
         file.flush()
+
+
+# -- lines
+
+def quote(text: str, sep: str) -> str:
+    """A field in quotation marks where it needs them: for what parts fields, for blanks at its
+    ends, and where it may be taken for a comment or for a missing name."""
+    needs = (sep in text or '"' in text or text[:1] in (' ', '\t', *MARKS)
+             or text[-1:] in (' ', '\t') or is_missing(text) or '\n' in text or '\r' in text)
+    return '"%s"' % text.replace('"', '""') if needs else text
+
+
+def csv_line(cells: Iterable[str], sep: str = ',') -> str:
+    """A line of CSV."""
+    return sep.join(quote(cell, sep) if cell else '' for cell in cells) + '\n'
+
+
+def _write_lines(ends: Sequence[Sequence[Any]], values: Sequence[Sequence[Any]], sep: str,
+                 fields: Optional[Sequence[str]]) -> Iterator[str]:
+    """Lines of names and values whose fields are parted by `sep`, with a header where there are
+    fields. ValueError, before the first line, for names that no such list has."""
+    if len(sep) != 1:
+        raise ValueError('a separator is one character, not %r' % (sep,))
+    texts = {name: str(name) for name in dict.fromkeys(itertools.chain(*ends))}
+    _check_names(texts, sep)
+    written = {name: quote(text, sep) if sep != ' ' else text for name, text in texts.items()}
+    columns: List[Iterable[str]] = [map(written.__getitem__, end) for end in ends]
+    columns += [map(str, many) for many in values]
+    return itertools.chain([] if fields is None else [csv_line(fields, sep)],
+                           (sep.join(row) + '\n' for row in zip(*columns)))
+
+
+def _check_names(texts: Dict[Any, str], sep: str) -> None:
+    """ValueError for names that no list parted so has."""
+    by_text: Dict[str, Any] = {}
+    for name, text in texts.items():
+        if by_text.setdefault(text, name) is not name:
+            raise ValueError('the names %r and %r are written alike: %s'
+                             % (by_text[text], name, OTHERWISE))
+        if '\n' in text or '\r' in text or '\0' in text or not text:
+            wrong = 'is empty' if not text else 'has an end of line or a zero in it'
+            raise ValueError('the name %r %s, and lists have a line for each edge: %s'
+                             % (name, wrong, OTHERWISE))
+        try:
+            text.encode()
+        except UnicodeEncodeError:
+            raise ValueError('the name %r has no form in UTF-8: %s' % (name, OTHERWISE)) from None
+        if sep == ' ' and text.split() != [text]:
+            raise ValueError('the name %r has what parts the fields in it: another delimiter=, or '
+                             'to_csv, which quotes' % (name,))
+        if sep == ' ' and (text.startswith(MARKS) or is_missing(text)):
+            raise ValueError(
+                'the name %r would be taken for a comment, or for a missing name: another '
+                'delimiter=, or to_csv, which quotes' % (name,))
+
+
+def _check_reading(sep: str, lines: Sequence[str], header: bool, width: int) -> None:
+    """ValueError where the first lines of a list would be read otherwise than they are written,
+    without a word."""
+    text = ''.join(lines).encode()
+    if not lines or sep not in '\t;,| ':
+        return
+    format = format_of(text)
+    taken = 'a file of the format ' + format if format != 'edges' else describe_other(text)
+    taken = taken or ('a dictionary of attributes' if has_dictionaries(text, True) else None)
+    parted = lists.find_delimiter(text)
+    if taken is None and (parted or ' ') != sep:
+        taken = 'fields parted by %s' % lists.CALLED[parted]
+    if taken is None:
+        try:
+            table = lists.lay_out('', text, Layout())
+        except ReadError:                          # which asks, and says what to answer
+            return
+        if (table.skipped, table.form.ends, table.form.value) == (
+            int(header), (0, 1), 2 if width > 2 else None):
+            return
+        taken = table.summary.partition(': ')[2]
+    raise ValueError(
+        'this list would be taken for something else (%s): to_csv() with its own fields, which '
+        'has a header, is read as it is' % taken)
+
+
+def _warn_of_types(names: Iterable[Any]) -> None:
+    """Warns where names come back as others: text that reads as whole numbers, and what is neither
+    text nor a whole number."""
+    kinds = set(map(type, names))
+    if kinds == {str} and all(map(WHOLE.fullmatch, names)):
+        warnings.warn('the names are text such as %r, which is read as numbers: nodetype=str reads '
+                      'it as text' % (next(iter(names)),), stacklevel=4)
+    elif kinds - {str} and kinds != {int}:
+        odd = next(name for name in names if type(name) is not str)
+        warnings.warn('names such as %r are read as text: save() keeps them as they are' % (odd,),
+                      stacklevel=4)
+
+
+def _warn_of_isolated(count: int, depth: int = 4) -> None:
+    """Warns where vertices have no edge, and so no line, so that a list read back lacks them."""
+    if count:
+        warnings.warn(
+            '%d vert%s no edge, and a list of edges doesn\'t name them: save() keeps them, and '
+            'nodelist=G.nodes reads the list with them' % (count,
+                                                           'ex has' if count == 1 else 'ices have'),
+            stacklevel=depth)

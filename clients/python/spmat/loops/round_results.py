@@ -6,16 +6,17 @@ takes one trip, and its commands are made once, but for the row.
 """
 from __future__ import annotations
 
-from typing import TYPE_CHECKING, Any, List, NamedTuple, Optional, Tuple
+import collections
+from typing import TYPE_CHECKING, Any, Deque, List, NamedTuple, Optional, Tuple
 
 import numpy
 
 from .._client.commands import CommandBatch
-from ..backends.names import OwnNames
 from ..io import matrix_text, parse_integers
 from ..io.matrix_text import Triples
 from ..matrix import Matrix
 from ..operators import Semiring
+from .round_text import OwnNames
 
 if TYPE_CHECKING:
     from ..session import Session
@@ -34,6 +35,24 @@ class Body(NamedTuple):
     def entries(self) -> bytes:
         """The lines of the entries."""
         return self.data[self.data.index(b'\n', self.start + HEAD) + 1:self.end]
+
+
+def split_bodies(replies: bytes) -> Tuple[bytes, Deque[Body]]:
+    """The replies without the texts that were shown, and these in order."""
+    plain, bodies, pos = [], collections.deque(), 0  # type: List[bytes], Deque[Body], int
+    while True:
+        at = replies.find(b'ok show ', pos)
+        if at < 0:
+            return b''.join([*plain, replies[pos:]]), bodies
+        line = replies.index(b'\n', at) + 1
+        plain.append(replies[pos:at])
+        pos = line + int(replies[at + 8:line])
+        bodies.append(Body(replies, line, pos))
+
+
+def is_refused(replies: bytes) -> bool:
+    """Whether one of these replies, without texts, is a refusal."""
+    return replies.startswith(b'no ') or b'\nno ' in replies
 
 
 class Entries(NamedTuple):
@@ -135,13 +154,11 @@ class Push:
             backend.jobs += 1
             replies = session.connection.collect(batch)
             backend.queue.note_budget(*map(int, replies.rsplit(None, 3)[-3:-1]))
-        at = replies.find(b'ok show ')
-        head = replies if at < 0 else replies[:at]
-        if at < 0 or head.startswith(b'no ') or b'\nno ' in head:
+        said, bodies = split_bodies(replies)
+        if not bodies or is_refused(said):
             return None
         shown = Shown((1, self.graph.ncols))
-        line = replies.index(b'\n', at) + 1
-        shown.add(1, 1, Body(replies, line, line + int(replies[at + 8:line])))
+        shown.add(1, 1, bodies[0])
         return shown.drain(values, rounds=False)
 
 
@@ -149,7 +166,7 @@ def flush(session: 'Session') -> None:
     """Sends and runs what waits in a session, so that no other run takes it for its own."""
     queue = session.backend.queue
     session.backend.poison()
-    if len(queue) or queue.running:
+    if not queue.is_idle:
         session.run()
     if session.connection.waiting:
         session.connection.exchange()

@@ -1,0 +1,373 @@
+"""Parts of files that workers read by themselves: ranges of a Matrix Market file or of a list,
+whole files, frames of pandas; and their lines, sorted out by the blocks that have their rows.
+
+A line belongs to the range in which it begins, so ranges may end anywhere. Whatever is unusual or
+wrong in a range is told as such, and left to whoever reads the file line by line and names the
+line. A part of a list has the names that stand in it, and its edges by their numbers there; the
+caller's process tells then which vertices these are.
+
+The functions that take a store first are tasks, as those of `worker_tasks` are.
+"""
+from __future__ import annotations
+
+# each task is given the store of its worker, whether it wants it or not
+# pylint: disable=unused-argument
+
+import os
+from typing import Any, List, NamedTuple, Optional, Sequence, Tuple, Union
+
+import numpy
+
+from .. import overflow
+from ..errors import ReadError, TextRefused
+from ..io import files, graph_formats, matrix_market, matrix_text, parse_integers, tables
+from ..io.columns import Layout
+from ..io.coo import LEAST, MOST
+from ..io.edge_sources import edges_of_frame
+from ..io.edges import LeftOut, number_ascending, number_names
+from ..io.lists import Form
+from ..io.matrix_text import Triples
+from ..io.values import Rounding
+from ..operators import Operator
+from ..units import Unit
+from . import row_partition
+from .chunked_input import digest_of
+from .errors import find_repeated
+from .row_partition import Cut
+from .worker_store import Piece, Store
+
+UNUSUAL = -1
+Names = Any
+"""An ascending array of whole numbers, or a list of texts and others in the order in which they
+first stand."""
+
+
+class Stamp(NamedTuple):
+    """What tells that a file is the one that was looked at: its bytes, and when it was changed."""
+    size: int
+    changed: int
+
+
+class Range(NamedTuple):
+    """The lines of a file that begin at one of these bytes."""
+    path: str
+    stamp: Stamp
+    first: int
+    end: int
+
+    @property
+    def label(self) -> str:
+        """The range in words, as errors name it."""
+        return 'bytes %d to %d of %s' % (self.first, self.end, self.path)
+
+
+def read_stamp(store: Optional[Store], path: str) -> Optional[Stamp]:
+    """What tells a file apart that this worker sees, None where there is none here."""
+    try:
+        status = os.stat(path)
+    except OSError:
+        return None
+    return Stamp(status.st_size, status.st_mtime_ns)
+
+
+def read_lines(part: Range) -> bytes:
+    """The lines of a range, each with its LF. ValueError where the file isn't the one that was
+    looked at."""
+    with open(part.path, 'rb') as file:
+        status = os.fstat(file.fileno())
+        if Stamp(status.st_size, status.st_mtime_ns) != part.stamp:
+            raise ValueError('the file %s has changed while it was read' % part.path)
+        if part.first:
+            file.seek(part.first - 1)
+            file.readline()
+        text = file.read(max(0, part.end - file.tell()))
+        if text and not text.endswith(b'\n'):
+            text += file.readline()
+    return text if text.endswith(b'\n') or not text else text + b'\n'
+
+
+def cut_file(path: str, stamp: Stamp, first: int, most: int, least: int) -> List[Range]:
+    """The ranges of a file from a byte on: of so many bytes at most, and at least so many of
+    them."""
+    many = max(least, -(-(stamp.size - first) // most))
+    bounds = [first + (stamp.size - first) * k // many for k in range(many + 1)]
+    return [Range(path, stamp, *both) for both in zip(bounds, bounds[1:])]
+
+
+# -- lines by blocks
+
+class Lines(NamedTuple):
+    """Lines of a block: themselves, or where they lie in a file and what tells their content; and
+    their number."""
+    lines: bytes
+    entries: int
+    path: str = ''
+    first: int = 0
+    end: int = 0
+
+    def text(self) -> bytes:
+        """The lines. ValueError where the file has changed since they were written."""
+        if not self.path:
+            return self.lines
+        with open(self.path, 'rb') as file:
+            file.seek(self.first)
+            text = file.read(self.end - self.first)
+        if digest_of(text) != self.lines:
+            raise ValueError('the file %s has changed since it was written' % self.path)
+        return text
+
+
+def _write_lines(triples: Triples, bare: bool, cut: Cut, path: str) -> List[Lines]:
+    """The lines of each block, in the order of the entries; in a file where a path is given."""
+    rows, columns, values, nrows, ncols = triples
+    of = numpy.searchsorted(numpy.array(cut.bounds[1:-1], numpy.int64), rows, side='right')
+    # numbers of 16 bits are sorted by their digits, in less time
+    order = numpy.argsort(of.astype(numpy.uint16 if cut.blocks < 1 << 16 else numpy.int64),
+                          kind='stable')
+    ends = numpy.searchsorted(of[order], numpy.arange(cut.blocks + 1)).tolist()
+    parts = []
+    for first, end in zip(ends, ends[1:]):
+        at = order[first:end]
+        text = matrix_text.write(Triples(rows[at], columns[at], values[at], nrows, ncols),
+                                 ones=bare)
+        parts.append(Lines(text[matrix_text.head_of(text).start:], end - first))
+    return _lay_out(parts, path) if path else parts
+
+
+def _lay_out(parts: Sequence[Lines], path: str) -> List[Lines]:
+    """The same lines, in a file."""
+    out, at = [], 0
+    with open(path, 'wb') as file:
+        for part in parts:
+            file.write(part.lines)
+            out.append(Lines(digest_of(part.lines), part.entries, path, at, at + len(part.lines)))
+            at += len(part.lines)
+    return out
+
+
+def make_block(store: Store, bare: bool, shape: Tuple[int, int], parts: Sequence[Lines]) -> Piece:
+    """A block of its lines in several parts, which have no values where it is `bare`."""
+    text = row_partition.text_of(*shape, [(part.text(), part.entries) for part in parts])
+    banner = matrix_text.PATTERN if bare else matrix_text.BANNER
+    return store.piece(store.session.from_text(banner + text[len(matrix_text.BANNER):]))
+
+
+# -- Matrix Market files
+
+class Market(NamedTuple):
+    """What the first lines of a Matrix Market file say."""
+    kind: matrix_market.Kind
+    nrows: int
+    ncols: int
+
+
+def split_range(store: Store, part: Range, market: Market, cut: Cut, path: str) -> List[Any]:
+    """The lines of a range of a file by blocks, in another file where a path is given; and last how
+    many lines of the file they are, `UNUSUAL` where these are to be read one by one."""
+    body = read_lines(part)
+    lines = body.count(b'\n')
+    triples = (matrix_market.read_quickly(market.kind, body, lines, market.nrows, market.ncols)
+               if body else None)
+    if triples is None:
+        return [Lines(b'', 0)] * cut.blocks + [UNUSUAL if body else 0]
+    triples = matrix_market.mirrored(triples, market.kind.symmetry)
+    return [*_write_lines(triples, market.kind.is_bare, cut, path), lines]
+
+
+# -- lists of edges, and frames
+
+class EdgePart(NamedTuple):
+    """Edges of a part: the numbers of sources and targets, by one list of names or, of two kinds of
+    vertices, by two; and values or None."""
+    codes: List[Any]
+    names: List[Names]
+    values: Optional[Any]
+    summary: str = ''
+    left_out: LeftOut = LeftOut()
+
+
+class ListRange(NamedTuple):
+    """Lines of a list that are read in bulk."""
+    range: Range
+    form: Form
+
+    @property
+    def label(self) -> str:
+        """The range in words."""
+        return self.range.label
+
+    def read(self, bipartite: bool) -> Optional[EdgePart]:
+        """Its edges; None where they have to be read line by line."""
+        found = tables.read_plain(read_lines(self.range), self.form, Rounding(None))
+        return None if found is None else _number_edges(*found, bipartite)
+
+
+class WholeFile(NamedTuple):
+    """A file that one worker reads: a list, also packed, or of parquet."""
+    path: str
+    layout: Layout
+
+    @property
+    def label(self) -> str:
+        """The file."""
+        return self.path
+
+    def read(self, bipartite: bool) -> EdgePart:
+        """Its edges. ReadError, with file and line, where it can't be read."""
+        text = files.load(self.path)
+        read = graph_formats.read_table if text.startswith(b'PAR1') else tables.read
+        edges = read(self.path, text, self.layout)
+        return _number_edges(edges.sources, edges.targets, edges.values, bipartite)._replace(
+            summary=edges.summary, left_out=edges.left_out)
+
+
+class Frame(NamedTuple):
+    """A frame of pandas, or what computes one, the columns that are read of it, and how."""
+    frame: Any
+    ends: Tuple[Any, Any]
+    value: Any
+    layout: Layout
+
+    @property
+    def label(self) -> str:
+        """The frame in words."""
+        return 'a part of the frame'
+
+    def read(self, bipartite: bool) -> EdgePart:
+        """Its edges. ValueError, with the row, where they can't be read."""
+        frame = self.frame.compute() if hasattr(self.frame, 'compute') else self.frame
+        edges = edges_of_frame(frame, self.ends, self.value, self.layout)
+        return _number_edges(edges.sources, edges.targets, edges.values, bipartite)._replace(
+            summary=edges.summary, left_out=edges.left_out)
+
+
+Source = Union[ListRange, WholeFile, Frame]
+
+
+def read_edges(store: Store, fields: Sequence[Any], kind: Any,
+               bipartite: bool) -> Optional[EdgePart]:
+    """The edges of a source, which comes as its fields and its type: Dask looks for what it has to
+    compute in plain lists, but not in named tuples."""
+    found: Optional[EdgePart] = kind(*fields).read(bipartite)
+    return found
+
+
+def _number_edges(sources: Any, targets: Any, values: Any, bipartite: bool) -> EdgePart:
+    codes: List[Any] = []
+    names: List[Names] = []
+    for columns in ([[sources], [targets]] if bipartite else [[sources, targets]]):
+        found, nodes = number_names(columns)
+        codes += found
+        is_whole = all(type(name) is int and LEAST <= name <= MOST for name in nodes)
+        names.append(numpy.array(nodes, numpy.int64) if is_whole else list(nodes))
+    return EdgePart(codes, names, values)
+
+
+def tell_names(store: Store, part: Optional[EdgePart]) -> Any:
+    """The names that stand in a part, whether its edges have values, what was taken of it, and what
+    was left out."""
+    return (None if part is None
+            else (part.names, part.values is not None, part.summary, part.left_out))
+
+
+def merge_names(parts: Sequence[Names]) -> Optional[Names]:
+    """The names of all parts; None where some are whole numbers and some aren't."""
+    parts = [names for names in parts if len(names)]
+    if all(isinstance(names, numpy.ndarray) for names in parts):
+        return number_ascending(parts)[1]
+    every = dict.fromkeys(name for names in parts for name in (
+        names.tolist() if isinstance(names, numpy.ndarray) else names))
+    if not any(map(_are_whole, parts)):
+        return list(every)
+    # some of which are beyond 64 bits
+    return sorted(every) if all(map(_are_whole, parts)) else None
+
+
+def _are_whole(names: Names) -> bool:
+    return isinstance(names, numpy.ndarray) or all(type(name) is int for name in names)
+
+
+def number_part(names: Names, all_names: Names, places: Any) -> Any:
+    """The number of each name of a part among all; `places` are theirs where they are a list."""
+    if isinstance(all_names, numpy.ndarray):
+        return numpy.searchsorted(all_names, names).astype(numpy.int32)
+    return numpy.array([places[name] for name in (
+        names.tolist() if isinstance(names, numpy.ndarray) else names)], numpy.int32)
+
+
+class To(NamedTuple):
+    """Where the edges of a part go: the numbers of its names among all, the sizes of the matrix,
+    whether edges lead one way alone, and whether lines have no value."""
+    places: List[Any]
+    nrows: int
+    ncols: int
+    directed: bool
+    bare: bool
+
+
+def _triples(part: EdgePart, to: To) -> Triples:
+    rows, columns = (to.places[min(at, len(to.places) - 1)][codes].astype(numpy.int64)
+                     for at, codes in enumerate(part.codes))
+    values = numpy.ones(len(rows), numpy.int64) if part.values is None else part.values
+    triples = Triples(rows, columns, values, to.nrows, to.ncols)
+    return (triples if to.directed
+            else matrix_market.mirrored(matrix_market.lowered(triples, 'symmetric'), 'symmetric'))
+
+
+def count_rows(store: Store, part: EdgePart, to: To, edges: Sequence[int]) -> Any:
+    """How many entries of a part lie in the rows from each edge to below the next."""
+    return numpy.histogram(_triples(part, to).rows, numpy.array(edges))[0]
+
+
+def split_edges(store: Store, part: EdgePart, to: To, cut: Cut, path: str) -> List[Lines]:
+    """The lines of each block out of a part, in a file where a path is given."""
+    return _write_lines(_triples(part, to), to.bare, cut, path)
+
+
+class Fold(NamedTuple):
+    """What becomes of edges that share a position: an operator, the unit of their values, and
+    whether they have values."""
+    op: Optional[Operator]
+    unit: Unit
+    weighted: bool
+
+
+class Repeated(ReadError):
+    """An edge with a value is given twice: the numbers of its vertices are known, its line
+    isn't."""
+
+    def __init__(self, row: int, column: int) -> None:
+        super().__init__('the edges', None,
+                         'the edge between %d and %d is there already' % (row, column))
+        self.row, self.column = row, column
+
+    def __reduce__(self) -> Tuple[Any, ...]:
+        return Repeated, (self.row, self.column)
+
+
+def make_block_of_edges(store: Store, bare: bool, shape: Tuple[int, int], parts: Sequence[Lines],
+                        fold: Fold) -> Piece:
+    """A block of its lines in several parts. Edges that repeat are folded, or count once where they
+    have no values. ValueError where a sum is beyond 64 bits."""
+    try:
+        return make_block(store, bare, shape, parts)
+    except TextRefused as fault:
+        if fault.rule != 'M8':
+            raise
+    # `matrix_text.write` signs each value where one is below 0
+    unsigned = b''.join(part.text() for part in parts).replace(b'+', b'0')
+    rows, columns, *values = parse_integers.fields(unsigned, range(2 if bare else 3),
+                                                   2 if bare else 3)
+    triples = Triples(rows - 1, columns - 1, values[0] if values
+                      else numpy.ones(len(rows), numpy.int64), *shape)
+    if fold.op is not None:
+        # which only refuses sums that are too large: the session folds
+        overflow.folded(lambda many, _: many, triples, fold.op, fold.unit)
+        return store.piece(store.session.from_coo(*triples, dup_op=fold.op))
+    if fold.weighted:
+        again = find_repeated(triples)
+        assert again is not None
+        raise Repeated(int(triples.rows[again]), int(triples.columns[again]))
+    first = numpy.unique(triples.rows * max(shape[1], 1) + triples.columns, return_index=True)[1]
+    return store.piece(store.session.from_coo(triples.rows[first], triples.columns[first],
+                                              triples.values[first], *shape))

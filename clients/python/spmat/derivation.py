@@ -1,0 +1,276 @@
+"""What is known of results beside their entries: names, directions, units. One table says it by
+form of job.
+
+A job makes terms of values by one operator, and folds terms by one; a row says which of the form's
+operators do that, and which rows and columns have to mean the same vertices. What a value can be
+(`overflow`) follows from the same rows.
+"""
+from __future__ import annotations
+
+# pylint finds no members of a named tuple with methods
+# pylint: disable=no-member
+
+import functools
+from typing import Dict, FrozenSet, NamedTuple, Optional, Sequence
+
+from . import units
+from .mask import Mask
+from .metadata import (ALIKE, BY_POSITIONS, COLUMNS, ELEMENTWISE, MASK, NOTHING, PRODUCT, ROWS,
+                       Axis, Nodes, Notes, Pairs, Unnamed, even, joined, of_copy)
+from .operators import READY, Operator, binary
+from .units import Unit
+
+# Binary operators for which the order of operands doesn't matter: a product of a symmetric matrix
+# with itself stays symmetric.
+COMMUTE: FrozenSet[str] = frozenset((
+    'absdiff', 'band', 'bor', 'bxnor', 'bxor', 'eq', 'iseq', 'isne', 'land', 'lor', 'lxnor', 'lxor',
+    'max', 'min', 'ne', 'oneb', 'pair', 'plus', 'times', 'zero'))
+
+
+def _ready(kind: str, *names: str) -> FrozenSet[Operator]:
+    """The ready operators of a kind by these names, whatever equal ones are called."""
+    return frozenset(READY[kind][name] for name in names)
+
+
+_COMMUTE = _ready('binary', *COMMUTE)
+# those whose result is one of both values
+_CHOOSE = _ready('binary', 'any', 'first', 'max', 'min', 'second')
+# Index operators that look at the value alone, and with a thunk of 0 those that look at the
+# distance from the diagonal: what they select of a symmetric matrix is one.
+_BY_VALUE = _ready('index', 'nonzero', 'thunk', 'valueeq', 'valuege', 'valuegt', 'valuele',
+                   'valuelt', 'valuene')
+_BY_DIAGONAL = _ready('index', 'diag', 'offdiag')
+
+
+class Rule(NamedTuple):
+    """What a form of job does with values: which of its operators makes `term`s, of two values, and
+    which folds them (`fold`), both by number; None where none does. `pairs` of rows and columns of
+    its operands have to mean the same vertices."""
+    term: Optional[int]
+    fold: Optional[int]
+    pairs: Pairs = ()
+
+    @property
+    def copies(self) -> bool:
+        """Whether a value that stands alone is copied, and so is of the unit that results have."""
+        return self.term is not None and self.term == self.fold
+
+
+RULES: Dict[str, Rule] = {
+    'select': Rule(None, None),
+    'union': Rule(0, 0, ELEMENTWISE),
+    'both': Rule(0, None, ELEMENTWISE),
+    'product': Rule(1, 0, PRODUCT),
+    'reduce': Rule(None, 0),
+}
+
+
+def derive(form: str, operators: Sequence[Operator], first: Notes, second: Optional[Notes] = None,
+           *, same: bool = False, mirrors: bool = False) -> Notes:
+    """What is known of the result of a job, but for `apply` and `select`.
+
+    Parameters
+    ----------
+    form, operators
+        The form of job, and its operators in their order.
+    first, second
+        What is known of its operands.
+    same
+        Whether both operands are one matrix.
+    mirrors
+        Whether they are known to be transposes of one another.
+
+    Raises
+    ------
+    NamesDiffer, UnitsDiffer
+        Where operands can't meet.
+    """
+    if not mirrors and (second is None or second is NOTHING) and first is NOTHING:
+        return NOTHING
+    if not mirrors and first == BY_POSITIONS and second == BY_POSITIONS:
+        return BY_POSITIONS                        # of most jobs this is all
+    if _is_nameless(first) and (second is None or _is_nameless(second)):
+        return _remembered(form, tuple(operators), first, second, same, mirrors)
+    return _derive(form, operators, first, second, same, mirrors)
+
+
+def _is_nameless(notes: Notes) -> bool:
+    """Whether there are no lists of names, which take long to compare."""
+    return notes.rows is None and notes.columns is None and notes.value_names is None
+
+
+# pylint: disable-next=too-many-arguments
+def _derive(form: str, operators: Sequence[Operator], first: Notes, second: Optional[Notes],
+            same: bool, mirrors: bool) -> Notes:
+    """See `derive`."""
+    rule = RULES[form]
+    other = first if second is None else second
+    unit = _unit_of(rule, operators, first.unit, other.unit)
+    found = _with_names(form, first, second)
+    if mirrors or same and form == 'product':
+        # the product of a matrix and its transpose is symmetric whether these are or not
+        keeps = mirrors or first.directed is False
+        directed = False if keeps and operators[rule.term or 0] in _COMMUTE else None
+        if form != 'product' and directed is None:
+            directed = even(first, other)
+    else:
+        directed = even(first, other) if rule.pairs is ELEMENTWISE else None
+    return found._replace(directed=directed, weighted=None, source='', unit=unit,
+                          value_names=_values_of(rule, operators, first, other))
+
+
+# rounds of an algorithm ask for the same again and again
+_remembered = functools.lru_cache(maxsize=256)(_derive)
+
+
+def _with_names(form: str, first: Notes, second: Optional[Notes]) -> Notes:
+    """The names that a result has, and which kinds of vertices they are."""
+    if second is None:
+        return NOTHING.with_axes(first.axis(ROWS).alone(), Axis())
+    if form != 'product':
+        return _elementwise(first, second, ELEMENTWISE)
+    inner = joined(first, second, PRODUCT)[0]
+    alike = _are_alike(first), _are_alike(second)
+    rows = inner if alike[0] else first.axis(ROWS)
+    columns = inner if alike[1] else second.axis(COLUMNS)
+    if not all(alike):
+        rows, columns = rows.alone(), columns.alone()
+    # the product of a bipartite matrix and the transpose of one has one kind of vertices
+    sides = 0 if first.sides == -second.sides else first.sides or second.sides
+    return Notes(rows.names, columns.names, unnamed_rows=rows.unnamed,
+                 unnamed_columns=columns.unnamed, sides=sides)
+
+
+def _unit_of(rule: Rule, operators: Sequence[Operator], first: Unit, second: Unit) -> Unit:
+    if first == 1 and second == 1:
+        return 1
+    unit = first
+    if rule.copies:
+        unit = units.common(operators[0], first, second)
+    elif rule.term is not None:
+        unit = units.of_both(operators[rule.term], first, second)
+    return unit if rule.fold is None else units.of_fold(operators[rule.fold], unit)
+
+
+def _values_of(rule: Rule, operators: Sequence[Operator], first: Notes,
+               second: Notes) -> Optional[Nodes]:
+    """The vertices that a result's values are: none where operands mean others, or an operator
+    makes numbers of them."""
+    if first.value_names is None and second.value_names is None:
+        return None
+    found = first.value_names
+    if rule.term is not None:
+        op = operators[rule.term]
+        if op == binary.first and not rule.copies:
+            found = first.value_names
+        elif op == binary.second and not rule.copies:
+            found = second.value_names
+        else:
+            found = _chosen(op, first.value_names, second.value_names)
+    return found if rule.fold is None else _chosen(operators[rule.fold], found, found)
+
+
+def _chosen(op: Operator, first: Optional[Nodes], second: Optional[Nodes]) -> Optional[Nodes]:
+    """The vertices that values are, each of which is one of two that meet."""
+    return (first if first is not None and second is not None and op in _CHOOSE
+            and first.equals(second) else None)
+
+
+def _are_alike(notes: Notes) -> bool:
+    """Whether rows and columns are called alike, whatever they are called."""
+    return (notes.rows is notes.columns is None and notes.unnamed_rows is notes.unnamed_columns
+            is Unnamed.ALIKE)
+
+
+def _elementwise(first: Notes, second: Notes, pairs: Pairs) -> Notes:
+    """The notes of the first with what the rows and columns of both are called. Where these are the
+    same, or one has none, nothing is compared."""
+    alike = (first.rows is second.rows and first.columns is second.columns
+             and first[7:] == second[7:])
+    if second is NOTHING or alike:
+        return first
+    if first is NOTHING:
+        return second._replace(weighted=None)
+    return first.with_axes(*joined(first, second, pairs))._replace(sides=first.sides
+                                                                   or second.sides)
+
+
+# -- the forms of one operand, which keep entries where they are
+
+def of_applied(first: Notes, op: Operator, alike: bool, unit: Unit) -> Notes:
+    """What is known of the result of `apply`, whose unit is given; `alike` says that the operator
+    doesn't look at rows and columns."""
+    if (first.value_names is None and first.directed is None and first.weighted is None
+        and not first.source and unit == first.unit):
+        return first                               # all that is known are names, which stay
+    same = op.kind == 'unary' and op == READY['unary'].identity
+    return first._replace(directed=even(first) if alike or op in _BY_VALUE else None,
+                          weighted=first.weighted if same else None, source='', unit=unit,
+                          value_names=first.value_names if same else None)
+
+
+def of_selected(first: Notes, op: Operator, thunk: int) -> Notes:
+    """What is known of the result of `select`: values stay."""
+    if first.directed is None and not first.source:
+        return first
+    alike = op in _BY_VALUE or (thunk == 0 and op in _BY_DIAGONAL)
+    return first._replace(directed=even(first) if alike else None, source='')
+
+
+# -- masks
+
+def masked(result: Notes, mask: Notes, complement: bool = False) -> Notes:
+    """What is known of a result under a mask: undirected where both are. The one row, or column, of
+    a vector has no name where the mask's has another, but under a `complement` keeps its own."""
+    if result is NOTHING and mask is NOTHING:
+        return NOTHING
+    found = _elementwise(result, mask, MASK)
+    if complement:
+        found = _elementwise(result, found, MASK)
+    return found._replace(directed=even(result, mask), source='', unit=result.unit,
+                          value_names=result.value_names)
+
+
+def of_update(first: Notes, second: Notes, accum: Optional[Operator], where: Optional[Mask],
+              replace: bool) -> Notes:
+    """What is known of C<M, accum> = second, where `first` is of C."""
+    if accum is not None:
+        inside = derive('union', (accum,), first, second)
+    else:
+        # what stays is copied, and nothing of C comes into it: only names have to agree
+        both = _elementwise(first, second, ELEMENTWISE)
+        inside = of_copy(second.with_axes(both.axis(ROWS), both.axis(COLUMNS)))
+    if where is None:
+        return inside
+    there = masked(inside, where.matrix.notes, where.complement)
+    if replace:
+        return there
+    outside = masked(first, where.matrix.notes, not where.complement)
+    both = _elementwise(outside, there, ELEMENTWISE)
+    return both._replace(directed=even(outside, there), weighted=None,
+                         unit=units.common('update', first.unit, there.unit),
+                         value_names=_chosen(binary.first, first.value_names, there.value_names))
+
+
+# -- what the client makes
+
+def of_both_sides(first: Notes, nrows: int, ncols: int) -> Notes:
+    """What is known of the square matrix of a bipartite graph: its names are those of the rows and
+    of the columns, or where some are the same, or there are none, ('row', name) and ('column',
+    name)."""
+    rows = first.rows if first.rows is not None else Nodes(range(nrows))
+    columns = first.columns if first.columns is not None else Nodes(range(ncols))
+    apart = rows.places.keys().isdisjoint(columns.places)
+    names = Nodes([*rows, *columns] if apart else [*(('row', name) for name in rows),
+                                                   *(('column', name) for name in columns)])
+    return Notes(names, names, False, first.weighted, unit=first.unit)
+
+
+def on_diagonal(first: Notes, along: int) -> Notes:
+    """What is known of the square matrix with the entries of a column (along its rows, 0) or of a
+    row (along its columns, 1) on its diagonal."""
+    axis = first.axis(along)
+    if axis == Axis():
+        return ALIKE._replace(directed=False, unit=first.unit, value_names=first.value_names)
+    return Notes(directed=False, unit=first.unit,
+                 value_names=first.value_names).with_axes(axis, axis)

@@ -1,0 +1,411 @@
+"""Matrices from arrays, lists, tables, dicts, scipy and networkx. What sessions and sessions in
+blocks share."""
+from __future__ import annotations
+
+import abc
+from typing import Any, Generic, Iterable, Optional, Sequence, TypeVar
+
+from .. import overflow, units
+from ..metadata import NOTHING, Axes, axes_of, sizes_of
+from ..operators import Op
+from . import arrays, coo, matrix_market, networkx_adjacency
+from .exporters import Held
+from .matrix_text import Triples
+from .values import Rounding, scaled
+
+Made = TypeVar('Made', bound=Held)
+DupOp = Optional[Op]
+
+
+class ArraySources(abc.ABC, Generic[Made]):
+    """What makes matrices of arrays, tables, dicts and graphs, once triples can be sent."""
+
+    @property
+    @abc.abstractmethod
+    def backend(self) -> Any:
+        """What takes the jobs of the matrices."""
+
+    @abc.abstractmethod
+    def _from(self, triples: Triples, dup_op: DupOp = None, name: Optional[str] = None) -> Made:
+        """A matrix of triples, those of one position folded by an operator where one is given."""
+
+    def _both_ways(self, triples: Triples, name: Optional[str] = None) -> Made:
+        """A square matrix of triples, each of which stands for its mirror, too. Each position, or
+        its mirror, is given once."""
+        return self._from(matrix_market.mirrored(triples, 'symmetric'), name=name)
+
+    def from_coo(self, rows: Iterable[int], columns: Iterable[int], values: Any = 1,
+                 nrows: Optional[int] = None, ncols: Optional[int] = None, *, square: bool = False,
+                 symmetric: bool = False, scale: Optional[float] = None, dup_op: DupOp = None,
+                 name: Optional[str] = None, nodes: Any = None) -> Made:
+        """A matrix from rows, columns and values.
+
+        Parameters
+        ----------
+        rows, columns : sequence of int
+            The places of the entries, from 0: lists, arrays of numpy, or columns of pandas.
+        values : sequence or number
+            Whole numbers of 64 bits, or one for all.
+        nrows, ncols : int, optional
+            The sizes; without them the least that fit, or the numbers of `nodes`.
+        square : bool
+            Sizes that aren't given are the least for both.
+        symmetric : bool
+            Each entry (i, j) stands at (j, i), too, and the matrix is square: an undirected graph
+            of which each edge is given once, in either direction. It is loaded in less time.
+        scale : number, optional
+            Values are multiplied by it and rounded to the nearest. It is the matrix' `unit`, and
+            `notes.source` says what that did.
+        dup_op : operator, optional
+            Folds the values of a position that repeats, in their order.
+        name : str, optional
+            A name for the matrix.
+        nodes : sequence, optional
+            The names of the vertices, such as `G.nodes`, or a tuple of two lists, those of the rows
+            and those of the columns, of which one may be None. A matrix with one list is square,
+            unless it has one row or column. Without them the matrix goes with others that have
+            none, or just 0 to n - 1.
+
+        Returns
+        -------
+        Matrix
+            The matrix.
+
+        Raises
+        ------
+        ValueError
+            Where a value isn't a whole number of 64 bits, or a place is out of range; it names the
+            entry.
+        TextRefused
+            Where a position repeats (M8), and no `dup_op` folds it.
+
+        Notes
+        -----
+        With `dup_op` 1 job and 1 run, where any position repeats. In python-graphblas
+        `Matrix.from_coo`.
+        """
+        nrows, ncols = sizes_of(nodes, nrows, ncols)
+        whole, rounding = scaled(arrays.plain_column(values, 'value') if arrays.is_many(values)
+                                 else values, scale)
+        unit = units.of_read(scale, dup_op)
+        triples = coo.checked(rows, columns, whole, nrows, ncols)
+        if (square or symmetric) and nrows is None and ncols is None:
+            triples = triples._replace(nrows=max(triples.nrows, triples.ncols),
+                                       ncols=max(triples.nrows, triples.ncols))
+        axes = axes_of(nodes, (triples.nrows, triples.ncols))
+        triples = overflow.folded(self._folded, triples, dup_op, unit)
+        if not symmetric:
+            made = self._from(triples, name=name)
+            return _note_values(made, rounding, unit, axes, triples.values)
+        if triples.nrows != triples.ncols:
+            raise ValueError('symmetric=True is of a square matrix, not of %d rows and %d columns'
+                             % (triples.nrows, triples.ncols))
+        made = _note_values(self._both_ways(triples, name), rounding, unit, axes, triples.values)
+        made.notes = made.notes._replace(directed=False)
+        return made
+
+    def from_triples(self, triples: Iterable[Sequence[Any]], nrows: Optional[int] = None,
+                     ncols: Optional[int] = None, *, square: bool = False,
+                     scale: Optional[float] = None, dup_op: DupOp = None,
+                     name: Optional[str] = None, nodes: Any = None) -> Made:
+        """A matrix from triples.
+
+        Parameters
+        ----------
+        triples : iterable
+            (row, column, value), or (row, column), whose value is 1; or an array of numpy or a
+            table of pandas with these as its columns. `from_edgelist` takes names.
+        nrows, ncols : int, optional
+            The sizes, as for `from_coo`.
+        square : bool, default False
+            Sizes that aren't given are the least for both.
+        scale : number, optional
+            Values are multiplied by it and rounded, as for `from_coo`.
+        dup_op : operator, optional
+            Folds the values of a position that repeats, as for `from_coo`.
+        name : str, optional
+            A name for the matrix.
+        nodes : sequence, optional
+            The names of the vertices, as for `from_coo`.
+
+        Returns
+        -------
+        Matrix
+            The matrix.
+        """
+        return self.from_coo(*coo.columns_of(triples), nrows, ncols, square=square, scale=scale,
+                             dup_op=dup_op, name=name, nodes=nodes)
+
+    def from_dense(self, rows: Any, missing: Any = None, *, missing_value: Any = None,
+                   scale: Optional[float] = None, name: Optional[str] = None,
+                   nodes: Any = None) -> Made:
+        """A matrix from a table.
+
+        Parameters
+        ----------
+        rows : table
+            A list of rows, an array of numpy, or a table or column of pandas, whose labels are the
+            names of the rows and columns unless they are positions. Of one dimension it is a
+            column.
+        missing, missing_value : value, optional
+            What stands for no entry, under either name; NaN stands for NaN, None and NA. Masked
+            cells are no entries either.
+        scale : number, optional
+            Values are multiplied by it and rounded, as for `from_coo`.
+        name : str, optional
+            A name for the matrix.
+        nodes : sequence, optional
+            The names of the vertices, as for `from_coo`.
+
+        Returns
+        -------
+        Matrix
+            The matrix, in which each other cell is an entry.
+
+        Raises
+        ------
+        ValueError
+            Where a cell holds no value; it names the cell.
+
+        Notes
+        -----
+        In python-graphblas `Matrix.from_dense`.
+        """
+        table = arrays.table_of(rows)
+        cells = coo.from_dense(table.cells, missing if missing is not None else missing_value)
+        made = self.from_coo(*cells, scale=scale, name=name, nodes=nodes)
+        if nodes is None and (table.rows is not None or table.columns is not None):
+            made.notes = made.notes._replace(rows=table.rows, columns=table.columns)
+        return made
+
+    def from_csr(self, indptr: Any, columns: Any, values: Any = 1, nrows: Optional[int] = None,
+                 ncols: Optional[int] = None, *, scale: Optional[float] = None,
+                 dup_op: DupOp = None, name: Optional[str] = None) -> Made:
+        """A matrix from compressed rows.
+
+        Parameters
+        ----------
+        indptr : sequence of int
+            For each row where its entries begin, and at last how many there are.
+        columns : sequence of int
+            The columns of the entries.
+        values : sequence or number
+            Their values, or one for all.
+        nrows, ncols : int, optional
+            The sizes, as for `from_coo`.
+        scale : number, optional
+            Values are multiplied by it and rounded, as for `from_coo`.
+        dup_op : operator, optional
+            Folds the values of a position that repeats, as for `from_coo`.
+        name : str, optional
+            A name for the matrix.
+
+        Returns
+        -------
+        Matrix
+            The matrix.
+
+        Raises
+        ------
+        ValueError
+            Where the beginnings descend, or don't end at the number of entries.
+
+        Notes
+        -----
+        In python-graphblas `Matrix.from_csr`.
+        """
+        rows = coo.expand(arrays.plain_column(indptr, 'beginning'),
+                                 arrays.plain_column(columns, 'column'), 'row')
+        return self.from_coo(rows, columns, values, coo.side_of(indptr, nrows, 'row'), ncols,
+                             scale=scale, dup_op=dup_op, name=name)
+
+    def from_csc(self, indptr: Any, rows: Any, values: Any = 1, nrows: Optional[int] = None,
+                 ncols: Optional[int] = None, *, scale: Optional[float] = None,
+                 dup_op: DupOp = None, name: Optional[str] = None) -> Made:
+        """A matrix from compressed columns, as `from_csr` has it of rows.
+
+        Parameters
+        ----------
+        indptr : sequence of int
+            For each column where its entries begin, and at last how many there are.
+        rows : sequence of int
+            The rows of the entries.
+        values : sequence or number, default 1
+            Their values, or one for all.
+        nrows, ncols : int, optional
+            The sizes, as for `from_coo`.
+        scale : number, optional
+            Values are multiplied by it and rounded, as for `from_coo`.
+        dup_op : operator, optional
+            Folds the values of a position that repeats, as for `from_coo`.
+        name : str, optional
+            A name for the matrix.
+
+        Returns
+        -------
+        Matrix
+            The matrix.
+
+        Raises
+        ------
+        ValueError
+            Where the beginnings descend, or don't end at the number of entries.
+
+        Notes
+        -----
+        In python-graphblas `Matrix.from_csc`.
+        """
+        columns = coo.expand(arrays.plain_column(indptr, 'beginning'),
+                                    arrays.plain_column(rows, 'row'), 'column')
+        return self.from_coo(rows, columns, values, nrows,
+                             coo.side_of(indptr, ncols, 'column'), scale=scale,
+                             dup_op=dup_op, name=name)
+
+    def from_dicts(self, nested: Any, nrows: Optional[int] = None, ncols: Optional[int] = None, *,
+                   order: str = 'rowwise', scale: Optional[float] = None,
+                   name: Optional[str] = None) -> Made:
+        """A matrix from a dict for each row.
+
+        Parameters
+        ----------
+        nested : dict
+            {row: {column: value}}. Rows and columns are numbers from 0; `from_edgelist` takes
+            names.
+        nrows, ncols : int, optional
+            The sizes, as for `from_coo`.
+        order : str, default 'rowwise'
+            "columnwise" takes {column: {row: value}}.
+        scale : number, optional
+            Values are multiplied by it and rounded, as for `from_coo`.
+        name : str, optional
+            A name for the matrix.
+
+        Returns
+        -------
+        Matrix
+            The matrix.
+
+        Notes
+        -----
+        In python-graphblas `Matrix.from_dicts`.
+        """
+        return self.from_coo(*coo.from_dicts(nested, order), nrows, ncols, scale=scale,
+                             name=name)
+
+    def from_scipy_sparse(self, matrix: Any, *, scale: Optional[float] = None,
+                          name: Optional[str] = None) -> Made:
+        """A matrix from one of scipy.sparse.
+
+        Parameters
+        ----------
+        matrix : sparse matrix or array
+            Of any format; entries of one position are added up, as scipy has it.
+        scale : number, optional
+            Values are multiplied by it and rounded, as for `from_coo`.
+        name : str, optional
+            A name for the matrix.
+
+        Returns
+        -------
+        Matrix
+            The matrix.
+
+        Raises
+        ------
+        ValueError
+            Where a value isn't whole.
+
+        Notes
+        -----
+        In python-graphblas `io.from_scipy_sparse`.
+        """
+        rows, columns, values, shape = coo.from_scipy(matrix)
+        return self.from_coo(rows, columns, values, *shape, scale=scale, name=name)
+
+    def from_networkx(self, graph: Any, weight: Optional[str] = 'weight',
+                      nodelist: Optional[Sequence[Any]] = None, *, scale: Optional[float] = None,
+                      dup_op: DupOp = None, name: Optional[str] = None) -> Made:
+        """The adjacency matrix of a networkx graph.
+
+        Parameters
+        ----------
+        graph : networkx graph
+            The graph. Entry (i, j) is the edge from node i to node j; an undirected edge stands
+            both ways.
+        weight : str, optional
+            The edges' attribute that has their values; an edge without it has 1, and with None
+            each has.
+        nodelist : sequence, optional
+            The nodes, in order; all of the graph's unless given. They are the matrix' `nodes`.
+        scale : number, optional
+            Values are multiplied by it and rounded, as for `from_coo`.
+        dup_op : operator, optional
+            Folds the values of parallel edges.
+        name : str, optional
+            A name for the matrix.
+
+        Returns
+        -------
+        Matrix
+            A square matrix.
+
+        Raises
+        ------
+        ValueError
+            Where a weight isn't whole, or edges are parallel and no `dup_op` folds them; it names
+            the edge.
+
+        Notes
+        -----
+        With `dup_op` 1 job and 1 run, where any edges are parallel. In python-graphblas
+        `io.from_networkx`.
+        """
+        triples, notes = networkx_adjacency.triples_of(graph, weight, nodelist, dup_op is not None,
+                                                       scale)
+        unit = units.of_read(scale, dup_op) if weight is not None else 1
+        triples = overflow.folded(self._folded, triples, dup_op, unit)
+        made = self._from(triples, name=name)
+        made.notes = notes._replace(unit=unit)
+        overflow.note(made, triples.values)
+        return made
+
+    def adopt(self, matrix: Held, *, name: Optional[str] = None) -> Made:
+        """A copy of a matrix of another session, with its names.
+
+        Parameters
+        ----------
+        matrix : Matrix
+            The matrix. Its session's budget may be spent: reading takes no step.
+        name : str, optional
+            A name for the copy.
+
+        Returns
+        -------
+        Matrix
+            A matrix of this session, with the same shape, entries and names.
+
+        Notes
+        -----
+        No job: the entries come to the client and go to this session. GraphBLAS:
+        `Matrix_extractTuples`, and `Matrix_build`.
+        """
+        rows, columns, values = matrix.entries()
+        made = self._from(Triples(rows, columns, values, *matrix.shape), name=name)
+        made.notes = matrix.notes
+        overflow.note(made, values)
+        return made
+
+    @abc.abstractmethod
+    def _folded(self, triples: Triples, dup_op: DupOp) -> Triples:
+        """Each position once: what shares one is folded by an operator."""
+
+
+def _note_values(made: Made, rounding: Rounding, unit: units.Unit, axes: Axes,
+                 values: Any) -> Made:
+    """A matrix that the caller made by indexes, with what its rows and columns are called, what
+    rounding did to its values, and what they are parts of."""
+    made.notes = NOTHING.with_axes(*axes)
+    if rounding.scale is not None:
+        made.notes = made.notes._replace(source=str(rounding), unit=unit)
+    overflow.note(made, values)
+    return made

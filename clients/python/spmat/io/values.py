@@ -1,0 +1,349 @@
+"""Values of edges as whole numbers of 64 bits: as they are, scaled and rounded, or points in time
+as a count of units since 1970-01-01; and what stands for a name or a value that is missing."""
+from __future__ import annotations
+
+import contextlib
+import datetime
+import decimal
+import fractions
+import functools
+import numbers
+import operator
+import re
+from typing import Any, Callable, List, Optional, Sequence, Tuple
+
+import numpy
+
+from .arrays import is_gap
+from .coo import LEAST, MOST, whole, word
+
+# Floats below it are the whole numbers that were written, or none: pandas reads the last bits of
+# long decimals wrong, so that 7358111619511751.0 ends in 0.
+EXACT = float(1 << 48)
+# products of floats below it are as near as that to the true ones
+NEAR, HALF = float(1 << 40), 1e-3
+# a product of floats is as near as that to the true one
+SLIP = 2.0 ** -50
+NOT_WHOLE = 'a number that is not whole'
+SCALE = 'scale=1000 takes thousandths (0.125 is 125 then), values=False reads no values'
+# What stands for a value that isn't there: in tables of pandas, R, SQL and spreadsheets.
+MISSING = {'', 'na', 'n/a', '#n/a', '<na>', 'nan', '-nan', 'null', '#null!', 'none', 'nil', '-',
+           '?', '.', '\\n'}
+LONGEST = max(map(len, MISSING))
+# What pandas takes for a missing value where a column has text, in just these letters.
+NO_NAMES = frozenset(('', '#N/A', '#N/A N/A', '#NA', '-1.#IND', '-1.#QNAN', '-NaN', '-nan',
+                      '1.#IND', '1.#QNAN', '<NA>', 'N/A', 'NA', 'NULL', 'NaN', 'None', 'n/a', 'nan',
+                      'null'))
+RAISE, SKIP = 'raise', 'skip'
+SKIPS = 'missing="skip" leaves the %s out'
+
+# in nanoseconds
+UNITS = {'D': 86400 * 10 ** 9, 's': 10 ** 9, 'ms': 10 ** 6, 'us': 10 ** 3, 'ns': 1}
+LONG_UNITS = dict(UNITS, h=3600 * 10 ** 9, m=60 * 10 ** 9)      # that numpy has besides
+EPOCH = datetime.datetime(1970, 1, 1, tzinfo=datetime.timezone.utc)
+ISO = re.compile(r'\s*(\d{4})-(\d\d)-(\d\d)(?:[T '
+                 r']+(\d\d):(\d\d)(?::(\d\d)(?:[.,](\d{1,9}))?)?)?\s*(Z|[+-]\d\d:?\d\d)?\s*', re.I)
+# Columns that are called so have times.
+TIME_COLUMNS = {'timestamp', 'time', 'date', 'datetime', 'ts', 'when', 'day'}
+TAKES = 'unit="s" takes times as seconds since 1970-01-01'
+
+Wrong = Callable[[str], Exception]
+"""The error of a value, by what is wrong with it."""
+
+
+def check_missing(missing: Optional[str]) -> None:
+    """ValueError for what says nothing of missing values."""
+    if missing not in (RAISE, SKIP, None):
+        raise ValueError(
+            'missing is "raise", "skip" or None, which takes nothing for missing; not %r'
+            % (missing,))
+
+
+def is_missing(field: str) -> bool:
+    """Whether a field says that a value is missing."""
+    return field.strip().lower() in MISSING
+
+
+def is_number(field: str) -> bool:
+    """Whether a field is a number, whole or not."""
+    try:
+        float(field)
+    except ValueError:
+        return False
+    return '_' not in field and not is_missing(field)
+
+
+# -- numbers
+
+def check_scale(scale: Optional[float]) -> Optional[decimal.Decimal]:
+    """A scale as a number. ValueError where it is none above 0."""
+    if scale is None:
+        return None
+    found = decimal.Decimal(str(scale))
+    if not found.is_finite() or found <= 0:
+        raise ValueError('a scale is a number above 0, not %r' % (scale,))
+    return found
+
+
+class Rounding:
+    """What rounding did to values that were multiplied by a scale: how many there are, how many
+    weren't whole then, and by how much at most they were changed, in their own units."""
+
+    def __init__(self, scale: Optional[float]) -> None:
+        self.scale, self.count, self.rounded, self.most = scale, 0, 0, 0.0
+
+    def note(self, count: int, rounded: int, most: float) -> None:
+        """Adds some values, of which the one that was changed most was so by `most`, once it was
+        multiplied."""
+        self.count, self.rounded = self.count + count, self.rounded + rounded
+        self.most = max(self.most, most / float(self.scale or 1))
+
+    def __str__(self) -> str:
+        if self.scale is None:
+            return ''
+        done = ('%d of %d rounded, by at most %.2g' % (self.rounded, self.count, self.most)
+                if self.rounded else 'all whole then')
+        return 'values times %g, %s' % (self.scale, done)
+
+
+def whole_values(fields: Sequence[str], wrong: Callable[[int, str], Exception],
+                 rounding: Rounding) -> List[int]:
+    """Fields as whole numbers. With a scale each is multiplied by it and rounded to the nearest,
+    halves to the even one; without one 0.5 is an error, and 2.0 is 2. `rounding` has the scale, and
+    notes what it did; `wrong` makes the error of a field, by its number."""
+    if rounding.scale is None:
+        try:
+            values = list(map(int, fields))
+        except ValueError:
+            pass
+        else:
+            if (all(LEAST <= value <= MOST for value in values)
+                and not any('_' in field for field in fields)):
+                return values
+    scale = check_scale(rounding.scale)
+    found = []
+    for at, field in enumerate(fields):
+        fault = functools.partial(wrong, at)
+        found.append(whole_of(_read_decimal(field, fault), field, scale, fault, rounding))
+    return found
+
+
+def _read_decimal(field: str, wrong: Wrong) -> decimal.Decimal:
+    """A field as a number, also with the exponents of Fortran."""
+    if is_missing(field):
+        raise wrong(
+            'the value is missing (%r): fill it in or leave the line out; values=False reads no '
+            'values' % field)
+    try:
+        if '_' in field:
+            raise ValueError
+        return decimal.Decimal(field.strip().lower().replace('d', 'e'))
+    except (ValueError, decimal.InvalidOperation):
+        # a number but for commas, blanks, and signs of money or of shares
+        is_dressed = re.fullmatch(r'[-+]?\W{0,2}\d[\d., _\']*\W{0,2}', field.strip()) is not None
+        raise wrong('expected a number as the value, got %r: %s' % (
+            field, 'write it as 1500.25, without thousands separators or currency signs'
+            if is_dressed else 'values=False reads none')) from None
+
+
+def whole_of(exact: decimal.Decimal, field: str, scale: Optional[decimal.Decimal], wrong: Wrong,
+             rounding: Optional[Rounding] = None) -> int:
+    """A number as a whole one; `field` is how it was written."""
+    rounded = apart = exact
+    is_out = not exact.is_finite() or exact.adjusted() > 40
+    if not is_out:
+        with decimal.localcontext() as context:
+            context.prec = 60
+            scaled_number = exact if scale is None else exact * scale
+            rounded = scaled_number.to_integral_value(decimal.ROUND_HALF_EVEN)
+            apart = abs(scaled_number - rounded)
+        if scale is None and apart:
+            raise wrong('%s is %s: %s' % (field, NOT_WHOLE, SCALE))
+        is_out = not LEAST <= rounded <= MOST
+    if is_out:
+        raise wrong('%s is beyond 64 bits: values lie in -2^63 to 2^63 - 1' % field)
+    if rounding is not None:
+        rounding.note(1, bool(apart), float(apart))
+    return int(rounded)
+
+
+def scaled(values: Any, scale: Optional[float], what: str = 'value') -> Tuple[Any, Rounding]:
+    """Numbers of Python or numpy as whole ones: multiplied by a scale and rounded to the nearest,
+    halves to the even one, as they are written in decimals (0.29 times 100 is 29); and what that
+    did. One number is for all. Without a scale they are as they were. TypeError for what is no
+    number, ValueError with its place for what isn't finite or is beyond 64 bits."""
+    rounding, exact = Rounding(scale), check_scale(scale)
+    if exact is None:
+        return values, rounding
+    if isinstance(values, numpy.ndarray) and values.dtype.kind in 'iuf':
+        found = scaled_array(values.astype('float64'), rounding)
+        if found is not None:
+            return found, rounding
+    if not hasattr(values, '__iter__'):
+        return scaled_one(values, exact, rounding, what), rounding
+    return [scaled_one(value, exact, rounding, '%s (entry %d)' % (what, at))
+            for at, value in enumerate(values)], rounding
+
+
+def whole_numbers(values: Any, rounding: Rounding, wrong: Callable[[int, Exception], Exception],
+                  what: str = 'value') -> Any:
+    """An array of whole numbers out of a list of numbers, or an array, as `scaled` has it. `wrong`
+    makes the error of one, of its number and of an error that doesn't name it."""
+    kind = values.dtype.kind if isinstance(values, numpy.ndarray) else ''
+    exact, found = check_scale(rounding.scale), None
+    if exact is None and kind == 'i':
+        found = values.astype(numpy.int64, copy=False)
+    elif kind and kind in 'iuf':
+        found = scaled_array(values.astype(numpy.float64), rounding)
+    elif exact is None:
+        with contextlib.suppress(TypeError, OverflowError):     # which are named below
+            found = numpy.array(list(map(operator.index, values)), numpy.int64)
+    if found is not None:
+        return found
+    whole_ones = []
+    for at, value in enumerate(values.tolist() if kind else values):
+        try:
+            whole_ones.append(word(value, what) if exact is None
+                              else scaled_one(value, exact, rounding, what))
+        except (TypeError, ValueError) as fault:
+            raise wrong(at, fault) from None
+    return numpy.array(whole_ones, numpy.int64)
+
+
+def scaled_one(value: Any, scale: Optional[decimal.Decimal], rounding: Rounding, what: str) -> int:
+    """A number as a whole one: multiplied by a scale, and rounded; see `scaled`."""
+    if is_gap(value):
+        raise ValueError('%s is missing: it is %r' % (what, value))
+    if not isinstance(value, (numbers.Real, decimal.Decimal)) and not hasattr(value, '__index__'):
+        raise TypeError('a %s is a number, not %r' % (what, value))
+    return whole_of(_decimal_of(value), str(value), scale,
+                    lambda words: ValueError('%s: %s' % (what, words)), rounding)
+
+
+def _decimal_of(value: Any) -> decimal.Decimal:
+    """A number in decimals, a float as it is written; a fraction by 60 digits, which tell how it is
+    rounded."""
+    if isinstance(value, fractions.Fraction):
+        with decimal.localcontext() as context:
+            context.prec = 60
+            return decimal.Decimal(value.numerator) / value.denominator
+    return decimal.Decimal(str(float(value) if isinstance(value, numbers.Real)
+                               and not hasattr(value, '__index__') else value))
+
+
+def scaled_array(values: Any, rounding: Rounding) -> Any:
+    """An array of floats as one of int64, as `whole_values` has it; None where floats can't tell
+    that."""
+    scale = rounding.scale
+    products = values if scale is None else values * float(scale)
+    rounded = numpy.rint(products)
+    if not (numpy.abs(products) < (EXACT if scale is None else NEAR)).all():
+        return None
+    apart = numpy.abs(products - rounded)
+    if (apart > 0).any() if scale is None else (numpy.abs(apart - .5) < HALF).any():
+        return None
+    if scale is not None and len(apart):
+        changed = apart > numpy.abs(products) * SLIP
+        rounding.note(len(apart), int(changed.sum()), float(apart[changed].max()) if changed.any()
+                      else 0.0)
+    return rounded.astype(numpy.int64)
+
+
+# -- times
+
+class Clock:
+    """What makes whole numbers of times: in which unit, and how text writes them (None: as ISO 8601
+    has it). It counts the times that it cut down to a whole number."""
+
+    def __init__(self, unit: str, date_format: Optional[str] = None) -> None:
+        if unit not in UNITS:
+            raise ValueError('a unit of times is %s, not %r'
+                             % (', '.join(map('"%s"'.__mod__, UNITS)), unit))
+        self.unit, self._format, self._size = unit, date_format, UNITS[unit]
+        self.count = self.cut = 0
+
+    def __str__(self) -> str:
+        cut = ', %d of %d cut down to a whole one' % (self.cut, self.count) if self.cut else ''
+        return 'values in %s since 1970-01-01%s' % (self.unit, cut)
+
+    def read(self, values: Sequence[Any], wrong: Callable[[int, str], Exception]) -> Any:
+        """Times as an array of whole numbers; what is a number is one of this unit. The error of
+        `wrong` where one is neither, or beyond 64 bits."""
+        found = []
+        for at, value in enumerate(values):
+            try:
+                exact = nanoseconds(value, self._format)
+                number = (exact // self._size if exact is not None
+                          else int(value) if isinstance(value, str) else whole(value))
+            except (TypeError, ValueError):
+                how = ('date_format=%r' % self._format if self._format
+                       else 'as 2024-05-31 or 2024-05-31T10:15:00Z, or date_format= says how, '
+                       'as "%d.%m.%Y"')
+                raise wrong(at, 'expected a time, got %r: write it %s' % (value, how)) from None
+            self.cut += exact is not None and exact % self._size != 0
+            if not LEAST <= number <= MOST:
+                raise wrong(at, '%s is beyond 64 bits in %s: unit="us" has room'
+                            % (value, self.unit))
+            found.append(number)
+        self.count += len(found)
+        return numpy.array(found, numpy.int64)
+
+
+def clock_of(unit: Optional[str], date_format: Optional[str],
+             scale: Optional[float]) -> Optional[Clock]:
+    """What makes numbers of times; None where values are no times. ValueError for words that don't
+    go together."""
+    if unit is None:
+        if date_format is not None:
+            raise ValueError('date_format= says how times are written: unit="s" takes them')
+        return None
+    if scale is not None:
+        raise ValueError('values are times (unit=) or numbers (scale=): one of both')
+    return Clock(unit, date_format)
+
+
+def is_time(value: Any, date_format: Optional[str] = None) -> bool:
+    """Whether this is a time, and not a number."""
+    try:
+        return nanoseconds(value, date_format) is not None
+    except (TypeError, ValueError):
+        return False
+
+
+def nanoseconds(value: Any, date_format: Optional[str] = None) -> Optional[int]:
+    """A time in nanoseconds since 1970-01-01, where it has no zone in UTC; None of a number.
+    ValueError where text is neither."""
+    if isinstance(value, str):
+        if date_format is not None:
+            return _of_datetime(datetime.datetime.strptime(value.strip(), date_format))
+        return None if re.fullmatch(r'\s*[+-]?\d+\s*', value) else _of_iso(value)
+    if isinstance(value, datetime.datetime):
+        # pandas' Timestamp has more digits
+        return _of_datetime(value) + int(getattr(value, 'nanosecond', 0))
+    if isinstance(value, datetime.date):
+        return _of_datetime(datetime.datetime(value.year, value.month, value.day))
+    if type(value).__name__ == 'datetime64':
+        if numpy.datetime_data(value.dtype)[0] in ('Y', 'M', 'W'):
+            value = value.astype('datetime64[D]')
+        unit, step = numpy.datetime_data(value.dtype)
+        if unit not in LONG_UNITS:
+            raise ValueError('times finer than nanoseconds')
+        return int(value.astype('int64')) * step * LONG_UNITS[unit]
+    return None
+
+
+def _of_datetime(value: datetime.datetime) -> int:
+    passed = (value if value.tzinfo is not None
+              else value.replace(tzinfo=datetime.timezone.utc)) - EPOCH
+    return ((passed.days * 86400 + passed.seconds) * 10 ** 6 + passed.microseconds) * 1000
+
+
+def _of_iso(text: str) -> int:
+    found = ISO.fullmatch(text)
+    if found is None:
+        raise ValueError('no time as ISO 8601 has it')
+    year, month, day, hour, minute, second = (int(part or 0) for part in found.groups()[:6])
+    zone = (found.group(8) or 'Z').upper().replace(':', '')
+    offset = 0 if zone == 'Z' else int(zone[0] + '1') * (3600 * int(zone[1:3]) + 60 * int(zone[3:]))
+    whole_seconds = _of_datetime(datetime.datetime(year, month, day, hour, minute, second))
+    return whole_seconds - offset * 10 ** 9 + int((found.group(7) or '').ljust(9, '0'))

@@ -1,0 +1,128 @@
+"""Python's signs and functions on matrices: each says which method to write in its place, and so
+does each function of numpy."""
+from __future__ import annotations
+
+# the signs raise, so none gives what Python wants of it
+# pylint: disable=invalid-length-returned,non-iterator-returned,abstract-method
+
+from typing import Any, Callable
+
+from .io.exporters import Held
+from .operators import other_names
+
+
+def _refused(sign: str, instead: str) -> Callable[..., Any]:
+    """A method that says what to write in place of a sign."""
+    def method(*_: Any, **__: Any) -> Any:
+        raise TypeError('a matrix has no %s: write %s' % (sign, instead))
+    return method
+
+
+_is_equal = _refused('==', 'A.isequal(B) for all of both, A.select("valueeq", 3) for some entries, '
+                     'A.ewise_mult(B, "eq") entry by entry, or A is B')
+_is_unequal = _refused('!=', 'not A.isequal(B), A.select("valuene", 3), A.ewise_mult(B, "ne"), or '
+                       'A is not B')
+
+
+class Signs(Held):
+    """Signs that Python knows and the protocol doesn't: each says what to write."""
+
+    # -- between matrices, or a matrix and a number
+
+    def __eq__(self, other: object) -> Any:
+        return other is self or _is_equal(self)    # weak references ask whether it is itself
+
+    def __ne__(self, other: object) -> Any:
+        return other is not self and _is_unequal(self)
+
+    # a matrix is itself in sets, dicts and weak references
+    __hash__ = object.__hash__
+
+    __matmul__ = __rmatmul__ = _refused('@', 'A.mxm(B), or A.mxm(B, "min_plus") over another '
+                                        'semiring')
+    __add__ = __radd__ = _refused('+', 'A.ewise_add(B), or A.apply("plus", right=3) for a number')
+    __sub__ = __rsub__ = _refused(
+        '-', 'A.ewise_union(B, "minus", 0, 0), A.ewise_add(B, "minus") where both have the same '
+        'entries, or A.apply("minus", right=3)')
+    __mul__ = __rmul__ = _refused(
+        '*', 'A.ewise_mult(B) entry by entry, A.mxm(B) for the product, or A.apply("times", '
+        'right=3) for a number')
+    __floordiv__ = __rfloordiv__ = _refused(
+        '//', 'A.ewise_mult(B, "floordiv"), or A.apply("floordiv", right=3)')
+    __truediv__ = __rtruediv__ = _refused(
+        '/', 'A.ewise_mult(B, "cdiv"), or A.apply("cdiv", right=3): values are whole numbers')
+    __mod__ = __rmod__ = _refused(
+        '%', 'A.apply(lambda x: x % 3), A.ewise_mult(B, lambda x, y: x % y), or "cmod", which has '
+        'the sign of x')
+    __pow__ = __rpow__ = _refused(
+        '**', 'A.power(2) for the product with itself, or A.apply(lambda x: x ** 2) entry by entry')
+    __divmod__ = __rdivmod__ = _refused(
+        'divmod()', 'A.apply("floordiv", right=3) and A.apply(lambda x: x % 3)')
+    __and__ = __rand__ = _refused('&', 'A.ewise_mult(B, "land"), "band" for bits, or A.S & B.S for '
+                                  'masks')
+    __or__ = __ror__ = _refused('|', 'A.ewise_add(B, "lor"), "bor" for bits, or A.S | B.S for '
+                                'masks')
+    __xor__ = __rxor__ = _refused('^', 'A.ewise_add(B, "lxor"), "bxor" for bits, or A.S ^ B.S for '
+                                  'masks')
+    __lshift__ = __rlshift__ = _refused(
+        '<<', 'C = A.mxm(B) for C << A.mxm(B), C.update(B, accum="plus", mask=M.S) for C(M.S, '
+        'plus) << B, or A.apply("lsh", right=3) for bits')
+    __rshift__ = __rrshift__ = _refused('>>', 'A.apply("arsh", right=3)')
+    __lt__ = _refused('<', 'A.select("<", 3), or A.ewise_mult(B, "lt")')
+    __le__ = _refused('<=', 'A.select("<=", 3), or A.ewise_mult(B, "le")')
+    __gt__ = _refused('>', 'A.select(">", 3), or A.ewise_mult(B, "gt")')
+    __ge__ = _refused('>=', 'A.select(">=", 3), or A.ewise_mult(B, "ge")')
+
+    # -- of one matrix
+
+    __neg__ = _refused('sign -', 'A.apply("ainv")')
+    __pos__ = _refused('sign +', 'A, or A.dup() for a copy')
+    __invert__ = _refused('~', '~A.S or ~A.V for a mask, A.apply("bnot") for bits, or '
+                          'A.apply("lnot") for truth')
+    __abs__ = _refused('abs()', 'A.apply("abs")')
+    __round__ = _refused('round()', 'A: values are whole numbers; A.apply(lambda x: (x + 50) // '
+                         '100 * 100) rounds to hundreds')
+    __len__ = _refused('len()', 'A.nrows, A.ncols, or A.nvals for the number of entries')
+    __bool__ = _refused('truth value', 'A.nvals > 0 for whether it has entries, A is not None, or '
+                        'A.isequal(B)')
+    __iter__ = _refused('iteration', 'for row, column, value in A.to_triples()')
+    __contains__ = _refused('in', 'A.get(i, j) is not None for an entry, name in A.nodes for a '
+                            'name, or A.select("==", 3).nvals for a value')
+    __setitem__ = _refused('assignment, since nothing changes one',
+                           'A = A.assign(B, rows, columns), or B = A.update(C, mask=C.S)')
+    __delitem__ = _refused('del, since nothing changes one',
+                           'A.without(B) or A.select("!=", 3)')
+
+    def __int__(self) -> int:
+        return self._single('int')
+
+    def __float__(self) -> float:
+        return float(self._single('float'))
+
+    def _single(self, kind: str) -> int:
+        """The value of the one entry that there is of a matrix of one row and one column."""
+        if self.shape != (1, 1):
+            _refused('%s() unless it is 1x1 (this is %dx%d)' % (kind, *self.shape),
+                     'A.reduce_scalar(), or A.get(i, j)')(self)
+        values = self.entries(arrays=False)[2]
+        if not values:
+            raise ValueError(
+                '%s() of a matrix without an entry: A.get(0, 0, default=0) gives a number all '
+                'the same' % kind)
+        return int(values[0])
+
+    # -- numpy
+
+    __array__ = _refused('array of its own', 'A.to_dense(), A.to_coo() or A.to_scipy_sparse()')
+
+    def __array_ufunc__(self, ufunc: Any, *_: Any, **__: Any) -> Any:
+        name = other_names.UFUNCS['unary' if ufunc.nin == 1 else 'binary'].get(ufunc.__name__)
+        if name is None:
+            instead = 'A.apply(f) or A.ewise_mult(B, f) with a function f of your own; %s' % (
+                other_names.words_for(ufunc.__name__) or 'A.to_dense() gives an array')
+        elif ufunc.nin == 1:
+            instead = 'A.apply("%s")' % name
+        else:
+            instead = ('A.ewise_mult(B, "{0}"), A.ewise_add(B, "{0}"), or A.apply("{0}", right=3) '
+                       'for a number'.format(name))
+        _refused('np.%s()' % ufunc.__name__, instead)(self)
