@@ -79,3 +79,18 @@ def cut(a, keep):
 def updated(a, b, accum, keep, replace):
     inside = cut(union(a, b, accum) if accum else b, keep)
     return inside if replace else {**cut(a, lambda p: not keep(p)), **inside}
+
+
+def some(random_, nrows, ncols, share=.4, least=-3, most=4):
+    """Random entries."""
+    return {(i, j): random_.randint(least, most) for i in range(nrows) for j in range(ncols)
+            if random_.random() < share}
+
+
+def mask_of(matrix, cells, kind):
+    """A mask of a kind, and whether it lets a position through."""
+    if kind == 'none':
+        return None, lambda at: True
+    inside = (lambda at: bool(cells.get(at))) if kind[-1] == 'V' else (lambda at: at in cells)
+    mask = matrix.V if kind[-1] == 'V' else matrix.S
+    return (~mask, lambda at: not inside(at)) if kind[0] == '~' else (mask, inside)

@@ -127,7 +127,8 @@ def helper(name):
     operands the package's."""
     def called(*operands):
         if any(isinstance(each, Model) for each in operands):
-            return Model(SIGNLESS[name](*map(_plain, operands)))
+            # they take words, so that a number beyond 64 bits wraps first
+            return Model(SIGNLESS[name](*(signed(_plain(each)) for each in operands)))
         return getattr(spmat, name)(*operands)
     return called
 

@@ -14,7 +14,7 @@ import graphs
 import support
 import spmat
 from spmat import algorithms, draw
-from spmat.display import graph_pictures, pictures
+from spmat.display import count_in_groups, graph_pictures, pictures
 
 
 def ink(path, colour):
@@ -107,7 +107,8 @@ class Pictures(unittest.TestCase):
             found = algorithms.bfs_levels(G, 0, G)
             at = {i: level for (i, _), level in found.to_dict().items()}
             want = collections.Counter((at[i], at[j]) for i, j in graph.edges)
-            self.assertEqual(graph_pictures.count_between(G, at, max(at.values()) + 1), want)
+            levels = numpy.array([at[i] for i in range(G.nrows)])
+            self.assertEqual(count_in_groups(G, levels, levels).to_dict(), want)
             self.drawn(draw.levels, G, found)
             self.drawn(draw.degree_histogram, G)
 
@@ -363,8 +364,10 @@ class Looks(support.InSession):
                                    ({'labels': 3}, TypeError, 'labels: expected a column'),
                                    ({'pos': {'Ann': (0, 0)}}, ValueError,
                                     "pos: expected a position of each vertex, and 'Bob' has none")):
-            with self.subTest(given=given), self.assertRaisesRegex(kind, words):
-                draw.graph(self.G, ax=self.ax, **given)
+            with self.subTest(given=given):
+                with self.assertRaisesRegex(kind, words) as said:
+                    draw.graph(self.G, ax=self.ax, **given)
+                self.assertNotIn('does not know', str(said.exception))
 
 
 class Names(unittest.TestCase):

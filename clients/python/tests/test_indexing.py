@@ -410,7 +410,9 @@ class Signs(InSession):
                             (lambda: numpy.array([1]) == A, 'eq'),
                             (lambda: numpy.sqrt(A), 'function f of your own'),
                             (lambda: numpy.true_divide(A, A), 'cdiv'),
-                            (lambda: numpy.asarray(A), r'A\.to_dense\(\)')):
+                            (lambda: numpy.asarray(A), r'A\.to_dense\(\)'),
+                            # as numpy 2 asks
+                            (lambda: A.__array__(dtype=None, copy=None), r'A\.to_dense\(\)')):
             with self.assertRaisesRegex(TypeError, 'a matrix has no .*write.*' + words):
                 call()
 

@@ -353,6 +353,22 @@ class Blocks(unittest.TestCase):
                 self.assertTrue(priced.least <= session.budget().spent - before <= priced.most,
                                 priced)
 
+    def test_searches_of_blocks(self):
+        """A search in blocks finds out first whether each edge leads both ways: of a dense graph
+        that takes more than the search."""
+        pairs = [(i, j, 1) for i in range(13) for j in range(13) if i != j]
+        for call in (lambda G: algorithms.bfs_levels(G, 0, depth=1),
+                     lambda G: algorithms.bfs_parents(G, 0, target=5),
+                     lambda G: algorithms.has_path(G, 0, 5),
+                     lambda G: algorithms.shortest_path(G, 0, 5)):
+            with spmat.blocks.Sessions(spmat.blocks.Threads(2)) as session:
+                G = session.from_triples(pairs, 13, 13)
+                priced = spmat.price(lambda call=call, G=G: call(G))
+                made = call(G)
+                if hasattr(made, 'wait'):
+                    made.wait()
+                self.assertTrue(priced.least <= session.budget().spent <= priced.most, priced)
+
 
 class Warnings(unittest.TestCase):
     def test_warned(self):

@@ -300,8 +300,8 @@ class Commands(CommandLine):
 
     def answer(self, command, kind, names, edges):
         """What a command says of the graph, as objects."""
-        from spmat.cli.algorithm_table import COMMANDS
-        algorithm, words = COMMANDS[command].algorithm, []
+        from spmat.cli.algorithm_commands import COMMANDS
+        algorithm, words = COMMANDS[command], []
         for option in algorithm.options:
             words += [str(names[word]) if isinstance(word, int) else word
                       for word in WORDS.get(option, ())]
@@ -313,7 +313,7 @@ class Commands(CommandLine):
         return said if isinstance(said, list) else [said], algorithm
 
     def test_each_command(self):
-        from spmat.cli.algorithm_table import COMMANDS
+        from spmat.cli.algorithm_commands import COMMANDS
         for command in COMMANDS:
             edges = EDGES if command == 'bipartite-sides' else EDGES + TRIANGLES
             due, algorithm = self.answer(command, 'rows', list(range(7)), edges)

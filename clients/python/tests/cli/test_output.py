@@ -7,7 +7,7 @@ import unittest
 
 import command_line
 import support
-from spmat.cli import algorithm_table, output
+from spmat.cli import algorithm_commands, output
 
 GRAPH = (
     '%%MatrixMarket matrix coordinate pattern symmetric\n6 6 7\n2 1\n3 1\n3 2\n4 3\n5 4\n6 4\n6 '
@@ -17,12 +17,12 @@ ROWS = [('Anna', 'Dvořák, Emil', 3), ('a "b"', 'c', -2)]
 
 def printed(result, **forms):
     options = argparse.Namespace(**dict({'json': False, 'csv': False}, **forms))
-    return ''.join(output.lines(options, result))
+    return ''.join(output.format_lines(options, result))
 
 
 class Forms(unittest.TestCase):
     def test_rows(self):
-        result = output.named(ROWS, 'weight', single_column=False)
+        result = output.label_entries(ROWS, 'weight', single_column=False)
         self.assertEqual(printed(result), 'Anna\tDvořák, Emil\t3\na "b"\tc\t-2\n')
         self.assertEqual(list(csv.reader(io.StringIO(printed(result, csv=True)))),
                          [['source', 'target', 'weight'], ['Anna', 'Dvořák, Emil', '3'],
@@ -33,14 +33,14 @@ class Forms(unittest.TestCase):
         self.assertEqual(text.count('\n'), 4)      # an object a line
 
     def test_a_column_of_fractions(self):
-        result = output.named([(1, .25), (2, 1 / 3)], 'rank', single_column=True)
+        result = output.label_entries([(1, .25), (2, 1 / 3)], 'rank', single_column=True)
         self.assertEqual(printed(result), '1 0.250000000\n2 0.333333333\n')
         self.assertEqual(printed(result, csv=True), 'node,rank\n1,0.250000000\n2,0.333333333\n')
         self.assertEqual(json.loads(printed(result, json=True)),
                          [{'node': 1, 'rank': .25}, {'node': 2, 'rank': 1 / 3}])
 
     def test_a_number(self):
-        result = output.number('triangles', 45)
+        result = output.label_number('triangles', 45)
         self.assertEqual((printed(result), printed(result, csv=True)), ('45\n', 'triangles\n45\n'))
         self.assertEqual(printed(result, json=True), '{"triangles": 45}\n')
 
@@ -83,8 +83,8 @@ class EveryCommand(command_line.CommandLine):
     def test_algorithms(self):
         words = {'k': ['--k', '2'], 'sources': ['--source', 'a'], 'pair': ['--pair', 'a', 'd'],
                  'target': ['--target', 'd']}
-        for name, command in algorithm_table.COMMANDS.items():
-            more = [word for option in command.algorithm.options for word in words.get(option, [])]
+        for name, algorithm in algorithm_commands.COMMANDS.items():
+            more = [word for option in algorithm.options for word in words.get(option, [])]
             graph = ('path.csv' if name in ('topological-levels', 'longest-paths',
                                             'bipartite-sides') else 'graph.csv')
             fields, objects, rows, plain = self.forms(name, graph, *more, '--quiet')

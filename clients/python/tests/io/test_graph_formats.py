@@ -84,6 +84,17 @@ class ByNetworkx(Case):
                 self.assertEqual(G.to_edgelist(), edges)
                 self.assertIn("networkx' edge list", G.notes.source)
 
+    def test_times(self):
+        import networkx
+        graph = networkx.Graph([('a', 'b', {'weight': '2024-05-31'}),
+                                ('b', 'c', {'weight': '2024-06-01T12:00'})])
+        for text in (*(self.written(how, graph) for how in ('graphml', 'gml')),
+                     b"a b {'weight': '2024-05-31'}\nb c {'weight': '2024-06-01T12:00'}\n"):
+            self.assertIn('unit="s"', self.said(text))
+            G = self.read(text, unit='D')
+            self.assertEqual((set(G.to_coo(arrays=False)[2]), str(G.unit)), ({19874, 19875}, 'D'))
+            self.assertIn('values in D since 1970-01-01, 1 of 2 cut down', G.notes.source)
+
 
 class Lists(Case):
     def test_dictionaries(self):

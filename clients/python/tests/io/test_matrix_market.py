@@ -7,6 +7,7 @@ import os
 import random
 import tempfile
 import unittest
+import warnings
 from unittest import mock
 
 import numpy
@@ -110,6 +111,9 @@ class Files(support.InSession):
             ('M5', 3, '1 1 x', text_of(real, '1 1 1', '1 1 x')),
             ('M5', 3, '1 -1 5', text_of(real, '1 1 1', '1 -1 5')),
             ('M5', 3, '1 1 1_0', text_of(real, '1 1 1', '1 1 1_0')),
+            ('M5', 3, '1 1 2-1', text_of(real, '1 1 1', '1 1 2-1')),
+            ('M5', 3, '1 1 1.0.0', text_of(real, '1 1 1', '1 1 1.0.0')),
+            ('M5', 3, '1 1 5e', text_of(real, '1 1 1', '1 1 5e')),
             ('M5', 4, '1 2', text_of(array, '2 1', '1', '1 2')),
             ('M5', 3, '1.0', text_of(array, '1 1', '1.0')),
             ('M6', 3, '2 1 5', text_of(real, '1 1 1', '2 1 5')),
@@ -209,6 +213,15 @@ class Quick(unittest.TestCase):
             reader = matrix_market.Reader(file)
             self.assertIsNotNone(matrix_market.read_quickly(reader.kind, file.read(),
                                                             text.count(b'\n') - 2, 2, columns))
+
+    def test_without_warnings_of_numpy(self):
+        """A field that numpy warns of is refused by its rule, also where warnings are errors."""
+        for entry in ('1 1 2-1', '1 1 --2', '1e99 1 2', '1 1e999 2'):
+            with warnings.catch_warnings():
+                warnings.simplefilter('error')
+                with self.assertRaises(spmat.TextRefused, msg=entry) as said:
+                    matrix_market.parse(text_of('coordinate real general', '1 1 2', entry, '1 1 3'))
+            self.assertEqual((said.exception.rule, said.exception.at), ('M5', 3), entry)
 
     def test_by_pieces(self):
         """Pieces of any size give the same entries, and refuse the same line."""

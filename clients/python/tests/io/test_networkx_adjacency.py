@@ -1,5 +1,6 @@
 """Graphs of networkx as matrices and back: weights, parallel edges, parts, names. Skipped where
 there is no networkx."""
+import datetime
 import random
 import unittest
 
@@ -75,12 +76,14 @@ class Networkx(InSession):
         import networkx
         G = networkx.path_graph(200)
         for value, kind in ((1.5, ValueError), ('x', TypeError), (2 ** 63, ValueError),
-                            (None, TypeError), (float('nan'), ValueError)):
+                            (None, TypeError), (float('nan'), ValueError),
+                            (datetime.date(2024, 5, 31), TypeError)):
             H = networkx.relabel_nodes(G, {150: 'here', 151: 'there'})
             H['here']['there']['weight'] = value
             with self.assertRaises(kind) as said:
                 self.s.from_networkx(H)
             self.assertIn("the edge from 'here' to 'there': ", str(said.exception))
+            self.assertNotIn('unit=', str(said.exception))     # which from_networkx doesn't have
         for weight in (lambda u, v, d: 1, len):
             with self.assertRaises(TypeError) as said:
                 self.s.from_networkx(G, weight=weight)

@@ -281,6 +281,17 @@ class Refusals(unittest.TestCase):
                 self.assertNotRegex(str(caught.exception), 'PLEASE|Stack dump|/tmp')
 
     @wants_clang
+    def test_lines_of_sections(self):
+        """Each section counts its bytes from 0."""
+        loop = '{ int64_t y = x;\n\n  while (x++ < 9) y *= y + x;\n  return y; }\n'
+        source = ('int64_t f(int64_t x) %s__attribute__((section("op"))) int64_t g(int64_t x) %s'
+                  % (loop, loop))
+        for name, line in (('f', 3), ('g', 7)):
+            with self.subTest(name), self.assertRaisesRegex(
+                    spmat.CompileError, r'left \(line %d of the C: while' % line):
+                spmat.c(source, name=name)
+
+    @wants_clang
     def test_a_name_that_is_not_there(self):
         with self.assertRaisesRegex(spmat.CompileError, 'no function `g` was compiled, but f'):
             spmat.c('int64_t f(int64_t x) { return x; }', name='g')
@@ -319,7 +330,7 @@ class Refusals(unittest.TestCase):
         data = clang.compile_source(source, clang.find())
         self.assertEqual(from_c.operator_of(data, source).kind, 'binary')
         dice, refused = random.Random(5), 0
-        for number in range(3000):
+        for number in range(600):
             broken = bytearray(data[:dice.randrange(len(data))] if number % 6 == 0 else data)
             for _ in range(dice.randrange(1, 4) if number % 6 else 0):
                 at = dice.randrange(len(data)) if number % 2 else dice.choice(self.heads(data))
@@ -329,7 +340,7 @@ class Refusals(unittest.TestCase):
                 from_c.operator_of(bytes(broken), source)
             except spmat.CompileError:
                 refused += 1
-        self.assertGreater(refused, 500)
+        self.assertGreater(refused, 100)
 
     def heads(self, data):
         """Bytes of the file's head, of those of its sections, and of the symbols, where a change

@@ -12,8 +12,8 @@ import support
 import spmat
 from operator_model import signed
 from ready_meanings import BINARY, INDEX, MEANINGS, UNARY
-from spmat.metadata import COMMUTE
-from spmat.operators import ready_digests
+from spmat.derivation import COMMUTE
+from spmat.operators import other_names
 
 FOLDER = os.path.join(os.path.dirname(os.path.abspath(spmat.__file__)), 'operators')
 READY = {'unary': spmat.unary, 'binary': spmat.binary, 'index': spmat.indexunary}
@@ -146,7 +146,7 @@ class Digests(unittest.TestCase):
         found = {kind: {zlib.crc32(ready[name].bare_text.encode()): name
                         for name in ready.ready() if name not in self.SECOND_NAMES}
                  for kind, ready in READY.items()}
-        self.assertEqual(ready_digests.DIGESTS, found)
+        self.assertEqual(other_names.DIGESTS, found)
         self.assertEqual(sum(map(len, found.values())), 61)
 
     def test_no_file_is_read(self):
@@ -163,6 +163,14 @@ class Digests(unittest.TestCase):
                               universal_newlines=True,
                               env=dict(os.environ, PYTHONPATH=support.CLIENT))
         self.assertEqual(done.stdout, '0 1 plus\n')
+
+
+class Semirings(unittest.TestCase):
+    def test_semirings_complete(self):
+        found = dir(spmat.semiring)
+        self.assertIn('min_plus', found)
+        self.assertEqual(sum('_' in name and not name.startswith('_') for name in found),
+                         len(list(spmat.binary)) ** 2)
 
 
 if __name__ == '__main__':

@@ -1,6 +1,7 @@
 """Operators from Python functions beside Python: what they give, on the plain machine and through
 the program, and where they are taken."""
 import concurrent.futures
+import functools
 import gc
 import os
 import pickle
@@ -50,6 +51,25 @@ class Values(unittest.TestCase):
             self.assertEqual(differences(op, sums(count), 'binary', 50), [])
         sizes = [Plain(op).instructions for op in found]
         self.assertEqual(sizes[2] - sizes[1], sizes[1] - sizes[0])
+
+    def test_ways_that_ranges_rule_out(self):
+        """No two words are so, and so nothing is raised there."""
+        def function(x, y):
+            if x > 0 > y:
+                assert x > y
+            return x - y
+        self.assertEqual(differences(spmat.binary(function), function, 'binary', TIMES), [])
+
+    def test_values_on_the_stack(self):
+        """Words that are written on one way alone, as well."""
+        def function(x, y):
+            terms = [x * k ^ y for k in range(1, 60)]
+            for at, term in enumerate(terms):
+                terms[at] = functions.where(term < y, term, term + at)
+            return functools.reduce(lambda a, b: a * 3 + b, terms[::-1])
+        op = spmat.binary(function)
+        self.assertEqual(differences(op, function, 'binary', TIMES), [])
+        self.assertGreater(op.text.count('ldx64 '), 40)
 
     def test_more_values_than_registers(self):
         plain = Plain(spmat.binary(functions.many))

@@ -1,0 +1,199 @@
+"""Components of all kinds, forests and independent sets; and searches that look at all vertices."""
+import unittest
+from unittest import mock
+
+import numpy
+
+import graphs
+from spmat import algorithms, blocks
+from spmat.algorithms import graph_model, strong_components, traversal
+from spmat.io.matrix_text import Triples
+from spmat.operators import Semiring, binary
+from support import InSession
+
+FORESTS = [graph for graph in graphs.UNDIRECTED if graph.count < 100]
+
+
+def least_of(groups, count):
+    """The least vertex of each one's group; of those in none their own number."""
+    out = list(range(count))
+    for group in groups:
+        for at in group:
+            out[at] = min(group)
+    return out
+
+
+def reached(near, source):
+    return set(graphs.levels(near, source))
+
+
+def strong_groups(near):
+    there = [reached(near, i) for i in range(len(near))]
+    return [{j for j in there[i] if i in there[j]} for i in range(len(near))]
+
+
+def forest_weight(graph):
+    """Kruskal."""
+    label = list(range(graph.count))
+    total = 0
+    for (i, j), weight in sorted(graph.edges.items(), key=lambda edge: edge[1]):
+        if label[i] != label[j]:
+            total += weight
+            label = [label[i] if one == label[j] else one for one in label]
+    return total, len(set(label))
+
+
+class Parts(InSession):
+    """Components, strong components, forests and independent sets as plain Python has them."""
+
+    def test_models(self):
+        for graph in graphs.ALL:
+            with self.subTest(graph=graph.name):
+                G, near = graph.matrix(self.session), graph.near()
+                groups = [reached(graphs.both_ways(near), i) for i in range(graph.count)]
+                self.assertEqual(algorithms.connected_components(G).to_list(),
+                                 least_of(groups, graph.count))
+                want = least_of(strong_groups(near), graph.count)
+                for at_once, most, pulls in ((1 << 12, 1 << 18, 16), (0, 1 << 18, 16),
+                                             (0, 1 << 18, 1), (0, 0, 1)):
+                    if most or graph.count < 40:
+                        with mock.patch.object(strong_components, 'AT_ONCE', at_once), \
+                                mock.patch.object(strong_components, 'SMALL', most), \
+                                mock.patch.object(strong_components, 'PULLS', pulls):
+                            G.kept.pop('transpose', None)
+                            self.assertEqual(algorithms.strongly_connected_components(G).to_list(),
+                                             want)
+        for graph in FORESTS:
+            weight, parts = forest_weight(graph)
+            forest = algorithms.minimum_spanning_forest(graph.matrix(self.session))
+            self.assertEqual(((forest.reduce_scalar('plus') or 0) // 2, forest.nvals),
+                             (weight, 2 * (graph.count - parts)), graph.name)
+            self.assertEqual(forest.to_triples(),
+                             self.session.from_coo(*forest.to_coo(), *forest.shape).to_triples())
+
+    def test_independent_sets(self):
+        """A seed means one set; it is maximal, and no two of it are neighbours."""
+        for graph in graphs.UNDIRECTED:
+            G, near = graph.matrix(self.session), graph.near()
+            for seed in (0, 7):
+                found = algorithms.maximal_independent_set(G, seed).to_dict()
+                self.assertEqual(algorithms.maximal_independent_set(G, seed).to_dict(), found,
+                                 graph.name)
+                chosen = {i for i, _ in found}
+                wrong = [i for i in range(graph.count)
+                         if (i in chosen) == bool(chosen & (set(near[i]) - {i}))]
+                self.assertEqual(wrong, [], graph.name)
+
+    def test_blocks(self):
+        with blocks.Sessions(3) as many:
+            for graph in graphs.ALL:
+                G = many.from_triples([(i, j, 1) for i, j in graph.edges], graph.count, graph.count)
+                groups = [reached(graphs.both_ways(graph.near()), i) for i in range(graph.count)]
+                self.assertEqual(algorithms.connected_components(G).to_list(),
+                                 least_of(groups, graph.count), graph.name)
+
+    def test_many_parts_beside_a_hub(self):
+        """Parts whose members have lesser and greater neighbours than the hub, to which only one of
+        them has an edge: no more rounds than the logarithm."""
+        hub, pairs = 500, []
+        for k in range(100):
+            low, high = [k, 100 + k, 200 + k], [600 + k, 700 + k, 800 + k]
+            part = low + high
+            pairs += [(a, b) for a in part for b in part if a < b] + [(300 + k, low[0]),
+                                                                      (900 + k, high[0]),
+                                                                      (low[1], hub)]
+        graph = graphs.undirected('hub', 1001, pairs + [(hub, 499), (hub, 1000)])
+        told = []
+        got = algorithms.connected_components(graph.matrix(self.session),
+                                              progress=lambda *now: told.append(now)).to_list()
+        self.assertEqual(got, least_of([reached(graph.near(), hub)], 1001))
+        self.assertLessEqual(len(told), 8)
+
+    def test_components_of_a_few_edges(self):
+        for seed in range(20):
+            edges = sorted(graphs._random_pairs(30, 20 + 3 * seed, seed))
+            near = [set() for _ in range(30)]
+            for i, j in edges:
+                near[i].add(j)
+            rows, columns = [i for i, _ in edges], [j for _, j in edges]
+            at, labels = strong_components.find_strong_components(numpy.array(rows),
+                                                                  numpy.array(columns))
+            out = list(range(30))
+            for i, label in zip(at.tolist(), labels.tolist()):
+                out[i] = label
+            self.assertEqual(out, least_of(strong_groups(near), 30))
+            self.assertEqual(at.tolist(), sorted({*rows, *columns}))
+
+
+class Models(InSession):
+    """Pushes along entries that the client has are those of the session."""
+
+    def test_pushes(self):
+        rings = [('any', 'first'), ('min', 'first'), ('min', 'plus'), ('plus', 'times'),
+                 ('max', 'second'), ('plus', 'first')]
+        for graph in graphs.ALL:
+            G = graph.matrix(self.session)
+            rows, model = traversal.Rows(G), graph_model.GraphModel(
+                G, Triples(*G.to_coo(), *G.shape))
+            for some in (range(graph.count), range(0, graph.count, 3), []):
+                front = traversal.vector_of(some, [7 * i - 20 for i in some])
+                for add, mul in rings:
+                    ring = Semiring(getattr(binary, add), getattr(binary, mul))
+                    want, got = rows.push(front, ring), model.push(front, ring)
+                    self.assertEqual(got.at.tolist(), want.at.tolist(), graph.name)
+                    if add != 'any':
+                        self.assertEqual(got.values.tolist(), want.values.tolist(), graph.name)
+            self.assertEqual(model.pushes, 3 * len(rings))
+            self.assertGreaterEqual(model.walked, len(rings) * len(graph.edges))
+
+    def test_what_is_too_long_ends(self):
+        G = graphs.UNDIRECTED[3].matrix(self.session)
+        model = graph_model.GraphModel(G, Triples(*G.to_coo(), *G.shape))
+        front = traversal.vector_of(range(34), [1] * 34)
+        with mock.patch.object(graph_model, 'MOST_WALKED', 1000), \
+                self.assertRaises(graph_model.TooLong):
+            for _ in range(9):
+                model.push(front, Semiring(binary.plus, binary.first))
+
+
+class Scans(InSession):
+    """Searches whose large fronts are taken by jobs over all vertices, as on large graphs."""
+
+    def setUp(self):
+        super().setUp()
+        small = mock.patch.object(traversal, 'SMALL', 0)
+        small.start()
+        self.addCleanup(small.stop)
+
+    def test_searches(self):
+        scanned = []
+        step = traversal.Rows.step
+        with mock.patch.object(traversal.Rows, 'step', lambda *given, **named: scanned.append(1)
+                               or step(*given, **named)):
+            for graph in graphs.ALL:
+                if not graph.count:
+                    continue
+                G, near = graph.matrix(self.session), graph.near()
+                levels = graphs.levels(near, 0)
+                found = algorithms.bfs_levels(G, 0).to_dict()
+                self.assertEqual(found, {(i, 0): level for i, level in levels.items()}, graph.name)
+                parents = algorithms.bfs_parents(G, 0).to_dict()
+                self.assertEqual(set(parents), set(found))
+                for (i, _), parent in parents.items():
+                    before = [j for j in levels if i in near[j] and levels[j] + 1 == levels[i]]
+                    self.assertEqual(parent, min(before, default=0), graph.name)
+                ones = algorithms.sssp(G.apply('one'), 0).to_dict()
+                self.assertEqual(ones, found, graph.name)
+        self.assertGreater(len(scanned), 20)
+
+    def test_cores(self):
+        for graph in graphs.UNDIRECTED:
+            G, want, k = graph.matrix(self.session), {(i, 0): 0 for i in range(graph.count)}, 1
+            while graphs.core(graph.near(), k):
+                want.update(dict.fromkeys([(i, 0) for i in graphs.core(graph.near(), k)], k))
+                k += 1
+            self.assertEqual(algorithms.core_numbers(G).to_dict(), want, graph.name)
+
+
+if __name__ == '__main__':
+    unittest.main()

@@ -1,0 +1,122 @@
+"""Rounds with full vectors, where many workers share a product with a column; and vectors out of
+the text of a matrix: their places and values, full and with gaps."""
+import unittest
+from unittest import mock
+
+import graphs
+import spmat
+import support
+from spmat import algorithms
+from spmat.algorithms import traversal
+from spmat.algorithms.traversal import Columns, Rows
+from spmat.io import matrix_text, parse_integers
+
+MANY = 3072
+PAIRS = [(i, j) for i in range(40) for j in range(40) if i != j and (7 * i + 3 * j) % 5 == 0]
+SOME_ALONE = graphs.undirected('some vertices have no edge', 50, PAIRS)
+SOME_END = graphs.directed('some vertices have no edge that leaves them', 50,
+                           PAIRS + [(i, i + 9) for i in range(31, 41)])
+
+
+class ManyWorkers(unittest.TestCase):
+    """In a session of four workers, and in one of one worker."""
+
+    @classmethod
+    def setUpClass(cls):
+        cls.one, cls.many = spmat.Session(workers=1), spmat.Session(workers=4)
+
+    @classmethod
+    def tearDownClass(cls):
+        cls.one.close()
+        cls.many.close()
+
+    def test_answers_are_those_of_one_worker(self):
+        def hits(G):
+            return algorithms.hits(G, weighted=True, tolerance=1e-4)[0].values
+        calls = [algorithms.pagerank, lambda G: algorithms.pagerank(G, weighted=True), hits,
+                 lambda G: algorithms.pagerank(G, personalization={0: 1}, dangling={1: 2, 3: 1}),
+                 lambda G: algorithms.pagerank(G, G.T, damping=.5),
+                 lambda G: algorithms.katz(G, .01).values,
+                 lambda G: algorithms.eigenvector(algorithms.undirected(G), tolerance=1e-3).values]
+        with mock.patch.multiple(traversal, MANY_ENTRIES=1, MANY_AT_A_VERTEX=0):
+            for graph in graphs.tried([SOME_ALONE, SOME_END, graphs.UNDIRECTED[3],
+                                       graphs.DIRECTED[-1]]):
+                for number, call in enumerate(calls):
+                    with self.subTest(graph=graph.name, call=number):
+                        one, many = graph.matrix(self.one), graph.matrix(self.many)
+                        self.assertIsInstance(traversal.find_flow(many, None, True), Columns)
+                        self.assertIsInstance(traversal.find_flow(one, None, True), Rows)
+                        self.assertEqual(call(many).to_text(), call(one).to_text())
+
+    def test_a_price_comes_before_the_work(self):
+        with mock.patch.multiple(traversal, MANY_ENTRIES=1, MANY_AT_A_VERTEX=0):
+            G = SOME_ALONE.matrix(self.many)
+            self.assertGreater(spmat.price(lambda: algorithms.pagerank(G)).steps, 0)
+
+    def test_which_sessions_and_graphs_these_are(self):
+        with mock.patch.multiple(traversal, MANY_ENTRIES=900):
+            for want, graph in ((True, self.many.full(30, 30)), (False, self.one.full(30, 30)),
+                                (False, self.many.full(29, 29)),
+                                (False, self.many.identity(1000))):
+                with self.subTest(want=want, graph=graph):
+                    self.assertEqual(traversal.is_shared(graph), want)
+
+    def test_a_session_knows_its_workers(self):
+        self.assertEqual([self.one.workers, self.many.workers], [1, 4])
+        with support.Relay() as relay, spmat.Session.connect('127.0.0.1', relay.port) as session:
+            self.assertIsNone(session.workers)
+
+    def test_a_caller_says_how_many_workers_a_server_has(self):
+        with support.Relay(steps=1 << 60) as relay:
+            with spmat.Session.connect('127.0.0.1', relay.port) as session:
+                with self.assertRaisesRegex(ValueError, 'workers are 1 to 64'):
+                    session.workers = 65
+                session.workers = 4
+                self.assertEqual((session.workers, session.backend.queue.shared), (4, True))
+                with mock.patch.multiple(traversal, MANY_ENTRIES=1, MANY_AT_A_VERTEX=0):
+                    G = SOME_ALONE.matrix(session)
+                    self.assertIsInstance(traversal.find_flow(G, None, True), Columns)
+                    got = algorithms.pagerank(G).to_text()
+                self.assertEqual(got, algorithms.pagerank(SOME_ALONE.matrix(self.one)).to_text())
+        with self.assertRaisesRegex(AttributeError, 'with 1 workers'):
+            self.one.workers = 4
+
+
+def text_of(places, count, column):
+    """The text of a row or a column, as the server writes it, with a value for each place."""
+    values = [(-7 * i) % 1000 - 500 for i in places]
+    size, line = ((count, 1), '%d 1 %d\n') if column else ((1, count), '1 %d %d\n')
+    head = matrix_text.BANNER.decode() + '%d %d %d\n' % (*size, len(places))
+    return (head + ''.join(line % (i + 1, value)
+                           for i, value in zip(places, values))).encode(), values
+
+
+class Vectors(unittest.TestCase):
+    """`traversal.read_vector`, and the values alone."""
+
+    def test_arrays(self):
+        for count in (0, 1, 5, MANY):
+            for places in (list(range(count)), list(range(count))[1::2], list(range(count))[1:]):
+                for column in (False, True):
+                    text, values = text_of(places, count, column)
+                    with self.subTest(count=count, entries=len(places), column=column):
+                        got = traversal.read_vector(text, 0 if column else 1)
+                        self.assertEqual((list(got.at), list(got.values)), (places, values))
+                        bare = traversal.read_vector(text, 0 if column else 1, values=False)
+                        self.assertEqual((list(bare.at), list(bare.values)), (places, []))
+                        self.assertEqual(list(
+                            traversal.read_values(mock.Mock(to_text=lambda text=text: text))),
+                                         values)
+
+    def test_places_of_a_full_vector_are_not_read(self):
+        for column in (False, True):
+            text = text_of(list(range(MANY)), MANY, column)[0]
+            with self.subTest(column=column), \
+                    mock.patch.object(parse_integers, 'fields',
+                                      wraps=parse_integers.fields) as fields:
+                traversal.read_vector(text, 0 if column else 1)
+                self.assertEqual(fields.call_args.args[1], (2,))
+
+
+if __name__ == '__main__':
+    unittest.main()

@@ -1,0 +1,264 @@
+"""Rounds of eigenvector and Katz centrality, hubs and authorities: no sum passes a word, a share is
+rounded by less than 1, the server's numbers are those of the client, and looks are few."""
+import random
+import unittest
+from fractions import Fraction
+from unittest import mock
+
+import numpy
+
+import graphs
+import support
+from spmat import algorithms
+from spmat.algorithms import centrality, vector_rounds
+from spmat.algorithms.centrality import Grown, Mutual
+from spmat.algorithms.graph_model import ModelSteps
+from spmat.algorithms.katz_centrality import handed
+from spmat.algorithms.vector_rounds import MOST_AHEAD, Rounds, Scale, Steps, scale_of
+from spmat.io.matrix_text import Triples
+
+SIDE = 9
+GRID = graphs.undirected('grid', SIDE * SIDE,
+                         [(SIDE * r + c, SIDE * r + c + step) for r in range(SIDE)
+                          for c in range(SIDE) for step in (1, SIDE) if (c if step == 1 else r)
+                          < SIDE - 1])
+STAR = graphs.undirected('star and path', 60,
+                         [(0, i) for i in range(1, 40)] + [(i, i + 1) for i in range(39, 57)])
+ALPHAS = (Fraction(1, 10), Fraction(1, 3), Fraction(1, 8), Fraction(1, 10 ** 6 + 3),
+          Fraction(999999, 10 ** 6), Fraction(1, 1 << 61), Fraction(7, 2), Fraction(10 ** 6 + 1, 3))
+
+
+def random_graph(seed, most=1):
+    """A directed or an undirected graph, even or with hubs, some of whose vertices no edge leads
+    to."""
+    chance = random.Random(seed)
+    count = chance.randint(5, 60)
+    pairs = {(int(count * chance.random() ** (1 + 2 * (seed % 2))), chance.randrange(count))
+             for _ in range(4 * count)}
+    make = graphs.undirected if seed % 4 < 2 else graphs.directed
+    graph = make('random', count, sorted((i, j) for i, j in pairs if i != j))
+    return (graph._replace(edges={edge: chance.randint(1, most) for edge in graph.edges})
+            if most > 1 else graph)
+
+
+def column(session, values):
+    return session.from_coo(range(len(values)), [0] * len(values), values, len(values), 1)
+
+
+class Shares(support.InSession):
+    def test_shares(self):
+        """Of sums of all sizes: less than 1 away from the exact share, and the same at the
+        server."""
+        chance = random.Random(1)
+        for share in ALPHAS:
+            for bits in (3, 31, 40, 41, 42, 46, 47, 58, 61):
+                bits = min(bits, 61 - int(share).bit_length())
+                sums = [0, 1, (1 << bits) - 1,
+                        *(chance.getrandbits(chance.randint(1, bits)) for _ in range(30))]
+                kind = handed(share, 1 << 20, None, None, float((1 << bits) - 1))
+                got = kind.share_of(numpy.array(sums, numpy.int64)).tolist()
+                for x, found in zip(sums, got):
+                    self.assertLess(abs(found - (1 << 20) - share * x), 1, (share, x))
+                    if share.denominator <= 10 and (share * x).denominator == 1:
+                        self.assertEqual(found, (1 << 20) + share * x)
+                units = column(self.s, [1 << 20] * len(sums))
+                self.assertEqual(units.ewise_add(column(self.s, sums), kind.operator).to_list(),
+                                 got, (share, bits))
+
+    def test_few_steps(self):
+        """No share divides, and one of usual numbers takes 9 instructions."""
+        lengths = [self.s.backend.upload(handed(Fraction(1, 10), 1, None, None,
+                                                2.0 ** bits).operator).instructions
+                   for bits in (40, 46, 60)]
+        self.assertEqual(lengths, [9, 13, 16])
+        for bits in (40, 46, 60):
+            self.assertNotIn('div',
+                             handed(Fraction(1, 10), 1, None, None, 2.0 ** bits).operator.text)
+
+    def test_scales(self):
+        """A factor is rounded down by no more than is said, never wraps, and is the same at the
+        server."""
+        chance = random.Random(2)
+        some = [(1.0, 42), (2.0 ** -19, 42), (2.0 ** -18.3, 42), (2.0 ** -40.2, 20)]
+        some += [(chance.choice((1.0, chance.random(), 2.0 ** -chance.uniform(0, 20))),
+                  chance.randint(16, 42)) for _ in range(40)]
+        for factor, bits in some:
+            scale = scale_of(factor, bits)
+            self.assertTrue(.9 * factor < scale.value <= factor)
+            most = min((1 << 62) - 1, int(2.0 ** bits / scale.value))
+            numbers = [0, 1, most, *(chance.randint(0, most) for _ in range(20))]
+            got = scale.of(numpy.array(numbers, numpy.int64)).tolist()
+            for x, found in zip(numbers, got):
+                exact = x * scale.times / Fraction(1 << scale.first + scale.then)
+                self.assertTrue(0 <= exact - found < scale.rounding + 1e-9, (scale, x))
+            self.assertEqual(column(self.s,
+                                    numbers).apply(scale.operator('unary',
+                                                                  'mov64 r0, r1\n')).to_list(), got)
+
+
+class Words(support.InSession):
+    """What rounds make is the same in integers without an end."""
+
+    def model(self, graph, weighted):
+        triples = sorted((i, j, value) for (i, j), value in graph.edges.items())
+        rows, columns, values = (numpy.array(part, numpy.int64) for part in zip(*triples))
+        return ModelSteps(graph.matrix(self.s), Triples(rows, columns, values, graph.count,
+                                                        graph.count), weighted)
+
+    def check(self, graph, weighted):
+        """Makes rounds with each sum looked at."""
+        steps = self.model(graph, weighted)
+        into, out = numpy.zeros((graph.count, graph.count),
+                                object), numpy.zeros((graph.count, graph.count), object)
+        for (i, j), value in graph.edges.items():
+            into[j, i] = out[i, j] = value if weighted else 1
+        looked = []
+
+        def compare(kind, steps, numbers, real):
+            looked.append(1)
+            made, x = real(kind, steps, numbers), [int(one) for one in numbers]
+            if isinstance(kind, Grown):
+                sums = numpy.array(x, object) + into.dot(x)
+            else:
+                sums = out.dot([int(one) >> kind.shift for one in into.dot(x)])
+            self.assertLess(max(sums), 1 << 63)
+            self.assertEqual([(int(one) >> kind.scale.first) * kind.scale.times >> kind.scale.then
+                              for one in sums], made['now'].tolist())
+            return made
+        for kind, find in ((Grown, centrality.find_eigenvector), (Mutual, centrality.find_hubs)):
+            real = kind.of_numbers
+            with mock.patch.object(kind, 'of_numbers',
+                                   lambda kind, steps, numbers, real=real: compare(
+                                       kind, steps, numbers, real)):
+                try:
+                    find(steps, None, (200, None), lambda *_: None)
+                except ValueError as fault:
+                    self.assertIn('rounds, and numbers still change', str(fault))
+        return len(looked)
+
+    def test_rounds(self):
+        for seed in range(24):
+            most = (1, 9, 10 ** 4, 10 ** 9)[seed // 4 % 4]
+            graph = random_graph(seed, most)
+            with self.subTest(seed=seed):
+                self.assertGreater(self.check(graph, most > 1), 4)
+        for graph in (STAR, GRID):
+            self.check(graph, False)
+        for value in (1 << 20, 3 << 30):           # sums are as great as weights allow
+            self.check(graphs.Graph('complete', 12,
+                                    {(i, j): value for i in range(12) for j in range(12)}, True),
+                       True)
+
+    def test_what_is_little_grows(self):
+        """A number of nearly 0 grows by any factor: one that the last round shows to hold for the
+        others says nothing of it."""
+        for little in (16, 17, 1 << 20):
+            room, numbers = vector_rounds.Room(20, 1 << 30), [1 << 20, little, 0]
+            room.note(numpy.array([1 << 20, 0, 0]), numpy.array(numbers), Scale(0, 16, 4))
+            scale, count = room.choose(1 << 20, 8)
+            for _ in range(count):
+                numbers = [(x >> scale.first) * scale.times >> scale.then
+                           for x in (numbers[0], numbers[2] << 30, numbers[1] << 30)]
+                self.assertLessEqual(max(numbers), 1 << 22, little)
+
+    def test_numbers_that_grow(self):
+        """Without what a bound says of the next rounds, sums do pass a word: this test would see
+        it."""
+        with mock.patch.object(vector_rounds.Room, 'choose',
+                               lambda room, most, ahead: (Scale(0, 16, 4), 8)), \
+                self.assertRaises((AssertionError, OverflowError)):
+            self.check(STAR, False)
+
+
+class AtTheServer(support.InSession):
+    CALLS = {'eigenvector': lambda G, **named: [algorithms.eigenvector(G, rounds=300,
+                                                                       tolerance=1e-4, **named)],
+             'hits': lambda G, **named: list(algorithms.hits(G, tolerance=1e-4, **named)),
+             'katz': lambda G, **named: [algorithms.katz(G, 1e-3 if named.get('weighted') else .05,
+                                                         **named)]}
+
+    def counted(self, call):
+        """What a call comes to, its looks, its rounds by the progress that it tells, and its
+        commands."""
+        looks, told, real = [], [], Rounds.advance
+
+        def advance(rounds, kind, count, progress):
+            looks.append(count)
+            real(rounds, kind, count, progress)
+        before = self.s.connection.commands
+        with mock.patch.object(Rounds, 'advance', advance):
+            found = call(lambda word, number, of: told.append(number))
+        return found, looks, told, self.s.connection.commands - before
+
+    def test_as_at_the_client(self):
+        """Numbers, rounds and errors are those of rounds that the client makes, number by
+        number."""
+        for graph in (GRID, STAR, graphs.UNDIRECTED[3], random_graph(3), random_graph(6),
+                      random_graph(2, 9)):
+            for name, call in self.CALLS.items():
+                for weighted in (False, True):
+                    G = graph.matrix(self.s)
+                    found = call(G, weighted=weighted)
+                    with mock.patch.object(Steps, 'in_session', False):
+                        other = call(G, weighted=weighted)
+                    for one, two in zip(found, other):
+                        self.assertEqual((one.to_list(), one.rounds, one.error),
+                                         (two.to_list(), two.rounds, two.error),
+                                         (graph.name, name, weighted))
+
+    def test_few_looks(self):
+        """Most rounds pass unasked, and each is told of once."""
+        for name, call in self.CALLS.items():
+            G = GRID.matrix(self.s)
+            found, looks, told, commands = self.counted(
+                lambda progress, call=call, G=G: call(G, progress=progress))
+            self.assertEqual(told, list(range(1, found[0].rounds + 1)), name)
+            self.assertGreater(len(told), 12, name)
+            self.assertLessEqual(len(looks), 5 + len(told) / MOST_AHEAD, name)
+            with mock.patch.object(vector_rounds, 'MOST_AHEAD', 1):
+                more = self.counted(lambda progress, call=call, G=G: call(G, progress=progress))[3]
+            self.assertLess(commands, more, name)
+
+    def test_vertices_without_edges(self):
+        """Of edges that are known to lead both ways they fall out, so that a round takes 2 jobs."""
+        G = STAR.matrix(self.s)
+        algorithms.triangle_count(G)               # which finds that out
+        before, jobs = algorithms.eigenvector(G, tolerance=1e-6), self.s.jobs
+        found = algorithms.eigenvector(G, tolerance=1e-6)
+        self.assertLessEqual(self.s.jobs - jobs, 2 * found.rounds + 2)
+        self.assertEqual(before.to_list(), found.to_list())
+        self.assertEqual(found.to_list()[58:], [0, 0])
+        self.assertLess(found.error, 1e-3)
+
+    def test_alpha_above_one(self):
+        G = self.s.from_triples([(0, 1, 1), (1, 2, 1), (0, 2, 1)], 3, 3)
+        self.assertEqual(list(algorithms.katz(G, 3.0, normalized=False).by_node().values()),
+                         [1, 4, 16])
+        self.assertEqual(list(algorithms.katz(G, 2.5, normalized=False).by_node().values()),
+                         [1, 3.5, 12.25])
+
+    @support.needs('networkx')
+    def test_beside_networkx(self):
+        import networkx
+        for seed in range(8):
+            made = networkx.gnp_random_graph(40, .15, seed=seed, directed=seed % 2 == 1)
+            for number, (u, v) in enumerate(made.edges):
+                made[u][v]['weight'] = 1 + number * 7919 % 5
+            G = self.s.from_networkx(made)
+            for weight in (None, 'weight'):
+                pairs = ((algorithms.katz(G, .01, weighted=bool(weight)),
+                          networkx.katz_centrality(made, .01, weight=weight, tol=1e-10)),
+                         (algorithms.eigenvector(G, tolerance=1e-9, weighted=bool(weight)),
+                          networkx.eigenvector_centrality(made, 2000, 1e-10, weight=weight)))
+                for found, want in pairs:
+                    for node, value in found.by_node().items():
+                        self.assertAlmostEqual(value, want[node], 6)
+            hubs, authorities = networkx.hits(made)
+            for found, want in zip(algorithms.hits(G, weighted=True, tolerance=1e-10, rounds=5000),
+                                   (hubs, authorities)):
+                for node, value in found.by_node().items():
+                    self.assertAlmostEqual(value, abs(want[node]), 6)
+
+
+if __name__ == '__main__':
+    unittest.main()

@@ -1,0 +1,144 @@
+"""Words that contradict each other, or would do nothing: each is refused, or told on standard
+error; and both ways are Python's."""
+import io
+import os
+import unittest
+
+import support
+from command_line import CommandLine
+from spmat.algorithms.registry import ALGORITHMS
+from spmat.cli.exit_status import Status
+
+FILES = {'r.csv': 'A,B,3\nB,A,4\nA,B,10\n', 'r3.csv': 'A,B,1\nB,C,1\nA,C,10\n',
+         'loop.csv': 'A,B,3\nB,A,4\nC,C,2\n',
+         'roads.csv': 'from_junction,to_junction,length_km\na,b,1.5\nb,c,2.5\na,c,9\n',
+         'g.mtx': '%%MatrixMarket matrix coordinate integer general\n3 3 4\n1 2 3\n2 1 4\n3 3 '
+         '2\n2 3 7\n'}
+
+
+class Words(CommandLine):
+    def setUp(self):
+        super().setUp()
+        for name, text in FILES.items():
+            self.write(name, text)
+
+    def refuses(self, *words, says):
+        done = self.run_words(*words)
+        self.assertEqual((done.returncode, done.stdout), (Status.WORDS, ''), words)
+        for part in says:
+            self.assertIn(part, done.stderr)
+
+    def prints(self, *words, lines, says=''):
+        done = self.run_words(*words)
+        self.assertEqual((done.returncode, done.stdout.splitlines()), (Status.DONE, lines),
+                         done.stderr)
+        self.assertIn(says, done.stderr)
+
+    def test_values_that_undirected_drops(self):
+        for words in (['shortest-path', 'r3.csv', '--source', 'A', '--target', 'C', '--weighted'],
+                      ['minimum-spanning-forest', 'r3.csv'],
+                      ['sssp', 'r3.csv', '--source', 'A'], ['all-pairs', 'r3.csv'],
+                      ['pagerank', 'r3.csv', '--weighted']):
+            self.refuses(*words, '--undirected', says=['--undirected drops', '--both-ways'])
+        self.prints('sssp', 'r3.csv', '--source', 'A', '--undirected', '--pattern',
+                    lines=['A 0', 'B 1', 'C 1'])
+        self.prints('sssp', 'r3.csv', '--source', 'A', '--both-ways', lines=['A 0', 'B 1', 'C 2'])
+        self.prints('minimum-spanning-forest', 'r3.csv', '--both-ways', lines=['A B 1', 'B C 1'])
+
+    def test_values_that_pattern_leaves_out(self):
+        for words in (['--scale', '10'], ['--columns', '0,1,2'], ['--weighted']):
+            self.refuses('pagerank', 'r3.csv', '--pattern', *words, says=[words[0], '--pattern'])
+
+    def test_values_that_are_not_used(self):
+        words = ['shortest-path', 'roads.csv', '--columns', 'from_junction,to_junction,length_km',
+                 '--scale', '10', '--both-ways', '--source', 'a', '--target', 'c']
+        self.prints(*words, lines=['a 0', 'c 1'],
+                    says='--scale: values of edges are read, and shortest-path does not use '
+                    'them: --weighted does')
+        self.assertNotIn('use them', self.run_words(*words, '--quiet').stderr)
+        self.assertNotIn('use them', self.run_words(*words, '--weighted').stderr)
+        self.prints('degrees', 'r3.csv', '--columns', '0,1,2', lines=['A 2', 'B 1'],
+                    says='degrees does not use them')
+        self.assertNotIn('use them', self.run_words('degrees', 'r3.csv', '--columns', '0,1').stderr)
+
+    def test_both_ways_folds_as_python_does(self):
+        with support.spmat.Session() as session:
+            for file, op in (('r.csv', 'plus'), ('r.csv', 'max'), ('loop.csv', 'plus'),
+                             ('loop.csv', 'first'), ('g.mtx', 'plus'), ('g.mtx', 'min')):
+                G = session.read_graph(os.path.join(self.folder, file), directed=False,
+                                       dup_op=op)
+                names = [int(name) + 1 if file == 'g.mtx' else name
+                         for name in (G.nodes or range(G.nrows))]
+                got = support.spmat.algorithms.sssp(G, names[0] if G.nodes else 0).to_dict()
+                want = ['%s %d' % (names[i], value) for (i, _), value in got.items()]
+                self.prints('sssp', file, '--both-ways', '--dup-op', op, '--source', str(names[0]),
+                            lines=want)
+        self.prints('sssp', 'r.csv', '--both-ways', '--dup-op', 'plus', '--source', 'A',
+                    lines=['A 0', 'B 17'])
+        self.prints('sssp', 'loop.csv', '--both-ways', '--source', 'A', lines=['A 0', 'B 3'])
+
+    def test_weighted_wherever_the_function_has_it(self):
+        for name, algorithm in ALGORITHMS.items():
+            if algorithm.command:
+                done = self.run_words(name.replace('_', '-'), '--help')
+                self.assertEqual((done.returncode, '--weighted' in done.stdout),
+                                 (0, 'weighted' in algorithm.parameters), name)
+        plain, weighted = (self.run_words('pagerank', 'r3.csv', *more).stdout
+                           for more in ([], ['--weighted']))
+        self.assertNotEqual(plain, weighted)
+
+    def test_options_that_hide_others(self):
+        for words in (['--header', '--no-header'], ['--bipartite', '--one-kind'],
+                      ['--comments', '#', '--no-comments'],
+                      ['--undirected', '--both-ways'], ['--columns', '0,1', '--columns', '1,0'],
+                      ['--scale', '2', '--scale', '3']):
+            self.refuses('degrees', 'r3.csv', *words,
+                         says=['argument' if '--undirected' not in words else '--both-ways'])
+        self.refuses('sssp', 'r3.csv', '--source', 'A', '--source', 'B',
+                     says=['--source: given twice'])
+        self.assertEqual(self.run_words('betweenness', 'r3.csv', '--source', 'A', '--source',
+                                        'B').returncode, Status.DONE)
+
+    def test_words_of_a_process_beside_a_server(self):
+        for words in (['--workers', '3'], ['--steps', '100'], ['--program', 'x']):
+            self.refuses('degrees', 'r3.csv', '--connect', '127.0.0.1:9', *words,
+                         says=[words[0], '--connect'])
+
+    def test_words_of_lists_on_other_files(self):
+        for words in (['--columns', '0,1'], ['--delimiter', ','], ['--header']):
+            self.assertIn('is for a list of edges', self.refused('degrees', 'g.mtx', *words))
+
+    def test_undirected_bipartite(self):
+        self.prints('degrees', 'r3.csv', '--bipartite', '--undirected',
+                    lines=["('row', 'A')\t2", "('row', 'B')\t1", "('column', 'B')\t1",
+                           "('column', 'C')\t2"])
+
+    def test_what_k_means(self):
+        said = [self.run_words(name, '--help').stdout
+                for name in ('k-core', 'k-truss', 'k-hop', 'k-shortest-paths')]
+        self.assertEqual([word in text
+                          for text, word in zip(said,
+                                                ('neighbours in the core', 'triangles',
+                                                 'edges away', 'how many paths'))], [True] * 4)
+        for words in ('largest part of a graph in which each has', 'Runs: ', 'LAGraph_KCore'):
+            self.assertIn(words, said[0])
+
+
+class Files(support.InSession):
+    def test_directed_of_matrix_market(self):
+        text = FILES['g.mtx'].encode()
+        with self.assertRaisesRegex(ValueError, 'dup_op='):
+            self.s.read_graph(io.BytesIO(text), directed=False)
+        G = self.s.read_graph(io.BytesIO(text), directed=False, dup_op='plus')
+        self.assertEqual((G.to_triples(), G.directed),
+                         ([(0, 1, 7), (1, 0, 7), (1, 2, 7), (2, 1, 7), (2, 2, 2)], False))
+
+    def test_words_of_lists(self):
+        for words in ({'columns': (0, 1)}, {'delimiter': ','}, {'header': True},
+                      {'nodelist': ['a', 'b', 'c']}, {'unit': 's'}, {'date_format': '%d'}):
+            with self.assertRaisesRegex(ValueError, '%s= is for a list of edges' % list(words)[0]):
+                self.s.read_graph(io.BytesIO(FILES['g.mtx'].encode()), **words)
+
+
+if __name__ == '__main__':
+    unittest.main()

@@ -1,0 +1,111 @@
+"""Numbers out of matrix text, and texts that are shorter than they could be."""
+import random
+import unittest
+from unittest import mock
+
+import numpy
+
+import spmat
+from spmat import blocks
+from spmat.io import matrix_text, parse_integers
+from support import InSession
+
+
+class Digits(unittest.TestCase):
+    def test_numbers(self):
+        """Every length and both signs, in texts that are read at once, and by parts."""
+        random_ = random.Random(3)
+        ends = [0, 9, 10, 99999999, 100000000, 10 ** 16 - 1, 10 ** 16, 10 ** 17 + 1, 2 ** 63 - 1,
+                -2 ** 63, -1, -10 ** 8, -99999999]
+        for many in (0, 1, 5, 2000, 9000, 60000):
+            made = [(random_.randrange(1, 1 << random_.randrange(1, 25)),
+                     random_.randrange(1, 1 << 24), random_.choice(ends) if k % 7 == 0
+                     else random_.randrange(-1 << random_.randrange(1, 63), 1 << 40))
+                    for k in range(many)]
+            text = b''.join(b'%d %d %d\n' % line for line in made)
+            for wanted in ((0, 1, 2), (1, 2), (2,), (1,), (0,)):
+                got = parse_integers.fields(text, wanted)
+                self.assertEqual([one.tolist() for one in got],
+                                 [[line[field] for line in made] for field in wanted])
+
+    def test_plain_lines(self):
+        """Lines are read, or left to others, whatever stands in them; never as other numbers."""
+        random_ = random.Random(4)
+        odd = [9223372036854775807, 9223372036854775808, -9223372036854775808, -9223372036854775809,
+               10 ** 18, 10 ** 19 - 1, -10 ** 19 + 1, 10 ** 19, 0]
+        for _ in range(300):
+            made = [(random_.randrange(1, 99), random_.choice(odd) if random_.random() < .3
+                     else random_.randrange(-99, 99)) for _ in range(random_.randrange(1, 9))]
+            fits = all(-1 << 63 <= value < 1 << 63 for line in made for value in line)
+            got = parse_integers.read_plain(b''.join(b'%d %d\n' % line for line in made), 2)
+            self.assertEqual(got is not None, fits, made)
+            if got is not None:
+                self.assertEqual(list(zip(*(one.tolist() for one in got))), made)
+        for text in (b'1 2', b'1  2\n', b'1 +2\n', b'1 -\n', b'1 2-2\n', b'--1 2\n', b'\n1 2\n',
+                     b'1\t2\n', b'1 2 3\n', b'1 00000000000000000012\n', b'-1-2 3\n'):
+            self.assertIsNone(parse_integers.read_plain(text, 2), text)
+
+    def test_even_lines(self):
+        for text, delimiter, count in ((b'', None, 0), (b'1 2\n', None, 1),
+                                       (b' 1\t2 \n\n3 4', None, 2), (b'1 2\n3\n', None, None),
+                                       (b'a,b\n \n,c\n', ',', 2),
+                                       (b'a,b\nc\n', ',', None), (b'a\tb\n\t\n', '\t', 2),
+                                       (b'a,b,c\n', ',', None)):
+            with mock.patch.object(parse_integers, 'PIECE', 1):
+                self.assertEqual(parse_integers.count_even_lines(text, 2, delimiter), count, text)
+
+    def test_short_chunks(self):
+        text = b''.join(b'%d %d %d\n' % (k, 7 * k, -k) for k in range(1, 4000))
+        with mock.patch.object(parse_integers, 'CHUNK', 64), \
+                mock.patch.object(parse_integers, 'SHORT', 0):
+            rows, columns, values = parse_integers.fields(text, (0, 1, 2))
+        self.assertEqual((rows.sum(), columns.sum(), values.sum()), (7998000, 55986000, -7998000))
+
+
+class Loading(InSession):
+    """Texts that are shorter: without values where each is 1, and with one triangle where the
+    caller says that the other is alike."""
+
+    def kinds(self):
+        return list, numpy.array
+
+    def test_ones(self):
+        for kind in self.kinds():
+            rows, columns = kind([0, 3, 1]), kind([4, 0, 1])
+            for values, bare in ((1, True), (kind([1, 1, 1]), True), (kind([1, 2, 1]), False),
+                                 (kind([-1, 1, 1]), False)):
+                A = self.s.from_coo(rows, columns, values, 5, 5)
+                want = [1, 1, 1] if bare else list(values)
+                self.assertEqual(A.to_dict(),
+                                 {(int(i), int(j)): int(v) for i, j, v in zip(rows, columns, want)})
+            self.assertIn(b'pattern',
+                          matrix_text.write(matrix_text.Triples(rows, columns, kind([1, 1, 1]), 5,
+                                                                5), ones=True))
+            self.assertNotIn(b'pattern',
+                             matrix_text.write(matrix_text.Triples(rows, columns, kind([1, 1, 1]),
+                                                                   5, 5)))
+            self.assertNotIn(b'pattern',
+                             matrix_text.write(matrix_text.Triples(rows, columns, kind([1, 1, 0]),
+                                                                   5, 5), ones=True))
+
+    def test_symmetric(self):
+        want = {(0, 1): 5, (1, 0): 5, (3, 2): -6, (2, 3): -6, (4, 4): 7}
+        for kind in self.kinds():
+            A = self.s.from_coo(kind([0, 3, 4]), kind([1, 2, 4]), kind([5, -6, 7]), symmetric=True)
+            self.assertEqual((A.shape, A.to_dict(), A.directed), ((5, 5), want, False))
+            ones = self.s.from_coo(kind([0, 3, 4]), kind([1, 2, 4]), 1, 6, 6, symmetric=True)
+            self.assertEqual(ones.to_dict(), dict.fromkeys(want, 1))
+            with self.assertRaises(spmat.TextRefused) as said:
+                self.s.from_coo(kind([0, 3, 1]), kind([1, 2, 0]), kind([5, -6, 7]), symmetric=True)
+            self.assertIn('row 1, column 0 is given as entry 0 and as entry 2', str(said.exception))
+        with self.assertRaisesRegex(ValueError,
+                                    'symmetric=True is of a square matrix, not of 2 rows and 3 '
+                                    'columns'):
+            self.s.from_coo([0], [1], 1, 2, 3, symmetric=True)
+        with blocks.Sessions(2) as many:
+            self.assertEqual(many.from_coo([0, 3, 4], [1, 2, 4], [5, -6, 7],
+                                           symmetric=True).to_dict(), want)
+
+
+if __name__ == '__main__':
+    unittest.main()
