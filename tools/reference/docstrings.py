@@ -48,7 +48,7 @@ def sections_of(thing: Any) -> Dict[str, str]:
 def without_heads(text: str) -> str:
     """A docstring with numpydoc's sections as prose: arguments as a list, what is returned and
     raised as sentences, examples as code."""
-    parts = re.split(r'^(\w+)\n-{3,}\n', text, flags=re.M)
+    parts = re.split(r'^(\w+(?: \w+)?)\n-{3,}\n', text, flags=re.M)
     out = [parts[0]]
     for head, body in zip(parts[1::2], parts[2::2]):
         out.append(BODIES.get(head, str.strip)(body.strip('\n')))
@@ -61,9 +61,15 @@ def entries_of(body: str) -> List[Tuple[str, str]]:
     return [(name, ' '.join(said.split())) for name, said in pairs]
 
 
+def _list_entries(body: str) -> str:
+    """The entries of a section as a list."""
+    return '\n'.join('- `%s`: %s' % (name.split(' : ')[0], said)
+                     for name, said in entries_of(body))
+
+
 BODIES: Dict[str, Callable[[str], str]] = {
-    'Parameters': lambda body: '\n'.join('- `%s`: %s' % (name.split(' : ')[0], said)
-                                         for name, said in entries_of(body)),
+    'Parameters': _list_entries,
+    'Attributes': _list_entries,
     'Returns': lambda body: '\n\n'.join('Returns: %s' % said for _, said in entries_of(body)),
     'Raises': lambda body: '\n\n'.join('Raises %s %s' % (name, said[:1].lower() + said[1:])
                                        for name, said in entries_of(body)),

@@ -97,21 +97,26 @@ def operators() -> List[str]:
     return [name for name, thing in found.items() if name in listed or inspect.isfunction(thing)]
 
 
+def described(kind: type) -> str:
+    """A class's docstring as prose."""
+    return docstrings.without_heads(inspect.getdoc(kind) or '')
+
+
 def page() -> str:
     """The whole page."""
     session, matrix = public(spmat.Session), public(spmat.Matrix)
     parts = [
-        HEAD % spmat.__version__, chapter('Sessions', inspect.getdoc(spmat.Session) or '',
+        HEAD % spmat.__version__, chapter('Sessions', described(spmat.Session),
                                           below(subjects.with_others(subjects.SESSION, session),
                                                 lambda name: member(spmat.Session, name, 's'))),
-        chapter('Matrices', inspect.getdoc(spmat.Matrix) or '',
+        chapter('Matrices', described(spmat.Matrix),
                 below(subjects.with_others(subjects.MATRIX, matrix),
                       lambda name: member(spmat.Matrix, name, 'A'))),
-        chapter('Masks', inspect.getdoc(spmat.Mask) or '', iter(())),
+        chapter('Masks', described(spmat.Mask), iter(())),
         chapter('Operators and loops', READY,
                 below(subjects.with_others(subjects.OPERATORS, operators()),
                       lambda name: function(spmat, name, 'spmat.'))),
-        chapter('A loop', inspect.getdoc(spmat.Loop) or '',
+        chapter('A loop', described(spmat.Loop),
                 map(lambda name: member(spmat.Loop, name, 'loop'), public(spmat.Loop))),
         chapter('Algorithms', inspect.getdoc(algorithms) or '',
                 below(subjects.algorithms_by_subject(algorithm_modules()),

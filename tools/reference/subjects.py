@@ -42,14 +42,13 @@ OPERATORS = (
     Subject('Loops and graphs', ('fixpoint', 'loop', 'steady', 'empty', 'bipartite', 'concat')),)
 # The modules of spmat.algorithms under their subjects: an algorithm is shown where its module is.
 ALGORITHM_MODULES = {
-    'Degrees, triangles, undirected graphs': ('protocols', 'utils', 'triangle_counts'),
+    'Degrees, triangles, undirected graphs': ('triangle_counts',),
     'Searches and shortest paths': ('bfs', 'single_source_paths', 'shortest_path_trees',
-                                    'all_pairs_lengths', 'multi_source_bfs', 'distance_measures'),
-    'Components, orders and trees': ('components', 'strong_components', 'bipartite',
-                                     'independent_set', 'topological_order', 'spanning_forest'),
-    'Centrality': ('page_rank', 'betweenness_centrality', 'centrality'),
-    'Communities and dense parts': ('label_propagation_communities', 'louvain_communities',
-                                    'core_decomposition', 'truss'),
+                                    'all_pairs_lengths', 'distance_measures'),
+    'Components, orders and trees': ('components', 'strong_components', 'independent_set',
+                                     'topological_order', 'spanning_forest'),
+    'Centrality': ('page_rank', 'betweenness_centrality', 'centrality', 'katz_centrality'),
+    'Communities and dense parts': ('communities', 'core_decomposition'),
     'Similarity': ('neighbour_similarity',),
 }
 PICTURES = ('spy', 'degree_histogram', 'graph', 'levels', 'route')
