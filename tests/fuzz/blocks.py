@@ -177,7 +177,7 @@ def settings(weather, chance):
     if weather == 'budget':
         return {'steps': chance.choice((30_000, 90_000))}
     return ({'program': ['sh', '-c', 'ulimit -v 7000; exec "$0" "$@"',
-                         spmat._client.server_program.program_words(None)[0]]}
+                         spmat.wire.server_program.program_words(None)[0]]}
             if weather == 'memory' else {})
 
 

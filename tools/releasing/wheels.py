@@ -22,7 +22,7 @@ from tools.releasing import tree
 PLATFORM = 'manylinux_2_34_x86_64'
 # of entry_points.txt, as setuptools writes it
 SECTION = b'[console_scripts]\n'
-COMMAND = b'spmat = spmat._client.server_program:main\n'
+COMMAND = b'spmat = spmat.wire.server_program:main\n'
 ANY = 'py3-none-any'
 GATEWAY = 'spmat_gateway'
 TIME = (1980, 1, 1, 0, 0, 0)

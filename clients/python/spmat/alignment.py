@@ -6,11 +6,11 @@ from typing import Any, Dict, List, NamedTuple, Sequence, Tuple, TypeVar, cast
 
 import numpy
 
-from .aliases import alias
 from .errors import NamesDiffer, refusal
 from .io.exporters import Held
 from .limits import MOST_SIDE
 from .metadata import COLUMNS, POSITIONS, ROWS, Axis, Nodes, check_names, vertices_of
+from .shared_entries import alias
 
 M = TypeVar('M', bound=Held)
 WAYS = ('outer', 'inner')

@@ -10,16 +10,16 @@ from typing import TYPE_CHECKING, Any, Callable, Dict, List, Optional, Tuple, Ty
 from . import aggregators, submatrices, units
 from .backends.protocol import Handle, Job
 from .backends.unread import reading
-from .common_session import common_session
-from .derivation import masked, of_update, on_diagonal
 from .errors import refusal
 from .io.coo import side, whole
 from .job_operators import of_form, ring_of
 from .mask import Mask, as_mask, structure
-from .metadata import (BY_POSITIONS, COLUMNS, ELEMENTWISE, NOTHING, ROWS, Notes, even, hint_of,
+from .metadata import (BY_POSITIONS, COLUMNS, ELEMENTWISE, NOTHING, ROWS, Metadata, even, hint_of,
                        joined, of_copy)
 from .operators import Op, Semiring, binary, indexunary, unary
 from .python_syntax import Signs
+from .result_metadata import masked, of_update, on_diagonal
+from .session_of_operands import common_session
 
 if TYPE_CHECKING:
     from .job_operators import Ring
@@ -846,7 +846,7 @@ class Composites(Signs, metaclass=MatrixType):
         return cast(C, submatrices.reshaped(matrix, nrows, ncols, order, name))
 
 
-def check_mask(where: Mask, shape: Tuple[int, int], notes: Notes) -> None:
+def check_mask(where: Mask, shape: Tuple[int, int], notes: Metadata) -> None:
     """DimensionMismatch where a mask has another shape than the result, of which `notes` are
     known."""
     if where.matrix.shape != shape:
@@ -854,7 +854,7 @@ def check_mask(where: Mask, shape: Tuple[int, int], notes: Notes) -> None:
             *shape, *where.matrix.shape, hint_of(notes, where.matrix.notes)))
 
 
-def notes_under(where: Mask, shape: Tuple[int, int], notes: Notes) -> Notes:
+def notes_under(where: Mask, shape: Tuple[int, int], notes: Metadata) -> Metadata:
     """What is known of a result under a mask. DimensionMismatch where the mask has another shape,
     NamesDiffer where it has other names."""
     check_mask(where, shape, notes)

@@ -30,7 +30,7 @@ import copy
 import re
 from typing import Any, Callable, Dict, Optional, Sequence, Tuple, Type, TypeVar
 
-from ._client.protocol import COMMANDS
+from .wire.protocol import COMMANDS
 
 SENTENCES: Dict[str, str] = {
     'S1': "unknown command: the first word is no command's, whatever follows it",

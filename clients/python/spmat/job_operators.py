@@ -9,13 +9,13 @@ from typing import Any, Dict, NamedTuple, NoReturn, Optional, Tuple, Union
 
 import numpy
 
-from ._client.protocol import FORMS
 from .errors import UnitsDiffer, refusal
 from .exact_numbers import TimeUnit, compared, exact_number, is_time
 from .io import coo
 from .operators import READY, Op, Operator, Semiring, find, find_semiring
 from .units import (COMPARE, FIRST, KEEP, MEET, OVER, SECOND, SHIFT, TIMES, UNDER, Unit, is_whole,
                     meaning_of, name_of, plain, to_stored)
+from .wire.protocol import FORMS
 
 Number = Union[int, float, Fraction, Decimal, datetime.date, datetime.timedelta, numpy.datetime64,
                numpy.timedelta64]

@@ -5,8 +5,8 @@ import sys
 import warnings
 from typing import TYPE_CHECKING, Any, NamedTuple, Optional, Type, Union
 
-from .common_session import common_session
 from .errors import MaskWarning, refusal
+from .session_of_operands import common_session
 
 if TYPE_CHECKING:
     from .io.exporters import Held

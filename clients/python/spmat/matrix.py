@@ -6,15 +6,15 @@ from typing import TYPE_CHECKING, Any, Iterator, Optional, Sequence, Tuple, Type
 
 import numpy
 
-from . import aggregators, derivation, metadata, overflow, oversized_jobs
+from . import aggregators, metadata, overflow, oversized_jobs, result_metadata
 from .backends.protocol import Handle, Job, OneVisit
-from .common_session import common_session
 from .composites import Composites, notes_under
 from .display import html
 from .errors import TooLarge, refusal
 from .job_operators import Number, Ring, applied, of_form, of_index, ring_of
 from .mask import Mask, as_mask, structure
 from .operators import Op, Operator
+from .session_of_operands import common_session
 
 if TYPE_CHECKING:
     from .session import Session
@@ -237,7 +237,7 @@ class Matrix(Composites):
         {(0, 0): 13, (1, 1): 6}
         """
         sent = applied(op, right, left, self.notes.unit)
-        notes = derivation.of_applied(self.notes, sent.op, sent.even, sent.unit)
+        notes = result_metadata.of_applied(self.notes, sent.op, sent.even, sent.unit)
         span = None if sent.unit == 1 else overflow.of_applied(self, sent)
         made = self._queue(Job('apply', (sent.op,), (self.handle,), self.handle.shape, sent.thunk),
                            (self,), notes, mask, name)
@@ -287,7 +287,7 @@ class Matrix(Composites):
             metadata.check_counts_places(op, self.notes)
         found = of_form('select', op)
         found, stored, _ = of_index(found, thunk, self.notes.unit)
-        notes = derivation.of_selected(self.notes, found, stored)
+        notes = result_metadata.of_selected(self.notes, found, stored)
         return self._queue(Job('select', (found,), (self.handle,), self.handle.shape, stored),
                            (self,), notes, mask, name)
 
@@ -574,7 +574,7 @@ class Matrix(Composites):
         if aggregators.is_aggregator(op):
             return aggregators.aggregated(self, cast(str, op), 1, mask, name)
         found = of_form('reduce', op)
-        notes = derivation.derive('reduce', (found,), self.notes)
+        notes = result_metadata.derive('reduce', (found,), self.notes)
         return self._queue(Job('reduce', (found,), (self.handle,), (self.nrows, 1)), (self,), notes,
                            mask, name)
 
@@ -585,16 +585,16 @@ class Matrix(Composites):
         return self._queue(job, (self, other), self._derive(form, (op,), other), mask, name)
 
     def _derive(self, form: str, operators: Tuple[Operator, ...],
-                other: 'Matrix') -> metadata.Notes:
+                other: 'Matrix') -> metadata.Metadata:
         """What is known of the result of a job on this matrix and another."""
         one, two = self.handle, other.handle
         mirrors = ((one.transposed is not None or two.transposed is not None)
                    and one.mirrors(two))
-        return derivation.derive(form, operators, self.notes, other.notes, same=one is two,
-                                 mirrors=mirrors)
+        return result_metadata.derive(form, operators, self.notes, other.notes, same=one is two,
+                                      mirrors=mirrors)
 
-    def _queue(self, job: Job, operands: Sequence['Matrix'], notes: metadata.Notes, mask: MaskLike,
-               name: Optional[str]) -> 'Matrix':
+    def _queue(self, job: Job, operands: Sequence['Matrix'], notes: metadata.Metadata,
+               mask: MaskLike, name: Optional[str]) -> 'Matrix':
         """The result of a job, of which `notes` are known without the mask."""
         if mask is not None:
             where = as_mask(mask)
@@ -611,7 +611,7 @@ class Matrix(Composites):
             job, operands = job._replace(mask=cut.handle), (*operands, cut)
         return self._submit(job, operands, notes, name)
 
-    def _visit(self, job: Job, operands: Sequence['Matrix'], where: Mask, notes: metadata.Notes,
+    def _visit(self, job: Job, operands: Sequence['Matrix'], where: Mask, notes: metadata.Metadata,
                name: Optional[str], method: Tuple[Any, ...] = (),
                **options: Any) -> Optional['Matrix']:
         """The result of a method under a mask, of which this job is the last, where one visit to a
@@ -622,7 +622,7 @@ class Matrix(Composites):
         job = job._replace(mask=where.matrix.handle, visit=visit)
         return self._submit(job, (*operands, where.matrix), notes, name)
 
-    def _submit(self, job: Job, operands: Sequence['Matrix'], notes: metadata.Notes,
+    def _submit(self, job: Job, operands: Sequence['Matrix'], notes: metadata.Metadata,
                 name: Optional[str]) -> 'Matrix':
         session, is_vector = self.session, False
         for operand in operands:
@@ -734,5 +734,5 @@ def bipartite(B: Matrix) -> Matrix:
     made = B.session.from_coo(numpy.concatenate((rows, columns)),
                               numpy.concatenate((columns, rows)),
                               numpy.concatenate((values, values)), ends, ends)
-    made.notes = derivation.of_both_sides(B.notes, B.nrows, B.ncols)
+    made.notes = result_metadata.of_both_sides(B.notes, B.nrows, B.ncols)
     return made

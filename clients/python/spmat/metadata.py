@@ -2,7 +2,7 @@
 undirected, whether it has weights.
 
 Sessions note it of what they read, and each job hands on what stays true of its result, as
-`derivation` has it. It is kept by the client alone: the server knows numbers.
+`result_metadata` has it. It is kept by the client alone: the server knows numbers.
 """
 from __future__ import annotations
 
@@ -217,7 +217,7 @@ def _pair(nodes: Any) -> Optional[Tuple[Any, Any]]:
     return nodes if is_pair else None
 
 
-class Notes(NamedTuple):
+class Metadata(NamedTuple):
     """The names of the rows and of the columns, where they have any; whether an entry (i, j) may
     stand without one of (j, i), or with one of another value; and whether the values are weights
     that the caller gave. None: not known. `source` says what was taken of the file or table that
@@ -239,7 +239,7 @@ class Notes(NamedTuple):
     def __repr__(self) -> str:
         sides = ['None' if names is None else '<%d names>' % len(names)
                  for names in (self.rows, self.columns)]
-        return 'Notes(rows=%s, columns=%s, directed=%r, weighted=%r, source=%r, unit=%s%s)' % (
+        return 'Metadata(rows=%s, columns=%s, directed=%r, weighted=%r, source=%r, unit=%s%s)' % (
             *sides, self.directed, self.weighted, self.source, self.unit,
             ', values are vertices' if self.value_names is not None else '')
 
@@ -252,15 +252,15 @@ class Notes(NamedTuple):
         return (Axis(self.columns, self.unnamed_columns) if axis
                 else Axis(self.rows, self.unnamed_rows))
 
-    def with_axes(self, rows: Axis, columns: Axis) -> 'Notes':
+    def with_axes(self, rows: Axis, columns: Axis) -> 'Metadata':
         """The same of a matrix whose rows and columns are called so."""
         return self._replace(rows=rows.names, columns=columns.names, unnamed_rows=rows.unnamed,
                              unnamed_columns=columns.unnamed)
 
 
-NOTHING = Notes()
-ALIKE = Notes(unnamed_rows=Unnamed.ALIKE, unnamed_columns=Unnamed.ALIKE)
-BY_POSITIONS = Notes(unnamed_rows=Unnamed.POSITIONS, unnamed_columns=Unnamed.POSITIONS)
+NOTHING = Metadata()
+ALIKE = Metadata(unnamed_rows=Unnamed.ALIKE, unnamed_columns=Unnamed.ALIKE)
+BY_POSITIONS = Metadata(unnamed_rows=Unnamed.POSITIONS, unnamed_columns=Unnamed.POSITIONS)
 
 
 def without_names(matrix: N) -> N:
@@ -298,7 +298,7 @@ TRANSPOSE: Pairs = ((ROWS, COLUMNS, 'the rows of the graph and the columns of it
 VERTICES: Pairs = ((ROWS, ROWS, 'the vertices of the graph and the rows of the column'),)
 
 
-def joined(first: Notes, second: Notes, pairs: Pairs) -> List[Axis]:
+def joined(first: Metadata, second: Metadata, pairs: Pairs) -> List[Axis]:
     """What each pair of rows or columns of two matrices is called that have to mean the same
     vertices. NamesDiffer where two can't.
 
@@ -317,7 +317,7 @@ def joined(first: Notes, second: Notes, pairs: Pairs) -> List[Axis]:
     return out
 
 
-def _remedy(first: Notes, second: Notes, axes: Axes, pairs: Pairs) -> str:
+def _remedy(first: Metadata, second: Metadata, axes: Axes, pairs: Pairs) -> str:
     """What to do about names that differ."""
     if not all(axis.has_names for axis in axes):
         return POSITIONS
@@ -337,7 +337,7 @@ def _differences(a: Axis, b: Axis) -> str:
     return ', '.join(itertools.islice(found, SHOWN_NAMES))
 
 
-def hint_of(first: Notes, second: Notes) -> str:
+def hint_of(first: Metadata, second: Metadata) -> str:
     """What to do about two matrices with vertices of their own whose sizes differ, behind a
     semicolon; else nothing."""
     return ('; ' + ALIGN if all(axis.has_names for one in (first, second)
@@ -350,24 +350,24 @@ def _is_one(a: Axis, b: Axis) -> bool:
     return names is not None and len(names) == 1
 
 
-def _is_vertex(notes: Notes) -> bool:
+def _is_vertex(notes: Metadata) -> bool:
     """Whether a matrix of one row, or column, is a graph of one vertex, which has one name."""
     sides = notes.axis(ROWS), notes.axis(COLUMNS)
     return all(axis.has_names for axis in sides) and sides[0].agrees(sides[1])
 
 
-def even(*both: Notes) -> Optional[bool]:
+def even(*both: Metadata) -> Optional[bool]:
     """What is known of directions, where what two symmetric matrices make is symmetric."""
     return False if all(one.directed is False for one in both) else None
 
 
-def turned(first: Notes) -> Notes:
+def turned(first: Metadata) -> Metadata:
     """What is known of the transpose."""
     return first.with_axes(first.axis(COLUMNS),
                            first.axis(ROWS))._replace(source='', sides=-first.sides)
 
 
-def of_copy(first: Notes) -> Notes:
+def of_copy(first: Metadata) -> Metadata:
     """What is known of a copy, which is a job."""
     return NOTHING if first is NOTHING else first._replace(directed=even(first), source='')
 
@@ -375,7 +375,7 @@ def of_copy(first: Notes) -> Notes:
 BY_PLACE: Dict[str, int] = {'rowle': ROWS, 'rowgt': ROWS, 'colle': COLUMNS, 'colgt': COLUMNS}
 
 
-def check_counts_places(op: str, first: Notes) -> None:
+def check_counts_places(op: str, first: Metadata) -> None:
     """ValueError where a ready operator counts rows or columns that have other numbers for
     names."""
     axis = BY_PLACE.get(op)
@@ -393,21 +393,21 @@ TWO_KINDS = ('a graph has one kind of vertices, and rows and columns of this mat
              'neighbours two rows share')
 
 
-def check_one_kind(graph: Notes) -> None:
+def check_one_kind(graph: Metadata) -> None:
     """ValueError where the rows and the columns of a square matrix are vertices of two kinds."""
     rows, columns = graph.axis(ROWS), graph.axis(COLUMNS)
     if graph.sides or (rows.has_names and columns.has_names and not rows.agrees(columns)):
         raise ValueError(TWO_KINDS)
 
 
-def of_vertices(first: Notes, graph: Notes) -> Notes:
+def of_vertices(first: Metadata, graph: Metadata) -> Metadata:
     """What is known of a column, of which nothing is known but that it says something of each
     vertex of a graph."""
     axis = vertices_of(graph)
     return first if axis is None else first._replace(rows=axis.names, unnamed_rows=axis.unnamed)
 
 
-def vertices_of(graph: Notes) -> Optional[Axis]:
+def vertices_of(graph: Metadata) -> Optional[Axis]:
     """What the vertices of a square matrix are called: its rows and its columns; None where these
     differ."""
     rows, columns = graph.axis(ROWS), graph.axis(COLUMNS)

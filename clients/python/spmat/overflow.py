@@ -15,12 +15,12 @@ from typing import (TYPE_CHECKING, Any, Callable, Dict, List, NamedTuple, Option
 import numpy
 
 from . import units
-from .derivation import RULES
 from .errors import BudgetExceeded, OverflowWarning
 from .io.coo import LEAST, MOST
 from .io.matrix_text import Triples
 from .mask import warn_user
 from .operators import READY, Op, Operator, find
+from .result_metadata import RULES
 
 if TYPE_CHECKING:
     from .backends.protocol import Backend, Job

@@ -5,10 +5,6 @@ import io
 from typing import TYPE_CHECKING, Any, Dict, List, Optional, Tuple, Type, Union
 
 from . import limits, overflow, units
-from ._client.connection import SECONDS, Connection, Progress, checked_settings
-from ._client.server_program import Program
-from ._client.transport import Address, Timeouts
-from .aliases import alias
 from .backends.protocol import Budget, Run
 from .backends.server import ServerBackend
 from .backends.unread import all_priced, backend_now
@@ -23,6 +19,10 @@ from .limits import MOST_STEPS
 from .matrix import Matrix
 from .metadata import BY_POSITIONS, NOTHING, as_constant
 from .operators import Operator, diagnostics, find
+from .shared_entries import alias
+from .wire.connection import SECONDS, Connection, Progress, checked_settings
+from .wire.server_program import Program
+from .wire.transport import Address, Timeouts
 
 if TYPE_CHECKING:
     import ssl

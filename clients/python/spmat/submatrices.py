@@ -13,7 +13,6 @@ from typing import TYPE_CHECKING, Any, List, Optional, Sequence, Tuple, Union
 import numpy
 
 from . import units
-from .common_session import common_session
 from .errors import refusal
 from .indexing import WHAT, Chosen, check_once, choose_places, pair_of
 from .io import coo
@@ -23,6 +22,7 @@ from .mask import Mask, as_mask, structure, warn_user
 from .metadata import (BY_POSITIONS, COLUMNS, NOTHING, ROWS, Axis, Nodes, Unnamed, axis_of, even,
                        joined)
 from .operators import Op
+from .session_of_operands import common_session
 
 if TYPE_CHECKING:
     from .matrix import Matrix, MaskLike

@@ -14,13 +14,13 @@ import math
 from fractions import Fraction
 from typing import Any, Dict, NoReturn, Optional, Tuple, Union
 
-from .aliases import alias
-from .exact_numbers import TimeUnit, exact_in as exact_in, exact_number as exact_number
 from .errors import UnitsDiffer
+from .exact_numbers import TimeUnit, exact_in as exact_in, exact_number as exact_number
 from .io import coo
 from .io.matrix_text import is_array
 from .io.values import UNITS
 from .operators import Op, READY, Operator, find
+from .shared_entries import alias
 
 Unit = Union[int, Fraction]
 

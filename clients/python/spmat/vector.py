@@ -6,12 +6,12 @@ from typing import Any, Optional, Tuple, Type
 
 import numpy
 
-from .aliases import alias
 from .backends.unread import reading
 from .errors import refusal
 from .indexing import choose_places
 from .mask import Mask
 from .matrix import Matrix
+from .shared_entries import alias
 from .submatrices import take, value_of
 
 

@@ -6,7 +6,7 @@ import unittest
 import support  # noqa: F401 (finds the program)
 import spmat
 from spmat import Semiring, asm, binary, code, indexunary, semiring, unary
-from spmat._client import connection
+from spmat.wire import connection
 
 A_MAP = {(0, 0): 5, (0, 2): -3, (1, 1): 0, (2, 0): 7, (2, 2): 2}
 B_MAP = {(0, 0): 2, (1, 1): 4, (1, 2): 1, (2, 2): 6}

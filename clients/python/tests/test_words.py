@@ -5,7 +5,7 @@ import unittest
 import support  # noqa: F401 (finds the program)
 import spmat
 from spmat import operators
-from spmat._client.connection import checked_settings
+from spmat.wire.connection import checked_settings
 from spmat.operators.c import FromC
 
 

@@ -31,7 +31,6 @@ from .all_pairs_lengths import (all_pairs as all_pairs, path_lengths as path_len
                                 transitive_closure as transitive_closure)
 from .betweenness_centrality import betweenness as betweenness
 from .bfs import bfs_levels as bfs_levels, bfs_parents as bfs_parents, k_hop as k_hop
-from .centrality import eigenvector as eigenvector, hits as hits
 from .communities import (label_propagation as label_propagation, louvain as louvain,
                           modularity as modularity)
 from .components import (bipartite_sides as bipartite_sides,
@@ -39,6 +38,7 @@ from .components import (bipartite_sides as bipartite_sides,
 from .core_decomposition import core_numbers as core_numbers, k_core as k_core
 from .distance_measures import (Bounds as Bounds, closeness as closeness, diameter as diameter,
                                 distance_counts as distance_counts, eccentricity as eccentricity)
+from .eigenvector_and_hits import eigenvector as eigenvector, hits as hits
 from .independent_set import maximal_independent_set as maximal_independent_set
 from .katz_centrality import katz as katz
 from .modelled_bounds import with_model

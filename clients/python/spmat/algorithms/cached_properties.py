@@ -5,11 +5,11 @@ from __future__ import annotations
 import random
 from typing import Any, Callable, Optional, Tuple, cast
 
-from ..aliases import alias, is_same
 from ..io.exporters import Held
 from ..matrix import Matrix
 from ..metadata import NOTHING, turned
 from ..operators import asm
+from ..shared_entries import alias, is_same
 
 # Of an entry (i, j) a number that is that of (j, i) with the other sign. The thunk is an odd number
 # drawn at random. The entries of a graph whose edges all lead both ways add up to 0; those of any

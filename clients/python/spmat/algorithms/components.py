@@ -5,16 +5,16 @@ from typing import Iterator, List, Optional
 
 import numpy
 
-from ..aliases import is_same
 from ..matrix import Matrix
 from ..operators import Semiring, asm, binary
+from ..shared_entries import is_same
 from . import step_bounds
 from .bfs import Search, find_levels
 from .cached_properties import check_undirected, transpose_of
-from .types import Array, Place
 from .registry import algorithm
 from .traversal import (Columns, Traversal, Vector, find_both_directions, find_pushes, put_all,
                         read_values)
+from .types import Array, Place
 from .utils import (Progress, beside, column, mark_rows, name_of, nothing, order, rows_of, tell)
 
 GREATEST = Semiring(binary.max, binary.first)

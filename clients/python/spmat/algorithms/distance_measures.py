@@ -15,21 +15,21 @@ from typing import Callable, Dict, List, NamedTuple, Optional, Tuple
 import numpy
 
 from .. import units
-from ..aliases import is_same
 from ..limits import MOST_SIDE
 from ..loops import Loop, State, empty
 from ..matrix import Matrix
 from ..metadata import without_names
 from ..operators import Semiring, asm, binary
+from ..shared_entries import is_same
 from . import step_bounds
 from .all_pairs_lengths import lengths_from, reach_of
 from .bfs import NONE, Search, run_search
 from .cached_properties import extremes, is_both_ways, transpose_of
-from .types import Array, Place
 from .registry import algorithm
 from .results import Centrality, as_centrality, unit_of
 from .traversal import find_traversal, put_all, read_column, spread
 from .triangle_counts import degrees
+from .types import Array, Place
 from .utils import Progress, beside, mark_rows, name_of, nothing, order, tell
 
 WORD = 64

@@ -11,8 +11,9 @@ from ..matrix import Matrix
 from ..operators import Operator, Semiring, asm, binary
 from ..units import exact_number, with_unit
 from . import step_bounds
-from .centrality import (BITS, LEAST_BITS, ONE, ROUNDS, Settled, check_options, find_steps,
-                         greatest_of, keep_tolerance, norm_of, put_numbers, sum_of)
+from .eigenvector_and_hits import (BITS, LEAST_BITS, ONE, ROUNDS, Settled, check_options,
+                                   find_steps, greatest_of, keep_tolerance, norm_of, put_numbers,
+                                   sum_of)
 from .registry import algorithm
 from .results import Centrality, as_centrality, keep_partial, unit_of
 from .types import Array

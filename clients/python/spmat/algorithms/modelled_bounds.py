@@ -16,14 +16,14 @@ from ..pricing.call_price import Bound
 from ..pricing.call_sizes import CallSizes
 from . import rank_model, server_loops, step_bounds
 from .bfs import Search, run_search
-from .centrality import find_eigenvector, find_hubs
 from .distance_measures import Eccentricities
+from .eigenvector_and_hits import find_eigenvector, find_hubs
 from .graph_model import LARGEST, GraphModel, ModelSteps, turn
 from .independent_set import draw_on_paper
-from .types import Array, Place
 from .registry import Algorithm
 from .single_source_paths import MOST, count_rounds
 from .traversal import SMALL
+from .types import Array, Place
 from .utils import find_place
 
 DENSE = 1 << 9                         # vertices of a graph whose adjacency is made a table

@@ -9,10 +9,10 @@ from __future__ import annotations
 
 from typing import Tuple
 
-from ..aliases import is_same
 from ..limits import MOST_SIDE
 from ..pricing.call_price import Bound
 from ..pricing.call_sizes import CallSizes, rounds_to
+from ..shared_entries import is_same
 
 # levels behind which a search on an ample budget is a loop at the server
 LONG = 32

@@ -8,12 +8,12 @@ from typing import Any, Callable, Iterable, List, Optional, Tuple, TypeVar, cast
 import numpy
 
 from .. import metadata
-from ..common_session import common_session
+from ..backends.unread import current_price
 from ..errors import NotSettled
 from ..io.matrix_text import Triples
 from ..job_operators import Ring
 from ..matrix import Matrix
-from ..backends.unread import current_price
+from ..session_of_operands import common_session
 from .cached_properties import found
 from .types import Array, Place, Vertex, Vertices
 

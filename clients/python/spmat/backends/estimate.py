@@ -13,12 +13,12 @@ from typing import TYPE_CHECKING, Any, Callable, Dict, List, NamedTuple, Optiona
 
 import numpy
 
-from .._client.protocol import FORMS, Places
 from ..io import matrix_text
 from ..io.matrix_text import Triples
 from ..limits import MOST_PRICE, MOST_SIDE
 from ..matrix import Matrix
 from ..operators import Operator, dataflow, indexunary
+from ..wire.protocol import FORMS, Places
 from .names import ServerHandle
 from .protocol import Backend, Budget, Handle, Job, Most, Run, most_of
 from .unread import Unforeseen, Unread, reading

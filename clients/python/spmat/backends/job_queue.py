@@ -5,11 +5,11 @@ from __future__ import annotations
 import collections
 from typing import Deque, Dict, Iterable, List, Optional, Tuple
 
-from .._client.commands import Command, Reply
-from .._client.connection import Connection
-from .._client.reply_checks import ExpectedJob, check_number, check_run
 from ..errors import BudgetExceeded, Refused, without_frames
 from ..limits import MOST_PRICE, MOST_SIDE, QUEUE
+from ..wire.commands import Command, Reply
+from ..wire.connection import Connection
+from ..wire.reply_checks import ExpectedJob, check_number, check_run
 from .names import SMALL, ServerHandle
 from .protocol import AMPLE, Handle, JobResult, Most, Run
 

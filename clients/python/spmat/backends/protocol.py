@@ -17,13 +17,13 @@ import weakref
 from typing import (TYPE_CHECKING, Any, Callable, ContextManager, Dict, Iterator, List, NamedTuple,
                     Optional, Tuple, Type)
 
-from .._client.protocol import FORMS, Places
 from ..display import html
 from ..errors import NotMade
 from ..io import matrix_text
 from ..io.matrix_text import Triples
 from ..limits import MOST_SIDE
 from ..operators import Operator
+from ..wire.protocol import FORMS, Places
 
 if TYPE_CHECKING:
     from ..matrix import Matrix

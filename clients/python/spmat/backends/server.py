@@ -9,15 +9,15 @@ import itertools
 import re
 from typing import TYPE_CHECKING, Any, Dict, List, Mapping, NamedTuple, Optional
 
-from .._client.commands import Command, Reply
-from .._client.connection import Connection
-from .._client.reply_checks import NOTHING, Limits, check_text, longest_text, sizes_of_text
-from .._client.turns import Turn
 from ..errors import BudgetExceeded, OperatorRefused, Refused, refusal, without_frames
 from ..io import matrix_text
 from ..io.matrix_text import Triples
 from ..limits import MOST_OPERATOR, MOST_SIDE, MOST_TEXT
 from ..operators import Operator, diagnostics
+from ..wire.commands import Command, Reply
+from ..wire.connection import Connection
+from ..wire.reply_checks import NOTHING, Limits, check_text, longest_text, sizes_of_text
+from ..wire.turns import Turn
 from .job_queue import Queue
 from .names import DeferredHandle, ServerNames, ServerHandle
 from .protocol import Backend, Budget, Handle, Job, Most, Run, most_of

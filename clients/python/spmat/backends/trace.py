@@ -4,11 +4,11 @@ from __future__ import annotations
 
 from typing import TYPE_CHECKING, Any, Dict, List, NamedTuple, NoReturn, Optional, Tuple, Union
 
-from ..aliases import alias
 from ..io.matrix_text import Triples
 from ..limits import MOST_PRICE, MOST_SIDE
 from ..matrix import Matrix
 from ..operators import Operator
+from ..shared_entries import alias
 from . import protocol
 from .protocol import Backend, Budget, Handle, Job, Most, Run, most_of
 

@@ -22,7 +22,7 @@ from ..errors import Refused, refusal
 from ..io import coo, files, matrix_market, matrix_text
 from ..io.files import name_of
 from ..io.matrix_text import Triples
-from ..metadata import NOTHING, Notes
+from ..metadata import NOTHING, Metadata
 from .executor import Progress
 from .row_partition import Cut
 
@@ -58,7 +58,7 @@ class Spooled(abc.ABC):
     `with`."""
     nrows: int
     ncols: int
-    notes: Notes = NOTHING
+    notes: Metadata = NOTHING
     symmetry = 'general'                           # of a file whose other triangle isn't here yet
 
     @property

@@ -20,12 +20,12 @@ import numpy
 
 from .. import overflow
 from ..errors import ReadError, TextRefused
-from ..io import files, graph_formats, matrix_market, matrix_text, parse_integers, tables
+from ..io import edge_list_reader, files, graph_formats, matrix_market, matrix_text, parse_integers
 from ..io.columns import Layout
 from ..io.coo import LEAST, MOST
+from ..io.edge_list_layout import Form
 from ..io.edge_sources import edges_of_frame
 from ..io.edges import LeftOut, number_ascending, number_names
-from ..io.lists import Form
 from ..io.matrix_text import Triples
 from ..io.values import Rounding
 from ..operators import Operator
@@ -198,7 +198,7 @@ class ListRange(NamedTuple):
 
     def read(self, bipartite: bool) -> Optional[EdgePart]:
         """Its edges; None where they have to be read line by line."""
-        found = tables.read_plain(read_lines(self.range), self.form, Rounding(None))
+        found = edge_list_reader.read_plain(read_lines(self.range), self.form, Rounding(None))
         return None if found is None else _number_edges(*found, bipartite)
 
 
@@ -215,7 +215,7 @@ class WholeFile(NamedTuple):
     def read(self, bipartite: bool) -> EdgePart:
         """Its edges. ReadError, with file and line, where it can't be read."""
         text = files.load(self.path)
-        read = graph_formats.read_table if text.startswith(b'PAR1') else tables.read
+        read = graph_formats.read_table if text.startswith(b'PAR1') else edge_list_reader.read
         edges = read(self.path, text, self.layout)
         return _number_edges(edges.sources, edges.targets, edges.values, bipartite)._replace(
             summary=edges.summary, left_out=edges.left_out)

@@ -6,10 +6,10 @@ from typing import TYPE_CHECKING, Any, Dict, Iterable, Iterator, List, Optional,
 
 import numpy
 
-from .._client.protocol import FORMS
 from ..algorithms.traversal import Vector, put_column, vector_of
 from ..backends.protocol import Job
 from ..operators import Operator, Semiring, binary
+from ..wire.protocol import FORMS
 from . import row_partition, worker_tasks
 from .row_partition import Cut
 from .shared_budget import Work

@@ -20,7 +20,7 @@ import numpy
 
 from .. import limits, units
 from ..errors import ReadError, Refused, refusal
-from ..io import lists, matrix_market
+from ..io import edge_list_layout, matrix_market
 from ..io.columns import Layout
 from ..io.edge_sources import choose_value_column
 from ..io.edges import FOLDS, How, LeftOut, check_direction
@@ -29,7 +29,7 @@ from ..io.formats import PARTED, Request, check_format
 from ..io.graph_formats import has_dictionaries
 from ..io.importers import DupOp
 from ..io.matrix_text import start_of_line
-from ..metadata import Nodes, Notes, axis_of
+from ..metadata import Metadata, Nodes, axis_of
 from ..operators import find
 from . import file_parts, row_partition, worker_tasks
 from .file_parts import Fold, Frame, ListRange, Market, Range, Repeated, Source, To, WholeFile
@@ -211,7 +211,7 @@ def _part_fields(request: Request) -> Layout:
         delimiter=PARTED.get(request.format or ''))
 
 
-def _find_table(path: str, request: Request) -> Optional[lists.Table]:
+def _find_table(path: str, request: Request) -> Optional[edge_list_layout.Table]:
     """How a list is written; None where the file is of another format, or parted by more than one
     byte."""
     with open(path, 'rb') as file:
@@ -219,7 +219,7 @@ def _find_table(path: str, request: Request) -> Optional[lists.Table]:
     head = head[:head.rfind(b'\n') + 1] if len(head) == HEAD else head
     if check_format(path, head, request.format) not in ('edges', 'csv', 'tsv'):
         return None
-    table = lists.lay_out(path, head, _part_fields(request))
+    table = edge_list_layout.lay_out(path, head, _part_fields(request))
     is_of_networkx = (request.layout.columns is None
                       and has_dictionaries(head, request.layout.comments))
     return table if table.form.is_by_byte and not is_of_networkx else None
@@ -281,7 +281,7 @@ def _read_sources(sessions: 'Inputs', sources: Sequence[Source], request: Reques
     made = _make_matrix(places, parts, to, vertices, Fold(op, unit, weighted), name)
     left_out = functools.reduce(LeftOut.plus, (part[3] for part in found), LeftOut())
     rows = axis_of(first)
-    made.notes = Notes(None, None, directed, weighted or op is not None,
+    made.notes = Metadata(None, None, directed, weighted or op is not None,
                        left_out.added_to(found[0][2]), unit, sides=int(bipartite)).with_axes(
                            rows, rows if last is first else axis_of(last))
     return made

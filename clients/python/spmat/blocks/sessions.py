@@ -11,13 +11,13 @@ import weakref
 from typing import Any, Callable, Dict, Iterable, List, Optional, Sequence, Tuple, Union
 
 from ..backends.protocol import Budget, JobResult, Run
-from .._client.server_program import Program
 from ..backends.unread import Unforeseen, backend_now, current_price
 from ..errors import BudgetExceeded, SpmatError
 from ..io import coo
 from ..limits import MOST_STEPS, MOST_WORKERS
 from ..operators import Op, Operator, diagnostics, find
 from ..session import Session
+from ..wire.server_program import Program
 from . import worker_tasks
 from .backend import BlockHandle, BlocksBackend
 from .errors import AtBlock, VersionMismatch, add_spent, name_block

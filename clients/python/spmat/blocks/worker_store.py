@@ -22,10 +22,10 @@ from dataclasses import dataclass, field, replace
 from typing import Any, Dict, Iterator, List, NamedTuple, Optional, Tuple
 
 from ..backends.protocol import Budget
-from .._client.server_program import Program, program_words
 from ..errors import Closed
 from ..limits import MOST_STEPS
 from ..matrix import Matrix
+from ..wire.server_program import Program, program_words
 from .errors import VersionMismatch
 from .shared_budget import Metered
 

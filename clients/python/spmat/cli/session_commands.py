@@ -7,11 +7,11 @@ import os
 import sys
 from typing import IO, Any, Iterator, List, NamedTuple, Optional, Sequence, Set, Tuple
 
-from .._client.protocol import FORMS, WORDS_WITH_BODY
 from ..errors import Refused
 from ..io import matrix_text
 from ..operators import KINDS, Operator, READY, asm, c as from_c, code, dataflow, diagnostics
 from ..progress import Bar
+from ..wire.protocol import FORMS, WORDS_WITH_BODY
 from . import output
 from .exit_status import Ended, Status, reading, status_of
 from .grammar import add_command

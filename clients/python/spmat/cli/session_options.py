@@ -7,10 +7,10 @@ import contextlib
 import os
 from typing import TYPE_CHECKING, Iterator, Optional
 
-from .._client.connection import Progress
-from .._client.transport import Address
 from ..limits import MOST_STEPS, MOST_WORKERS
 from ..session import Session
+from ..wire.connection import Progress
+from ..wire.transport import Address
 from .exit_status import Ended, Status
 from .grammar import read_number
 

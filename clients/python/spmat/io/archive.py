@@ -25,7 +25,7 @@ import numpy
 
 from ..errors import ReadError, SpmatError, TextRefused, TooLarge
 from ..limits import MOST_SIDE, MOST_TEXT
-from ..metadata import Nodes, Notes, Unnamed
+from ..metadata import Metadata, Nodes, Unnamed
 from ..units import as_unit
 from . import matrix_market
 from .coo import MOST
@@ -81,10 +81,10 @@ class Member(NamedTuple):
     it."""
     name: str
     entries: str
-    notes: Notes
+    notes: Metadata
 
 
-def read(path: Any) -> Iterator[Tuple[str, bytes, Notes]]:
+def read(path: Any) -> Iterator[Tuple[str, bytes, Metadata]]:
     """The name of each matrix, its text and what is known of it. ReadError where the file is none
     that `save` wrote, or is damaged: what it says of all matrices is held against their sizes
     before the first of them is given."""
@@ -153,7 +153,7 @@ def _typed(thing: Any, kind: Any, what: str) -> Any:
     return thing
 
 
-def _notes(about: Dict[str, Any], shape: Tuple[int, int]) -> Notes:
+def _notes(about: Dict[str, Any], shape: Tuple[int, int]) -> Metadata:
     """What is known of a matrix of these sizes. ValueError where it can't be."""
     rows = _decoded(about['rows'], shape[0])
     columns = _decoded(about['columns'], shape[1], rows)
@@ -171,7 +171,7 @@ def _notes(about: Dict[str, Any], shape: Tuple[int, int]) -> Notes:
         raise ValueError('a unit is a number above 0, not %.40r' % (unit,))
     if type(sides) is not int or not -1 <= sides <= 1:
         raise ValueError('sides are -1, 0 or 1, not %.40r' % (sides,))
-    return Notes(rows, columns, about['directed'], about['weighted'],
+    return Metadata(rows, columns, about['directed'], about['weighted'],
                  _typed(about['source'], str, 'source'),
                  as_unit(unit if unit in UNITS else Fraction(unit)), vertices, first, second, sides)
 

@@ -15,7 +15,7 @@ import numpy
 from ..errors import refusal
 from ..extras import import_extra
 from ..limits import MOST_SIDE
-from ..metadata import Nodes, Notes, axis_of
+from ..metadata import Metadata, Nodes, axis_of
 from . import matrix_market
 from .matrix_text import Triples
 
@@ -95,7 +95,7 @@ class Graph(NamedTuple):
     is known of it. Entries of one position may stand there again; `count_once` gives the graph
     without these."""
     triples: Triples
-    notes: Notes
+    notes: Metadata
     count_once: Callable[[], Graph]
 
 
@@ -129,7 +129,7 @@ def graph_of(edges: Edges, how: How) -> Graph:
     if not how.directed:
         triples = matrix_market.lowered(triples, 'symmetric')
     axis = axis_of(first)
-    notes = Notes(None, None, how.directed, edges.values is not None,
+    notes = Metadata(None, None, how.directed, edges.values is not None,
                   edges.left_out.added_to(edges.summary), sides=int(how.bipartite))
     notes = notes.with_axes(axis, axis if second is first else axis_of(second))
     return Graph(triples, notes, lambda: _keep_first(triples, notes, edges, (first, second)))
@@ -216,7 +216,8 @@ def number_ascending(columns: List[Any]) -> Tuple[List[Any], Any]:
     return [place[column - least] for column in columns], names
 
 
-def _keep_first(triples: Triples, notes: Notes, edges: Edges, names: Tuple[Nodes, Nodes]) -> Graph:
+def _keep_first(triples: Triples, notes: Metadata, edges: Edges,
+                names: Tuple[Nodes, Nodes]) -> Graph:
     """The graph with each entry once, the first of those at a position. The error of an edge that
     is given again, with both edges, where edges have values."""
     rows, columns = triples.rows, triples.columns

@@ -14,8 +14,8 @@ from .. import top_k
 from ..errors import BudgetExceeded, refusal
 from ..extras import import_extra
 from ..mask import warn_user
-from ..metadata import (COLUMNS, NOTHING, ROWS, Nodes, Notes, axes_of, check_one_kind, given_axis,
-                        list_of_names, vertices_of)
+from ..metadata import (COLUMNS, NOTHING, ROWS, Metadata, Nodes, axes_of, check_one_kind,
+                        given_axis, list_of_names, vertices_of)
 from ..units import Unit, are_decimals, as_unit, is_whole, rescaled, to_decimals
 from . import coo, files, matrix_text
 from .arrays import dense
@@ -35,7 +35,7 @@ class Held(Written):
     session: 'Session'
     nrows: int
     ncols: int
-    notes: Notes = NOTHING
+    notes: Metadata = NOTHING
     # the type of all values, by python-graphblas' name
     dtype = 'INT64'
     is_named = True                                # whether its name may be one that a caller gave

@@ -7,7 +7,7 @@ import re
 from typing import Callable, Dict, NamedTuple, Optional, Sequence, Tuple
 
 from ..errors import ReadError
-from . import dimacs, graph_formats, tables
+from . import dimacs, edge_list_reader, graph_formats
 from .columns import Layout
 from .edges import Edges, Graph, How, graph_of
 from .matrix_text import line_at
@@ -212,7 +212,7 @@ def _edges_of(file: str, text: bytes, request: Request) -> Tuple[Edges, How]:
     if layout.columns is None and graph_formats.has_dictionaries(text, layout.comments):
         return graph_formats.read_dictionaries(file, text, layout), how
     delimiter = layout.delimiter if layout.delimiter is not None else PARTED.get(format)
-    edges = tables.read(file, text, layout._replace(delimiter=delimiter))
+    edges = edge_list_reader.read(file, text, layout._replace(delimiter=delimiter))
     if edges.question and request.directed is None:
         raise ReadError(file, None, edges.question)
     return edges, how

@@ -10,9 +10,9 @@ from typing import Any, Callable, List, NamedTuple, Optional, Sequence, Tuple
 from ..errors import ReadError
 from ..extras import describe_missing, import_extra
 from .columns import Comments, Head, Layout, choose_columns
+from .edge_list_layout import SAMPLE, blank_comments
 from .edge_sources import convert_values, edges_of_frame
 from .edges import WHOLE, Edges
-from .lists import SAMPLE, blank_comments
 from .matrix_text import line_at
 
 CALLED = {'graphml': 'GraphML', 'gexf': 'GEXF', 'gml': 'GML'}

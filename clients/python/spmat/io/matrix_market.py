@@ -16,7 +16,7 @@ import numpy
 
 from ..errors import Refused, refusal
 from ..limits import MOST_SIDE
-from ..metadata import BY_POSITIONS, Notes
+from ..metadata import BY_POSITIONS, Metadata
 from ..units import as_unit
 from . import files, parse_integers
 from .coo import DUP_OP, LEAST
@@ -81,7 +81,7 @@ class Kind(NamedTuple):
         return self.field == 'pattern' or not self.values.read
 
     @property
-    def notes(self) -> Notes:
+    def notes(self) -> Metadata:
         """What is known of the matrix."""
         scale = None if self.is_bare else self.values.scale
         return BY_POSITIONS._replace(directed=False if self.symmetry == 'symmetric' else None,

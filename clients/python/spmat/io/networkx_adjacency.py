@@ -9,7 +9,7 @@ import numpy
 
 from ..errors import refusal
 from ..limits import MOST_SIDE
-from ..metadata import Nodes, Notes
+from ..metadata import Metadata, Nodes
 from .matrix_text import Triples
 from .values import Rounding, whole_numbers
 
@@ -29,7 +29,7 @@ def row_numbers(counts: List[int]) -> Any:
 
 
 def triples_of(graph: Any, weight: Optional[str], nodelist: Optional[Sequence[Any]],
-               folds: bool = False, scale: Optional[float] = None) -> Tuple[Triples, Notes]:
+               folds: bool = False, scale: Optional[float] = None) -> Tuple[Triples, Metadata]:
     """The triples of a graph, and its nodes. Entry (i, j) is the edge from node i to node j; an
     undirected edge stands both ways, a loop once. Edges that leave `nodelist` are left out.
     Parallel edges are entries of one position where the caller folds them. Weights are multiplied
@@ -64,7 +64,7 @@ def triples_of(graph: Any, weight: Optional[str], nodelist: Optional[Sequence[An
     triples = Triples(row_numbers(counts), numpy.fromiter(columns, numpy.int64, len(ends)), values,
                       len(nodes), len(nodes))
     weighted = weight is not None and any(weight in data for data in held)
-    return triples, Notes(nodes, nodes, bool(graph.is_directed()), weighted, str(rounding))
+    return triples, Metadata(nodes, nodes, bool(graph.is_directed()), weighted, str(rounding))
 
 
 def _check_nodes(nodes: Nodes, near: Dict[Any, Neighbours]) -> None:

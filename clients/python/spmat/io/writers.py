@@ -16,9 +16,9 @@ from typing import (IO, Any, Callable, Dict, Iterable, Iterator, List, Optional,
 
 from ..errors import ReadError
 from ..extras import import_extra
-from ..metadata import NOTHING, Notes, vertices_of
+from ..metadata import NOTHING, Metadata, vertices_of
 from ..units import Unit, is_whole, to_decimal, to_decimals, to_text
-from . import files, lists
+from . import edge_list_layout, files
 from .columns import Layout
 from .edges import WHOLE
 from .formats import describe_other, format_of
@@ -43,7 +43,7 @@ class Written:
 
     nrows: int
     ncols: int
-    notes: Notes = NOTHING
+    notes: Metadata = NOTHING
 
     def entries(self, *, arrays: Optional[bool] = None, dtype: Any = None) -> Tuple[Any, Any, Any]:
         """Rows, columns (from 0) and values."""
@@ -270,12 +270,12 @@ def _check_reading(sep: str, lines: Sequence[str], header: bool, width: int) -> 
     format = format_of(text)
     taken = 'a file of the format ' + format if format != 'edges' else describe_other(text)
     taken = taken or ('a dictionary of attributes' if has_dictionaries(text, True) else None)
-    parted = lists.find_delimiter(text)
+    parted = edge_list_layout.find_delimiter(text)
     if taken is None and (parted or ' ') != sep:
-        taken = 'fields parted by %s' % lists.CALLED[parted]
+        taken = 'fields parted by %s' % edge_list_layout.CALLED[parted]
     if taken is None:
         try:
-            table = lists.lay_out('', text, Layout())
+            table = edge_list_layout.lay_out('', text, Layout())
         except ReadError:                          # which asks, and says what to answer
             return
         if (table.skipped, table.form.ends, table.form.value) == (

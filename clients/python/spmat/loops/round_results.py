@@ -11,11 +11,11 @@ from typing import TYPE_CHECKING, Any, Deque, List, NamedTuple, Optional, Tuple
 
 import numpy
 
-from .._client.commands import CommandBatch
 from ..io import matrix_text, parse_integers
 from ..io.matrix_text import Triples
 from ..matrix import Matrix
 from ..operators import Semiring
+from ..wire.commands import CommandBatch
 from .round_text import OwnNames
 
 if TYPE_CHECKING:

@@ -17,7 +17,7 @@ from ..backends.trace import (Jobs, Made, NotAlike, NotTraced, TraceBackend, Tra
                               Value)
 from ..errors import TooLarge, UnitsDiffer
 from ..matrix import Matrix
-from ..metadata import Notes
+from ..metadata import Metadata
 
 if TYPE_CHECKING:
     from ..session import Session
@@ -53,8 +53,8 @@ class RoundJobs(NamedTuple):
     traced: Traced
     numbers: Tuple[int, ...]
     outside: Dict[str, Matrix]
-    given: Dict[str, Notes]
-    notes: Dict[str, Notes]
+    given: Dict[str, Metadata]
+    notes: Dict[str, Metadata]
 
 
 def of_two(step: Callable[..., Mapping[str, Any]]) -> Step:
@@ -175,7 +175,7 @@ class TracedRounds:
         for past in [one for one in self._ahead if one <= number]:
             del self._ahead[past]
 
-    def resume(self, number: int, known: Dict[str, Notes]) -> None:
+    def resume(self, number: int, known: Dict[str, Metadata]) -> None:
         """Goes on behind a round, where `known` is what is known of the state beside its entries.
         The step is called again for the first round that it was called for already: should it ask
         for something else now, it is another step. So it is for all of these where the caller has
@@ -206,7 +206,7 @@ class TracedRounds:
         if (before.traced, before.numbers) != (now.traced, now.numbers):
             raise NotAlike(CHANGED % number)
 
-    def _trace(self, number: int, known: Mapping[str, Notes]) -> RoundJobs:
+    def _trace(self, number: int, known: Mapping[str, Metadata]) -> RoundJobs:
         """Calls the step for a round."""
         backend = TraceBackend(self._session, self._jobs, self._ones, number > 1)
         given = State((name, backend.given(name, shape)) for name, shape in self.shapes.items())

@@ -10,12 +10,12 @@ import collections
 from typing import (TYPE_CHECKING, Callable, Deque, Dict, List, Mapping, NamedTuple, Optional,
                     Sequence, Tuple)
 
-from .._client.commands import CommandBatch
 from ..backends.names import ServerHandle
 from ..backends.protocol import AMPLE
 from ..backends.trace import Given
 from ..matrix import Matrix
-from ..metadata import Notes
+from ..metadata import Metadata
+from ..wire.commands import CommandBatch
 from .round_results import Body, flush, is_refused, split_bodies
 from .round_text import Pending, Renderer, Sources, Template, Writing, keys_of
 from .rounds import RoundJobs, State, TracedRounds, make_round
@@ -36,7 +36,7 @@ class Place(NamedTuple):
     of entries of all results, once there was a round."""
     number: int
     state: Sources
-    notes: Dict[str, Notes]
+    notes: Dict[str, Metadata]
     counts: Counts
 
 

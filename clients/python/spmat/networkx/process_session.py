@@ -10,10 +10,10 @@ from typing import Any, Dict, NamedTuple, Optional, Tuple
 
 import networkx as nx
 
-from .._client.server_program import Program
 from ..errors import SpmatError
 from ..limits import MOST_STEPS, MOST_WORKERS
 from ..session import Session
+from ..wire.server_program import Program
 from .backend_info import DEFAULTS
 
 MOST_DEFAULT_WORKERS = 8

@@ -11,7 +11,7 @@ import numpy
 from .. import algorithms
 from ..io.networkx_adjacency import neighbourhoods, row_numbers
 from ..matrix import Matrix
-from ..metadata import Nodes, Notes
+from ..metadata import Metadata, Nodes
 from . import edge_weights
 from .edge_weights import Key, Values
 from .process_session import session
@@ -190,7 +190,7 @@ class SpmatGraph:
 
         def make() -> Matrix:
             made = session().from_coo(*ends, values(), len(self), len(self))
-            made.notes = Notes(directed=self.is_directed())
+            made.notes = Metadata(directed=self.is_directed())
             return made
         return self.hold((key, is_turned), make)
 

@@ -9,9 +9,9 @@ from typing import Any, Callable, Dict, List, NamedTuple, Optional, Sequence, Tu
 
 import numpy
 
-from ..backends.protocol import AMPLE
-from ..aliases import is_same
 from ..backends.estimate import most_halvings
+from ..backends.protocol import AMPLE
+from ..shared_entries import is_same
 
 
 class Degrees(NamedTuple):

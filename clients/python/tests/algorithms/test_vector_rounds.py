@@ -10,8 +10,8 @@ import numpy
 import graphs
 import support
 from spmat import algorithms
-from spmat.algorithms import centrality, vector_rounds
-from spmat.algorithms.centrality import Grown, Mutual
+from spmat.algorithms import eigenvector_and_hits, vector_rounds
+from spmat.algorithms.eigenvector_and_hits import Grown, Mutual
 from spmat.algorithms.graph_model import ModelSteps
 from spmat.algorithms.katz_centrality import handed
 from spmat.algorithms.vector_rounds import MOST_AHEAD, Rounds, Scale, Steps, scale_of
@@ -125,7 +125,8 @@ class Words(support.InSession):
             self.assertEqual([(int(one) >> kind.scale.first) * kind.scale.times >> kind.scale.then
                               for one in sums], made['now'].tolist())
             return made
-        for kind, find in ((Grown, centrality.find_eigenvector), (Mutual, centrality.find_hubs)):
+        for kind, find in ((Grown, eigenvector_and_hits.find_eigenvector),
+                           (Mutual, eigenvector_and_hits.find_hubs)):
             real = kind.of_numbers
             with mock.patch.object(kind, 'of_numbers',
                                    lambda kind, steps, numbers, real=real: compare(

@@ -8,7 +8,7 @@ import unittest
 
 import support
 import spmat
-from spmat._client import transport
+from spmat.wire import transport
 from spmat.backends import names
 
 USED_AGAIN = unittest.skipIf(os.environ.get(names.POISONED),

@@ -12,7 +12,7 @@ import support
 import spmat
 from operator_model import signed
 from ready_meanings import BINARY, INDEX, MEANINGS, UNARY
-from spmat.derivation import COMMUTE
+from spmat.result_metadata import COMMUTE
 from spmat.operators import other_names
 
 FOLDER = os.path.join(os.path.dirname(os.path.abspath(spmat.__file__)), 'operators')

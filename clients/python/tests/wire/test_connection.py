@@ -12,7 +12,7 @@ import unittest
 import support
 import spmat
 from processes import alive, gone
-from spmat._client.commands import Command
+from spmat.wire.commands import Command
 
 ENVIRONMENT = dict(os.environ, PYTHONPATH=support.CLIENT)
 

@@ -10,7 +10,7 @@ from unittest import mock
 
 import support
 import spmat
-from spmat._client import server_program
+from spmat.wire import server_program
 
 TELL = '#!/bin/sh\necho "$0 $*"\n'
 
@@ -85,19 +85,19 @@ class Carried(unittest.TestCase):
 
     def test_it_is_found(self):
         os.chmod(self.own, 0o755)
-        said = self.ran('from spmat._client.server_program import program_words as w; print(w())')
+        said = self.ran('from spmat.wire.server_program import program_words as w; print(w())')
         self.assertEqual(said.stdout.strip(),
                          str([os.path.realpath(self.own)]).replace(os.path.realpath(self.folder),
                                                                    self.folder))
 
     def test_the_command_becomes_it(self):
         os.chmod(self.own, 0o755)
-        said = self.ran('from spmat._client.server_program import main; main()')
+        said = self.ran('from spmat.wire.server_program import main; main()')
         self.assertEqual(said.stdout, '%s run --steps 5\n' % self.own)
 
     def test_what_cannot_be_started_is_none(self):
         os.chmod(self.own, 0o644)
-        said = self.ran('from spmat._client.server_program import main; main()')
+        said = self.ran('from spmat.wire.server_program import main; main()')
         self.assertEqual((said.returncode, said.stderr),
                          (1, 'spmat: this package carries no program\n'))
 

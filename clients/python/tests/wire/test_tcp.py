@@ -7,7 +7,7 @@ import unittest
 
 import support
 import spmat
-from spmat._client import connection
+from spmat.wire import connection
 
 
 class Served:

@@ -13,7 +13,7 @@ import unittest
 import support
 import loop_steps
 import spmat
-from spmat._client import connection
+from spmat.wire import connection
 
 
 class FileRelay(support.Relay):

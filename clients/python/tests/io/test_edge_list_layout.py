@@ -12,7 +12,7 @@ import support
 import spmat
 from spmat import blocks
 from spmat.blocks import parallel_read
-from spmat.io import edges, lists
+from spmat.io import edges, edge_list_layout
 
 HOLES = 'from,to,w\na,b,3\nb,c,\nc,d,NA\n,d,4\nnan,e,5\n"nan",f,6\nd,null,7\n'
 
@@ -92,10 +92,11 @@ class Comments(Case):
 
     def test_places_stay(self):
         text = b'# one\r\n\r\n  % two\r\na,b\r\n#c,d\r\n'
-        plain, found = lists.blank_comments(text, True)
+        plain, found = edge_list_layout.blank_comments(text, True)
         self.assertEqual((len(plain), plain[-12:], found.comments), (len(text), text[-12:], 2))
-        self.assertEqual(lists.blank_comments(b'#c\ra,b\r', True)[0], b'  \ra,b\r')
-        self.assertEqual(list(lists.comments_above(text)), [(1, b'# one'), (3, b'% two')])
+        self.assertEqual(edge_list_layout.blank_comments(b'#c\ra,b\r', True)[0], b'  \ra,b\r')
+        self.assertEqual(list(edge_list_layout.comments_above(text)),
+                         [(1, b'# one'), (3, b'% two')])
         self.assertEqual(self.said(self.read, '# one\n\n% two\na,b,1\nc,d\n')[:17],
                          'the text, line 5:')
 

@@ -11,8 +11,8 @@ import re
 from typing import Iterator, List, Match, NamedTuple, Optional, Sequence, Tuple
 
 from ..errors import ReadError
-from .columns import Choice, Comments, Head, Layout, ask_direction, choose_columns
 from .column_names import find_pairs
+from .columns import Choice, Comments, Head, Layout, ask_direction, choose_columns
 from .edges import LeftOut
 from .matrix_text import line_at
 from .values import check_missing, clock_of, is_number

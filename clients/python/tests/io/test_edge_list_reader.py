@@ -17,7 +17,7 @@ import numpy
 import support
 import spmat
 from spmat import blocks
-from spmat.io import dimacs, edges, formats, lists, tables
+from spmat.io import dimacs, edges, formats, edge_list_layout, edge_list_reader
 from spmat.io.columns import Layout
 
 DATA = os.path.join(os.path.dirname(os.path.dirname(os.path.abspath(__file__))), 'data')
@@ -426,8 +426,8 @@ class Both(Case):
                      b'a,12345678901234567,5\n"long names are words of eight bytes",b,-7\n',
                      b'w;from;to\n1;a;b\n', b'source,target,weight\n1,2,3\n4,5,6\n',
                      b'1 2 3\r\n2 3 4\r\n'):
-            table = lists.lay_out('f', text, Layout())
-            self.assertIsNotNone(tables._read_in_bulk(table, 10), text)
+            table = edge_list_layout.lay_out('f', text, Layout())
+            self.assertIsNotNone(edge_list_reader._read_in_bulk(table, 10), text)
         text = b'c\np sp 3 2\na 1 2 5\na 2 3 6\n'
         self.assertIsNotNone(dimacs._quickly('f', text, dimacs.problem_of('f', text), True, None))
 

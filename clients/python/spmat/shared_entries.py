@@ -9,12 +9,12 @@ from typing import TYPE_CHECKING, Any, TypeVar
 
 if TYPE_CHECKING:
     from .io.exporters import Held
-    from .metadata import Notes
+    from .metadata import Metadata
 
 H = TypeVar('H', bound='Held')
 
 
-def alias(matrix: H, notes: 'Notes') -> H:
+def alias(matrix: H, notes: 'Metadata') -> H:
     """Another matrix of the same entries, of which `notes` are known beside. No job, and nothing is
     sent."""
     made: Any = object.__new__(type(matrix))

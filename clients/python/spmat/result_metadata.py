@@ -16,7 +16,7 @@ from typing import Dict, FrozenSet, NamedTuple, Optional, Sequence
 from . import units
 from .mask import Mask
 from .metadata import (ALIKE, BY_POSITIONS, COLUMNS, ELEMENTWISE, MASK, NOTHING, PRODUCT, ROWS,
-                       Axis, Nodes, Notes, Pairs, Unnamed, even, joined, of_copy)
+                       Axis, Metadata, Nodes, Pairs, Unnamed, even, joined, of_copy)
 from .operators import READY, Operator, binary
 from .units import Unit
 
@@ -65,8 +65,9 @@ RULES: Dict[str, Rule] = {
 }
 
 
-def derive(form: str, operators: Sequence[Operator], first: Notes, second: Optional[Notes] = None,
-           *, same: bool = False, mirrors: bool = False) -> Notes:
+def derive(form: str, operators: Sequence[Operator], first: Metadata,
+           second: Optional[Metadata] = None, *, same: bool = False,
+           mirrors: bool = False) -> Metadata:
     """What is known of the result of a job, but for `apply` and `select`.
 
     Parameters
@@ -94,14 +95,14 @@ def derive(form: str, operators: Sequence[Operator], first: Notes, second: Optio
     return _derive(form, operators, first, second, same, mirrors)
 
 
-def _is_nameless(notes: Notes) -> bool:
+def _is_nameless(notes: Metadata) -> bool:
     """Whether there are no lists of names, which take long to compare."""
     return notes.rows is None and notes.columns is None and notes.value_names is None
 
 
 # pylint: disable-next=too-many-arguments
-def _derive(form: str, operators: Sequence[Operator], first: Notes, second: Optional[Notes],
-            same: bool, mirrors: bool) -> Notes:
+def _derive(form: str, operators: Sequence[Operator], first: Metadata, second: Optional[Metadata],
+            same: bool, mirrors: bool) -> Metadata:
     """See `derive`."""
     rule = RULES[form]
     other = first if second is None else second
@@ -123,7 +124,7 @@ def _derive(form: str, operators: Sequence[Operator], first: Notes, second: Opti
 _remembered = functools.lru_cache(maxsize=256)(_derive)
 
 
-def _with_names(form: str, first: Notes, second: Optional[Notes]) -> Notes:
+def _with_names(form: str, first: Metadata, second: Optional[Metadata]) -> Metadata:
     """The names that a result has, and which kinds of vertices they are."""
     if second is None:
         return NOTHING.with_axes(first.axis(ROWS).alone(), Axis())
@@ -137,7 +138,7 @@ def _with_names(form: str, first: Notes, second: Optional[Notes]) -> Notes:
         rows, columns = rows.alone(), columns.alone()
     # the product of a bipartite matrix and the transpose of one has one kind of vertices
     sides = 0 if first.sides == -second.sides else first.sides or second.sides
-    return Notes(rows.names, columns.names, unnamed_rows=rows.unnamed,
+    return Metadata(rows.names, columns.names, unnamed_rows=rows.unnamed,
                  unnamed_columns=columns.unnamed, sides=sides)
 
 
@@ -152,8 +153,8 @@ def _unit_of(rule: Rule, operators: Sequence[Operator], first: Unit, second: Uni
     return unit if rule.fold is None else units.of_fold(operators[rule.fold], unit)
 
 
-def _values_of(rule: Rule, operators: Sequence[Operator], first: Notes,
-               second: Notes) -> Optional[Nodes]:
+def _values_of(rule: Rule, operators: Sequence[Operator], first: Metadata,
+               second: Metadata) -> Optional[Nodes]:
     """The vertices that a result's values are: none where operands mean others, or an operator
     makes numbers of them."""
     if first.value_names is None and second.value_names is None:
@@ -176,13 +177,13 @@ def _chosen(op: Operator, first: Optional[Nodes], second: Optional[Nodes]) -> Op
             and first.equals(second) else None)
 
 
-def _are_alike(notes: Notes) -> bool:
+def _are_alike(notes: Metadata) -> bool:
     """Whether rows and columns are called alike, whatever they are called."""
     return (notes.rows is notes.columns is None and notes.unnamed_rows is notes.unnamed_columns
             is Unnamed.ALIKE)
 
 
-def _elementwise(first: Notes, second: Notes, pairs: Pairs) -> Notes:
+def _elementwise(first: Metadata, second: Metadata, pairs: Pairs) -> Metadata:
     """The notes of the first with what the rows and columns of both are called. Where these are the
     same, or one has none, nothing is compared."""
     alike = (first.rows is second.rows and first.columns is second.columns
@@ -197,7 +198,7 @@ def _elementwise(first: Notes, second: Notes, pairs: Pairs) -> Notes:
 
 # -- the forms of one operand, which keep entries where they are
 
-def of_applied(first: Notes, op: Operator, alike: bool, unit: Unit) -> Notes:
+def of_applied(first: Metadata, op: Operator, alike: bool, unit: Unit) -> Metadata:
     """What is known of the result of `apply`, whose unit is given; `alike` says that the operator
     doesn't look at rows and columns."""
     if (first.value_names is None and first.directed is None and first.weighted is None
@@ -209,7 +210,7 @@ def of_applied(first: Notes, op: Operator, alike: bool, unit: Unit) -> Notes:
                           value_names=first.value_names if same else None)
 
 
-def of_selected(first: Notes, op: Operator, thunk: int) -> Notes:
+def of_selected(first: Metadata, op: Operator, thunk: int) -> Metadata:
     """What is known of the result of `select`: values stay."""
     if first.directed is None and not first.source:
         return first
@@ -219,7 +220,7 @@ def of_selected(first: Notes, op: Operator, thunk: int) -> Notes:
 
 # -- masks
 
-def masked(result: Notes, mask: Notes, complement: bool = False) -> Notes:
+def masked(result: Metadata, mask: Metadata, complement: bool = False) -> Metadata:
     """What is known of a result under a mask: undirected where both are. The one row, or column, of
     a vector has no name where the mask's has another, but under a `complement` keeps its own."""
     if result is NOTHING and mask is NOTHING:
@@ -231,8 +232,8 @@ def masked(result: Notes, mask: Notes, complement: bool = False) -> Notes:
                           value_names=result.value_names)
 
 
-def of_update(first: Notes, second: Notes, accum: Optional[Operator], where: Optional[Mask],
-              replace: bool) -> Notes:
+def of_update(first: Metadata, second: Metadata, accum: Optional[Operator], where: Optional[Mask],
+              replace: bool) -> Metadata:
     """What is known of C<M, accum> = second, where `first` is of C."""
     if accum is not None:
         inside = derive('union', (accum,), first, second)
@@ -254,7 +255,7 @@ def of_update(first: Notes, second: Notes, accum: Optional[Operator], where: Opt
 
 # -- what the client makes
 
-def of_both_sides(first: Notes, nrows: int, ncols: int) -> Notes:
+def of_both_sides(first: Metadata, nrows: int, ncols: int) -> Metadata:
     """What is known of the square matrix of a bipartite graph: its names are those of the rows and
     of the columns, or where some are the same, or there are none, ('row', name) and ('column',
     name)."""
@@ -263,14 +264,14 @@ def of_both_sides(first: Notes, nrows: int, ncols: int) -> Notes:
     apart = rows.places.keys().isdisjoint(columns.places)
     names = Nodes([*rows, *columns] if apart else [*(('row', name) for name in rows),
                                                    *(('column', name) for name in columns)])
-    return Notes(names, names, False, first.weighted, unit=first.unit)
+    return Metadata(names, names, False, first.weighted, unit=first.unit)
 
 
-def on_diagonal(first: Notes, along: int) -> Notes:
+def on_diagonal(first: Metadata, along: int) -> Metadata:
     """What is known of the square matrix with the entries of a column (along its rows, 0) or of a
     row (along its columns, 1) on its diagonal."""
     axis = first.axis(along)
     if axis == Axis():
         return ALIKE._replace(directed=False, unit=first.unit, value_names=first.value_names)
-    return Notes(directed=False, unit=first.unit,
+    return Metadata(directed=False, unit=first.unit,
                  value_names=first.value_names).with_axes(axis, axis)

@@ -14,9 +14,9 @@ import numpy
 from ..errors import ReadError
 from ..extras import import_extra
 from .columns import MAY_BE_HEADER, Layout
+from .edge_list_layout import BLANKS, CALLED, Form, Quoted, Table, ask_comment, lay_out, rows_of
 from .edges import WHOLE, Edges, LeftOut, Names, code_names
 from .files import UTF8_MARK
-from .lists import BLANKS, CALLED, Form, Quoted, Table, ask_comment, lay_out, rows_of
 from .matrix_text import line_at, start_of_line
 from .parse_integers import count_even_lines
 from .values import (LONGEST, NO_NAMES, SKIP, SKIPS, TAKES, Rounding, clock_of, is_missing,
