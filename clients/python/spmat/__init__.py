@@ -34,7 +34,7 @@ if TYPE_CHECKING:
     from .operators import (Operator, Semiring, asm, binary, code, indexunary, select, semiring,
                             unary)
     from .operators.c import c
-    from .operators.functions import cdiv, cmod, rsh, udiv, ult, umod, where
+    from .operators.integer_functions import cdiv, cmod, rsh, udiv, ult, umod, where
     from .operators.diagnostics import code_of, explain
     from .pricing.call_price import price
     from .session import Session
@@ -81,7 +81,7 @@ _PLACES: Dict[str, str] = {name: module for module, names in {
     'mask': 'Mask',
     'matrix': 'Matrix bipartite',
     'operators': 'Operator Semiring asm binary code indexunary select semiring unary',
-    'operators.functions': 'cdiv cmod rsh udiv ult umod where',
+    'operators.integer_functions': 'cdiv cmod rsh udiv ult umod where',
     'operators.diagnostics': 'code_of explain',
     'pricing.call_price': 'price',
     'loops.fixpoint': 'fixpoint',

@@ -130,7 +130,7 @@ def _means(matrix: Any, axis: int, where: Optional[Mask], name: Optional[str]) -
         parts //= 10
     made = sums.session.from_coo(rows, columns, [round(mean * parts) for mean in exact],
                                  *sums.shape, name=name)
-    made.notes = sums.notes._replace(unit=units.plain(Fraction(matrix.unit) * parts))
+    made.notes = sums.notes._replace(unit=units.simplify_unit(Fraction(matrix.unit) * parts))
     return made
 
 

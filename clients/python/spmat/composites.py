@@ -8,8 +8,8 @@ from __future__ import annotations
 from typing import TYPE_CHECKING, Any, Callable, Dict, List, Optional, Tuple, TypeVar, cast
 
 from . import aggregators, submatrices, units
+from .backends.placeholders import reading
 from .backends.protocol import Handle, Job
-from .backends.unread import reading
 from .errors import refusal
 from .io.coo import side, whole
 from .job_operators import of_form, ring_of
@@ -17,9 +17,9 @@ from .mask import Mask, as_mask, structure
 from .metadata import (BY_POSITIONS, COLUMNS, ELEMENTWISE, NOTHING, ROWS, Metadata, even, hint_of,
                        joined, of_copy)
 from .operators import Op, Semiring, binary, indexunary, unary
-from .python_syntax import Signs
 from .result_metadata import masked, of_update, on_diagonal
 from .session_of_operands import common_session
+from .unsupported_syntax import Signs
 
 if TYPE_CHECKING:
     from .job_operators import Ring

@@ -14,7 +14,7 @@ from .exact_numbers import TimeUnit, compared, exact_number, is_time
 from .io import coo
 from .operators import READY, Op, Operator, Semiring, find, find_semiring
 from .units import (COMPARE, FIRST, KEEP, MEET, OVER, SECOND, SHIFT, TIMES, UNDER, Unit, is_whole,
-                    meaning_of, name_of, plain, to_stored)
+                    meaning_of, name_of, simplify_unit, to_stored)
 from .wire.protocol import FORMS
 
 Number = Union[int, float, Fraction, Decimal, datetime.date, datetime.timedelta, numpy.datetime64,
@@ -183,7 +183,8 @@ def _check_factor(op: Operator, number: Any, is_left: bool, unit: Unit) -> None:
     if under == 1:
         return
     side, name = 'left' if is_left else 'right', name_of(op)
-    how = 'B = A.apply("times", %s=%d); B.unit = %s' % (side, over, plain(unit * Fraction(under)))
+    how = 'B = A.apply("times", %s=%d); B.unit = %s' % (side, over,
+                                                        simplify_unit(unit * Fraction(under)))
     if meaning_of(op) != TIMES:
         how = 'A.apply("times", right=%d).apply("%s", %s=%d)' % (under, name, side, over)
     raise ValueError('%s= of "%s" is a whole number, not %r: write %s' % (side, name, number, how))

@@ -241,7 +241,7 @@ class Matrix(Composites):
         span = None if sent.unit == 1 else overflow.of_applied(self, sent)
         made = self._queue(Job('apply', (sent.op,), (self.handle,), self.handle.shape, sent.thunk),
                            (self,), notes, mask, name)
-        return overflow.noted(made, span)
+        return overflow.note_span(made, span)
 
     def select(self, op: Op, thunk: Number = 0, *, mask: MaskLike = None,
                name: Optional[str] = None) -> 'Matrix':
@@ -641,7 +641,7 @@ class Matrix(Composites):
             raise oversized_jobs.explained(fault, job, operands) from None
         made = (backend.matrix_type or Matrix)(session, handle, name)
         made.notes = notes
-        return overflow.noted(_as_vector(made) if is_vector else made, span)
+        return overflow.note_span(_as_vector(made) if is_vector else made, span)
 
     def _check_shape(self, form: str, other: 'Matrix', shape: Tuple[int, Optional[int]]) -> None:
         if not isinstance(other, Matrix):
@@ -672,7 +672,7 @@ class Matrix(Composites):
         backend = self.session.backend
         made = (backend.matrix_type or Matrix)(self.session, backend.transpose(self.handle))
         made.notes = metadata.turned(self.notes)
-        return overflow.noted(_as_vector(made) if self.is_vector else made,
+        return overflow.note_span(_as_vector(made) if self.is_vector else made,
                               self.kept.get(overflow.KEY))
 
     def to_text(self) -> bytes:

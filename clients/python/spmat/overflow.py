@@ -58,7 +58,7 @@ ANY = Span()
 Term = Callable[[Span, Span], Span]
 
 
-def _hull(x: Span, y: Span) -> Span:
+def _join_spans(x: Span, y: Span) -> Span:
     return Span(min(x.least, y.least), max(x.most, y.most))
 
 
@@ -79,7 +79,7 @@ TERMS: Dict[str, Term] = {
     'cmod': lambda x, y: Span(min(x.least, 0), max(x.most, 0)),
     'min': lambda x, y: Span(min(x.least, y.least), min(x.most, y.most)),
     'max': lambda x, y: Span(max(x.least, y.least), max(x.most, y.most)),
-    'any': _hull, 'first': lambda x, y: x, 'second': lambda x, y: y,
+    'any': _join_spans, 'first': lambda x, y: x, 'second': lambda x, y: y,
     'lsh': lambda x, y: Span(x.least << (y.most & 63), x.most << (y.most & 63)),
     'identity': lambda x, y: x, 'abs': lambda x, y: Span(0, x.size),
     'ainv': lambda x, y: Span(-x.most, -x.least)}
@@ -97,7 +97,7 @@ def note(matrix: Any, values: Any) -> None:
                                 True)
 
 
-def noted(matrix: M, span: Optional[Span]) -> M:
+def note_span(matrix: M, span: Optional[Span]) -> M:
     """A matrix, of whose values is noted what they can be, where that is known."""
     if span is not None:
         cast(Any, matrix).kept[KEY] = span
@@ -122,7 +122,8 @@ def folded(fold: Callable[[Triples, Optional[Op]], Triples], triples: Triples, d
             place = int(many[is_beyond][0])
             raise ValueError(
                 'the values at row %d, column %d add up to a number beyond 64 bits in %s: a '
-                'smaller scale= has room' % (*divmod(place, triples.ncols), units.told(unit)))
+                'smaller scale= has room' % (
+                    *divmod(place, triples.ncols), units.describe_unit(unit)))
     return fold(triples, dup_op)
 
 
@@ -138,11 +139,11 @@ def of_applied(matrix: Any, sent: 'Applied') -> Optional[Span]:
         return of_two(beside, x) if sent.is_left else of_two(x, beside)
     found = span(matrix.kept.get(KEY, ANY))
     if not found.fits:
-        found = span(_asked(matrix))
+        found = span(_find_span(matrix))
     if not found.fits and not backend.is_estimate:
         raise ValueError('%s would be beyond 64 bits in %s, where it would wrap: %s' % (
             units.to_text(found.most if found.most > MOST else found.least, sent.unit),
-            units.told(sent.unit), _mend([matrix], found, False)))
+            units.describe_unit(sent.unit), _describe_remedy([matrix], found, False)))
     return found if found.fits else None
 
 
@@ -160,7 +161,7 @@ def of_job(backend: 'Backend', job: 'Job', operands: Sequence[Any]) -> Optional[
     found = _span(job.form, names, known, operands[0].ncols)
     if not found.fits:
         wanted = WANTED.get(names[-1], (0, 1)) if job.form != 'union' else (0, 1)
-        known = [_asked(operand) if at in wanted else span
+        known = [_find_span(operand) if at in wanted else span
                  for at, (operand, span) in enumerate(zip(operands, known))]
         found = _span(job.form, names, known, operands[0].ncols)
     if not found.fits and job.form in ('reduce', 'product') and names[0] in SUMS:
@@ -177,7 +178,7 @@ def _span(form: str, names: Sequence[str], known: Sequence[Span], many: int) -> 
     rule = RULES[form]
     term = known[0] if rule.term is None else TERMS[names[rule.term]](known[0], known[1])
     if rule.copies:
-        return _hull(_hull(known[0], known[1]), term)
+        return _join_spans(_join_spans(known[0], known[1]), term)
     fold = None if rule.fold is None else names[rule.fold]
     if fold == 'cmod':
         return TERMS['cmod'](term, term)
@@ -198,7 +199,7 @@ def _sums(names: Sequence[str], known: Sequence[Span], operands: Sequence[Any],
     return Span(0 if term.least >= 0 and names[0] == 'plus' else -size, size)
 
 
-def _asked(matrix: Any) -> Span:
+def _find_span(matrix: Any) -> Span:
     """The least and the greatest value of a matrix: those that are noted, or by 4 jobs."""
     span: Span = matrix.kept.get(KEY, ANY)
     if not span.exact:
@@ -233,7 +234,7 @@ def _total(matrix: Any, span: Span, is_row: bool) -> int:
     return int(matrix.kept.get(key, 0))
 
 
-def _mend(operands: Sequence[Any], found: Span, is_product: bool) -> str:
+def _describe_remedy(operands: Sequence[Any], found: Span, is_product: bool) -> str:
     """What leaves room for values of a size."""
     scaled = [(name, operand.unit) for name, operand in zip('AB', operands)
               if not units.is_whole(operand.unit)]
@@ -251,5 +252,5 @@ def _warn(names: Sequence[str], operands: Sequence[Any], found: Span) -> None:
     warn_user(
         '"%s" of values in %s: some results may be beyond 64 bits, where they wrap, and stand '
         'for other numbers; %s' % (
-            '_'.join(names), units.told(unit),
-            _mend(operands, found, names[-1] == 'times')), OverflowWarning)
+            '_'.join(names), units.describe_unit(unit),
+            _describe_remedy(operands, found, names[-1] == 'times')), OverflowWarning)

@@ -72,10 +72,10 @@ def in_parts(first: Matrix, job: Callable[[Matrix], Matrix]) -> Matrix:
     except TooLarge as fault:
         if fault.rule not in ('J7', 'J8') or first.nrows < 2:
             raise
-    return _halves(first, job, 0, first.nrows)
+    return _join_halves(first, job, 0, first.nrows)
 
 
-def _halves(first: Matrix, job: Callable[[Matrix], Matrix], start: int, end: int) -> Matrix:
+def _join_halves(first: Matrix, job: Callable[[Matrix], Matrix], start: int, end: int) -> Matrix:
     """Both halves, each by its halves where it is too large. They are joined at once: each part has
     8 bytes for every row of the whole, and so no more parts are held at a time than halvings lead
     to one."""
@@ -88,5 +88,5 @@ def _halves(first: Matrix, job: Callable[[Matrix], Matrix], start: int, end: int
         except TooLarge as fault:
             if fault.rule not in ('J7', 'J8') or high - low <= 1:
                 raise
-            parts.append(_halves(rows, job, low, high))
+            parts.append(_join_halves(rows, job, low, high))
     return parts[0].ewise_add(parts[1], 'first')

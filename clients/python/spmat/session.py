@@ -5,9 +5,9 @@ import io
 from typing import TYPE_CHECKING, Any, Dict, List, Optional, Tuple, Type, Union
 
 from . import limits, overflow, units
+from .backends.placeholders import all_priced, backend_now
 from .backends.protocol import Budget, Run
 from .backends.server import ServerBackend
-from .backends.unread import all_priced, backend_now
 from .errors import OperatorRefused, Refused, TextRefused, refusal
 from .io import coo, matrix_market, matrix_text
 from .io.columns import Layout
@@ -449,7 +449,7 @@ class Session(Sources[Matrix]):
         No job. The session keeps the rows of the last 4 lengths, but for those longer than
         1,048,576, and gives another matrix of them each time.
         """
-        with self._backend.turn():
+        with self._backend.lock():
             row = self._ones.pop(ncols, None)
             row = self.full(1, ncols) if row is None else row
             if ncols <= LONG and row.handle.backend is self._backend:

@@ -49,7 +49,7 @@ _KINDS: Dict[str, Dict[str, str]] = {
 
 # -- numbers
 
-def told(unit: Unit) -> str:
+def describe_unit(unit: Unit) -> str:
     """A unit as errors name it."""
     return 'times in %s' % unit if isinstance(unit, TimeUnit) else 'parts of 1/%s' % unit
 
@@ -67,10 +67,10 @@ def as_unit(number: Any) -> Unit:
         raise ValueError(
             'a unit is a number above 0, such as 100 where stored whole numbers are hundredths, '
             'or of times %s, not %r' % (', '.join(map('"%s"'.__mod__, UNITS)), number))
-    return plain(exact)
+    return simplify_unit(exact)
 
 
-def plain(unit: Union[int, Fraction]) -> Unit:
+def simplify_unit(unit: Union[int, Fraction]) -> Unit:
     """A unit as an int where it is whole."""
     return unit.numerator if unit.denominator == 1 else unit
 
@@ -84,13 +84,13 @@ def to_stored(number: Any, unit: Unit, what: str) -> int:
     """The whole number that a number, or a time, is stored as. ValueError where there is none, or
     it is beyond 64 bits; `what` stands before the number in its words, such as "right="."""
     exact = exact_in(number, unit)
-    parts = '' if unit == 1 else ' in %s, as this matrix holds' % told(unit)
+    parts = '' if unit == 1 else ' in %s, as this matrix holds' % describe_unit(unit)
     if exact.denominator != 1:
         finer = unit * 10 ** (_places(exact.denominator) or 0)
         mend = finer if (exact / unit * finer).denominator == 1 else unit * exact.denominator
         raise ValueError('%s%s is no whole number%s: A.rescale(%s) holds it' % (
             what, number, parts or ', as the values of this matrix are',
-            _finer_time(exact, unit) or plain(Fraction(mend))))
+            _finer_time(exact, unit) or simplify_unit(Fraction(mend))))
     if not coo.LEAST <= exact <= coo.MOST:
         raise ValueError('%s%s is not in -2^63 to 2^63 - 1%s' % (what, number, parts))
     return exact.numerator
@@ -209,13 +209,13 @@ def of_both(op: Operator, first: Unit, second: Unit) -> Unit:
         if Fraction(over) % under or (isinstance(over, TimeUnit) and isinstance(under, TimeUnit)
                                       and over != under):
             refuse(op, first, second)
-        return plain(Fraction(over) / under)
+        return simplify_unit(Fraction(over) / under)
     return 1
 
 
 def _multiplied(op: Operator, first: Unit, second: Unit) -> Unit:
     """The unit of a product of two numbers. ValueError where no stored number could be 1."""
-    unit = plain(Fraction(first) * second)
+    unit = simplify_unit(Fraction(first) * second)
     if unit.numerator > coo.MOST:
         mend = ' and '.join('%s.rescale(1000, exact=False)' % name
                             for name, one in (('A', first), ('B', second)) if one > 1000)
@@ -290,7 +290,7 @@ def rescaled(matrix: Any, unit: Any, exact: bool) -> Any:
             some = made.dup(mask=left.S).reduce_scalar('any', raw=True)
             how = 'cuts them down' if isinstance(wanted, TimeUnit) else 'rounds them'
             raise ValueError('%d of %d values would lose digits as %s, such as %s: exact=False %s'
-                             % (left.nvals, matrix.nvals, told(wanted),
+                             % (left.nvals, matrix.nvals, describe_unit(wanted),
                                 to_text(some, matrix.unit), how))
         if not left.nvals:
             made, less = made.apply('cdiv', right=less), 1
@@ -326,7 +326,7 @@ def _check_fits(matrix: Any, factor: Fraction, wanted: Unit) -> None:
     many = sum(part.nvals for part in outside if part is not None)
     if many:
         raise ValueError('%d of %d values are beyond 64 bits in %s: a coarser unit holds them'
-                         % (many, matrix.nvals, told(wanted)))
+                         % (many, matrix.nvals, describe_unit(wanted)))
 
 
 def _rounding(more: int, less: int) -> Operator:

@@ -6,7 +6,7 @@ from typing import Any, Optional, Tuple, Type
 
 import numpy
 
-from .backends.unread import reading
+from .backends.placeholders import reading
 from .errors import refusal
 from .indexing import choose_places
 from .mask import Mask

@@ -10,7 +10,7 @@ import graphs
 import support
 import spmat
 from spmat import algorithms
-from spmat.backends import estimate, unread
+from spmat.backends import estimate, placeholders
 from spmat.pricing import call_price
 
 # Calls of algorithms; of any other that of `alike`.
@@ -183,7 +183,7 @@ class Counted(support.InSession):
             self.assertEqual((size.length, size.shortest), (self.s.backend.length_of(op), 3))
         A = self.s.from_coo([0, 0], [0, 1], [0, 5])
         self.assertEqual(A.apply(code).wait().steps, 3 + 4)
-        with self.assertRaises(unread.Unforeseen):
+        with self.assertRaises(placeholders.Unforeseen):
             estimate.size_of(spmat.asm('unary', 'mov64 r0, r1\nja 7\nexit\n'))
 
     def steps_of(self, call):
@@ -296,7 +296,7 @@ class Chains(support.InSession):
         for seed in range(200):
             matrices = self.matrices(random.Random(seed))
             sure = call_price.Price(sends=False).inside()
-            with unread.pricing(sure):
+            with placeholders.pricing(sure):
                 stands = self.chain(matrices, seed)
             spent = needed = 0
             for stand, made in zip(stands, self.chain(matrices, seed)):
@@ -314,13 +314,13 @@ class Chains(support.InSession):
         G, sure = self.s.full(2, 2), call_price.Price(sends=False).inside()
 
         def refuse():
-            raise unread.Unforeseen()
-        with unread.pricing(sure):
-            with self.assertRaises(unread.Unforeseen):
+            raise placeholders.Unforeseen()
+        with placeholders.pricing(sure):
+            with self.assertRaises(placeholders.Unforeseen):
                 sure.find_fact(G, 'both ways', refuse)
             with sure.granting({'both ways': True}):
                 self.assertIs(sure.find_fact(G, 'both ways', refuse), True)
-                with self.assertRaises(unread.Unforeseen):
+                with self.assertRaises(placeholders.Unforeseen):
                     sure.find_fact(G, 'loops', refuse)
             self.assertIs(sure.find_fact(G, 'both ways', refuse), True)
             self.assertEqual(G.kept, {})

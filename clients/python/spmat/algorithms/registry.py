@@ -14,7 +14,7 @@ from typing import (Any, Callable, Dict, Iterator, List, Mapping, NamedTuple, Op
 
 import numpy
 
-from ..backends.unread import Unread
+from ..backends.placeholders import Placeholder
 from ..pricing.call_price import Bound
 from ..pricing.call_sizes import CallSizes
 
@@ -99,14 +99,14 @@ class Algorithm(NamedTuple):
         """What stands for the result of a call, which isn't made."""
         kind = self.function.__annotations__.get('return')
         if self.shape is None and kind not in ('M', 'Matrix', *RESULTS):
-            return Unread()
+            return Placeholder()
         # pylint: disable-next=not-callable  # of a field that is None by default it thinks so
         shape = (sizes.vertices, 1) if self.shape is None else self.shape(sizes)
-        made = sizes.graph.session.backend.stand_for(shape, 0, shape[0] * shape[1])
+        made = sizes.graph.session.backend.make_estimate(shape, 0, shape[0] * shape[1])
         if shape[0] == sizes.vertices:
             made.nodes = sizes.graph.nodes
         for name in RESULTS.get(str(kind), ()):
-            setattr(made, name, Unread())
+            setattr(made, name, Placeholder())
         return made
 
 
@@ -231,15 +231,15 @@ def checks_arguments(function: Callable[..., Any]) -> Check:
             raise TypeError(_unknown(name, signature, str(fault), named)) from None
         for called, one in given.items():
             what, holds = kinds.get(called, ('', callable))
-            is_left_out = isinstance(one, Unread) or (one is None and called in optional)
+            is_left_out = isinstance(one, Placeholder) or (one is None and called in optional)
             if what and not is_left_out and not holds(one):
                 kind = ValueError if _is_number(one) and what.endswith('number') else TypeError
                 raise kind('%s= of %s is %s, not %s: %s' % (
-                    called, name, what, _shown(one), _advice(name, called, signature)))
+                    called, name, what, _shorten_repr(one), _advice(name, called, signature)))
     return check
 
 
-def _shown(one: Any) -> str:
+def _shorten_repr(one: Any) -> str:
     """What came, in a few words."""
     words = repr(one)
     return words if len(words) <= LONGEST and '\n' not in words else 'of type ' + type(one).__name__

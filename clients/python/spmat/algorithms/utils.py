@@ -8,7 +8,7 @@ from typing import Any, Callable, Iterable, List, Optional, Tuple, TypeVar, cast
 import numpy
 
 from .. import metadata
-from ..backends.unread import current_price
+from ..backends.placeholders import current_price
 from ..errors import NotSettled
 from ..io.matrix_text import Triples
 from ..job_operators import Ring

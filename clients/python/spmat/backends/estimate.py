@@ -3,8 +3,8 @@ and nothing is spent.
 
 While a call is priced, the sessions of its thread hand their jobs to an `EstimateBackend` in place
 of their own, so that nobody else has to know. It gives handles that stand for results. What a
-result would tell is `Unread`: it may be handed on, but whoever decides something by it ends what
-can be foreseen (`Unforeseen`).
+result would tell is a `Placeholder`: it may be handed on, but whoever decides something by it ends
+what can be foreseen (`Unforeseen`).
 """
 from __future__ import annotations
 
@@ -21,7 +21,7 @@ from ..operators import Operator, dataflow, indexunary
 from ..wire.protocol import FORMS, Places
 from .names import ServerHandle
 from .protocol import Backend, Budget, Handle, Job, Most, Run, most_of
-from .unread import Unforeseen, Unread, reading
+from .placeholders import Placeholder, Unforeseen, reading
 
 if TYPE_CHECKING:
     from ..pricing.call_price import Price
@@ -53,7 +53,7 @@ class EstimateHandle(Handle):
 
 
 class EstimateMatrix(Matrix):
-    """The result of a job that is only foreseen. A method that reads it gives what is `Unread`,
+    """The result of a job that is only foreseen. A method that reads it gives a `Placeholder`,
     which may be the last that is wanted."""
 
 
@@ -80,7 +80,7 @@ class EstimateBackend(Backend):
             handle.check_made()
         return self.price.add_job(self, job)
 
-    def stand_for(self, shape: Tuple[int, int], least: int, most: int) -> EstimateMatrix:
+    def make_estimate(self, shape: Tuple[int, int], least: int, most: int) -> EstimateMatrix:
         """What stands for a matrix of so many entries."""
         return EstimateMatrix(self.session, EstimateHandle(self, shape, least, most))
 
@@ -101,12 +101,12 @@ class EstimateBackend(Backend):
                               else nvals)
 
     def read_text(self, handle: Handle) -> bytes:
-        return self._readable(handle).read_text(handle)
+        return self._find_holder(handle).read_text(handle)
 
     def read(self, handle: Handle) -> Triples:
-        return self._readable(handle).read(handle)
+        return self._find_holder(handle).read(handle)
 
-    def _readable(self, handle: Handle) -> Backend:
+    def _find_holder(self, handle: Handle) -> Backend:
         """What has the entries of a matrix. Unforeseen where it is a result that isn't made, as a
         price makes no job run, and where the entries would have to come from the server and may
         not."""
@@ -124,7 +124,7 @@ class EstimateBackend(Backend):
 
     def count(self, handle: Handle) -> Any:
         self.wait(handle)
-        return Unread() if isinstance(handle, EstimateHandle) else handle.nvals
+        return Placeholder() if isinstance(handle, EstimateHandle) else handle.nvals
 
     def transpose(self, handle: Handle) -> Handle:
         held = None if handle.transposed is None else handle.transposed()
@@ -197,7 +197,7 @@ def root(handle: Handle) -> Handle:
     return handle
 
 
-def stand_for_result(backend: EstimateBackend, job: Job, least: Least, most: int) -> EstimateHandle:
+def estimate_result(backend: EstimateBackend, job: Job, least: Least, most: int) -> EstimateHandle:
     """What stands for a job's result."""
     made, places = EstimateHandle(backend, job.shape, least.entries, most), FORMS[job.form].places
     if places in (Places.ALL,
@@ -316,12 +316,12 @@ def _least_terms(a: Handle, b: Handle, price: 'Price') -> int:
         return int(counted(first)[1] @ counted(second)[0])
     found = b.shape[1] * least_entries(a) + a.shape[0] * least_entries(
         b) - a.shape[0] * a.shape[1] * b.shape[1]
-    if _mirrors(first, second, price) and a.shape[1]:
+    if _are_transposes(first, second, price) and a.shape[1]:
         found = max(found, -(-least_entries(a) ** 2 // a.shape[1]))
     return max(0, found)
 
 
-def _mirrors(a: Handle, b: Handle, price: 'Price') -> bool:
+def _are_transposes(a: Handle, b: Handle, price: 'Price') -> bool:
     """Whether one is known to be the transpose of the other, but for values."""
     if a.facts is b.facts:
         known = (a.facts.get('both ways') or price.found.get((id(a.facts), 'both ways'),

@@ -80,7 +80,7 @@ class Queue:
         take, and the job is sent once more. Where that is interrupted, the job may be queued all
         the same."""
         try:
-            self._hand_in(job, line)
+            self._submit_line(job, line)
         except BudgetExceeded:
             if not self._waiting:
                 raise
@@ -88,13 +88,13 @@ class Queue:
             self._connection.exchange()
             if self._connection.refused is not None:
                 raise self._connection.refused from None
-            self._hand_in(job, line)
+            self._submit_line(job, line)
 
-    def _hand_in(self, job: ServerHandle, line: str) -> None:
-        self._connection.exchange(Command(line, done=lambda reply: self._handed_in(job, reply),
+    def _submit_line(self, job: ServerHandle, line: str) -> None:
+        self._connection.exchange(Command(line, done=lambda reply: self._note_submitted(job, reply),
                                           check=lambda reply: self._check_queued(job, reply)))
 
-    def _handed_in(self, job: ServerHandle, reply: Reply) -> None:
+    def _note_submitted(self, job: ServerHandle, reply: Reply) -> None:
         self._note_waiting(job)
         self._queued(job, reply)
 
@@ -133,7 +133,7 @@ class Queue:
             self._waiting.clear()
             self._running.append(jobs)
             self.runs += 1
-            self._connection.put(Command('run', done=lambda _: self._ran(jobs),
+            self._connection.put(Command('run', done=lambda _: self._settle_run(jobs),
                                          lost=lambda cause: self._not_run(jobs, cause),
                                          matters=True, jobs=len(jobs),
                                          check=lambda reply: self._check_run(jobs, reply)))
@@ -144,7 +144,7 @@ class Queue:
                     for job in jobs if not job.is_refused]
         self._run_lines = check_run(reply.words, reply.lines, expected)
 
-    def _ran(self, jobs: List[ServerHandle]) -> None:
+    def _settle_run(self, jobs: List[ServerHandle]) -> None:
         self._done(jobs)
         jobs = [job for job in jobs if not job.is_refused]
         for job, (entries, steps) in zip(jobs, self._run_lines):

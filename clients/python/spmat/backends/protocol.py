@@ -287,7 +287,7 @@ class Backend(abc.ABC):
             matrix.kept[name] = find()
         return matrix.kept[name]
 
-    def stand_for(self, shape: Tuple[int, int], least: int, most: int) -> 'Matrix':
+    def make_estimate(self, shape: Tuple[int, int], least: int, most: int) -> 'Matrix':
         """What stands for a matrix of so many entries, where jobs are only foreseen."""
         raise NotImplementedError
 

@@ -17,7 +17,7 @@ from ..operators import Operator, diagnostics
 from ..wire.commands import Command, Reply
 from ..wire.connection import Connection
 from ..wire.reply_checks import NOTHING, Limits, check_text, longest_text, sizes_of_text
-from ..wire.turns import Turn
+from ..wire.session_lock import SessionLock
 from .job_queue import Queue
 from .names import DeferredHandle, ServerNames, ServerHandle
 from .protocol import Backend, Budget, Handle, Job, Most, Run, most_of
@@ -41,7 +41,7 @@ class ServerBackend(Backend):
         self.names = ServerNames()
         self.queue = Queue(connection, shared)
         self.jobs = 0
-        self._turns = Turn(connection)
+        self._lock = SessionLock(connection)
         self._operators: Dict[Operator, Uploaded] = {}
 
     @property
@@ -49,9 +49,9 @@ class ServerBackend(Backend):
         """What can be left at the most, were all prices settled with nothing."""
         return self.queue.ceiling
 
-    def turn(self) -> Turn:
+    def lock(self) -> SessionLock:
         """One thread at a time, and no Ctrl-C amid."""
-        return self._turns
+        return self._lock
 
     # pylint: disable-next=dangerous-default-value
     def command(self, line: str, body: Optional[bytes] = None, near: Any = None,
@@ -76,12 +76,12 @@ class ServerBackend(Backend):
     def flush(self, handle: Handle) -> None:
         """Sends the jobs that wait to be sent, so that their prices are known. No run but those
         that stand behind them."""
-        with self._turns:
+        with self._lock:
             self.connection.exchange()
 
     def budget(self) -> Budget:
         """What the budget holds. No run."""
-        with self._turns:
+        with self._lock:
             budget = Budget(*map(int, self.command('budget').words[1:4]))
             self.queue.note_budget(budget.left, budget.reserved)
             return budget
@@ -98,7 +98,7 @@ class ServerBackend(Backend):
         that its handle takes."""
         def lost(cause: BaseException) -> None:
             handle.lost = without_frames(cause)
-        with self._turns:
+        with self._lock:
             self.poison()
             text = matrix_text.write(entries, ones=True)
             handle.key = self.names.take(handle)
@@ -113,7 +113,7 @@ class ServerBackend(Backend):
     def put_text(self, text: bytes, name: Optional[str] = None) -> Handle:
         if len(text) > MOST_TEXT:
             raise refusal('S7', detail='the text has %d bytes' % len(text))
-        with self._turns:
+        with self._lock:
             self.sweep()
             handle = ServerHandle(self, (0, 0), wished=name)
             reply = self.command('matrix ' + handle.key, text,
@@ -129,20 +129,20 @@ class ServerBackend(Backend):
         """The canonical text of a matrix. Runs the queue where it waits."""
         if isinstance(handle, DeferredHandle):
             return matrix_text.write(handle.entries)
-        with self._turns:
+        with self._lock:
             self.connection.check_open()
             handle.check_made()
             if handle.waits:
                 self.queue.run_later()
             try:
-                body = self._shown(handle)
+                body = self._read_text(handle)
             except Refused as refused:
                 raise self.connection.refused or refused
             if self.connection.refused is not None:
                 raise self.connection.refused
             return body
 
-    def _shown(self, handle: Handle) -> bytes:
+    def _read_text(self, handle: Handle) -> bytes:
         """The text of a matrix. ProtocolError, and the session is ended, where it isn't that of
         this matrix."""
         self.sweep()
@@ -176,7 +176,7 @@ class ServerBackend(Backend):
         refuses is OperatorRefused."""
         if not isinstance(op, Operator):
             raise TypeError('expected an operator, such as spmat.binary.plus, got %r' % (op,))
-        with self._turns:
+        with self._lock:
             return self._uploaded(op)
 
     def _uploaded(self, op: Operator) -> Uploaded:
@@ -214,7 +214,7 @@ class ServerBackend(Backend):
         A job that can be refused by nothing but want of memory, as what is known of its operands'
         entries tells, is sent with the next command that needs an answer, and so is the run before
         it; any other at once."""
-        with self._turns:
+        with self._lock:
             operands, mask = job.operands, job.mask
             needed = operands if mask is None else (*operands, mask)
             words, length = [], 0
@@ -236,11 +236,11 @@ class ServerBackend(Backend):
             most = most_of(job, length)
             made = ServerHandle(self, job.shape, None, most.entries, name)
             made.form, made.most_steps = job.form, most.steps
-            self._hand_in(made, '%s %s %s' % (job.form, made.key, ' '.join(words)), most)
+            self._submit_line(made, '%s %s %s' % (job.form, made.key, ' '.join(words)), most)
             self.jobs += 1
             return made
 
-    def _hand_in(self, made: ServerHandle, line: str, most: Most) -> None:
+    def _submit_line(self, made: ServerHandle, line: str, most: Most) -> None:
         """Hands a job in, now or with the next command."""
         if not self.queue.is_sure(most):
             try:
@@ -259,7 +259,7 @@ class ServerBackend(Backend):
 
     def _run(self, report: Optional[Run] = None) -> None:
         """Runs the jobs that wait; what the run settled goes into the report, if one is wanted."""
-        with self._turns:
+        with self._lock:
             if self.connection.owes:
                 self.connection.settle()
             if self.queue.is_idle:
@@ -277,5 +277,5 @@ class ServerBackend(Backend):
     def lines_of(self, command: str, op: Operator) -> List[str]:
         """What the server says of an operator: `dis` its code, `types` what the verifier knows
         before each instruction."""
-        with self._turns:
+        with self._lock:
             return self.command('%s %s' % (command, self.upload(op).name)).lines

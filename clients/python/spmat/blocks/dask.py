@@ -292,10 +292,10 @@ def _end_with_program() -> None:
     from distributed import get_worker
     with contextlib.suppress(ValueError):          # this thread does no task
         if get_worker().nanny:
-            worker_store.leave = _leave
+            worker_store.leave = _kill_process
 
 
-def _leave() -> None:
+def _kill_process() -> None:
     """Ends this process, whatever its threads do."""
     os.kill(os.getpid(), signal.SIGKILL)
 

@@ -34,7 +34,7 @@ class ResultWatch:
             return
         now = time.monotonic()
         quiet = self._measure_silence(now)
-        self._give_up_alone(patience, now, bool(quiet))
+        self._raise_without_workers(patience, now, bool(quiet))
         late = [address for address, passed in quiet.items() if passed > patience]
         if len(late) == len(quiet):                # that may be the scheduler's own fault
             late = [address for address in late if quiet[address] > 3 * patience]
@@ -55,7 +55,7 @@ class ResultWatch:
                        for address, seen in watched.items()}
         return {address: now - since for address, (_, since) in self._heard.items()}
 
-    def _give_up_alone(self, patience: float, now: float, is_any: bool) -> None:
+    def _raise_without_workers(self, patience: float, now: float, is_any: bool) -> None:
         """TimeoutError where no worker is there, and none came for long: nannies may be lost,
         too."""
         if is_any:

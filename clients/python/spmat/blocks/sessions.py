@@ -10,8 +10,8 @@ import tempfile
 import weakref
 from typing import Any, Callable, Dict, Iterable, List, Optional, Sequence, Tuple, Union
 
+from ..backends.placeholders import Unforeseen, backend_now, current_price
 from ..backends.protocol import Budget, JobResult, Run
-from ..backends.unread import Unforeseen, backend_now, current_price
 from ..errors import BudgetExceeded, SpmatError
 from ..io import coo
 from ..limits import MOST_STEPS, MOST_WORKERS

@@ -163,10 +163,11 @@ def turn_lines(store: Store, piece: Piece, cut: row_partition.Cut) -> List[Lines
     rows, columns, values = rows[order], columns[order], values[order]
     places = numpy.searchsorted(columns, cut.bounds).tolist()
     parts = [slice(first, end) for first, end in zip(places, places[1:])]
-    return [_bare(Triples(columns[at], rows[at], values[at], ncols, nrows)) for at in parts]
+    return [_write_entries(Triples(columns[at], rows[at], values[at], ncols, nrows))
+            for at in parts]
 
 
-def _bare(triples: Triples) -> Lines:
+def _write_entries(triples: Triples) -> Lines:
     text = matrix_text.write(triples)
     return text[matrix_text.head_of(text).start:], len(triples.rows)
 

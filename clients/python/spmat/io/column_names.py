@@ -79,7 +79,7 @@ class _Name(NamedTuple):
     whole: str
 
 
-def plain(field: str) -> str:
+def normalize_name(field: str) -> str:
     """A word without its case, blanks, dashes, points and underscores."""
     return re.sub(r'[\s_.:-]', '', field.lower())
 
@@ -95,7 +95,7 @@ def find_pairs(fields: Sequence[str]) -> List[Pair]:
     """The pairs of columns whose names are known as the ends of edges, the surest first. Of more
     than `MOST_COLUMNS` names with a known word only those are held against each other that are
     known as a whole."""
-    names = [_Name(at, parts(field), plain(field)) for at, field in enumerate(fields)]
+    names = [_Name(at, parts(field), normalize_name(field)) for at, field in enumerate(fields)]
     names = [name for name in names if name.whole in WORDS or not WORDS.isdisjoint(name.words)]
     if len(names) > MOST_COLUMNS:
         names = [name for name in names if name.whole in WORDS][:MOST_COLUMNS]

@@ -12,7 +12,7 @@ from typing import List, NamedTuple, Optional, Sequence, Tuple, Union
 
 from ..errors import ReadError
 from .column_names import (MOST_COLUMNS, NO_VALUES, VALUES, WEAK_VALUES, Pair, ask_two_kinds,
-                           find_pairs, plain)
+                           find_pairs, normalize_name)
 from .values import RAISE, TAKES, TIME_COLUMNS, is_missing, is_number, is_time
 
 Comments = Union[bool, str, Sequence[str], None]
@@ -99,7 +99,8 @@ def ask_direction(head: Head) -> str:
     """What is asked of a list whose column `Type` has the word "Undirected", as Gephi writes it;
     else nothing."""
     for at, field in enumerate(head.first):
-        if plain(field) == 'type' and any(plain(kind) == 'undirected' for kind in head.below(at)):
+        if normalize_name(field) == 'type' and any(normalize_name(kind) == 'undirected'
+                                                   for kind in head.below(at)):
             return ('the column %r has edges that are "Undirected": directed=False takes each one '
                     'both ways, directed=True as it is written' % field)
     return ''
@@ -260,7 +261,8 @@ def _may_be_edge(head: Head, pair: Pair) -> bool:
     """Whether the known words of a first line may as well be names of vertices: they stand below
     again, or others that are numbered as they are."""
     below = head.below(pair.source) + head.below(pair.target)
-    if pair.stem and (not below or any(plain(name).startswith(pair.stem) for name in below)):
+    if pair.stem and (not below or any(normalize_name(name).startswith(pair.stem)
+                                       for name in below)):
         return True
     return head.first[pair.source] in below or head.first[pair.target] in below
 
@@ -278,7 +280,8 @@ def _choose_unnamed(head: Head, layout: Layout, header: bool) -> Tuple[int, int]
     """The two names where no words tell them: of two columns these; of three the first two, where
     the third has numbers and nobody can have meant others."""
     width = len(head.first)
-    values = [at for at, field in enumerate(head.first) if plain(field) in VALUES] if header else []
+    values = ([at for at, field in enumerate(head.first) if normalize_name(field) in VALUES]
+              if header else [])
     if width == 2:
         if any(_has_numbers(head.below(at)) for at in values):
             raise head.fault(
@@ -310,7 +313,7 @@ def _guess_ends(head: Head) -> Tuple[int, int]:
     """The first two columns that aren't called as values and numbers of lines are, those without
     numbers before others."""
     known = NO_VALUES | VALUES | WEAK_VALUES
-    named = [at for at, field in enumerate(head.first) if plain(field) not in known]
+    named = [at for at, field in enumerate(head.first) if normalize_name(field) not in known]
     texts = [at for at in named if head.below(at) and not _has_numbers(head.below(at))]
     found = texts if len(texts) > 1 else named if len(named) > 1 else [0, 1]
     return found[0], found[1]
@@ -321,8 +324,8 @@ def _propose(head: Head, ends: Tuple[int, int], values: bool, header: bool = Tru
     values, one for each of two."""
     others = ([at for at in range(len(head.first)) if at not in ends
                and _has_numbers(head.below(at) or [head.first[at]])
-               and plain(head.first[at]) not in NO_VALUES] if values else [])
-    known = [at for at in others if plain(head.first[at]) in VALUES | WEAK_VALUES]
+               and normalize_name(head.first[at]) not in NO_VALUES] if values else [])
+    known = [at for at in others if normalize_name(head.first[at]) in VALUES | WEAK_VALUES]
     ways: List[Tuple[int, ...]] = [(*ends, at) for at in (known or others)[:2 if header else 1]]
     counts = collections.Counter(head.first)
     called = [field if header and counts[field] == 1 else at for at, field in enumerate(head.first)]
@@ -344,10 +347,10 @@ def _choose_value(head: Head, ends: Tuple[int, int], header: bool,
         if times:
             return times[0]
     elif header:
-        called_so = [[at for at in others if plain(head.first[at]) in known]
+        called_so = [[at for at in others if normalize_name(head.first[at]) in known]
                      for known in (VALUES, WEAK_VALUES)]
-        others = called_so[0] or called_so[1] or [at for at in others
-                                                  if plain(head.first[at]) not in NO_VALUES]
+        others = called_so[0] or called_so[1] or [
+            at for at in others if normalize_name(head.first[at]) not in NO_VALUES]
     if len(others) > 1:
         raise head.fault(
             '%d columns: %s says which have the two names and the value; values=False reads no '
@@ -361,7 +364,8 @@ def _find_times(head: Head, others: Sequence[int], header: bool,
     found = [at for at in others
              if any(is_time(field, date_format)
                     for field in [*([] if header else [head.first[at]]), *head.below(at)])]
-    return found or [at for at in others if header and plain(head.first[at]) in TIME_COLUMNS]
+    return found or [at for at in others
+                     if header and normalize_name(head.first[at]) in TIME_COLUMNS]
 
 
 def _check_numbers(head: Head, at: int, header: bool) -> int:

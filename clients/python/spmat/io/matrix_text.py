@@ -121,7 +121,7 @@ class _Table:
         """Writes numbers that aren't negative into columns of the table, four digits at a time; the
         place behind them."""
         end = at + width
-        for part, left in self._eights(numbers, width):
+        for part, left in self._split_digits_by_eight(numbers, width):
             for step in range(left // 4):
                 end -= 4
                 above = part // numpy.uint32(10000) if step + 1 < left // 4 else numpy.uint32(0)
@@ -134,7 +134,7 @@ class _Table:
             keep[:, at:at + width - 1] = seen[:, :-1]
         return at + width
 
-    def _eights(self, numbers: Any, width: int) -> Iterator[Tuple[Any, int]]:
+    def _split_digits_by_eight(self, numbers: Any, width: int) -> Iterator[Tuple[Any, int]]:
         """Numbers by eight digits, the lowest first, as 32-bit words, with how many digits are left
         of them."""
         while width > 8:

@@ -4,7 +4,7 @@ from __future__ import annotations
 from typing import Any, Callable, Dict, Optional, Sequence
 
 from ..algorithms.utils import Progress, iterate, tell
-from ..backends.unread import current_price
+from ..backends.placeholders import current_price
 from ..errors import NotSettled
 from ..io.coo import whole
 from ..matrix import Matrix

@@ -147,7 +147,7 @@ class Push:
         text = matrix_text.write(entries, ones=True)
         batch = CommandBatch(b'matrix %s %d\n%s\n%s' % (self._row, len(text), text, self._rest), 5)
         backend = session.backend
-        with backend.turn():
+        with backend.lock():
             flush(session)
             session.connection.post(batch)
             backend.queue.runs += 1

@@ -170,7 +170,7 @@ class TracedRounds:
             self._fault = None
             raise fault
 
-    def made(self, number: int) -> None:
+    def note_made(self, number: int) -> None:
         """Rounds up to this one are made."""
         for past in [one for one in self._ahead if one <= number]:
             del self._ahead[past]

@@ -16,12 +16,12 @@ from typing import (TYPE_CHECKING, Any, Callable, Dict, List, Mapping, Optional,
                     Union, cast)
 
 from ..backends.trace import TraceHandle
-from ..backends.unread import Unread, current_price
+from ..backends.placeholders import Placeholder, current_price
 from ..errors import NotSettled, Refused
 from ..io.coo import whole
 from .round_results import Body, Shown
 from .rounds import State, TracedRounds, of_two, results
-from .trips import Counts, Place, Round, Trips, Until, count_entries, first_met, place_behind
+from .trips import Counts, Place, Round, Trips, Until, count_entries, first_met, advance_place
 
 if TYPE_CHECKING:
     from ..algorithms.utils import Progress
@@ -176,7 +176,7 @@ class Loop:
             raise NotSettled(
                 'did not converge after %d rounds: most= allows more, and advance() makes '
                 'rounds without an end; the state is that behind them' % most)
-        made: Any = self.number - begun if current_price() is None else Unread()
+        made: Any = self.number - begun if current_price() is None else Placeholder()
         return cast(int, made)
 
     def advance(self, rounds: int = 1, each: Optional[Each] = None,
@@ -298,7 +298,7 @@ class Loop:
         for name in self._show:
             self.shown.setdefault(name, Shown(got[name].shape))
         if trips is None:
-            self._own_place = place_behind(self._own_place, got)
+            self._own_place = advance_place(self._own_place, got)
         else:
             trips.accept_one(got)
         return [Round(count_entries(got), bodies)]

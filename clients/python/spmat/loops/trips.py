@@ -161,7 +161,7 @@ class Trips:
     def post(self, asked: List[RoundJobs]) -> None:
         """Sends rounds, or fewer where their text is long."""
         session = self.session
-        with session.backend.turn():
+        with session.backend.lock():
             flush(session)
             trip = self._trip(asked)
             if len(trip.text) > MOST_BYTES and len(asked) > 1:
@@ -228,7 +228,7 @@ class Trips:
         """The first trip under way is what the loop goes on from."""
         trip = self.under_way.popleft()
         notes = {name: trip.asked[-1].notes[name] for name in trip.state}
-        self._go_on(Place(trip.number, trip.state, notes, rounds[-1].counts))
+        self._advance_to(Place(trip.number, trip.state, notes, rounds[-1].counts))
 
     def stop(self) -> None:
         """Forgets what is under way: the loop is where its first trip began."""
@@ -241,9 +241,9 @@ class Trips:
             last, self._wasted = self._wasted[-1], []
             self._note_budget(self.session.connection.collect(last))
 
-    def _go_on(self, place: Place) -> None:
+    def _advance_to(self, place: Place) -> None:
         self.place = place
-        self.rounds.made(place.number)
+        self.rounds.note_made(place.number)
 
     def resume(self) -> None:
         """Goes on from the state, of which the caller may have named vertices."""
@@ -271,7 +271,7 @@ class Trips:
 
     def accept_one(self, got: Mapping[str, Matrix]) -> None:
         """These results are what the loop goes on from."""
-        self._go_on(place_behind(self.place, got))
+        self._advance_to(advance_place(self.place, got))
 
     # -- the state
 
@@ -279,7 +279,7 @@ class Trips:
         """The state, as matrices that have their names from now on. What the caller has, of the
         state or outside of the step, is itself."""
         place, state = self.place, State()
-        with self.session.backend.turn():
+        with self.session.backend.lock():
             for name, source in place.state.items():
                 state[name] = source if isinstance(source, Matrix) else self._matrix(name, source)
         return state
@@ -308,7 +308,7 @@ def place_of(state: State, number: int) -> Place:
                  count_entries(state))
 
 
-def place_behind(place: Place, got: Mapping[str, Matrix]) -> Place:
+def advance_place(place: Place, got: Mapping[str, Matrix]) -> Place:
     """The place behind the round that gave these results."""
     state = State((name, got[name]) for name in place.state)
     return place_of(state, place.number + 1)._replace(counts=count_entries(got))

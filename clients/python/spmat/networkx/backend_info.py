@@ -63,13 +63,14 @@ _TABLE: Dict[str, Dict[Pays, str]] = {
               'bfs_layers',
         KNOWN: 'degree_centrality in_degree_centrality out_degree_centrality isolates '
                'number_of_isolates number_of_selfloops is_tree is_arborescence'},
-    'density': {
+    'triangles_and_cores': {
         MUCH: 'triangles transitivity clustering average_clustering generalized_degree '
               'square_clustering',
         PRODUCTS: 'k_core k_truss',
-        WEIGHTS: 'minimum_spanning_edges maximum_spanning_edges minimum_spanning_tree '
-                 'maximum_spanning_tree',
         ROUNDS: 'core_number k_shell k_crust k_corona onion_layers maximal_independent_set'},
+    'spanning_trees': {
+        WEIGHTS: 'minimum_spanning_edges maximum_spanning_edges minimum_spanning_tree '
+                 'maximum_spanning_tree'},
     'shortest_paths': {
         WEIGHTS: 'multi_source_dijkstra multi_source_dijkstra_path single_source_dijkstra '
                  'single_source_dijkstra_path dijkstra_predecessor_and_distance '

@@ -49,13 +49,14 @@ def walk(kind: str, steps: List[Step]) -> Dict[int, State]:
     before: Dict[int, State] = {0: start}
     for step in steps:
         if step.slot in before:
-            after = _after(step, before[step.slot])
+            after = _apply_step(step, before[step.slot])
             for number, slot in enumerate(step.next):
-                _meet(before, slot, after, ((step.slot, number == 1),) if step.chooses else ())
+                _merge_state(before, slot, after,
+                             ((step.slot, number == 1),) if step.chooses else ())
     return before
 
 
-def _after(step: Step, state: State) -> State:
+def _apply_step(step: Step, state: State) -> State:
     if step.writes is None or step.writes >= REGISTERS:
         return state
     out = list(state)
@@ -72,7 +73,7 @@ def _add(kind: str, by: int) -> str:
     return 'p%d' % (int(kind[1:]) + by) if kind.startswith('p') else kind
 
 
-def _meet(before: Dict[int, State], slot: int, after: State, choice: Way) -> None:
+def _merge_state(before: Dict[int, State], slot: int, after: State, choice: Way) -> None:
     """Adds what comes to a slot to what was known to come there."""
     held = before.setdefault(slot, [{} for _ in range(REGISTERS)])
     for known, new in zip(held, after):

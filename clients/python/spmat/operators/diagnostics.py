@@ -146,11 +146,12 @@ def register_of(operator: Operator, rule: str, slot: int) -> str:
     for register in step.reads:
         kinds = state[register] if register < dataflow.REGISTERS else {}
         if rule == 'V11' and dataflow.UNSET in kinds:
-            return 'r%d is unset %s' % (register, _way(kinds[dataflow.UNSET], texts))
+            return 'r%d is unset %s' % (register, _describe_way(kinds[dataflow.UNSET], texts))
         if rule == 'V12' and dataflow.UNSET not in kinds and len(kinds) > 1:
             (one, first), (other, second) = list(kinds.items())[:2]
-            return 'r%d is %s %s, and %s %s' % (register, _content(one), _way(first, texts),
-                                                _content(other), _way(second, texts))
+            return 'r%d is %s %s, and %s %s' % (
+                register, _content(one), _describe_way(first, texts), _content(other),
+                _describe_way(second, texts))
     return ''
 
 
@@ -160,7 +161,7 @@ def _content(kind: str) -> str:
     return "the stack's top" if kind == 'p0' else "the stack's top less %d" % -int(kind[1:])
 
 
-def _way(way: dataflow.Way, texts: 'dict[int, str]') -> str:
+def _describe_way(way: dataflow.Way, texts: 'dict[int, str]') -> str:
     """A way in words: by its last few jumps."""
     if not way:
         return 'on each way that leads here'
@@ -178,11 +179,11 @@ def suggest_repair(text: str, rule: str, at: int) -> str:
     if '//' in line and rule in ('A2', 'A3'):
         return 'to mend it: ' + COMMENTS
     if rule == 'A2':
-        near = ' or '.join(_near(mnemonic)) or 'mov64, add32'
+        near = ' or '.join(_find_similar_mnemonics(mnemonic)) or 'mov64, add32'
         return 'to mend it: mnemonics are in lower case and end in their width, as ' + near
     if rule == 'A3':
         return 'to mend it: it is written `%s`%s' % (assembly.form_of(mnemonic),
-                                                     _odd_operand(words))
+                                                     _describe_odd_operand(words))
     if rule == 'A4':
         return 'to mend it: registers are r0 to r10'
     if rule == 'A5':
@@ -195,13 +196,13 @@ def suggest_repair(text: str, rule: str, at: int) -> str:
     return 'to mend it: put the comment on lines of its own' if rule == 'A1' else ''
 
 
-def _near(mnemonic: str) -> List[str]:
+def _find_similar_mnemonics(mnemonic: str) -> List[str]:
     low = mnemonic.lower()
     found = [name for name in (low, low + '64', low + '32') if name in assembly.OPERANDS]
     return found or difflib.get_close_matches(low, assembly.OPERANDS, 3)
 
 
-def _odd_operand(words: List[str]) -> str:
+def _describe_odd_operand(words: List[str]) -> str:
     operands = [operand.strip() for operand in words[1].split(',')] if len(words) > 1 else []
     for operand in operands:
         if len(operand.split()) > 1:

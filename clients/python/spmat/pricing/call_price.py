@@ -9,9 +9,9 @@ from typing import (Any, Callable, Dict, Iterator, List, NamedTuple, Optional, S
                     TypeVar, cast)
 
 from ..backends.estimate import (EstimateBackend, EstimateHandle, Size, least_taken, most_taken,
-                                 size_of, stand_for_result)
+                                 size_of, estimate_result)
 from ..backends.protocol import AMPLE, Backend, Job
-from ..backends.unread import Unforeseen, Unread, current_price, pricing
+from ..backends.placeholders import Placeholder, Unforeseen, current_price, pricing
 from ..errors import MORE_STEPS, BudgetExceeded, BudgetWarning
 from ..matrix import Matrix
 from ..operators import Operator
@@ -107,7 +107,7 @@ class Price:
         self.least += least.steps
         self.jobs.append(Foreseen(job.form, most.steps))
         self._add(most.steps, most.steps)
-        return stand_for_result(backend, job, least, most.entries)
+        return estimate_result(backend, job, least, most.entries)
 
     def _size(self, backend: EstimateBackend, op: Operator) -> Size:
         try:
@@ -135,7 +135,7 @@ class Price:
         if key not in self.found:
             try:
                 fact = find()
-                fact = self._look_up(graph, name) if isinstance(fact, Unread) else fact
+                fact = self._look_up(graph, name) if isinstance(fact, Placeholder) else fact
             except Unforeseen:
                 fact = self._look_up(graph, name)
             self.found[key] = graph, fact

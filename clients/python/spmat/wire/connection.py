@@ -29,8 +29,8 @@ from .commands import PIECE, Command, CommandBatch, Incoming, Reply
 from .protocol import WORDS_WITH_BODY
 from .reply_checks import NOTHING, Limits
 from .server_program import Program, program_words
+from .session_lock import InterruptGuard
 from .transport import Address, Channel, Child, Socket, Timeouts
-from .turns import Guard
 
 ENDS = ('S5', 'S6', 'S7', 'busy', *OF_GATEWAY)
 # for a command to a server and its whole reply, where its jobs don't run
@@ -62,7 +62,7 @@ class Connection:
         self.lock = threading.RLock()
         self.progress = progress
         self.commands, self.sent = 0, 0
-        self.guard = Guard()
+        self.guard = InterruptGuard()
         self._channel = channel
         self.incoming = Incoming(self._fill, self._fault,
                                  lambda done, of: self.tell('received', done, of))

@@ -20,7 +20,7 @@ def carried() -> Optional[str]:
     return path if os.access(path, os.X_OK) else None
 
 
-def _plain() -> str:
+def _describe_plain_server() -> str:
     """What else there is in a checkout, in words."""
     top = os.path.dirname(os.path.dirname(os.path.dirname(_PACKAGE)))
     path = os.path.join(top, 'reference', '__main__.py')
@@ -37,11 +37,12 @@ def program_words(program: Optional[Program] = None) -> List[str]:
         raise FileNotFoundError(
             'no program `spmat`: this package carries none (a wheel for Linux on x86_64 does; '
             'this is %s on %s). Give program=, set the variable SPMAT, or put it on the PATH%s'
-            % (platform.system(), platform.machine(), _plain()))
+            % (platform.system(), platform.machine(), _describe_plain_server()))
     if not isinstance(found, str):
         return [os.fspath(word) for word in found]
     if os.path.isdir(found) and not shutil.which(found):
-        raise FileNotFoundError('expected a program, got the folder %s%s' % (found, _plain()))
+        raise FileNotFoundError('expected a program, got the folder %s%s'
+                                % (found, _describe_plain_server()))
     return [found] if os.path.exists(found) else shlex.split(found)
 
 

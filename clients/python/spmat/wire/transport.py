@@ -240,7 +240,7 @@ class Address(NamedTuple):
             if opened is not None:
                 opened.close()
             if isinstance(fault, OSError):
-                raise _placed(fault, self, what) from None
+                raise _name_address(fault, self, what) from None
             raise
 
 
@@ -307,7 +307,7 @@ class Socket:
 Channel = Union[Child, Socket]
 
 
-def _placed(fault: OSError, address: Address, what: str) -> OSError:
+def _name_address(fault: OSError, address: Address, what: str) -> OSError:
     """The same fault, with the address and what was refused in its words."""
     words = 'no connection to %s: %s%s' % (address, what, fault.strerror or fault)
     return type(fault)(words) if fault.errno is None else type(fault)(fault.errno, words)

@@ -20,7 +20,7 @@ from typing import Any, Callable, Optional, Tuple
 
 from ...errors import CompileError
 from .. import Operator, READY
-from ..functions import Operand, whole
+from ..integer_functions import Operand, whole
 from ..other_names import name_of_text
 from .cache import code_of
 from .compile_function import NAMES, find_positional, name_of

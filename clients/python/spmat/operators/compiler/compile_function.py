@@ -14,13 +14,13 @@ from typing import Any, Callable, Dict, Iterator, List, NamedTuple, Optional, Se
 
 from ...errors import CompileError
 from ..assembly import MEANINGS, wrap
-from ..functions import whole
+from ..integer_functions import whole
 from .emission import Emission
 from .exploration import (Explored, Impure, Line, Path, Ranges, call, describe_line, explore,
                           is_users)
 from .expressions import Graph, LEAST, MOST, Node, below
 from .registers import Instruction, Machine, Reg, allocate, ins, resolve, size_of, text_of, tidy
-from .words import Word, node_of
+from .symbolic_words import Word, node_of
 
 NAMES = {'unary': ('x',), 'binary': ('x', 'y'), 'index': ('x', 'row', 'column', 'thunk')}
 KINDS = {'unary': 'a unary operator is a function of x',

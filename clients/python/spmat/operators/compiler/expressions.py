@@ -286,12 +286,12 @@ class Merge:
     def _merge(self, a: Node, b: Node) -> Node:
         (base, more), (other, less) = split_sum(a), split_sum(b)
         if base is other:
-            hole = self._hole(self.graph.const(more - less), self.graph.const(0))
+            hole = self._add_hole(self.graph.const(more - less), self.graph.const(0))
             if base is None and less:              # 8 or 5 is 5 and (3 or 0)
                 return self.graph.node('add', hole, b)
             return self.graph.make('add', b, hole)
         if a.op != b.op or a.op in LEAVES:
-            return self._hole(a, b)
+            return self._add_hole(a, b)
         if a.op != 'select':
             return self.graph.make(a.op, *self._pairs(a, b))
         return self._choices(a, b)
@@ -316,7 +316,7 @@ class Merge:
         others = b.args[::-1] if cross else b.args
         return [self.of(one, other) for one, other in zip(a.args, others)]
 
-    def _hole(self, a: Node, b: Node) -> Node:
+    def _add_hole(self, a: Node, b: Node) -> Node:
         made = self.graph.select(self.c, a, b)
         self.holes.add(made)
         if len(self.holes) > MOST_HOLES:

@@ -1,7 +1,8 @@
-"""Functions for what Python has no sign for, of plain numbers and in an operator's function.
+"""Functions of 64-bit integers that Python has no sign for: `cdiv`, `umod`, `rsh`, `where`. They
+take plain numbers, and operands in a function that becomes an operator.
 
-There they are called with operands: words that are no numbers yet, of which the compiler makes
-expressions (`compiler.words`).
+Operands are words that are no numbers yet, of which the compiler makes expressions
+(`compiler.symbolic_words`).
 """
 from __future__ import annotations
 

@@ -1,5 +1,5 @@
-"""What stands for what only a result would tell, while a call is priced; and what is priced in this
-thread."""
+"""Placeholders of values that only a result would tell, while a call is priced; and the price that
+is computed in this thread."""
 from __future__ import annotations
 
 import contextlib
@@ -30,18 +30,18 @@ def _refuse(*_: Any, **__: Any) -> NoReturn:
     raise Unforeseen()
 
 
-class Unread:
+class Placeholder:
     """What stands for what only a result would tell. Whoever decides something by it ends what can
     be foreseen of a call."""
 
     def __getattr__(self, name: str) -> Any:
         if name.startswith('__'):
             raise Unforeseen()
-        return Unread()
+        return Placeholder()
 
 
 for _name in _DECIDES.split():
-    setattr(Unread, '__%s__' % _name, _refuse)
+    setattr(Placeholder, '__%s__' % _name, _refuse)
 
 
 def reading(method: F) -> F:
@@ -52,7 +52,7 @@ def reading(method: F) -> F:
         try:
             return method(*args, **named)
         except Unforeseen:
-            return Unread()
+            return Placeholder()
     return cast(F, call)
 
 

@@ -11,7 +11,7 @@ import operator
 from typing import Any, Callable, Dict, NoReturn, Optional, Tuple
 
 from ..assembly import wrap
-from ..functions import Operand, cdiv, cmod, rsh, udiv, ult, where, whole
+from ..integer_functions import Operand, cdiv, cmod, rsh, udiv, ult, where, whole
 from .exploration import MOST_VALUES, Path
 from .expressions import Condition, LEAST, MOST, Node, text_of
 

@@ -1,4 +1,4 @@
-"""Who may use a session, and when: one thread at a time, and Ctrl-C where nothing is lost by it.
+"""The lock of a session: one thread at a time, and Ctrl-C where nothing is lost by it.
 
 A session stays in step as long as each command is sent whole and each reply read whole. So what
 Python does on SIGINT, which is to raise KeyboardInterrupt wherever it is, is put off until the
@@ -25,7 +25,7 @@ if TYPE_CHECKING:
 Handler = Callable[[int, Any], Any]
 
 
-class Guard:
+class InterruptGuard:
     """Puts Ctrl-C off within a `with`; within `waiting()` it comes at once. One that was put off is
     raised at the end of the `with`."""
 
@@ -40,7 +40,7 @@ class Guard:
             before = signal.getsignal(SIGINT)
             if callable(before):
                 self._before, self._held, self._lets = before, False, False
-                signal.signal(SIGINT, self._came)
+                signal.signal(SIGINT, self._handle_interrupt)
 
     def __exit__(self, kind: Any, *_: Any) -> None:
         self._depth -= 1
@@ -61,12 +61,12 @@ class Guard:
         self._lets = True
         try:
             if self._held:
-                self._came(SIGINT, None)
+                self._handle_interrupt(SIGINT, None)
             yield
         finally:
             self._lets = False
 
-    def _came(self, number: int, frame: Any) -> None:
+    def _handle_interrupt(self, number: int, frame: Any) -> None:
         before = self._before
         if before is not None and (self._lets or self._held):
             self._held = self._lets = False
@@ -75,7 +75,7 @@ class Guard:
             self._held = True
 
 
-class Turn:
+class SessionLock:
     """The turn of one thread, in a `with`, in which commands are made and what they do is noted.
     What comes between a command and the note of it ends the session; Ctrl-C is put off until the
     note is made, or the reply is awaited. Closed where the session has ended."""
