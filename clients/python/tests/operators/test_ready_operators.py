@@ -1,12 +1,12 @@
 """Each ready operator, through the program, beside what Python says of it; and the table of
 docs/operators.md beside the files."""
+import collections
 import os
 import random
 import re
 import subprocess
 import sys
 import unittest
-import zlib
 
 import support
 import spmat
@@ -138,31 +138,43 @@ class Table(unittest.TestCase):
         self.assertEqual(sorted(rows), sorted(want))
 
 
-class Digests(unittest.TestCase):
-    """The table by which a function is found to be a ready operator."""
-    SECOND_NAMES = ('any', 'oneb', 'iseq', 'isne')     # of operators that are there by another name
+class Texts(unittest.TestCase):
+    """A function is found to be a ready operator by its instructions."""
 
-    def test_table(self):
-        found = {kind: {zlib.crc32(ready[name].bare_text.encode()): name
-                        for name in ready.ready() if name not in self.SECOND_NAMES}
-                 for kind, ready in READY.items()}
-        self.assertEqual(other_names.DIGESTS, found)
-        self.assertEqual(sum(map(len, found.values())), 61)
+    def test_each_has_a_text_of_its_own(self):
+        """Second names aside, so that a text is one operator."""
+        for kind, ready in READY.items():
+            texts = collections.defaultdict(list)
+            for name in ready.ready():
+                texts[ready[name].bare_text].append(name)
+            for names_of_one in texts.values():
+                with self.subTest(kind=kind, names=names_of_one):
+                    self.assertEqual(
+                        len([name for name in names_of_one
+                             if name not in other_names.SECOND_NAMES]), 1)
 
-    def test_no_file_is_read(self):
-        """Of a function that is no ready operator, and only that one's of one that is."""
+    def test_functions_that_are_ready(self):
+        for made, name in ((spmat.binary(lambda x, y: x + y), 'plus'),
+                           (spmat.binary(lambda x, y: x), 'first'),
+                           (spmat.unary(lambda x: ~x), 'bnot')):
+            self.assertEqual((made.name, made.text), (name, READY[made.kind][name].text))
+        self.assertEqual(spmat.binary(lambda x, y: y + 3 * x).name, None)
+
+    def test_files_are_read_once(self):
+        """Those of one kind, and none for a second function."""
         program = ('import builtins, spmat\nopened = []\nreal = open\n'
                    'def counting(name, *more, **words):\n'
                    '    opened.append(str(name)); return real(name, *more, **words)\n'
                    'builtins.open = counting\n'
-                   'spmat.binary(lambda x, y: x + 2 * y)\n'
-                   'first = sum(name.endswith(".asm") for name in opened)\n'
-                   'plus = spmat.binary(lambda x, y: x + y)\n'
-                   'print(first, sum(name.endswith(".asm") for name in opened), plus.name)\n')
+                   'def count(): return sum(name.endswith(".asm") for name in opened)\n'
+                   'spmat.binary(lambda x, y: x + 2 * y)\nfirst = count()\n'
+                   'spmat.binary(lambda x, y: x + y)\nprint(first, count())\n')
         done = subprocess.run([sys.executable, '-c', program], stdout=subprocess.PIPE, check=True,
                               universal_newlines=True,
                               env=dict(os.environ, PYTHONPATH=support.CLIENT))
-        self.assertEqual(done.stdout, '0 1 plus\n')
+        read = len([name for name in READY['binary'].ready()
+                    if name not in other_names.SECOND_NAMES])
+        self.assertEqual(done.stdout, '%d %d\n' % (read, read))
 
 
 class Semirings(unittest.TestCase):
