@@ -90,15 +90,6 @@ _PLACES: Dict[str, str] = {name: module for module, names in {
     'vector': 'Vector',
     'submatrices': 'concat'}.items() for name in names.split()}
 
-# What python-graphblas has at its top, and what it is here.
-_ELSEWHERE = {'agg': 'aggregators are names, as in A.reduce_rowwise("count")',
-              'monoid': 'folds take binary operators, as in A.reduce_rowwise("plus")',
-              'op': 'operators are names, as in A.ewise_add(B, "plus")',
-              'Scalar': 'scalars are numbers of Python',
-              'replace': 'write C.update(B, mask=M.S, replace=True)',
-              'dtypes': 'all values are whole numbers of 64 bits',
-              'ss': 'write spmat.concat(tiles), A.split(sizes) and A.reshape(nrows, ncols)'}
-
 
 def __getattr__(name: str) -> Any:
     if name in _PLACES:
@@ -106,9 +97,8 @@ def __getattr__(name: str) -> Any:
     else:
         found = None if name.startswith('_') else _module(name)
     if found is None:
-        raise AttributeError('module %r has no attribute %r%s'
-                             % (__name__, name, ': ' + _ELSEWHERE[name] if name in _ELSEWHERE
-                                else ''))
+        from .foreign_names import PACKAGE, missing_attribute      # only where one is missing
+        raise missing_attribute('module %r' % __name__, name, PACKAGE)
     globals()[name] = found
     return found
 

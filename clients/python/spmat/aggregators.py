@@ -10,6 +10,7 @@ from .errors import refusal
 from .io.coo import MOST
 from .mask import Mask, as_mask
 from .operators import binary, find
+from .session_of_operands import not_a_matrix
 
 M = TypeVar('M')
 HALF = 32                                          # bits of a half of a number
@@ -191,7 +192,7 @@ def positional_product(first: M, second: M, op: Any, mask: Any, name: Optional[s
     of_second, index, shift = POSITIONAL[mul]
     a, b = cast(Any, first), cast(Any, second)
     if not isinstance(second, type(first)):
-        raise TypeError('expected a matrix, got %r' % (second,))
+        raise not_a_matrix(second)
     if a.ncols != b.nrows:
         raise refusal('J5', command='product', detail='%dx%d and %dx%d' % (*a.shape, *b.shape))
     ring = (add, 'second' if of_second else 'first')

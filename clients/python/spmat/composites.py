@@ -18,7 +18,7 @@ from .metadata import (BY_POSITIONS, COLUMNS, ELEMENTWISE, NOTHING, ROWS, Metada
                        joined, of_copy)
 from .operators import Op, Semiring, binary, indexunary, unary
 from .result_metadata import masked, of_update, on_diagonal
-from .session_of_operands import common_session
+from .session_of_operands import common_session, not_a_matrix
 from .unsupported_syntax import Signs
 
 if TYPE_CHECKING:
@@ -480,7 +480,7 @@ class Composites(Signs, metaclass=MatrixType):
         No job where sizes or numbers of entries differ; else 2 jobs and 2 runs.
         """
         if not isinstance(other, Composites):
-            raise TypeError('expected a matrix, got %r' % (other,))
+            raise not_a_matrix(other)
         if self.shape != other.shape:
             return False
         units.common('isequal', self.unit, other.unit)
@@ -576,7 +576,7 @@ class Composites(Signs, metaclass=MatrixType):
         The client reads both where they differ. In python-graphblas the same name.
         """
         if not isinstance(other, Signs):
-            raise TypeError('expected a matrix, got %r' % (other,))
+            raise not_a_matrix(other)
         if rel_tol < 0 or abs_tol < 0:
             raise ValueError('tolerances are 0 or more, not %r and %r' % (rel_tol, abs_tol))
         if self.shape != other.shape:

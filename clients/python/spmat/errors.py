@@ -105,6 +105,7 @@ SENTENCES: Dict[str, str] = {
 }
 
 MORE_STEPS = 'open a session with more steps, and other.adopt(G) takes a matrix there'
+PRICE_TELLS = '; spmat.price(lambda: ..) tells beforehand what a call takes'
 MENDS: Dict[str, str] = {
     'V7': 'jump forward, and write a loop out',
     'V8': 'count from the slot after the jump, two slots for a wide',
@@ -518,8 +519,8 @@ class BudgetExceeded(Refused):
     def with_advice(self) -> 'BudgetExceeded':
         """This refusal of a job, with what can be done."""
         return self._replace(
-            detail='the price is %d, and %d are left: %s; spmat.price(lambda: ..) tells '
-            'beforehand what a call takes' % (self.price, self.left, MORE_STEPS))
+            detail='the price is %d, and %d are left: %s%s' % (self.price, self.left, MORE_STEPS,
+                                                               PRICE_TELLS))
 
     def name_algorithm(self, name: str) -> None:
         """Note which algorithm wanted the job."""
@@ -536,8 +537,9 @@ class BudgetExceeded(Refused):
             % (name, format(self.needed, ','), format(self.left, ','), MORE_STEPS))
 
     def by(self, way: str) -> 'BudgetExceeded':
-        """This refusal, with another way to more steps."""
-        return self._replace(detail=self.detail.replace(MORE_STEPS, way))
+        """This refusal, with another way to more steps, for callers who have no session."""
+        return self._replace(
+            detail=self.detail.replace(PRICE_TELLS, '').replace(MORE_STEPS, way))
 
     @property
     def price(self) -> int:

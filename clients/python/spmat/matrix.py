@@ -14,7 +14,7 @@ from .errors import TooLarge, refusal
 from .job_operators import Number, Ring, applied, of_form, of_index, ring_of
 from .mask import Mask, as_mask, structure
 from .operators import Op, Operator
-from .session_of_operands import common_session
+from .session_of_operands import common_session, not_a_matrix
 
 if TYPE_CHECKING:
     from .session import Session
@@ -48,11 +48,14 @@ class Matrix(Composites):
     found here, before anything is sent."""
 
     def __init__(self, session: 'Session', handle: Handle, name: Optional[str] = None) -> None:
+        if not isinstance(handle, Handle):
+            raise TypeError('a session makes matrices: s.from_triples(triples, nrows, ncols), '
+                            's.from_dense(array), s.read_graph(path)')
         self.session, self.handle = session, handle
         self.nrows, self.ncols = handle.shape
         self.notes = metadata.NOTHING
         self.kept = handle.facts                   # what algorithms found out about its entries
-        self.name = name or ('of the client' if handle.is_deferred else handle.key)
+        self.name = name or ('at the client' if handle.is_deferred else handle.key)
         handle.add_matrix(self)
 
     def __reduce__(self) -> Any:
@@ -645,11 +648,12 @@ class Matrix(Composites):
 
     def _check_shape(self, form: str, other: 'Matrix', shape: Tuple[int, Optional[int]]) -> None:
         if not isinstance(other, Matrix):
-            raise TypeError('expected a matrix, got %r' % (other,))
+            raise not_a_matrix(other)
         common_session(self.session, other.session)
         if other.nrows != shape[0] or shape[1] not in (None, other.ncols):
-            raise refusal('J5', command=form, detail='%dx%d and %dx%d%s' % (
-                *self.shape, *other.shape, metadata.hint_of(self.notes, other.notes)))
+            due = ('have %d rows' % shape[0] if shape[1] is None else 'be %dx%s' % shape)
+            raise refusal('J5', command=form, detail='%dx%d and %dx%d: the second has to %s%s' % (
+                *self.shape, *other.shape, due, metadata.hint_of(self.notes, other.notes)))
 
     # -- what it holds
 

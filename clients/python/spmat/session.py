@@ -9,6 +9,7 @@ from .backends.placeholders import all_priced, backend_now
 from .backends.protocol import Budget, Run
 from .backends.server import ServerBackend
 from .errors import OperatorRefused, Refused, TextRefused, refusal
+from .foreign_names import SESSION, missing_attribute
 from .io import coo, matrix_market, matrix_text
 from .io.columns import Layout
 from .io.files import name_of
@@ -138,6 +139,10 @@ class Session(Sources[Matrix]):
 
     def __exit__(self, *_: Any) -> None:
         self.close()
+
+    if not TYPE_CHECKING:                          # which knows all attributes that there are
+        def __getattr__(self, name: str) -> Any:
+            raise missing_attribute('%r object' % type(self).__name__, name, SESSION)
 
     def __reduce__(self) -> Any:
         raise TypeError('a session belongs to the process that opened it, and can not be pickled')

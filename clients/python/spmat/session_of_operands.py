@@ -1,7 +1,7 @@
-"""Whose jobs take several matrices: those of the session that holds them all."""
+"""Operands of jobs on several matrices: they are matrices, and one session holds them all."""
 from __future__ import annotations
 
-from typing import TYPE_CHECKING
+from typing import TYPE_CHECKING, Any
 
 if TYPE_CHECKING:
     from .session import Session
@@ -32,3 +32,21 @@ def common_session(first: 'Session', second: 'Session') -> 'Session':
     raise ValueError(
         'a matrix of another session: the two are in two sessions, and a job takes matrices of '
         'one; B = A.session.adopt(B) copies B into the session of A')
+
+
+def not_a_matrix(operand: Any) -> TypeError:
+    """Make the error for an operand that is no matrix.
+
+    Parameters
+    ----------
+    operand : object
+        What was given in place of a matrix.
+
+    Returns
+    -------
+    TypeError
+        The error. It says how to make a matrix of a list or an array.
+    """
+    instead = (': A.session.from_dense(x) makes one of it' if isinstance(operand, (list, tuple))
+               or hasattr(operand, '__array__') else '')
+    return TypeError('expected a matrix, got %s%s' % (type(operand).__name__, instead))

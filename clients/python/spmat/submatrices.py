@@ -22,7 +22,7 @@ from .mask import Mask, as_mask, structure, warn_user
 from .metadata import (BY_POSITIONS, COLUMNS, NOTHING, ROWS, Axis, Nodes, Unnamed, axis_of, even,
                        joined)
 from .operators import Op
-from .session_of_operands import common_session
+from .session_of_operands import common_session, not_a_matrix
 
 if TYPE_CHECKING:
     from .matrix import Matrix, MaskLike
@@ -386,7 +386,7 @@ def _free_size(matrix: 'Matrix', size: int, other: int) -> int:
 def kronecker(first: 'Matrix', second: 'Matrix', op: Op, name: Optional[str]) -> 'Matrix':
     """See `Matrix.kronecker`."""
     if not isinstance(second, Held):
-        raise TypeError('expected a matrix, got %r' % (second,))
+        raise not_a_matrix(second)
     if first.nvals * second.nvals > MOST_SIDE:
         raise refusal('M4',
                       detail='%d entries, of %d and of %d' % (first.nvals * second.nvals,

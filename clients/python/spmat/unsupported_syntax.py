@@ -1,12 +1,13 @@
-"""Python's signs and functions on matrices: each says which method to write in its place, and so
-does each function of numpy."""
+"""What Python, numpy and other libraries do with matrices and spmat doesn't: signs, functions and
+attributes. Each raises an error that says which method to write in its place."""
 from __future__ import annotations
 
 # the signs raise, so none gives what Python wants of it
 # pylint: disable=invalid-length-returned,non-iterator-returned,abstract-method
 
-from typing import Any, Callable
+from typing import TYPE_CHECKING, Any, Callable
 
+from .foreign_names import MATRIX, missing_attribute
 from .io.exporters import Held
 from .operators import other_names
 
@@ -111,7 +112,11 @@ class Signs(Held):
                 'the same' % kind)
         return int(values[0])
 
-    # -- numpy
+    # -- other libraries
+
+    if not TYPE_CHECKING:                          # which knows all attributes that there are
+        def __getattr__(self, name: str) -> Any:
+            raise missing_attribute('%r object' % type(self).__name__, name, MATRIX)
 
     __array__ = _refused('array of its own', 'A.to_dense(), A.to_coo() or A.to_scipy_sparse()')
 

@@ -37,6 +37,9 @@ class Vector(Matrix):
 
     def __init__(self, column: Matrix) -> None:  # pylint: disable=super-init-not-called
         # it is the same matrix
+        if not isinstance(column, Matrix):
+            raise TypeError('a vector is of a matrix of one column or row, not of %r: '
+                            'spmat.Vector(s.from_dense(values))' % (column,))
         if 1 not in column.shape:
             raise refusal('J5', detail='a vector is of a column or a row, not of %dx%d'
                           % column.shape)

@@ -1,6 +1,9 @@
 """What is said of a mistake, before anything is sent: names that no operator has, indices,
 settings, things of other packages."""
+import pathlib
 import unittest
+
+import numpy
 
 import support  # noqa: F401 (finds the program)
 import spmat
@@ -68,6 +71,46 @@ class Words(unittest.TestCase):
             for call in (s.dis, s.types):
                 self.assertIn("expected an operator, such as spmat.binary.plus, got 'plus'",
                               self.said(TypeError, call, 'plus'))
+
+    def test_what_is_no_matrix(self):
+        with spmat.Session() as s:
+            A = s.full(3, 3)
+            for operand, words in (([1, 2], r'list: A\.session\.from_dense\(x\) makes'),
+                                   (numpy.ones(3), r'ndarray: A\.session\.from_dense\(x\)'),
+                                   (3, 'int$')):
+                for call in (A.mxm, A.mxv, A.ewise_add, A.isequal):
+                    with self.assertRaisesRegex(TypeError, 'expected a matrix, got ' + words):
+                        call(operand)
+            self.assertIn('a session makes matrices: s.from_triples',
+                          self.said(TypeError, spmat.Matrix, 3, 3))
+            self.assertIn('spmat.Vector(s.from_dense(values))',
+                          self.said(TypeError, spmat.Vector, [1, 2]))
+
+    def test_shapes(self):
+        with spmat.Session() as s:
+            A, B = s.full(3, 3), s.full(2, 4)
+            for call, words in ((A.mxm, '3x3 and 2x4: the second has to have 3 rows'),
+                                (A.mxv, '3x3 and 2x4: the second has to be 3x1'),
+                                (A.ewise_add, '3x3 and 2x4: the second has to be 3x3')):
+                self.assertIn(words, self.said(spmat.DimensionMismatch, call, B))
+            self.assertIn('got 3x3: to_triples(), to_edgelist() and to_dense() take any matrix',
+                          self.said(spmat.DimensionMismatch, A.to_list))
+
+    def test_text_of_an_operator(self):
+        self.assertEqual(self.said(ValueError, operators.find, 'unary', 'mov64 r0, r1\nexit'),
+                         "no ready unary operator is called 'mov64 r0, r1\\nexit': "
+                         "spmat.asm('unary', text) makes one of assembly text")
+
+    def test_where_edges_come_from(self):
+        with spmat.Session() as s:
+            for path in ('graph.csv', pathlib.Path('graph.csv')):
+                self.assertIn('read_graph(path) reads a file',
+                              self.said(TypeError, s.from_edgelist, path))
+            self.assertIn('from_edgelist(edges) takes edges',
+                          self.said(TypeError, s.read_graph, [('a', 'b')]))
+
+    def test_a_call_that_was_made(self):
+        self.assertIn('spmat.price(lambda: f(G))', self.said(TypeError, spmat.price, 3))
 
 
 if __name__ == '__main__':

@@ -25,6 +25,9 @@ Examples are of two graphs in a session `s`:
 # by their own names again, so that type checkers take them for exported
 # pylint: disable=useless-import-alias
 
+from typing import TYPE_CHECKING, NoReturn
+
+from ..foreign_names import ALGORITHMS as FOREIGN_NAMES, missing_attribute
 from ..matrix import Matrix as GraphMatrix
 from ..pricing.call_price import guarded
 from .all_pairs_lengths import (all_pairs as all_pairs, path_lengths as path_lengths,
@@ -70,6 +73,11 @@ __doc__ = '%s\n%s\n' % (__doc__, '\n'.join(table()))
 ALGORITHMS.update((name, with_model(one)) for name, one in list(ALGORITHMS.items()))
 globals().update({name: guarded(name_values(one, keep_units(one)), checks_arguments(one.function))
                   for name, one in ALGORITHMS.items()}, __all__=_NAMES)
+
+
+if not TYPE_CHECKING:                              # which knows all names that there are
+    def __getattr__(name: str) -> NoReturn:
+        raise missing_attribute('module %r' % __name__, name, FOREIGN_NAMES)
 
 
 def __dir__() -> list[str]:

@@ -28,8 +28,8 @@ def order(graph: Matrix, transpose: Optional[Matrix] = None) -> int:
     isn't square, or its transpose is of another size; NamesDiffer where the transpose has other
     names."""
     if not hasattr(type(graph), 'mxm'):
-        raise TypeError('a graph is a matrix of a session, as from_coo or from_networkx makes it, '
-                        'not %s' % type(graph).__name__)
+        raise TypeError('a graph is a matrix of a session, as read_graph, from_edgelist or '
+                        'from_networkx makes it, not %s' % type(graph).__name__)
     if graph.nrows != graph.ncols:
         raise ValueError('a graph is a square matrix; this one has %d rows and %d columns'
                          % (graph.nrows, graph.ncols))

@@ -56,7 +56,7 @@ class BlockMatrix(Matrix):
 
     def __init__(self, session: Any, handle: Handle, name: Optional[str] = None) -> None:
         blocks: Any = handle
-        name = name or ('of the client' if handle.is_deferred else 'in blocks')
+        name = name or ('at the client' if handle.is_deferred else 'in blocks')
         super().__init__(session.cut_as(blocks.cut), handle, name)
 
     def __repr__(self) -> str:

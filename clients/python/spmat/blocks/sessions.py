@@ -5,14 +5,17 @@ import contextlib
 import copy
 import dataclasses
 import itertools
+import operator
 import os
 import tempfile
+import threading
 import weakref
 from typing import Any, Callable, Dict, Iterable, List, Optional, Sequence, Tuple, Union
 
 from ..backends.placeholders import Unforeseen, backend_now, current_price
 from ..backends.protocol import Budget, JobResult, Run
-from ..errors import BudgetExceeded, SpmatError
+from ..errors import BudgetExceeded, Closed, SpmatError
+from ..foreign_names import SESSION, missing_attribute
 from ..io import coo
 from ..limits import MOST_STEPS, MOST_WORKERS
 from ..operators import Op, Operator, diagnostics, find
@@ -85,13 +88,13 @@ class Sessions(Inputs):
                  folder: Optional[str] = None, associative: Iterable[Op] = (), texts: bool = False,
                  progress: Progress = None, patience: Optional[float] = 10) -> None:
         _check_settings(steps, workers, patience)
-        self.engine = (engine if isinstance(engine, Engine) else Threads() if engine is None
-                       else Threads(engine))
+        self.engine = engine if isinstance(engine, Engine) else _open_threads(engine)
         self.blocks = (self.engine.places if blocks is None
                        else coo.whole(blocks, 'number of blocks'))
         if self.blocks < 1:
             raise ValueError('1 block at least, not %d' % self.blocks)
         self.folder, self.progress = folder, progress
+        self._closed = threading.Event()           # copies that cut otherwise share it
         self._spool: Optional['tempfile.TemporaryDirectory[str]'] = None
         self._waiting: List['weakref.ref[BlockHandle]'] = []
         self.files: List[str] = []                 # what was written there
@@ -122,7 +125,8 @@ class Sessions(Inputs):
 
     def close(self) -> None:
         """Ends the sessions. Their matrices are gone, and so are the files that they wrote into
-        `folder`."""
+        `folder`. What needs a session raises Closed from then on."""
+        self._closed.set()
         self.engine.close(self.settings)
         while self.files:
             with contextlib.suppress(FileNotFoundError):
@@ -130,15 +134,21 @@ class Sessions(Inputs):
         if self._spool is not None:
             self._spool.cleanup()
 
+    def _check_open(self) -> None:
+        if self._closed.is_set():
+            raise Closed('the sessions have ended: they were closed')
+
     @property
     def backend(self) -> Any:
         """What takes the jobs of matrices, or while a call is priced what foresees them."""
         return backend_now(self._backend)
 
     def __getattr__(self, name: str) -> Any:
-        why = OF_ONE_SESSION.get(name)
-        raise AttributeError('%r object has no attribute %r%s' % (
-            type(self).__name__, name, '' if why is None else ', as one session has: ' + why))
+        owner = '%r object' % type(self).__name__
+        if name in OF_ONE_SESSION:
+            raise AttributeError('%s has no attribute %r, as one session has: %s'
+                                 % (owner, name, OF_ONE_SESSION[name]))
+        raise missing_attribute(owner, name, SESSION)
 
     def spool(self) -> Optional[str]:
         """Where texts of blocks lie that come from here: in `folder`, or where all sessions are on
@@ -187,6 +197,7 @@ class Sessions(Inputs):
 
     def _ask_budgets(self) -> Dict[str, Tuple[str, Budget]]:
         """The name and the budget of each session, by the first of its workers."""
+        self._check_open()
         found: Dict[str, Tuple[str, Tuple[str, Budget]]] = {}
         try:
             answers = self.engine.everywhere(self.settings, worker_tasks.budget)
@@ -272,6 +283,7 @@ class Sessions(Inputs):
         `submit_batch` and `results` have it, and by a shorter way where there is one: nothing of it
         stays at the workers."""
         check_queued()
+        self._check_open()
         labels = [work.label for work in works]
         if works and not self.is_metered:
             try:
@@ -313,11 +325,13 @@ class Sessions(Inputs):
 
     def submit(self, block: int, label: str, function: Callable[..., Any], *args: Any) -> Any:
         """The future of a task at a block's place."""
+        self._check_open()
         return self.engine.submit(self.settings, block % self.engine.places, label, function, *args)
 
     def results(self, futures: Sequence[Any], labels: Sequence[str]) -> List[Any]:
         """What futures give. What failed in one of them is raised with its block's name; a lack of
         steps also with what was spent in all."""
+        self._check_open()
         try:
             return self.engine.results(self.settings, futures, labels, self.progress)
         except AtBlock as at:
@@ -336,6 +350,18 @@ def check_queued() -> None:
     """Raises Unforeseen where a call is priced whose jobs aren't told to the price."""
     if current_price() is not None:
         raise Unforeseen()
+
+
+def _open_threads(count: Any) -> Threads:
+    """Sessions of this machine, as many as are asked for; TypeError where no number is."""
+    if count is None:
+        return Threads()
+    try:
+        return Threads(operator.index(count))
+    except TypeError:
+        raise TypeError(
+            'sessions are a number of them on this machine, or an engine: Sessions(4), '
+            'Sessions(Threads(4)) or Sessions(Dask(client)), not %r' % (count,)) from None
 
 
 def _check_settings(steps: int, workers: int, patience: Optional[float]) -> None:

@@ -10,13 +10,14 @@ from __future__ import annotations
 import argparse
 import signal
 import sys
+import warnings
 from typing import Any, List, NoReturn, Optional
 
 from .. import __version__
 from ..io.formats import READABLE
 from ..io.matrix_market import ENDINGS
 from . import algorithm_commands, session_commands
-from .exit_status import MEANINGS, PROGRAM, Status, finish
+from .exit_status import MEANINGS, PROGRAM, Status, finish, show_warning
 from .grammar import Parser, add_completion, complete
 
 DESCRIPTION = (
@@ -85,4 +86,5 @@ def run(program: str = PROGRAM) -> NoReturn:
     """The command `spmat-graph`."""
     complete(parser(program))
     signal.signal(signal.SIGTERM, end)
+    warnings.showwarning = show_warning
     sys.exit(main(None, program))

@@ -11,14 +11,15 @@ import socket
 import struct
 import sys
 import zlib
-from typing import Iterator, Optional, Tuple, Type
+from typing import Any, Iterator, Optional, Tuple, Type, Union
 
-from ..errors import (BudgetExceeded, Busy, Closed, CompileError, NoThread, NotMade, OutOfMemory,
-                      ReadError, Refused, SpmatError, TextRefused, arguments_in)
+from ..errors import (MORE_STEPS, BudgetExceeded, Busy, Closed, CompileError, NoThread, NotMade,
+                      OutOfMemory, ReadError, Refused, SpmatError, TextRefused, arguments_in)
 
 PROGRAM = 'spmat-graph'                            # what its lines on standard error begin with
 # a variable: a fault of the program itself is shown whole
 TRACE = 'SPMAT_TRACE'
+MORE_STEPS_HERE = 'a greater --steps gives it more'
 
 
 class Status(enum.IntEnum):
@@ -116,6 +117,8 @@ def words_of(fault: BaseException) -> str:
     if isinstance(fault, OSError) and fault.strerror:
         return ('%s: %s' % (os.fsdecode(fault.filename), fault.strerror) if fault.filename
                 else fault.strerror)
+    if isinstance(fault, BudgetExceeded):
+        return ' '.join(str(fault.by(MORE_STEPS_HERE)).split())
     words = ' '.join(str(fault).split()) or type(fault).__name__
     if status_of(fault) is Status.FAULT:
         return 'a fault of %s itself: %s: %s (%s=1 shows where)' % (
@@ -137,6 +140,12 @@ def describe_flags(fault: BaseException) -> str:
     flags = [FLAGS.get(name, '--' + name.replace('_', '-')) for name in arguments]
     found = ', '.join(filter(None, dict.fromkeys(flags)))
     return ' (flags: %s)' % found if found else ''
+
+
+def show_warning(message: Union[Warning, str], *_: Any, **__: Any) -> None:
+    """Print a warning as one line on standard error, in the command line's words."""
+    words = ' '.join(str(message).replace(MORE_STEPS, MORE_STEPS_HERE).split())
+    print('%s: %s' % (PROGRAM, words), file=sys.stderr)
 
 
 def finish(fault: BaseException) -> int:

@@ -5,6 +5,7 @@ from __future__ import annotations
 import math
 import numbers
 import operator
+import os
 from typing import Any, Callable, Dict, Iterable, List, Mapping, Optional, Tuple
 
 import numpy
@@ -81,6 +82,9 @@ def list_edges(edges: Iterable[Any]) -> List[Any]:
             'for edge, value in edges.items()]) takes {(from, to): value}; '
             'networkx.from_dict_of_lists and from_dict_of_dicts take neighbours, and '
             'from_networkx the graph')
+    if isinstance(edges, (str, os.PathLike)):
+        raise TypeError('edges are a list of (from, to) or (from, to, value), not %r: '
+                        'read_graph(path) reads a file' % (edges,))
     many: List[Any] = edges.tolist() if hasattr(edges, 'tolist') else list(edges)
     for at, edge in enumerate(many):
         if not hasattr(edge, '__getitem__') or len(edge) not in (2, 3):

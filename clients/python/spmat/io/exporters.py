@@ -581,7 +581,8 @@ class Held(Written):
     def _length(self, wanted: str) -> int:
         """The length of a column or a row."""
         if 1 not in self.shape:
-            raise refusal('J5', detail='expected %s, got %dx%d' % (wanted, *self.shape))
+            raise refusal('J5', detail='expected %s, got %dx%d: to_triples(), to_edgelist() and '
+                          'to_dense() take any matrix' % (wanted, *self.shape))
         return self.nrows if self.ncols == 1 else self.ncols
 
     def to_dense(self, fill: Any = 0, dtype: Any = None, *, fill_value: Any = None) -> Any:

@@ -202,6 +202,9 @@ def opened(source: Any, limit: Limit = Limit()) -> Iterator[IO[bytes]]:
     with contextlib.ExitStack() as stack:
         if hasattr(source, 'read'):
             plain = source
+        elif isinstance(source, (list, tuple, dict)):
+            raise TypeError('expected a path or a file that is open in binary, got a %s: '
+                            'from_edgelist(edges) takes edges' % type(source).__name__)
         else:
             try:
                 plain = stack.enter_context(open(source, 'rb'))

@@ -303,6 +303,8 @@ def _instead(kind: str, name: str) -> str:
     words = other_names.words_for(name)
     if words is not None:
         return ': ' + words
+    if len(name.split()) > 1:
+        return ': spmat.asm(%r, text) makes one of assembly text' % kind
     near = difflib.get_close_matches(name, READY[kind], 3)
     return '; near it: ' + ', '.join(near) if near else ''
 

@@ -280,6 +280,9 @@ def price(call: Callable[[], Any]) -> Price:
     The call is priced in this thread; other threads go on. Of matrices in row blocks no entries are
     read, and bounds are as for any graph of so many vertices and edges.
     """
+    if not callable(call):
+        raise TypeError('a call is priced before it is made: spmat.price(lambda: f(G)), not '
+                        'spmat.price(f(G))')
     made = Price()
     with pricing(made):
         try:

@@ -310,4 +310,7 @@ Channel = Union[Child, Socket]
 def _name_address(fault: OSError, address: Address, what: str) -> OSError:
     """The same fault, with the address and what was refused in its words."""
     words = 'no connection to %s: %s%s' % (address, what, fault.strerror or fault)
+    host, _, port = address.host.rpartition(':')
+    if isinstance(fault, socket.gaierror) and port.isdigit():
+        words += '; host and port are two arguments: Session.connect(%r, %s)' % (host, port)
     return type(fault)(words) if fault.errno is None else type(fault)(fault.errno, words)

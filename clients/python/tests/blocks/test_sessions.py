@@ -106,7 +106,34 @@ class Algorithms(unittest.TestCase):
             self.assertEqual((made.nvals, made.reduce_scalar('plus')), (2400 * 32, 2400 * 32 * 32))
 
 
+class Closing(unittest.TestCase):
+    def test_nothing_is_opened_again(self):
+        with blocks.Sessions(2) as s:
+            A = s.full(4, 4).apply('ainv')
+            self.assertEqual(A.reduce_scalar(), -16)
+            engine = s.engine
+        for call in (lambda: A.apply('abs').nvals, A.reduce_scalar, A.to_triples, s.budget,
+                     lambda: s.from_triples([(0, 0, 1)], 2, 2).nvals,
+                     lambda: s.check(spmat.unary.abs),
+                     lambda: algorithms.connected_components(A)):
+            with self.assertRaisesRegex(spmat.Closed, 'they were closed'):
+                call()
+        self.assertEqual(engine._stores, {})
+        s.close()                                  # does nothing more
+
+    def test_another_of_the_same_engine(self):
+        threads = blocks.Threads(2)
+        blocks.Sessions(threads).close()
+        with blocks.Sessions(threads) as s:
+            self.assertEqual(s.full(4, 4).apply('ainv').reduce_scalar(), -16)
+
+
 class Refusals(unittest.TestCase):
+    def test_no_number_of_sessions(self):
+        for count in ('2', 2.5, [2]):
+            with self.assertRaisesRegex(TypeError, r'Sessions\(4\), Sessions\(Threads\(4\)\)'):
+                blocks.Sessions(count)
+
     def test_found_where_the_method_is_called(self):
         with blocks.Sessions(2) as s, blocks.Sessions(2) as other, spmat.Session() as one:
             X = s.from_triples([(0, 0, 1), (3, 2, 1)], 4, 3)

@@ -174,7 +174,14 @@ class Ends(CommandLine):
                          Status.DONE)
 
     def test_budget(self):
-        self.ends(Status.BUDGET, 'triangle-count', 'graph.mtx', '--steps', '3', says='S8')
+        self.ends(Status.BUDGET, 'triangle-count', 'graph.mtx', '--steps', '3',
+                  says='none of its jobs was sent: a greater --steps gives it more\n')
+        done = self.run_words('pagerank', '-', '--steps', '200', text=GRAPH)
+        self.assertEqual(done.returncode, Status.BUDGET)
+        warning, fault = done.stderr.splitlines()
+        self.assertRegex(warning, '^spmat-graph: pagerank may take up to 696 steps, and 200 are left: '
+                         'it may be refused amid its work; a greater --steps gives it more$')
+        self.assertRegex(fault, '^spmat-graph: S8: .* are left: a greater --steps gives it more$')
         text = with_body('matrix G', GRAPH) + with_body('asm f unary',
                                                         'mov64 r0, r1\nexit') + 'apply H f G\n'
         done = self.run_words('script', '-', '--steps', '0', text=text)

@@ -133,6 +133,7 @@ class Relayed(unittest.TestCase):
         with self.assertRaises(OSError) as said:
             spmat.Session.connect('127.0.0.1:7171', 7171)      # the port belongs behind the comma
         self.assertIn('no connection to 127.0.0.1:7171', str(said.exception))
+        self.assertIn("are two arguments: Session.connect('127.0.0.1', 7171)", str(said.exception))
 
     def test_closed_amid_a_session(self):
         def answer(words, body):
