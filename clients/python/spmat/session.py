@@ -426,7 +426,7 @@ class Session(Sources[Matrix]):
         -----
         No job. GraphBLAS: `Matrix_diag` of a column with one value.
         """
-        at = coo.indices(coo.side(n, 0, 'n'))
+        at = coo.indices(coo.side(n, 0, 'size'))
         return as_constant(self._from(coo.checked(at, at, value, n, n), name=name))
 
     def ones(self, ncols: int) -> Matrix:

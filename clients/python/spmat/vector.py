@@ -1,6 +1,9 @@
 """Columns and rows seen as vectors."""
 from __future__ import annotations
 
+# some methods raise, so none gives what Python wants of it
+# pylint: disable=invalid-length-returned,non-iterator-returned
+
 import functools
 from typing import Any, Optional, Tuple, Type
 
@@ -13,6 +16,7 @@ from .mask import Mask
 from .matrix import Matrix
 from .shared_entries import alias
 from .submatrices import take, value_of
+from .unsupported_syntax import refusing
 
 
 class Vector(Matrix):
@@ -91,6 +95,10 @@ class Vector(Matrix):
             return names is not None and at in names.places
         except TypeError:                          # a slice has no hash in older versions of Python
             return False
+
+    __len__ = refusing('len()', 'v.size, or v.nvals for the number of entries', 'vector')
+    __iter__ = refusing('iteration', 'v.to_list() for values, v.by_node().items() for vertices '
+                           'and values', 'vector')
 
     def __contains__(self, node: Any) -> bool:
         return self.get(node) is not None

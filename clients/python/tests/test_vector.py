@@ -96,6 +96,10 @@ class Vectors(support.InSession):
         with self.assertRaisesRegex(spmat.DimensionMismatch,
                                     'a vector is of a column or a row, not of 5x5'):
             spmat.Vector(self.G)
+        for call, words in ((len, r'no len\(\): write v\.size'),
+                            (list, r'no iteration: write v\.to_list\(\)')):
+            with self.assertRaisesRegex(TypeError, 'a vector has ' + words):
+                call(self.levels)
 
     def test_priced(self):
         priced = spmat.price(lambda: algorithms.degrees(self.G).to_coo())

@@ -100,6 +100,9 @@ class Words(unittest.TestCase):
         self.assertEqual(self.said(ValueError, operators.find, 'unary', 'mov64 r0, r1\nexit'),
                          "no ready unary operator is called 'mov64 r0, r1\\nexit': "
                          "spmat.asm('unary', text) makes one of assembly text")
+        self.assertEqual(self.said(ValueError, operators.find, 'index', '> 3'),
+                         "no ready index operator is called '> 3': the number stands apart, as in "
+                         'A.select(">", 3)')
 
     def test_where_edges_come_from(self):
         with spmat.Session() as s:

@@ -303,8 +303,11 @@ def _instead(kind: str, name: str) -> str:
     words = other_names.words_for(name)
     if words is not None:
         return ': ' + words
-    if len(name.split()) > 1:
+    if '\n' in name:
         return ': spmat.asm(%r, text) makes one of assembly text' % kind
+    sign, _, number = name.partition(' ')
+    if kind == 'index' and sign in _SIGNS:
+        return ': the number stands apart, as in A.select("%s", %s)' % (sign, number)
     near = difflib.get_close_matches(name, READY[kind], 3)
     return '; near it: ' + ', '.join(near) if near else ''
 
