@@ -109,6 +109,8 @@ class Words(unittest.TestCase):
             for path in ('graph.csv', pathlib.Path('graph.csv')):
                 self.assertIn('read_graph(path) reads a file',
                               self.said(TypeError, s.from_edgelist, path))
+            self.assertIn('expected a table of pandas, got dict: from_edgelist takes a list',
+                          self.said(TypeError, s.from_pandas_edgelist, {'source': [1]}))
             self.assertIn('from_edgelist(edges) takes edges',
                           self.said(TypeError, s.read_graph, [('a', 'b')]))
 

@@ -6,7 +6,7 @@ from typing import Any, Callable, Iterable, List, Optional, Sequence, Tuple
 
 from ..mask import warn_user
 from . import coo
-from .arrays import is_gap
+from .arrays import is_frame, is_gap
 from .columns import Layout
 from .edges import Edges, Graph, How, LeftOut, code_names, graph_of
 from .values import (SKIP, SKIPS, TAKES, Rounding, check_missing, clock_of, is_time,
@@ -131,8 +131,12 @@ def _warn_of_weights(columns: Sequence[Any], ends: Tuple[Any, Any]) -> None:
 
 
 def edges_of_frame(frame: Any, ends: Tuple[Any, Any], attribute: Any, layout: Layout) -> Edges:
-    """The edges of a table: two columns of names, and one of values. KeyError where a column isn't
-    there, ValueError with the row where a name or a value is missing, or a value isn't whole."""
+    """The edges of a table: two columns of names, and one of values. TypeError for what is no table
+    of pandas, KeyError where a column isn't there, ValueError with the row where a name or a value
+    is missing, or a value isn't whole."""
+    if not is_frame(frame):
+        raise TypeError('expected a table of pandas, got %s: from_edgelist takes a list of edges, '
+                        'read_graph a file' % type(frame).__name__)
     check_missing(layout.missing)
     clock_of(layout.unit, layout.date_format, layout.scale)     # of words that don't go together
     attribute = choose_value_column(frame.columns, ends, attribute)
