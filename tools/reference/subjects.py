@@ -44,11 +44,12 @@ OPERATORS = (
 ALGORITHM_MODULES = {
     'Degrees, triangles, undirected graphs': ('triangle_counts',),
     'Searches and shortest paths': ('bfs', 'single_source_paths', 'shortest_path_trees',
-                                    'all_pairs_lengths', 'distance_measures'),
+                                    'simple_paths', 'all_pairs_lengths', 'distance_measures'),
     'Components, orders and trees': ('components', 'strong_components', 'independent_set',
                                      'topological_order', 'spanning_forest'),
-    'Centrality': ('page_rank', 'betweenness_centrality', 'centrality', 'katz_centrality'),
-    'Communities and dense parts': ('communities', 'core_decomposition'),
+    'Centrality': ('page_rank', 'betweenness_centrality', 'closeness_measures',
+                   'eigenvector_and_hits', 'katz_centrality'),
+    'Communities and dense parts': ('communities', 'louvain_method', 'core_decomposition'),
     'Similarity': ('neighbour_similarity',),
 }
 PICTURES = ('spy', 'degree_histogram', 'graph', 'levels', 'route')

@@ -30,7 +30,7 @@ if TYPE_CHECKING:
     from .loops import Loop, empty, loop, steady
     from .loops.fixpoint import fixpoint
     from .mask import Mask
-    from .matrix import Matrix, bipartite
+    from .matrix import Matrix
     from .operators import (Operator, Semiring, asm, binary, code, indexunary, select, semiring,
                             unary)
     from .operators.c import c
@@ -38,7 +38,7 @@ if TYPE_CHECKING:
     from .operators.diagnostics import code_of, explain
     from .pricing.call_price import price
     from .session import Session
-    from .submatrices import concat
+    from .submatrices import bipartite, concat
     from .vector import Vector
 
 
@@ -79,7 +79,7 @@ _PLACES: Dict[str, str] = {name: module for module, names in {
     'backends.protocol': 'Budget JobResult',
     'loops': 'Loop empty loop steady',
     'mask': 'Mask',
-    'matrix': 'Matrix bipartite',
+    'matrix': 'Matrix',
     'operators': 'Operator Semiring asm binary code indexunary select semiring unary',
     'operators.integer_functions': 'cdiv cmod rsh udiv ult umod where',
     'operators.diagnostics': 'code_of explain',
@@ -88,7 +88,7 @@ _PLACES: Dict[str, str] = {name: module for module, names in {
     'algorithms.temporal_paths': 'events',
     'session': 'Session',
     'vector': 'Vector',
-    'submatrices': 'concat'}.items() for name in names.split()}
+    'submatrices': 'bipartite concat'}.items() for name in names.split()}
 
 
 def __getattr__(name: str) -> Any:

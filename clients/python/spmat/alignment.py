@@ -7,12 +7,12 @@ from typing import Any, Dict, List, NamedTuple, Sequence, Tuple, TypeVar, cast
 import numpy
 
 from .errors import NamesDiffer, refusal
-from .io.exporters import Held
 from .limits import MOST_SIDE
+from .matrix_base import MatrixBase
 from .metadata import COLUMNS, POSITIONS, ROWS, Axis, Nodes, check_names, vertices_of
-from .shared_entries import alias
+from .operands import alias
 
-M = TypeVar('M', bound=Held)
+M = TypeVar('M', bound=MatrixBase)
 WAYS = ('outer', 'inner')
 
 
@@ -69,7 +69,7 @@ def align(*matrices: M, how: str = 'outer') -> Tuple[M, ...]:
     if how not in WAYS:
         raise ValueError('how= is %s, not %r' % (' or '.join(map(repr, WAYS)), how))
     for matrix in matrices:
-        if not isinstance(matrix, Held):
+        if not isinstance(matrix, MatrixBase):
             raise TypeError('align takes matrices, each by itself, as in align(A, B), and not %r'
                             % (matrix,))
     targets: Dict[_Side, _Target] = {}
@@ -84,12 +84,12 @@ def align(*matrices: M, how: str = 'outer') -> Tuple[M, ...]:
     return tuple(made)
 
 
-def _target_of(matrix: Held, axis: int) -> _Target:
+def _target_of(matrix: MatrixBase, axis: int) -> _Target:
     """What the rows or columns of a matrix are called as it is."""
     return _Target(matrix.notes.axis(axis), matrix.shape[axis])
 
 
-def _groups(matrices: Sequence[Held]) -> List[List[_Side]]:
+def _groups(matrices: Sequence[MatrixBase]) -> List[List[_Side]]:
     """Which rows and columns are to be called the same. ValueError for graphs beside matrices of
     two kinds of vertices."""
     vectors = [1 in matrix.shape and matrix.shape != (1, 1) for matrix in matrices]
@@ -111,7 +111,7 @@ def _groups(matrices: Sequence[Held]) -> List[List[_Side]]:
              or matrices[side.matrix].notes.names(side.axis) is not None] for sides in all_sides]
 
 
-def _is_square(matrix: Held) -> bool:
+def _is_square(matrix: MatrixBase) -> bool:
     """Whether a matrix is that of a graph, or may be one, whose rows and columns are the same
     vertices."""
     return matrix.nrows == matrix.ncols and vertices_of(matrix.notes) is not None

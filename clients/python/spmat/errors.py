@@ -22,109 +22,23 @@
             Busy                 the server has as many sessions as it serves; try later
 
 Each refusal has its rule, the place (a line or a slot), the line that stands there, and the rule's
-sentence. The sentences stand here once, in the words of docs/protocol.md and docs/bpf.md.
+sentence, in the words of docs/protocol.md and docs/bpf.md.
 """
 from __future__ import annotations
 
 import copy
 import re
-from typing import Any, Callable, Dict, Optional, Sequence, Tuple, Type, TypeVar
+from typing import Any, Dict, Optional, Sequence, Tuple, Type, TypeVar
 
-from .wire.protocol import COMMANDS
-
-SENTENCES: Dict[str, str] = {
-    'S1': "unknown command: the first word is no command's, whatever follows it",
-    'S2': 'a wrong number of words, a malformed or out-of-range KIND, LEN or THUNK, or another '
-    'word where mask was expected',
-    'S3': 'a name that is not 1 to 32 letters, digits or underscores',
-    'S4': 'the name of an operand, an operator or the mask is not bound',
-    'S5': 'the input ends within a body',
-    'S6': 'a line too long',
-    'S7': 'LEN above 268,435,456 for matrix, above 262,144 for asm and op',
-    'S8': 'fewer steps are left than the price',
-    'S9': 'a body of op that is not an even number of hexadecimal digits',
-    'A1': 'a line of over 1,024 bytes, comment included, LF and CR not counted',
-    'A2': 'unknown mnemonic',
-    'A3': 'too few or too many operands, or one of the wrong form: expected a register, or a '
-    'number',
-    'A4': 'r with digits that is none of r0 to r10',
-    'A5': 'a number out of range for its field',
-    'A6': 'more than 4,096 slots, at the line that passes them; no instruction at all, at the '
-    'number of lines plus 1',
-    'V1': 'the length is 0, no multiple of 8, or over 4,096 slots (looked at first)',
-    'V2': 'unknown opcode',
-    'V3': 'outside the profile: opcodes 85, c3, db, 20, 28, 30, 40, 48, 50, and 18 with a '
-    'source field other than 0',
-    'V4': 'a register field that is used is above 10',
-    'V5': "a field that is not used isn't 0, or a reserved value of offset or imm",
-    'V6': "a wide load in the last slot, or whose second slot's first 32 bits aren't 0",
-    'V7': 'a jump to its own slot or before it',
-    'V8': 'a jump out of the code, or into the second slot of a wide load',
-    'V9': 'R10 is written',
-    'V10': 'the last instruction is no EXIT',
-    'V11': 'a register is read that some path leaves unset',
-    'V12': 'a register is read that two paths set differently: to a number and a place in the '
-    'stack, or to two places',
-    'V13': 'expected a number, found a place in the stack',
-    'V14': 'expected a place in the stack, found a number',
-    'V15': 'an access, or a moved place, outside the stack',
-    'V16': "a load of a byte that some path hasn't stored",
-    'M1': "line 1 is missing, doesn't have five words, or its first isn't %%MatrixMarket in "
-    "this case",
-    'M2': 'another word of line 1 is none of matrix, coordinate, integer or pattern, general or '
-    'symmetric',
-    'M3': "the size line is missing, or isn't three numbers without -",
-    'M4': 'rows, columns or entries above 16,777,216, or in symmetric entries above 8,388,608',
-    'M5': 'an entry line has the wrong number of fields, or a field that is no number (an index '
-    'has no -)',
-    'M6': 'an index is 0 or above its size',
-    'M7': 'a value is outside -2^63 to 2^63 - 1',
-    'M8': 'the position was given before, or in symmetric its mirror',
-    'M9': 'too few entries; the line named is the number of lines plus 1, as for a missing line '
-    '1 or size line',
-    'M10': "a line behind the last entry that isn't passed over, whatever it holds",
-    'M11': 'a line of over 1,024 bytes, LF and CR not counted',
-    'M12': 'symmetric, and rows differ from columns (after M4)',
-    'J4': 'an operator is of another kind than the job takes',
-    'J5': "the operands' shapes don't fit",
-    'J6': '64 jobs wait already',
-    'J7': 'the result could be too large',
-    'J8': 'the price is above 4,294,967,296',
-    'J9': "the mask's shape is not the result's",
-    'memory': 'out of memory for what the command needs',
-    'memory SPENT': 'run: out of memory, after so many steps',
-    'thread SPENT': 'run: a thread could not be started for a worker; those that were started '
-    'went on, to so many steps',
-    'busy': 'the server has as many sessions as it serves',
-    'login': 'the gateway knows no such user, or another token is right',
-    'quota': 'this user, or its group, has used up a quota',
-    'ledger': 'the gateway can book no session now; try later',
-    'engine': 'the gateway could not start a session',
-    'session': 'the gateway has ended the session; it says why, how the steps are known, and '
-    'how many it charges',
-}
+from .refusal_rules import MENDS, find_sentence, is_placed
 
 MORE_STEPS = 'open a session with more steps, and other.adopt(G) takes a matrix there'
 PRICE_TELLS = '; spmat.price(lambda: ..) tells beforehand what a call takes'
-MENDS: Dict[str, str] = {
-    'V7': 'jump forward, and write a loop out',
-    'V8': 'count from the slot after the jump, two slots for a wide',
-    'V9': 'copy R10, and move the copy',
-    'V10': 'end with exit',
-    'V11': 'set it on all paths, as at the start; EXIT reads R0',
-    'V12': 'read it on each path, before they meet',
-    'V13': 'places are copied (mov64), moved (add64 of a number) and used as bases, and nothing '
-    'else',
-    'V14': 'load and store through R10, or a copy of it',
-    'V15': 'b bytes want a place from -512 to -b',
-    'V16': 'store it on all paths first',
-}
-
-
 # arguments of calls that errors of files and sessions are about; words write them as `columns=`
 ARGUMENTS = ('bipartite', 'columns', 'comments', 'date_format', 'delimiter', 'directed', 'dup_op',
              'format', 'header', 'missing', 'name', 'program', 'scale', 'steps', 'tls', 'token',
              'unit', 'values', 'workers')
+AnyRefused = TypeVar('AnyRefused', bound='Refused')
 _ARGUMENT = re.compile(r'(?<![\w"\'.-])(%s)=' % '|'.join(ARGUMENTS))
 
 
@@ -132,63 +46,49 @@ def arguments_in(words: str) -> Tuple[str, ...]:
     """List the arguments of a call that a message writes as ``columns=``, each once."""
     return tuple(dict.fromkeys(_ARGUMENT.findall(words)))
 
-AnyRefused = TypeVar('AnyRefused', bound='Refused')
-
 
 class SpmatError(Exception):
     """Everything that this package raises of its own.
 
-    Notes
-    -----
     It is the base of the errors. `NotSettled`, a RuntimeError, and the warnings stand apart. The
-    list at the top of `spmat.errors` says what to do about each.
-    """
+    list at the top of `spmat.errors` says what to do about each."""
 
 
 class Closed(SpmatError):
     """The session has ended.
 
-    Notes
-    -----
     It ends by `close`, by a refusal, or as the program or the connection is gone. The words have
     what the program said. Each call that needs the session raises this from then on. Open another
-    session, and make the matrices there anew.
-    """
+    session, and make the matrices there anew."""
 
 
 class ProtocolError(Closed):
     """What came is no reply to the command that was sent.
 
-    Notes
-    -----
     The other side is no server of spmat, or something between drops, repeats or swaps replies. The
     session is ended, as commands and replies are out of step. Look whether the address is a
-    server's, and what lies between; then open another session.
-    """
+    server's, and what lies between; then open another session."""
 
 
 class MaskWarning(UserWarning):
     """A matrix was given as a mask.
 
-    Notes
-    -----
     It means its structure, `A.S`, where the C API of the GraphBLAS means its values, `A.V`. Write
-    `mask=A.S` or `mask=A.V`, which give no warning.
-    """
+    `mask=A.S` or `mask=A.V`, which give no warning."""
 
 
 class OverflowWarning(UserWarning):
     """Results of a job on values with a unit, such as decimals, may be beyond 64 bits.
 
-    Notes
-    -----
     They wrap there, and stand for other numbers. The words say what leaves room: often a coarser
-    unit, by `A.rescale(unit, exact=False)`, which rounds.
-    """
+    unit, by `A.rescale(unit, exact=False)`, which rounds."""
 
 
 class ReadError(SpmatError, ValueError):
     """A file isn't what was to be read.
+
+    Calls that read a file raise it. Mend the line, or give the arguments that the words name. It is
+    a ValueError, too.
 
     Attributes
     ----------
@@ -202,11 +102,6 @@ class ReadError(SpmatError, ValueError):
         What stands there, or empty.
     arguments : tuple of str
         The names of the arguments of a call that the words are about, such as ``columns``.
-
-    Notes
-    -----
-    Calls that read a file raise it. Mend the line, or give the arguments that the words name. It is
-    a ValueError, too.
     """
 
     def __init__(self, file: str, at: Optional[int], words: str, line: str = '') -> None:
@@ -222,23 +117,16 @@ class ReadError(SpmatError, ValueError):
 class NamesDiffer(SpmatError, ValueError):
     """Two matrices that a job would combine have different names for their rows or columns.
 
-    Notes
-    -----
     By position the values of different vertices would meet. `spmat.align` brings matrices to the
-    same names, and `nodelist=` reads one with the names of another. It is a ValueError, too.
-
-    In pandas such tables are aligned; python-graphblas knows no names.
-    """
+    same names, and `nodelist=` reads one with the names of another. It is a ValueError, too. In
+    pandas such tables are aligned; python-graphblas knows no names."""
 
 
 class NotMade(SpmatError):
     """The result of a job whose run was refused, so that it never came to be.
 
-    Notes
-    -----
     A call that wants such a matrix raises it. The refusal is the cause, `__cause__`: do about it
-    what its class says, and ask for the job again. `ResultLost` is the same class.
-    """
+    what its class says, and ask for the job again. `ResultLost` is the same class."""
 
 
 ResultLost = NotMade
@@ -247,36 +135,30 @@ ResultLost = NotMade
 class UnitsDiffer(SpmatError, ValueError):
     """Numbers of two units would meet, or a result would have two units.
 
-    Notes
-    -----
     Such units are hundredths and thousandths. The words say what to write; `A.rescale(unit)` gives
-    one matrix the other's. It is a ValueError, too.
-    """
+    one matrix the other's. It is a ValueError, too."""
 
 
 class CompileError(SpmatError):
     """A function of Python or C that can't be an operator, or that clang refused.
 
-    Notes
-    -----
     It is raised where the operator is made, or before it is first used; no server was asked. The
-    words say what to do.
-    """
+    words say what to do."""
 
 
 class NotSettled(RuntimeError):
     """More rounds than there can be, or than were allowed.
 
-    Notes
-    -----
     `Loop.run`, `fixpoint` and algorithms that go by rounds raise it. Allow more rounds, by `most=`
     of the first two, or look whether the rounds come to an end at all. The state of a `Loop` is
-    that behind the rounds that were made. It is a RuntimeError, and no `SpmatError`.
-    """
+    that behind the rounds that were made. It is a RuntimeError, and no `SpmatError`."""
 
 
 class Refused(SpmatError):
     """A refusal: the server answered `no ..`, or would have.
+
+    Its subclasses tell apart what can be done. A refusal that the client foresees is the same
+    exception, raised before the job is sent.
 
     Attributes
     ----------
@@ -302,11 +184,6 @@ class Refused(SpmatError):
         Other words for the sentence, or empty.
     text_line : int or None
         The line of the text that a slot comes from, or None.
-
-    Notes
-    -----
-    Its subclasses tell apart what can be done. A refusal that the client foresees is the same
-    exception, raised before the job is sent.
     """
 
     round: Optional[int] = None
@@ -320,9 +197,7 @@ class Refused(SpmatError):
         self.at: Optional[int] = self.numbers[0] if self.numbers and is_placed(rule) else None
         self.file, self.said = '', ''
         self.text_line: Optional[int] = None
-        key = (rule if rule in SENTENCES and not (self.numbers and rule + ' SPENT' in SENTENCES)
-               else rule + ' SPENT')
-        self.sentence = SENTENCES.get(key, 'a refusal that this client does not know')
+        self.sentence = find_sentence(rule, bool(self.numbers))
 
     def __str__(self) -> str:
         return self.message()
@@ -364,63 +239,41 @@ class Refused(SpmatError):
 class OperatorRefused(Refused):
     """An operator breaks a rule.
 
-    Notes
-    -----
     The rules are those of assembly text (A1 to A6), of code (V1 to V6, S9) and of the verifier (V7
     to V16). Mend the operator at the line or slot `at`, where `line` stands. `Session.check` finds
-    it out before a job does.
-    """
+    it out before a job does."""
 
 
 class TextRefused(Refused, ValueError):
     """A matrix text breaks a rule (M1 to M12 but M4).
 
-    Notes
-    -----
-    Mend the text at the line `at`. It is a ValueError, too.
-    """
+    Mend the text at the line `at`. It is a ValueError, too."""
 
 
 class TooLarge(Refused, ValueError):
     """Sizes, a body, a price or the possible result of a job above a limit (M4, S7, J7, J8).
 
-    Notes
-    -----
-    Cut the work into parts, such as some rows at a time. It is a ValueError, too.
-    """
+    Cut the work into parts, such as some rows at a time. It is a ValueError, too."""
 
 
 class DimensionMismatch(Refused, ValueError):
     """Shapes of operands (J5) or of the mask (J9) don't fit.
 
-    Notes
-    -----
-    Look at the `shape` of both. It is a ValueError, too.
-
-    In python-graphblas the same name.
-    """
+    Look at the `shape` of both. It is a ValueError, too. In python-graphblas the same name."""
 
 
 class DomainMismatch(Refused, TypeError):
     """An operator of another kind than the job takes (J4).
 
-    Notes
-    -----
     Give an operator of the kind that the method names: unary, binary or index. It is a TypeError,
-    too.
-
-    In python-graphblas the same name.
-    """
+    too. In python-graphblas the same name."""
 
 
 class BudgetWarning(UserWarning):
     """A call may take more steps than are left, so that it may be refused amid its work.
 
-    Notes
-    -----
     It is told before its first job. `spmat.price` tells what the call takes; a session with more
-    steps may do, and `other.adopt(G)` takes a matrix there.
-    """
+    steps may do, and `other.adopt(G)` takes a matrix there."""
 
 
 class _Spent(Refused):
@@ -438,33 +291,15 @@ class _Spent(Refused):
 class OutOfMemory(_Spent):
     """The server has no memory for what the command needs.
 
-    Attributes
-    ----------
-    spent : int or None
-        The steps that a refused run took, or None where another command was refused.
-
-    Notes
-    -----
     Let go of matrices that nobody needs, cut the work into parts, or take a server with more
-    memory.
-
-    In python-graphblas the same name.
-    """
+    memory. In python-graphblas the same name."""
 
 
 class NoThread(_Spent):
     """A run could not start a thread for a worker.
 
-    Attributes
-    ----------
-    spent : int or None
-        The steps that the run took, or None where another command was refused.
-
-    Notes
-    -----
     The threads that were started went on, to so many steps. A session of fewer workers may do.
-    `ThreadUnavailable` is the same class.
-    """
+    `ThreadUnavailable` is the same class."""
 
 
 ThreadUnavailable = NoThread
@@ -473,15 +308,15 @@ ThreadUnavailable = NoThread
 class Busy(Refused):
     """The server has as many sessions as it serves, and closed the connection.
 
-    Notes
-    -----
     It is raised where a session is opened. Try later. A gateway that can book no session now is
-    busy, too.
-    """
+    busy, too."""
 
 
 class BudgetExceeded(Refused):
     """A job's price is above what is left, also after the queue was run.
+
+    Open a session with more steps, and `other.adopt(G)` takes a matrix there.
+    `spmat.price(lambda: ..)` tells beforehand what a call takes.
 
     Attributes
     ----------
@@ -490,20 +325,8 @@ class BudgetExceeded(Refused):
     partial : Any
         What that function had found by then, where that means something: a result of the same kind,
         as the function's docstring says, else None. Reading it takes no steps.
-    price : int
-        The most steps that the job can take; of a call that was refused before its first job, those
-        that it takes at the least.
-    needed : int
-        The steps that have to be left, at the least: `price`.
-    left : int
-        The steps that were left.
     arguments : tuple of str
         The names of the arguments of a call that it is about: `steps`.
-
-    Notes
-    -----
-    Open a session with more steps, and `other.adopt(G)` takes a matrix there.
-    `spmat.price(lambda: ..)` tells beforehand what a call takes.
     """
 
     algorithm = ''
@@ -538,8 +361,7 @@ class BudgetExceeded(Refused):
 
     def by(self, way: str) -> 'BudgetExceeded':
         """This refusal, with another way to more steps, for callers who have no session."""
-        return self._replace(
-            detail=self.detail.replace(PRICE_TELLS, '').replace(MORE_STEPS, way))
+        return self._replace(detail=self.detail.replace(PRICE_TELLS, '').replace(MORE_STEPS, way))
 
     @property
     def price(self) -> int:
@@ -560,20 +382,9 @@ class BudgetExceeded(Refused):
 
 _CLASSES: Dict[str, Type[Refused]] = {
     'J4': DomainMismatch, 'J5': DimensionMismatch, 'J9': DimensionMismatch, 'J7': TooLarge,
-    'J8': TooLarge, 'M4': TooLarge,
-    'S7': TooLarge, 'S8': BudgetExceeded, 'S9': OperatorRefused, 'memory': OutOfMemory,
-    'thread': NoThread, 'busy': Busy,
-    'ledger': Busy}
+    'J8': TooLarge, 'M4': TooLarge, 'S7': TooLarge, 'S8': BudgetExceeded, 'S9': OperatorRefused,
+    'memory': OutOfMemory, 'thread': NoThread, 'busy': Busy, 'ledger': Busy}
 _FAMILIES: Dict[str, Type[Refused]] = {'A': OperatorRefused, 'V': OperatorRefused, 'M': TextRefused}
-
-Near = Callable[[str, int], str]
-OF_GATEWAY = ('login', 'quota', 'ledger', 'engine', 'session')
-"""Refusals by which a gateway ends a session, or lets it not begin; the words behind say more."""
-
-
-def is_placed(rule: str) -> bool:
-    """Whether refusals by this rule name a line or a slot: A1, V7, M5."""
-    return rule[:1] in ('A', 'V', 'M') and rule[1:].isdigit()
 
 
 def class_of(rule: str) -> Type[Refused]:
@@ -586,36 +397,3 @@ def refusal(rule: str, numbers: Sequence[int] = (), command: str = '', line: str
             detail: str = '') -> Refused:
     """The exception of a rule, for a refusal that the client foresees."""
     return class_of(rule)(rule, numbers, command, line, detail)
-
-
-def refusal_of(reply: str, command: str, near: Optional[Near] = None) -> Refused:
-    """The exception of a reply `no ..`; `near` gives the line that stands at a place that a rule
-    names."""
-    words = reply.split()
-    rule = words[1] if len(words) > 1 else ''
-    numbers = [int(word) for word in words[2:] if word.isdigit()]
-    line = near(rule, numbers[0]) if near is not None and numbers and is_placed(rule) else ''
-    detail = (form_of(command) if rule in ('S1', 'S2') else ' '.join(words[2:])
-              if rule in OF_GATEWAY else '')
-    return refusal(rule, numbers, command, line, detail)
-
-
-def form_of(command: str) -> str:
-    """How the command of a line is written, in words; of a line that is no command's all there
-    are."""
-    word = command.split()[0] if command.split() else ''
-    if word in COMMANDS:
-        words = COMMANDS[word].words
-        return 'it is written `%s`%s' % (('%s %s' % (word, words)).strip(),
-                                         '; KIND is unary, binary or index' if 'KIND' in words
-                                         else '')
-    return 'commands are ' + ', '.join(COMMANDS)
-
-
-def without_frames(fault: BaseException) -> BaseException:
-    """The same exception without the frames that it came through, which would keep their
-    matrices."""
-    try:
-        return copy.copy(fault).with_traceback(None)
-    except Exception:  # pylint: disable=broad-exception-caught  # of whatever can't be copied
-        return SpmatError('%s: %s' % (type(fault).__name__, fault))

@@ -10,9 +10,9 @@ import sys
 from collections.abc import Iterator, KeysView, Set, ValuesView
 from typing import TYPE_CHECKING, Any, Hashable, List, NamedTuple, NoReturn, Optional
 
-from .io.exporters import Held
 from .io.matrix_text import is_array
 from .mask import Mask
+from .matrix_base import MatrixBase
 from .metadata import Nodes, joined
 
 if TYPE_CHECKING:
@@ -48,7 +48,7 @@ def check_once(matrix: 'Matrix', chosen: Chosen, axis: int) -> None:
 
 def pair_of(at: Any) -> Any:
     """The index of the rows and that of the columns. TypeError where there aren't two."""
-    if isinstance(at, Held):
+    if isinstance(at, MatrixBase):
         raise TypeError(
             'a matrix as an index is a mask: write G[M.S] for the positions that are stored in '
             'M, G[M.V] for those whose value is not 0')
@@ -79,7 +79,7 @@ def choose_places(matrix: 'Matrix', index: Any, axis: int) -> Chosen:
     what is no index."""
     if isinstance(index, slice):
         return _of_slice(matrix, index, axis)
-    if isinstance(index, (Mask, Held)):
+    if isinstance(index, (Mask, MatrixBase)):
         return Chosen(_of_column(matrix, index, axis))
     series = _pandas('Series')
     if series is not None and isinstance(index, series) and _is_boolean(index):

@@ -3,13 +3,12 @@ from __future__ import annotations
 
 import sys
 import warnings
-from typing import TYPE_CHECKING, Any, NamedTuple, Optional, Type, Union
+from typing import Any, NamedTuple, Optional, Type, Union
 
+from .display import html
 from .errors import MaskWarning, refusal
-from .session_of_operands import common_session
-
-if TYPE_CHECKING:
-    from .io.exporters import Held
+from .matrix_base import MatrixBase
+from .operands import common_session
 
 
 class Mask(NamedTuple):
@@ -88,7 +87,6 @@ class Mask(NamedTuple):
         return '%s%r.%s' % ('~' if self.complement else '', self.matrix, 'V' if self.value else 'S')
 
     def _repr_html_(self) -> str:
-        from .display import html
         return html.mask(self)
 
 
@@ -120,18 +118,16 @@ def _check_shapes(one: Mask, other: Any) -> None:
     sessions."""
     common_session(one.matrix.session, _as_operand(other).matrix.session)
     if _as_operand(other).matrix.shape != one.matrix.shape:
-        raise refusal('J9',
-                      detail='one mask is %dx%d, the other %dx%d'
-                      % (*one.matrix.shape, *other.matrix.shape))
+        raise refusal('J9', detail='one mask is %dx%d, the other %dx%d' % (
+            *one.matrix.shape, *other.matrix.shape))
 
 
-def as_mask(mask: Union['Held', Mask, None], warns: bool = True) -> Optional[Mask]:
+def as_mask(mask: Union[MatrixBase, Mask, None], warns: bool = True) -> Optional[Mask]:
     """A mask that is given as itself, or as a matrix, which is its structure; of a matrix it
     `warns`. TypeError for anything else."""
     if mask is None or isinstance(mask, Mask):
         return mask
-    from .io.exporters import Held
-    if isinstance(mask, Held):
+    if isinstance(mask, MatrixBase):
         if warns:
             warn_user(
                 'mask=A means A.S, the stored positions: write mask=A.S, or mask=A.V for those '
@@ -144,8 +140,7 @@ def warn_user(words: str, kind: Type[Warning]) -> None:
     """Warns of the line that called this package, whatever lies between."""
     # as warnings find the line
     frame, level = sys._getframe(1), 2  # pylint: disable=protected-access
-    while frame.f_back is not None and frame.f_globals.get('__name__',
-                                                           '').split('.')[0] == __name__.split(
-                                                               '.', maxsplit=1)[0]:
+    package = __name__.partition('.')[0]
+    while frame.f_back is not None and frame.f_globals.get('__name__', '').split('.')[0] == package:
         frame, level = frame.f_back, level + 1
     warnings.warn(words, kind, stacklevel=level)

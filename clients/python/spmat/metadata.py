@@ -19,12 +19,12 @@ from typing import (TYPE_CHECKING, Any, Dict, Iterable, List, NamedTuple, Option
                     Tuple, TypeVar)
 
 from .errors import NamesDiffer
-from .units import Unit
 
 if TYPE_CHECKING:
-    from .io.exporters import Held
+    from .matrix_base import MatrixBase
+    from .units import Unit
 
-N = TypeVar('N', bound='Held')
+N = TypeVar('N', bound='MatrixBase')
 
 
 class Nodes(List[Any]):
@@ -361,31 +361,9 @@ def even(*both: Metadata) -> Optional[bool]:
     return False if all(one.directed is False for one in both) else None
 
 
-def turned(first: Metadata) -> Metadata:
-    """What is known of the transpose."""
-    return first.with_axes(first.axis(COLUMNS),
-                           first.axis(ROWS))._replace(source='', sides=-first.sides)
-
-
 def of_copy(first: Metadata) -> Metadata:
     """What is known of a copy, which is a job."""
     return NOTHING if first is NOTHING else first._replace(directed=even(first), source='')
-
-
-BY_PLACE: Dict[str, int] = {'rowle': ROWS, 'rowgt': ROWS, 'colle': COLUMNS, 'colgt': COLUMNS}
-
-
-def check_counts_places(op: str, first: Metadata) -> None:
-    """ValueError where a ready operator counts rows or columns that have other numbers for
-    names."""
-    axis = BY_PLACE.get(op)
-    names = None if axis is None else first.names(axis)
-    if names is not None and names.numbered and not names.are_counted:
-        what = 'columns' if axis else 'rows'
-        raise ValueError(
-            '"%s" counts %s from 0, and here %s have numbers for names, such as %r: write A[%s] '
-            'with a list of names, or A.select(spmat.indexunary.%s, ..) to count them all the '
-            'same' % (op, what, what, names[0], ':, names' if axis else 'names, :', op))
 
 
 TWO_KINDS = ('a graph has one kind of vertices, and rows and columns of this matrix are two kinds: '

@@ -11,12 +11,13 @@ from __future__ import annotations
 # pylint: disable=no-member
 
 import functools
-from typing import Dict, FrozenSet, NamedTuple, Optional, Sequence
+from typing import Dict, FrozenSet, NamedTuple, Optional, Sequence, Tuple
 
 from . import units
+from .errors import refusal
 from .mask import Mask
 from .metadata import (ALIKE, BY_POSITIONS, COLUMNS, ELEMENTWISE, MASK, NOTHING, PRODUCT, ROWS,
-                       Axis, Metadata, Nodes, Pairs, Unnamed, even, joined, of_copy)
+                       Axis, Metadata, Nodes, Pairs, Unnamed, even, hint_of, joined, of_copy)
 from .operators import READY, Operator, binary
 from .units import Unit
 
@@ -275,3 +276,24 @@ def on_diagonal(first: Metadata, along: int) -> Metadata:
         return ALIKE._replace(directed=False, unit=first.unit, value_names=first.value_names)
     return Metadata(directed=False, unit=first.unit,
                  value_names=first.value_names).with_axes(axis, axis)
+
+
+def of_transpose(first: Metadata) -> Metadata:
+    """What is known of the transpose."""
+    return first.with_axes(first.axis(COLUMNS),
+                           first.axis(ROWS))._replace(source='', sides=-first.sides)
+
+
+def check_mask(where: Mask, shape: Tuple[int, int], notes: Metadata) -> None:
+    """DimensionMismatch where a mask has another shape than the result, of which `notes` are
+    known."""
+    if where.matrix.shape != shape:
+        raise refusal('J9', detail='the result is %dx%d, the mask %dx%d%s' % (
+            *shape, *where.matrix.shape, hint_of(notes, where.matrix.notes)))
+
+
+def under_mask(where: Mask, shape: Tuple[int, int], notes: Metadata) -> Metadata:
+    """What is known of a result under a mask. DimensionMismatch where the mask has another shape,
+    NamesDiffer where it has other names."""
+    check_mask(where, shape, notes)
+    return masked(notes, where.matrix.notes, where.complement)

@@ -1,26 +1,18 @@
-"""Sessions: matrices in, jobs, the queue, the budget."""
+"""Sessions: how one begins and ends, its budget, its queue, and what its server says of operators.
+`io.session_importers` makes its matrices."""
 from __future__ import annotations
 
-import io
-from typing import TYPE_CHECKING, Any, Dict, List, Optional, Tuple, Type, Union
+from typing import TYPE_CHECKING, Any, Dict, List, Optional, Type
 
-from . import limits, overflow, units
 from .backends.placeholders import all_priced, backend_now
 from .backends.protocol import Budget, Run
 from .backends.server import ServerBackend
-from .errors import OperatorRefused, Refused, TextRefused, refusal
+from .errors import OperatorRefused
 from .foreign_names import SESSION, missing_attribute
-from .io import coo, matrix_market, matrix_text
-from .io.columns import Layout
-from .io.files import name_of
-from .io.formats import Request
-from .io.importers import DupOp, Sources
-from .io.matrix_text import Triples
+from .io.session_importers import SessionSources
 from .limits import MOST_STEPS
 from .matrix import Matrix
-from .metadata import BY_POSITIONS, NOTHING, as_constant
-from .operators import Operator, diagnostics, find
-from .shared_entries import alias
+from .operators import Operator, diagnostics
 from .wire.connection import SECONDS, Connection, Progress, checked_settings
 from .wire.server_program import Program
 from .wire.transport import Address, Timeouts
@@ -28,13 +20,10 @@ from .wire.transport import Address, Timeouts
 if TYPE_CHECKING:
     import ssl
 
-# rows of ones that a session keeps, of one length each
-KEPT_ONES = 4
 CODE_RULES = ('V1', 'V2', 'V3', 'V4', 'V5', 'V6')   # of code that stands for no program
-LONG = 1 << 20                                     # longer ones are not kept
 
 
-class Session(Sources[Matrix]):
+class Session(SessionSources):
     """One session of the server: `Session()` starts a process `spmat run` of its own,
     `Session.connect(host, port)` is one of `spmat serve`, `Session.connect(path)` one at a socket
     file. Use it in a `with`, or close it.
@@ -214,254 +203,6 @@ class Session(Sources[Matrix]):
         No run.
         """
         return self.backend.budget()
-
-    # -- matrices in
-
-    def from_text(self, text: Union[bytes, str], name: Optional[str] = None) -> Matrix:
-        """Make a matrix of a Matrix Market text that the server reads as it is.
-
-        Parameters
-        ----------
-        text : str or bytes
-            The text: coordinate, integer or pattern, general or symmetric. `mmread` reads other
-            texts too.
-        name : str, optional
-            A name for the matrix.
-
-        Returns
-        -------
-        Matrix
-            The matrix, whose rows and columns are called by their positions.
-
-        Raises
-        ------
-        TextRefused
-            Where the text breaks a rule (M1 to M12); it names the line.
-        TooLarge
-            Where rows, columns or entries are more than 16,777,216 (M4), or in a symmetric text the
-            entries more than 8,388,608.
-
-        Notes
-        -----
-        No job.
-        """
-        made = self._from_text(text, name)
-        made.notes = BY_POSITIONS
-        return made
-
-    def _from_text(self, text: Union[bytes, str], name: Optional[str] = None) -> Matrix:
-        text = text.encode() if isinstance(text, str) else bytes(text)
-        backend = self.backend
-        return (backend.matrix_type or Matrix)(self, backend.put_text(text, name), name)
-
-    def _from(self, triples: Triples, dup_op: DupOp = None, name: Optional[str] = None) -> Matrix:
-        return self._of_triples(self._folded(triples, dup_op), False, name)
-
-    def _both_ways(self, triples: Triples, name: Optional[str] = None) -> Matrix:
-        return self._of_triples(triples, True, name)
-
-    def _of_triples(self, triples: Triples, symmetric: bool, name: Optional[str]) -> Matrix:
-        try:
-            return self._from_text(matrix_text.write(triples, ones=True, symmetric=symmetric), name)
-        except TextRefused as refused:
-            if refused.rule != 'M8' or refused.at is None:
-                raise
-            raise coo.repeated(triples, refused.at - matrix_text.HEAD_LINES - 1,
-                               symmetric) from None
-
-    def _folded(self, triples: Triples, dup_op: DupOp) -> Triples:
-        """Each position once: values that share one are folded by the server, in a matrix with a
-        row for each such position."""
-        if dup_op is None:
-            return triples
-        op = find('binary', dup_op)
-        return coo.unrepeated(triples,
-                              lambda many: self._from(many).reduce_rowwise(op).entries()[2])
-
-    def mmread(self, source: Any, *, values: bool = True, scale: Optional[float] = None,
-               max_bytes: Optional[int] = None, dup_op: DupOp = None,
-               name: Optional[str] = None) -> Matrix:
-        """Read a Matrix Market file.
-
-        What the server reads is sent as it is. `real` values, `array`, `skew-symmetric`, and with
-        `dup_op` positions that repeat are made so by the client.
-
-        Parameters
-        ----------
-        source : path or file
-            A path (also .gz and .bz2), or a file opened in binary.
-        values : bool, default True
-            False reads no values, so that each entry is 1, also of `complex` files. Else values are
-            whole numbers.
-        scale : number, optional
-            Values are multiplied by it and rounded to the nearest. Without it they have to be
-            whole.
-        max_bytes : int, optional
-            The most bytes that a packed file may have once it is unpacked; 268,435,456 unless
-            given.
-        dup_op : operator, optional
-            Folds the values of a position that repeats.
-        name : str, optional
-            A name for the matrix.
-
-        Returns
-        -------
-        Matrix
-            The matrix.
-
-        Raises
-        ------
-        ValueError
-            Where the file is no such text, or a value isn't whole; it names the file and the line.
-        TextRefused
-            Where the text breaks a rule of the server's, such as that a position repeats (M8) and
-            no `dup_op` folds it. It is a ValueError.
-        TooLarge
-            Where rows, columns or entries are more than the server takes (M4). It is a ValueError.
-
-        Notes
-        -----
-        With `dup_op` 1 job and 1 run, where any position repeats; else no job. LAGraph:
-        `LAGraph_MMRead`. In python-graphblas `io.mmread`. `read_graph` reads other formats too.
-        """
-        request = Request('mtx', Layout(values=values, scale=scale))
-        units.of_read(scale, dup_op)
-        return self._market(name_of(source), matrix_market.load(source, max_bytes), request, dup_op,
-                            name)
-
-    def _market(self, file: str, text: bytes, request: Request, dup_op: DupOp,
-                name: Optional[str]) -> Matrix:
-        values = matrix_market.Values(request.layout.values, request.layout.scale)
-        try:
-            made, kind = self._of_market(text, values, dup_op, name)
-        except TextRefused as refused:
-            if (refused.rule == 'M8' and refused.command != matrix_market.COMMAND
-                and not matrix_market.is_plain(text)):
-                # the file's line, not that of the text that was made of it
-                found = matrix_market.find_repeated(io.BytesIO(text))
-                raise (found or refused).of_file(file) from None
-            said = '' if text.split()[:1] == [b'%%MatrixMarket'] else matrix_market.NO_MARKET
-            raise refused.hinting('M8', coo.DUP_OP).of_file(file,
-                                                            said if refused.rule == 'M1'
-                                                            else '') from None
-        except Refused as refused:
-            raise refused.of_file(file) from None
-        made.notes = kind.notes if dup_op is None else kind.notes._replace(weighted=True)
-        return made
-
-    def _of_market(self, text: bytes, values: matrix_market.Values, dup_op: DupOp,
-                   name: Optional[str]) -> Tuple[Matrix, matrix_market.Kind]:
-        """The matrix of a text, as it is sent or made here, and what its first line says."""
-        as_it_is = (dup_op is None and matrix_market.is_plain(text)
-                    and values == matrix_market.Values())
-        if as_it_is:
-            made = self.from_text(text, name)      # which refuses a first line of any other form
-            return made, matrix_market.kind_of(text)
-        triples, symmetry = matrix_market.parse(text, values)
-        unit = units.of_read(values.scale, dup_op)
-        folded = overflow.folded(self._folded, triples, dup_op, unit)
-        made = self.from_text(matrix_text.write(matrix_market.mirrored(folded, symmetry)), name)
-        made.notes = made.notes._replace(unit=unit)
-        overflow.note(made, folded.values)
-        return made, matrix_market.kind_of(text, values)
-
-    def full(self, nrows: int, ncols: int, value: int = 1, *, name: Optional[str] = None) -> Matrix:
-        """A matrix with one value everywhere.
-
-        Parameters
-        ----------
-        nrows, ncols : int
-            The sizes.
-        value : int, default 1
-            The value of each entry, a whole number of 64 bits.
-        name : str, optional
-            A name for the matrix.
-
-        Returns
-        -------
-        Matrix
-            A matrix of `nrows` rows and `ncols` columns, with an entry at each place.
-
-        Raises
-        ------
-        TooLarge
-            Where a size, or the number of entries, is more than 16,777,216 (M4).
-        ValueError
-            Where a size is below 0, or the value isn't a whole number of 64 bits.
-
-        Notes
-        -----
-        No job. GraphBLAS: `assign` of a number to all places.
-        """
-        nrows, ncols = coo.side(nrows, 0, 'nrows'), coo.side(ncols, 0, 'ncols')
-        if nrows * ncols > limits.MOST_SIDE:
-            raise refusal('M4', detail='%d entries' % (nrows * ncols))
-        return as_constant(self._from(coo.full(nrows, ncols, value), name=name))
-
-    def identity(self, n: int, value: int = 1, *, name: Optional[str] = None) -> Matrix:
-        """A square matrix with one value on its diagonal.
-
-        Parameters
-        ----------
-        n : int
-            The number of rows, and of columns.
-        value : int, default 1
-            The value of each entry, a whole number of 64 bits.
-        name : str, optional
-            A name for the matrix.
-
-        Returns
-        -------
-        Matrix
-            A matrix of n rows and n columns, with an entry at each (i, i).
-
-        Raises
-        ------
-        TooLarge
-            Where n is more than 16,777,216 (M4).
-        ValueError
-            Where n is below 0, or the value isn't a whole number of 64 bits.
-
-        Notes
-        -----
-        No job. GraphBLAS: `Matrix_diag` of a column with one value.
-        """
-        at = coo.indices(coo.side(n, 0, 'size'))
-        return as_constant(self._from(coo.checked(at, at, value, n, n), name=name))
-
-    def ones(self, ncols: int) -> Matrix:
-        """A row of ones, which folds columns.
-
-        Parameters
-        ----------
-        ncols : int
-            The number of columns.
-
-        Returns
-        -------
-        Matrix
-            A matrix of 1 row, with 1 in each column.
-
-        Raises
-        ------
-        TooLarge
-            Where there are more than 16,777,216 columns (M4).
-        ValueError
-            Where the number is below 0.
-
-        Notes
-        -----
-        No job. The session keeps the rows of the last 4 lengths, but for those longer than
-        1,048,576, and gives another matrix of them each time.
-        """
-        with self._backend.lock():
-            row = self._ones.pop(ncols, None)
-            row = self.full(1, ncols) if row is None else row
-            if ncols <= LONG and row.handle.backend is self._backend:
-                self._ones[ncols] = row
-            while len(self._ones) > KEPT_ONES:
-                del self._ones[next(iter(self._ones))]
-            return alias(row, NOTHING)
 
     # -- matrices out
 

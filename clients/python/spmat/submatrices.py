@@ -1,5 +1,5 @@
-"""Parts of matrices, taken out, set and put together: `A[rows, columns]`, `assign`, tiles, other
-sizes and shapes, Kronecker products.
+"""Parts of matrices, taken out and put together: `A[rows, columns]`, tiles, other sizes and shapes,
+the graph of a bipartite matrix.
 
 A product with a matrix of ones moves rows or columns, as GrB_extract does: P A has the rows of A
 that P names, A Q the columns. All that keeps entries at the server is made of such products.
@@ -12,20 +12,17 @@ from typing import TYPE_CHECKING, Any, List, Optional, Sequence, Tuple, Union
 
 import numpy
 
-from . import units
+from . import result_metadata, units
 from .errors import refusal
-from .indexing import WHAT, Chosen, check_once, choose_places, pair_of
+from .indexing import WHAT, check_once, choose_places, pair_of
 from .io import coo
-from .io.exporters import Held
-from .limits import MOST_SIDE
-from .mask import Mask, as_mask, structure, warn_user
+from .mask import Mask, warn_user
+from .matrix_base import MatrixBase
 from .metadata import (BY_POSITIONS, COLUMNS, NOTHING, ROWS, Axis, Nodes, Unnamed, axis_of, even,
                        joined)
-from .operators import Op
-from .session_of_operands import common_session, not_a_matrix
 
 if TYPE_CHECKING:
-    from .matrix import Matrix, MaskLike
+    from .matrix import Matrix
 
 Sizes = Union[int, Sequence[int]]
 BOTH = (ROWS, COLUMNS)
@@ -56,8 +53,8 @@ def take(matrix: 'Matrix', axis: int, places: Sequence[int],
                 matrix.notes.axis(axis).part(places), name=name)
 
 
-def picked(matrix: 'Matrix', at: Any) -> Union['Matrix', int, float, None]:
-    """See `Matrix.__getitem__`."""
+def extract(matrix: 'Matrix', at: Any) -> Any:
+    """See `Structure.__getitem__`."""
     if isinstance(at, Mask):
         return matrix.dup(mask=at)
     chosen = [choose_places(matrix, index, axis) for axis, index in enumerate(pair_of(at))]
@@ -74,110 +71,10 @@ def picked(matrix: 'Matrix', at: Any) -> Union['Matrix', int, float, None]:
     return part
 
 
-def value_of(cell: 'Matrix') -> Union[int, float, None]:
+def value_of(cell: 'Matrix') -> Any:
     """What the one entry of a matrix stands for, None where it has none."""
     values = cell.entries(arrays=False)[2]
-    found: Union[int, float, None] = units.to_decimal(values[0], cell.unit) if values else None
-    return found
-
-
-# -- a part that is set: C<M, accum>(I, J) = B, as GrB_assign has it
-
-def assigned(matrix: 'Matrix', what: Any, chosen: Tuple[Any, Any], accum: Optional[Op],
-             mask: 'MaskLike', replace: bool, name: Optional[str]) -> 'Matrix':
-    """See `Matrix.assign`."""
-    where = as_mask(mask)
-    for other in (what, None if where is None else where.matrix):
-        if isinstance(other, Held):
-            common_session(matrix.session, other.session)
-    if where is not None and where.matrix.shape != matrix.shape:
-        raise refusal('J9', detail='the matrix is %dx%d, the mask %dx%d'
-                      % (*matrix.shape, *where.matrix.shape))
-    if chosen == (None, None) and isinstance(what, Held):
-        return matrix.update(what, accum, where, replace, name=name)  # type: ignore[arg-type]
-    part = [_chosen_once(matrix, index, axis) for axis, index in enumerate(chosen)]
-    if isinstance(what, Held):
-        given = _spread(matrix, _turned(what, part, matrix.shape), part)
-    else:
-        stored = units.to_stored(what, matrix.unit, 'value ')
-        given = (_everywhere(matrix, stored, part) if where is None or where.complement
-                 else _within(_constant(structure(where), stored, matrix.unit), part))
-    last = name if where is None else None
-    if accum is not None:
-        whole = matrix.ewise_add(given, accum, name=last)
-    elif all(one.places is None for one in part):
-        whole = given
-    else:
-        whole = matrix.without(_within(matrix, part).S).ewise_add(given, 'first', name=last)
-    return whole if where is None else matrix.update(whole, None, where, replace, name=name)
-
-
-def _chosen_once(matrix: 'Matrix', index: Any, axis: int) -> Chosen:
-    """The rows or columns that are set. ValueError where one is given twice."""
-    chosen = Chosen(None) if index is None else choose_places(matrix, index, axis)
-    if chosen.places is not None and len(set(chosen.places)) < len(chosen.places):
-        twice = next(place for at, place in enumerate(chosen.places) if place in chosen.places[:at])
-        names = matrix.notes.names(axis)
-        raise ValueError('the %s %r is given twice: each is set once'
-                         % (WHAT[axis], twice if names is None else names[twice]))
-    return chosen
-
-
-def _constant(pattern: 'Matrix', stored: int, unit: units.Unit) -> 'Matrix':
-    """One stored number wherever a matrix has an entry: 1 job."""
-    made = pattern.apply('thunk', right=stored)
-    made.notes = made.notes._replace(unit=unit)
-    return made
-
-
-def filled(pattern: Any, number: Any, unit: units.Unit) -> 'Matrix':
-    """A matrix with one number wherever another has an entry: 1 job."""
-    return _constant(pattern, units.to_stored(number, unit, 'default '), unit)
-
-
-def _turned(what: Any, part: Sequence[Chosen], shape: Tuple[int, int]) -> 'Matrix':
-    """What a part is set to. One row may be given as a column, and one column as a row.
-    DimensionMismatch where it has another shape."""
-    wanted = tuple(count if one.places is None else len(one.places)
-                   for one, count in zip(part, shape))
-    is_turned = what.shape == wanted[::-1] and any(one.one for one in part)
-    if what.shape == wanted or is_turned:
-        found: 'Matrix' = what if what.shape == wanted else what.T
-        return found
-    raise refusal('J5', detail='%dx%d places are set, and the matrix has %dx%d'
-                  % (*wanted, *what.shape))
-
-
-def _spread(matrix: 'Matrix', what: 'Matrix', part: Sequence[Chosen]) -> 'Matrix':
-    """What a part is set to, at its places in a matrix of the whole's shape. Its rows and columns
-    are called as those that are set; where they have no names, the caller says by the index which
-    they are."""
-    for axis in BOTH:
-        places, whole = part[axis].places, matrix.notes.axis(axis)
-        if places is not None:
-            own = whole.part(places) if what.notes.axis(axis).has_names else Axis()
-            what = move(what, axis, range(len(places)), places, matrix.shape[axis], whole, own)
-    return what
-
-
-def _within(matrix: 'Matrix', part: Sequence[Chosen]) -> 'Matrix':
-    """The entries of a matrix in some rows and columns."""
-    for axis in BOTH:
-        places = part[axis].places
-        if places is not None:
-            matrix = move(matrix, axis, places, places, matrix.shape[axis],
-                          matrix.notes.axis(axis))
-    return matrix
-
-
-def _everywhere(matrix: 'Matrix', stored: int, part: Sequence[Chosen]) -> 'Matrix':
-    """A number in each of some rows and columns: a column that has it in these rows, whose one
-    column is moved to each of these columns."""
-    down, along = (range(count) if one.places is None else one.places
-                   for one, count in zip(part, matrix.shape))
-    made = matrix.session.from_coo(down, [0] * len(down), stored, matrix.nrows, 1)
-    made.notes = NOTHING._replace(unit=matrix.unit).with_axes(matrix.notes.axis(ROWS), Axis())
-    return move(made, COLUMNS, [0] * len(along), along, matrix.ncols, matrix.notes.axis(COLUMNS))
+    return units.to_decimal(values[0], cell.unit) if values else None
 
 
 # -- tiles
@@ -215,18 +112,18 @@ def concat(tiles: Sequence[Sequence[Any]], *, name: Optional[str] = None) -> 'Ma
     `ss.concat`, in SuiteSparse:GraphBLAS `GxB_Matrix_concat`, in scipy.sparse `bmat`, in numpy
     `block`.
     """
-    if any(isinstance(row, Held) or not isinstance(row, (list, tuple))
+    if any(isinstance(row, MatrixBase) or not isinstance(row, (list, tuple))
            for row in tiles) or not tiles:
         raise TypeError('tiles are a list of rows of matrices: spmat.concat([[A, B], [C, D]])')
     if len({len(row) for row in tiles}) > 1 or not tiles[0]:
         raise ValueError(
             'rows of %s tiles: each row has as many, with None for a tile without entries'
             % ' and '.join(sorted({str(len(row)) for row in tiles})))
-    heights = [_common_size(row, 0, at) for at, row in enumerate(tiles)]
-    widths = [_common_size(column, 1, at) for at, column in enumerate(zip(*tiles))]
-    axes = [_joined_axis(bands, sizes, axis)
+    heights = [_find_common_size(row, 0, at) for at, row in enumerate(tiles)]
+    widths = [_find_common_size(column, 1, at) for at, column in enumerate(zip(*tiles))]
+    axes = [_join_axes(bands, sizes, axis)
             for axis, (bands, sizes) in enumerate(((tiles, heights), (list(zip(*tiles)), widths)))]
-    placed = [_placed(tile, (sum(heights[:i]), sum(widths[:j])), (sum(heights), sum(widths)))
+    placed = [_place_tile(tile, (sum(heights[:i]), sum(widths[:j])), (sum(heights), sum(widths)))
               for i, row in enumerate(tiles) for j, tile in enumerate(row) if tile is not None]
     made = placed[0]
     for tile in placed[1:]:
@@ -236,7 +133,7 @@ def concat(tiles: Sequence[Sequence[Any]], *, name: Optional[str] = None) -> 'Ma
     return made
 
 
-def _common_size(tiles: Sequence[Any], axis: int, at: int) -> int:
+def _find_common_size(tiles: Sequence[Any], axis: int, at: int) -> int:
     """The rows that all tiles beside one another have, or the columns of those below one
     another."""
     sizes = [tile.shape[axis] for tile in tiles if tile is not None]
@@ -246,14 +143,13 @@ def _common_size(tiles: Sequence[Any], axis: int, at: int) -> int:
     if len(set(sizes)) > 1:
         raise refusal('J5', detail='the tiles of %s %d have %s %ss' % (
             WHAT[axis], at, ' and '.join(map(str, sorted(set(sizes)))), WHAT[axis]))
-    found: int = sizes[0]
-    return found
+    return int(sizes[0])
 
 
-def _joined_axis(bands: Sequence[Sequence[Any]], sizes: Sequence[int], axis: int) -> Axis:
+def _join_axes(bands: Sequence[Sequence[Any]], sizes: Sequence[int], axis: int) -> Axis:
     """What all rows (or columns) of tiles are called one after the other; nothing, with a warning,
     where some have no names, or one stands twice."""
-    found = [_band_axis(band, axis, at) for at, band in enumerate(bands)]
+    found = [_join_band(band, axis, at) for at, band in enumerate(bands)]
     if len(found) == 1 or all(one == Axis() for one in found):
         return found[0]
     filled_bands = [(one, size) for one, size in zip(found, sizes) if size]
@@ -273,7 +169,7 @@ def _joined_axis(bands: Sequence[Sequence[Any]], sizes: Sequence[int], axis: int
     return Axis(None, Unnamed.POSITIONS)
 
 
-def _band_axis(band: Sequence[Any], axis: int, at: int) -> Axis:
+def _join_band(band: Sequence[Any], axis: int, at: int) -> Axis:
     """What the rows of tiles beside one another are called, or the columns of those below one
     another. NamesDiffer where they differ."""
     words = 'the %ss of the tiles of %s %d' % (WHAT[axis], WHAT[axis], at)
@@ -285,7 +181,7 @@ def _band_axis(band: Sequence[Any], axis: int, at: int) -> Axis:
     return notes.axis(axis)
 
 
-def _placed(tile: 'Matrix', at: Sequence[int], shape: Sequence[int]) -> 'Matrix':
+def _place_tile(tile: 'Matrix', at: Sequence[int], shape: Sequence[int]) -> 'Matrix':
     """A tile at its place in the whole, without names."""
     for axis in BOTH:
         count = tile.shape[axis]
@@ -294,31 +190,31 @@ def _placed(tile: 'Matrix', at: Sequence[int], shape: Sequence[int]) -> 'Matrix'
     return tile
 
 
-def parts_of(matrix: 'Matrix', row_sizes: Sizes,
+def split(matrix: 'Matrix', row_sizes: Sizes,
              column_sizes: Optional[Sizes]) -> List[List['Matrix']]:
-    """See `Matrix.split`."""
-    bounds = [_bounds(matrix.shape[axis], sizes, axis)
+    """See `Structure.split`."""
+    bounds = [_find_bounds(matrix.shape[axis], sizes, axis)
               for axis, sizes in enumerate((row_sizes, column_sizes))]
-    return [[_part(matrix, rows, columns) for columns in bounds[1]] for rows in bounds[0]]
+    return [[_take_part(matrix, rows, columns) for columns in bounds[1]] for rows in bounds[0]]
 
 
-def _part(matrix: 'Matrix', *bounds: Tuple[int, int]) -> 'Matrix':
+def _take_part(matrix: 'Matrix', *bounds: Tuple[int, int]) -> 'Matrix':
     """A part by positions, whatever rows and columns are called."""
     part = matrix
     for axis in BOTH:
         if bounds[axis] != (0, matrix.shape[axis]):
             part = take(part, axis, range(*bounds[axis]))
-    return part if part is matrix else _of_corner(matrix, part, bounds[ROWS] == bounds[COLUMNS])
+    return part if part is matrix else _note_directed(matrix, part, bounds[ROWS] == bounds[COLUMNS])
 
 
-def _of_corner(matrix: 'Matrix', part: 'Matrix', is_corner: bool) -> 'Matrix':
+def _note_directed(matrix: 'Matrix', part: 'Matrix', is_corner: bool) -> 'Matrix':
     """A part, which is undirected where it `is_corner`, with the same rows and columns, of a matrix
     that is."""
     part.notes = part.notes._replace(directed=even(matrix.notes) if is_corner else None)
     return part
 
 
-def _bounds(count: int, sizes: Optional[Sizes], axis: int) -> List[Tuple[int, int]]:
+def _find_bounds(count: int, sizes: Optional[Sizes], axis: int) -> List[Tuple[int, int]]:
     """Where the parts of so many rows or columns begin and end: of some sizes, or of one, of which
     the last is what is left."""
     if sizes is None:
@@ -335,19 +231,19 @@ def _bounds(count: int, sizes: Optional[Sizes], axis: int) -> List[Tuple[int, in
     return [(sum(many[:at]), sum(many[:at + 1])) for at in range(len(many))]
 
 
-def resized(matrix: 'Matrix', nrows: int, ncols: int, name: Optional[str]) -> 'Matrix':
-    """See `Matrix.resize`."""
+def resize(matrix: 'Matrix', nrows: int, ncols: int, name: Optional[str]) -> 'Matrix':
+    """See `Structure.resize`."""
     shape = coo.side(nrows, 0, 'nrows'), coo.side(ncols, 0, 'ncols')
     made = matrix
     for axis, size in enumerate(shape):
         stay = range(min(size, matrix.shape[axis]))
         if size != matrix.shape[axis]:
-            made = move(made, axis, stay, stay, size, _resized_axis(matrix, axis, size))
+            made = move(made, axis, stay, stay, size, _resize_axis(matrix, axis, size))
     made = made.dup(name=name) if made is matrix or name is not None else made
-    return _of_corner(matrix, made, shape[ROWS] == shape[COLUMNS])
+    return _note_directed(matrix, made, shape[ROWS] == shape[COLUMNS])
 
 
-def _resized_axis(matrix: 'Matrix', axis: int, size: int) -> Axis:
+def _resize_axis(matrix: 'Matrix', axis: int, size: int) -> Axis:
     """What rows or columns are called that were cut off, or have grown in number, which gives new
     ones no names."""
     old = matrix.notes.axis(axis)
@@ -359,9 +255,9 @@ def _resized_axis(matrix: 'Matrix', axis: int, size: int) -> Axis:
 ORDERS = {'rowwise': True, 'C': True, 'columnwise': False, 'F': False}     # numpy's letters too
 
 
-def reshaped(matrix: 'Matrix', nrows: int, ncols: int, order: str, name: Optional[str]) -> 'Matrix':
-    """See `Matrix.reshape`."""
-    nrows, ncols = _free_size(matrix, nrows, ncols), _free_size(matrix, ncols, nrows)
+def reshape(matrix: 'Matrix', nrows: int, ncols: int, order: str, name: Optional[str]) -> 'Matrix':
+    """See `Structure.reshape`."""
+    nrows, ncols = _fill_size(matrix, nrows, ncols), _fill_size(matrix, ncols, nrows)
     if order not in ORDERS:
         raise ValueError('order is "rowwise" or "columnwise", not %r' % (order,))
     if nrows * ncols != matrix.nrows * matrix.ncols:
@@ -378,39 +274,40 @@ def reshaped(matrix: 'Matrix', nrows: int, ncols: int, order: str, name: Optiona
     return made
 
 
-def _free_size(matrix: 'Matrix', size: int, other: int) -> int:
+def _fill_size(matrix: 'Matrix', size: int, other: int) -> int:
     """A size, which may be -1 for what is left beside the other, as in numpy."""
     return matrix.nrows * matrix.ncols // max(other, 1) if size == -1 else coo.side(size, 0, 'size')
 
 
-def kronecker(first: 'Matrix', second: 'Matrix', op: Op, name: Optional[str]) -> 'Matrix':
-    """See `Matrix.kronecker`."""
-    if not isinstance(second, Held):
-        raise not_a_matrix(second)
-    if first.nvals * second.nvals > MOST_SIDE:
-        raise refusal('M4',
-                      detail='%d entries, of %d and of %d' % (first.nvals * second.nvals,
-                                                              first.nvals, second.nvals))
-    shape = coo.side(first.nrows * second.nrows, 0,
-                     'nrows'), coo.side(first.ncols * second.ncols, 0, 'ncols')
-    (i, j, x), (k, l, y) = first.entries(), second.entries()
-    each, times = len(k), len(i)
-    rows = numpy.repeat(i, each) * second.nrows + numpy.tile(k, times)
-    columns = numpy.repeat(j, each) * second.ncols + numpy.tile(l, times)
-    sides = [first.session.from_coo(rows, columns, many, *shape)
-             for many in (numpy.repeat(x, each), numpy.tile(y, times))]
-    axes = [_pairs(first, second, axis) for axis in (ROWS, COLUMNS)]
-    for made, of in zip(sides, (first, second)):
-        made.notes = NOTHING._replace(unit=of.unit, directed=even(of.notes)).with_axes(*axes)
-    return sides[0].ewise_mult(sides[1], op, name=name)
+def bipartite(B: Matrix) -> Matrix:
+    """The square matrix of a bipartite graph.
 
+    Parameters
+    ----------
+    B : Matrix
+        The matrix whose rows and columns are the two kinds of vertices.
 
-def _pairs(first: 'Matrix', second: 'Matrix', axis: int) -> Axis:
-    """Names of pairs of vertices, where both have names."""
-    one, other = first.notes.axis(axis), second.notes.axis(axis)
-    if one.names is None and other.names is None:
-        return Axis() if one.alone() == other.alone() == Axis() else Axis(None, Unnamed.POSITIONS)
-    if not (one.has_names and other.has_names):
-        return Axis(None, Unnamed.POSITIONS)
-    return Axis(Nodes(itertools.product(one.listed(first.shape[axis]),
-                                        other.listed(second.shape[axis]))))
+    Returns
+    -------
+    Matrix
+        An undirected graph of `B.nrows + B.ncols` vertices: first the rows, then the columns, and
+        each entry of B as an edge both ways. Its names are those of the rows and of the columns, or
+        where some are the same, or there are none, ('row', name) and ('column', name).
+
+    Raises
+    ------
+    TooLarge
+        Where vertices, or entries, are more than 16,777,216 together (M4).
+
+    Notes
+    -----
+    No job: the entries come to the client and go back, as for `T`. GraphBLAS:
+    `Matrix_extractTuples`, and `Matrix_build`.
+    """
+    rows, columns, values = B.entries()
+    ends, columns = B.nrows + B.ncols, columns + B.nrows
+    made = B.session.from_coo(numpy.concatenate((rows, columns)),
+                              numpy.concatenate((columns, rows)),
+                              numpy.concatenate((values, values)), ends, ends)
+    made.notes = result_metadata.of_both_sides(B.notes, B.nrows, B.ncols)
+    return made

@@ -14,13 +14,15 @@ import math
 from fractions import Fraction
 from typing import Any, Dict, NoReturn, Optional, Tuple, Union
 
+import numpy
+
 from .errors import UnitsDiffer
 from .exact_numbers import TimeUnit, exact_in as exact_in, exact_number as exact_number
 from .io import coo
 from .io.matrix_text import is_array
 from .io.values import UNITS
+from .operands import alias
 from .operators import Op, READY, Operator, find
-from .shared_entries import alias
 
 Unit = Union[int, Fraction]
 
@@ -114,7 +116,6 @@ def to_decimals(values: Any, unit: Unit) -> Any:
         return values
     if not is_array(values):
         return [value * unit.denominator / unit.numerator for value in values]
-    import numpy
     if unit.denominator == 1 and unit < EXACT and (numpy.abs(values) < EXACT).all():
         return values / numpy.float64(unit)
     return numpy.array(to_decimals(values.tolist(), unit), numpy.float64)
@@ -279,7 +280,7 @@ def name_of(op: Union[Operator, str]) -> str:
 # -- another unit
 
 def rescaled(matrix: Any, unit: Any, exact: bool) -> Any:
-    """A matrix with the same numbers in another unit; see `Held.rescale`."""
+    """A matrix with the same numbers in another unit; see `MatrixBase.rescale`."""
     wanted, factor = _factor_to(matrix.unit, unit)
     if factor == 1:
         return with_unit(matrix, wanted)

@@ -8,7 +8,7 @@ from __future__ import annotations
 from typing import TYPE_CHECKING, Any, Callable
 
 from .foreign_names import MATRIX, missing_attribute
-from .io.exporters import Held
+from .matrix_base import MatrixBase
 from .operators import other_names
 
 
@@ -40,7 +40,7 @@ _is_unequal = refusing('!=', 'not A.isequal(B), A.select("valuene", 3), A.ewise_
                        'A is not B')
 
 
-class Signs(Held):
+class Signs(MatrixBase):
     """Signs that Python knows and the protocol doesn't: each says what to write."""
 
     # -- between matrices, or a matrix and a number

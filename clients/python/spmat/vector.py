@@ -14,7 +14,7 @@ from .errors import refusal
 from .indexing import choose_places
 from .mask import Mask
 from .matrix import Matrix
-from .shared_entries import alias
+from .operands import alias
 from .submatrices import take, value_of
 from .unsupported_syntax import refusing
 

@@ -87,6 +87,9 @@ def some(random_, nrows, ncols, share=.4, least=-3, most=4):
             if random_.random() < share}
 
 
+MASKS = ('none', 'S', 'V', '~S', '~V')
+
+
 def mask_of(matrix, cells, kind):
     """A mask of a kind, and whether it lets a position through."""
     if kind == 'none':

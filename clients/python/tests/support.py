@@ -76,6 +76,14 @@ class InSession(unittest.TestCase):
         cls.s.close()
 
 
+class OfCells(InSession):
+    """Tests on matrices whose entries are given as {(row, column): value}, as models have them."""
+
+    def made(self, cells, nrows, ncols, session=None):
+        return (session or self.s).from_triples([(*at, value) for at, value in cells.items()],
+                                                nrows, ncols)
+
+
 class Listener:
     """Accepts connections in a thread, each handled in one of its own; ends with the `with`."""
 

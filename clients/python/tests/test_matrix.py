@@ -5,7 +5,7 @@ import unittest
 
 import support  # noqa: F401 (finds the program)
 import spmat
-from spmat import Semiring, asm, binary, code, indexunary, semiring, unary
+from spmat import Semiring, asm, binary, blocks, code, indexunary, semiring, unary
 from spmat.wire import connection
 
 A_MAP = {(0, 0): 5, (0, 2): -3, (1, 1): 0, (2, 0): 7, (2, 2): 2}
@@ -130,6 +130,9 @@ class InAndOut(Matrices):
             self.A.to_list()
         self.assertEqual((self.A.shape, self.A.nvals, self.A.price, self.A.steps),
                          ((3, 3), 5, None, None))
+
+    def test_dtype(self):
+        self.assertEqual(self.s.identity(2).dtype, 'INT64')
 
     def test_not_pickled(self):
         for thing in (self.s, self.A):
@@ -352,6 +355,18 @@ class Made(Matrices):
         # noqa: E731
         call = lambda: self.s.from_triples([(0, 0, 9), (0, 0, 1), (1, 1, 5)], dup_op='minus')
         self.assertEqual(self.cost(call), ({(0, 0): 8, (1, 1): 5}, 1, 1))
+
+
+class Classes(unittest.TestCase):
+    def test_classes_name_the_session(self):
+        for kind in (spmat.Matrix, blocks.BlockMatrix):
+            for name in ('from_coo', 'from_dense', 'from_csr', 'from_dicts'):
+                with self.assertRaisesRegex(AttributeError,
+                                            r'a matrix belongs to a session.*s\.%s\(\.\.\)' % name):
+                    getattr(kind, name)
+            with self.assertRaisesRegex(AttributeError, 'has no attribute .nosuch'):
+                kind.nosuch
+            self.assertFalse(hasattr(kind, 'from_coo'))
 
 
 class Progress(unittest.TestCase):

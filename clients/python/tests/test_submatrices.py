@@ -1,135 +1,16 @@
-"""Parts of matrices that are taken, set and put together, beside plain models."""
+"""Tiles, sizes and shapes, beside plain models."""
 import itertools
 import random
 import unittest
 import warnings
 
 import model
-import support
 import spmat
-from model import mask_of, some
-from spmat import blocks
-from test_composites import MASKS, Composites
+from model import some
+from support import OfCells
 
 
-class Assign(Composites):
-    """C<M, accum>(I, J) = B, as the C API says it."""
-
-    @staticmethod
-    def model(c, chosen, b, accum, inside, replace):
-        rows, columns = chosen
-        region = {(i, j) for i in rows for j in columns}
-        spread = {(rows[i], columns[j]): value for (i, j), value in b.items()}
-        whole = (model.union(c, spread, accum) if accum
-                 else {**model.cut(c, lambda at: at not in region), **spread})
-        return {**({} if replace else model.cut(c, lambda at: not inside(at))),
-                **model.cut(whole, inside)}
-
-    def compare(self, session, random_, nrows, ncols):
-        c, m = some(random_, nrows, ncols), some(random_, nrows, ncols, .5, 0, 2)
-        rows = random_.choice([None, random_.sample(range(nrows), random_.randint(0, nrows)),
-                               slice(0, nrows, 2)])
-        columns = random_.choice([None, random_.sample(range(ncols), random_.randint(0, ncols)),
-                                  slice(1, ncols)])
-        at = tuple(list(range(count)) if index is None else list(range(count))[index]
-                   if isinstance(index, slice) else index
-                   for index, count in ((rows, nrows), (columns, ncols)))
-        accum, kind, replace = random_.choice((None, 'plus', 'minus',
-                                               'second')), random_.choice(
-                                                   MASKS), random_.random() < .4
-        C = self.made(c, nrows, ncols, session)
-        mask, inside = mask_of(self.made(m, nrows, ncols, session), m, kind)
-        if random_.random() < .4:
-            value = random_.randint(-9, 9)
-            b = {(i, j): value for i in range(len(at[0])) for j in range(len(at[1]))}
-            what = value
-            if mask is not None and not mask.complement:
-                # a number for each place of the mask alone
-                b = {(i, j): value for (i, j) in b if inside((at[0][i], at[1][j]))}
-        else:
-            b = some(random_, len(at[0]), len(at[1]))
-            what = self.made(b, len(at[0]), len(at[1]), session)
-        got = C.assign(what, rows, columns, accum=accum, mask=mask, replace=replace)
-        with self.subTest(rows=rows, columns=columns, accum=accum, mask=kind, replace=replace,
-                          what=what):
-            self.assertEqual((got.shape, got.to_dict()),
-                             ((nrows, ncols), self.model(c, at, b, accum, inside, replace)))
-
-    def test_random_parts(self):
-        for seed in range(60):
-            random_ = random.Random(seed)
-            self.compare(None, random_, random_.randint(1, 5), random_.randint(1, 5))
-
-    def test_in_blocks(self):
-        with blocks.Sessions(2) as session:
-            for seed in range(12):
-                self.compare(session, random.Random(100 + seed), 5, 4)
-
-    def test_rows_and_columns(self):
-        C = self.made({(0, 0): 1, (1, 1): 2, (2, 2): 3}, 3, 3)
-        row, column = self.made({(0, 0): 7, (0, 1): 8}, 1,
-                                3), self.made({(0, 0): 7, (1, 0): 8}, 3, 1)
-        want = {(0, 0): 1, (1, 0): 7, (1, 1): 8, (2, 2): 3}
-        self.assertEqual(C.assign(row, 1).to_dict(), want)
-        # a column for a row, since vectors are columns
-        self.assertEqual(C.assign(column, 1).to_dict(), want)
-        self.assertEqual(C.assign(row, columns=1).to_dict(),
-                         {(0, 0): 1, (0, 1): 7, (1, 1): 8, (2, 2): 3})
-        self.assertEqual(C.assign(9, 1, 2).to_dict(), {**C.to_dict(), (1, 2): 9})
-        self.assertEqual(C.assign(9, [0, 2], [0]).to_dict(), {**C.to_dict(), (2, 0): 9, (0, 0): 9})
-        self.assertEqual(C.assign(0).to_dict(), {(i, j): 0 for i in range(3) for j in range(3)})
-        self.assertEqual(C.assign(4, mask=C.S).to_dict(), dict.fromkeys(C.to_dict(), 4))
-        self.assertEqual(C.assign(C.select('valuegt', 9)).nvals, 0)
-        self.assertTrue(C.assign(C.apply('ainv'), name='new').name == 'new')
-        with self.assertRaisesRegex(spmat.DimensionMismatch,
-                                    '2x3 places are set, and the matrix has 3x3'):
-            C.assign(C, [0, 1])
-        with self.assertRaisesRegex(ValueError, 'the row 1 is given twice'):
-            C.assign(3, [1, 1])
-        with self.assertRaisesRegex(spmat.DimensionMismatch, 'the mask'):
-            C.assign(3, [1], mask=row.S)
-        with self.assertRaises(ValueError):
-            C.assign(.5, [1])
-
-    def test_names(self):
-        W = self.s.from_edgelist([('a', 'b', 1), ('b', 'c', 2), ('c', 'a', 3)])
-        got = W.assign(9, ['a'], ['b', 'c'])
-        self.assertEqual((sorted(got.to_edgelist()), got.nodes),
-                         ([('a', 'b', 9), ('a', 'c', 9), ('b', 'c', 2), ('c', 'a', 3)],
-                          ['a', 'b', 'c']))
-        part = W[['b', 'c'], :].apply('ainv')
-        got = W.assign(part, ['b', 'c'])
-        self.assertEqual((sorted(got.to_edgelist()), got.nodes),
-                         ([('a', 'b', 1), ('b', 'c', -2), ('c', 'a', -3)], ['a', 'b', 'c']))
-
-
-class Shapes(Composites):
-    def test_diagonals(self):
-        for shape in ((4, 4), (3, 5), (5, 3), (2, 2)):
-            a = some(random.Random(sum(shape)), *shape, share=.6)
-            A = self.made(a, *shape)
-            for k in range(-6, 7):
-                length = max(0, min(shape[0] + min(k, 0), shape[1] - max(k, 0)))
-                want = {(p, 0): a[p + max(-k, 0), p + max(k, 0)] for p in range(length)
-                        if (p + max(-k, 0), p + max(k, 0)) in a}
-                got = A.diag(k)
-                self.assertEqual(got.to_dict(), want, (shape, k))
-                if k:
-                    self.assertEqual(got.shape, (length, 1))
-        v = {(0, 0): 5, (2, 0): -1}
-        for column in (self.made(v, 3, 1), self.made({(0, i): x for (i, _), x in v.items()}, 1, 3)):
-            for k in (-2, 0, 1):
-                got = column.diag(k)
-                self.assertEqual((got.shape, got.to_dict()),
-                                 ((3 + abs(k),) * 2,
-                                  {(i + max(-k, 0), i + max(k, 0)): x for (i, _), x in v.items()}))
-        for k in (1 << 24, (1 << 63) - 1, 1 << 63, -1 << 63, 1 << 70):
-            with self.assertRaisesRegex(spmat.TooLarge, 'nrows is %d$' % (3 + abs(k))):
-                self.made(v, 3, 1).diag(k)
-        W = self.s.from_edgelist([('a', 'a', 2), ('a', 'b', 3)])
-        self.assertEqual((W.diag().by_node(), W.diag().diag().nodes, W.diag(1).nodes),
-                         ({'a': 2}, ['a', 'b'], None))
-
+class Shapes(OfCells):
     def test_tiles(self):
         for seed in range(8):
             random_ = random.Random(seed)
@@ -219,86 +100,6 @@ class Shapes(Composites):
         self.assertEqual((W.resize(2, 3).row_nodes, W.resize(5, 3).row_nodes,
                           W.resize(5, 3).column_nodes), (['a', 'b'], None, ['a', 'b', 'c']))
         self.assertEqual(self.made({}, 0, 3).reshape(3, 0).shape, (3, 0))
-
-
-class Brackets(unittest.TestCase):
-    @classmethod
-    def setUpClass(cls):
-        cls.s = spmat.Session()
-        cls.G = cls.s.from_triples([(i, j, 10 * i + j) for i in range(4) for j in range(5)
-                                    if (i + j) % 3])
-        cls.want = cls.G.to_dict()
-
-    @classmethod
-    def tearDownClass(cls):
-        cls.s.close()
-
-    def test_values(self):
-        for i in range(4):
-            for j in range(5):
-                self.assertEqual(self.G[i, j], self.want.get((i, j)))
-
-    def test_parts(self):
-        for rows, columns in ((slice(None), 2), (1, slice(None)), ([2, 0], slice(None)),
-                              (slice(1, 3), [4, 0, 4]), (slice(None, None, 2), slice(-2, None)),
-                              ([], []), (range(2), [3]), (slice(None), slice(None))):
-            part = self.G[rows, columns]
-            i = ([rows] if isinstance(rows, int) else list(range(4))[rows]
-                 if isinstance(rows, slice) else list(rows))
-            j = ([columns] if isinstance(columns, int) else list(range(5))[columns]
-                 if isinstance(columns, slice) else list(columns))
-            want = {(a, b): self.want[x, y] for a, x in enumerate(i) for b, y in enumerate(j)
-                    if (x, y) in self.want}
-            self.assertEqual((part.shape, part.to_dict()), ((len(i), len(j)), want))
-
-    def test_names(self):
-        G = self.s.from_triples([(0, 1, 5), (1, 2, 7)], 3, 3)
-        G.nodes = ['ann', 'bob', 'cid']
-        self.assertEqual((G['ann', 'bob'], G['bob', 'ann']), (5, None))
-        self.assertEqual(G['bob', :].by_node(), {'cid': 7})
-        self.assertEqual(G[:, 'bob'].by_node(), {'ann': 5})
-        self.assertEqual(G[['cid', 'bob'], ['cid']].to_edgelist(), [('bob', 'cid', 7)])
-
-    def test_jobs(self):
-        before = self.s.jobs, self.s.runs
-        self.assertEqual(self.G[1, 3], 13)
-        self.assertEqual((self.s.jobs, self.s.runs), (before[0] + 2, before[1] + 2))
-        self.G[[1, 2], :].wait()
-        self.assertEqual((self.s.jobs, self.s.runs), (before[0] + 3, before[1] + 3))
-
-    def test_wrong(self):
-        for kind, at in ((TypeError, 1), (TypeError, (1, 2, 3)), (ValueError, (4, 0)),
-                         (ValueError, (0, 5)), (ValueError, ('x', 0)),
-                         (ValueError, ([0, 9], 0))):
-            with self.assertRaises(kind):
-                self.G[at]
-
-    def test_signs_say_what_to_write(self):
-        """Each sign of Python's that isn't there names the method that is."""
-        A = self.G
-        for call, words in ((lambda: A @ A, 'A.mxm(B)'), (lambda: A + A, 'A.ewise_add(B)'),
-                            (lambda: 3 * A, 'A.ewise_mult(B)'),
-                            (lambda: A - 1, 'minus'), (lambda: A / A, 'cdiv'),
-                            (lambda: A // 2, 'floordiv'), (lambda: A & A, 'land'),
-                            (lambda: A | A, 'lor'), (lambda: A < 3, 'A.select("<", 3)'),
-                            (lambda: A >= 3, 'A.select(">=", 3)'),
-                            (lambda: len(A), 'A.nvals'), (lambda: bool(A), 'A.nvals > 0'),
-                            (lambda: list(A), 'A.to_triples()'), (lambda: A <= 1, '<='),
-                            (lambda: A > 1, '>')):
-            with self.assertRaises(TypeError) as said:
-                call()
-            self.assertIn(words, str(said.exception))
-        with self.assertRaises(TypeError) as said:
-            A[0, 0] = 3
-        self.assertIn('A.update', str(said.exception))
-        self.assertTrue(A == A)
-
-    @support.needs('numpy')
-    def test_no_array_of_one_object(self):
-        import numpy
-        with self.assertRaises(TypeError) as said:
-            numpy.asarray(self.G)
-        self.assertIn('A.to_dense()', str(said.exception))
 
 
 if __name__ == '__main__':

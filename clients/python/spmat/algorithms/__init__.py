@@ -34,16 +34,17 @@ from .all_pairs_lengths import (all_pairs as all_pairs, path_lengths as path_len
                                 transitive_closure as transitive_closure)
 from .betweenness_centrality import betweenness as betweenness
 from .bfs import bfs_levels as bfs_levels, bfs_parents as bfs_parents, k_hop as k_hop
-from .communities import (label_propagation as label_propagation, louvain as louvain,
-                          modularity as modularity)
+from .closeness_measures import closeness as closeness
+from .communities import label_propagation as label_propagation, modularity as modularity
 from .components import (bipartite_sides as bipartite_sides,
                          connected_components as connected_components)
 from .core_decomposition import core_numbers as core_numbers, k_core as k_core
-from .distance_measures import (Bounds as Bounds, closeness as closeness, diameter as diameter,
+from .distance_measures import (Bounds as Bounds, diameter as diameter,
                                 distance_counts as distance_counts, eccentricity as eccentricity)
 from .eigenvector_and_hits import eigenvector as eigenvector, hits as hits
 from .independent_set import maximal_independent_set as maximal_independent_set
 from .katz_centrality import katz as katz
+from .louvain_method import louvain as louvain
 from .modelled_bounds import with_model
 from .neighbour_similarity import (common_neighbours as common_neighbours, jaccard as jaccard,
                                    shared_neighbours as shared_neighbours, squares as squares)
@@ -51,8 +52,9 @@ from .page_rank import pagerank as pagerank
 from .registry import ALGORITHMS, checks_arguments, table
 from .results import Centrality as Centrality, Communities as Communities, keep_units, name_values
 from .shortest_path_trees import (NoPath as NoPath, Path as Path, PathTree as PathTree,
-                                  has_path as has_path, k_shortest_paths as k_shortest_paths,
-                                  shortest_path as shortest_path, shortest_paths as shortest_paths)
+                                  has_path as has_path, shortest_path as shortest_path,
+                                  shortest_paths as shortest_paths)
+from .simple_paths import k_shortest_paths as k_shortest_paths
 from .single_source_paths import sssp as sssp
 from .spanning_forest import minimum_spanning_forest as minimum_spanning_forest
 from .strong_components import strongly_connected_components as strongly_connected_components

@@ -10,7 +10,7 @@ from ..errors import refusal
 from ..limits import MOST_SIDE
 from ..matrix import Matrix
 from ..operators import Operator, Semiring, asm, binary
-from . import step_bounds
+from . import path_bounds, step_bounds
 from .cached_properties import extremes
 from .types import Vertices
 from .registry import algorithm
@@ -107,7 +107,7 @@ def _check_room(W: Matrix) -> None:
 
 
 @algorithm('lengths of shortest paths between all', values=True, lengths=True,
-           steps=step_bounds.all_pairs, shape=step_bounds.square)
+           steps=path_bounds.all_pairs, shape=step_bounds.square)
 def all_pairs(W: Matrix, progress: Progress = None) -> Matrix:
     """The length of the shortest path from each vertex (the row) to each (the column).
 
@@ -203,7 +203,7 @@ def _check_cycles(lengths: Matrix) -> None:
 
 
 @algorithm('lengths of shortest paths from some vertices', 'sources', values=True, lengths=True,
-           steps=step_bounds.path_lengths, shape=step_bounds.rows_of_sources)
+           steps=path_bounds.path_lengths, shape=step_bounds.rows_of_sources)
 def path_lengths(W: Matrix, sources: Vertices, progress: Progress = None) -> Matrix:
     """The length of the shortest path from each of some vertices to each vertex.
 
@@ -266,7 +266,7 @@ def lengths_from(start: Matrix, reach: Tuple[Matrix, int], progress: Progress = 
 
 
 @algorithm('which vertices reach which', plot='spy',
-           steps=step_bounds.transitive_closure, shape=step_bounds.square)
+           steps=path_bounds.transitive_closure, shape=step_bounds.square)
 def transitive_closure(G: Matrix, progress: Progress = None) -> Matrix:
     """An entry 1 from each vertex to each that a path of at least one edge leads to.
 

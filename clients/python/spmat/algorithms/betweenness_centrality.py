@@ -8,7 +8,7 @@ import numpy
 from ..matrix import Matrix
 from ..metadata import without_names
 from ..operators import Semiring, asm, binary
-from . import step_bounds
+from . import path_bounds
 from .all_pairs_lengths import lengths_from, reach_of
 from .cached_properties import extremes, is_both_ways, is_transpose, transpose_of
 from .types import Array, Place, Vertices
@@ -83,8 +83,7 @@ class Tight:
     def __init__(self, edges: Edges, sources: List[Place], count: int) -> None:
         self._edges, many = edges, len(sources)
         rows = list(map(int, sources))
-        self.front = without_names(
-            edges.leave.session.from_coo(range(many), rows, 1, many, count))
+        self.front = without_names(edges.leave.session.from_coo(range(many), rows, 1, many, count))
         lengths = lengths_from(self.front.apply('zero'), edges.reach)
         there = product(lengths, edges.heads, REACHED)
         longer = product(lengths, edges.leave, LENGTHEN)
@@ -105,7 +104,7 @@ class Tight:
            says='How many shortest paths between two other vertices go through each vertex: for '
            'each two vertices the share of their shortest paths. Of an undirected graph each two '
            'vertices count once. With --source only paths from these count. With --weighted values '
-           'of edges are lengths, 1 or more.', steps=step_bounds.betweenness)
+           'of edges are lengths, 1 or more.', steps=path_bounds.betweenness)
 def betweenness(G: Matrix, sources: Optional[Vertices] = None, tolerance: float = 1e-3,
                 scale: int = SCALE, progress: Progress = None, *,
                 weighted: bool = False) -> Centrality:

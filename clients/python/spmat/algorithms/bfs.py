@@ -8,7 +8,7 @@ import numpy
 from ..loops import Loop, State, empty
 from ..matrix import Matrix
 from ..operators import Semiring, binary
-from . import server_loops, step_bounds
+from . import path_bounds, server_loops, step_bounds
 from .cached_properties import is_both_ways
 from .registry import algorithm
 from .results import keep_partial, unless_empty
@@ -119,7 +119,7 @@ def _column_of(G: Matrix, search: Search, GT: Optional[Matrix], check: bool,
 
 
 @algorithm('edges from a vertex to each other one', 'source', plot='levels',
-           runs=lambda g: 3 * (g.rounds + 1), steps=step_bounds.bfs_levels)
+           runs=lambda g: 3 * (g.rounds + 1), steps=path_bounds.bfs_levels)
 def bfs_levels(G: Matrix, source: Vertices, GT: Optional[Matrix] = None, progress: Progress = None,
                *, depth: Optional[int] = None, target: Optional[Vertex] = None,
                check: bool = True) -> Matrix:
@@ -180,7 +180,7 @@ def bfs_levels(G: Matrix, source: Vertices, GT: Optional[Matrix] = None, progres
 
 
 @algorithm('the tree of a breadth-first search', 'source', are_vertices=True,
-           runs=lambda g: 4 * (g.rounds + 1), steps=step_bounds.bfs_parents)
+           runs=lambda g: 4 * (g.rounds + 1), steps=path_bounds.bfs_parents)
 def bfs_parents(G: Matrix, source: Vertices, GT: Optional[Matrix] = None,
                 progress: Progress = None, *, depth: Optional[int] = None,
                 target: Optional[Vertex] = None, check: bool = True) -> Matrix:
@@ -238,7 +238,7 @@ def bfs_parents(G: Matrix, source: Vertices, GT: Optional[Matrix] = None,
 
 @algorithm('the vertices within k edges of some', 'k', 'sources', says='Which vertices lie within '
            'k edges of each source (of all vertices without --source): source, vertex, number of '
-           'edges; 0 at the source itself.', steps=step_bounds.k_hop,
+           'edges; 0 at the source itself.', steps=path_bounds.k_hop,
            shape=step_bounds.rows_of_sources)
 def k_hop(G: Matrix, k: int, sources: Optional[Vertices] = None,
           progress: Progress = None) -> Matrix:

@@ -5,11 +5,12 @@ from __future__ import annotations
 import random
 from typing import Any, Callable, Optional, Tuple, cast
 
-from ..io.exporters import Held
 from ..matrix import Matrix
-from ..metadata import NOTHING, turned
+from ..matrix_base import MatrixBase
+from ..metadata import NOTHING
+from ..operands import alias, is_same
 from ..operators import asm
-from ..shared_entries import alias, is_same
+from ..result_metadata import of_transpose
 
 # Of an entry (i, j) a number that is that of (j, i) with the other sign. The thunk is an odd number
 # drawn at random. The entries of a graph whose edges all lead both ways add up to 0; those of any
@@ -50,7 +51,7 @@ def found(graph: Matrix, name: str, find: Callable[[], Any]) -> Any:
     """A fact of a graph's entries: as it was found before, or as it is found now. Of a matrix
     another one each time, without names."""
     fact = graph.session.backend.find_fact(cast(Any, graph), name, find)
-    return alias(fact, NOTHING) if isinstance(fact, Held) else fact
+    return alias(fact, NOTHING) if isinstance(fact, MatrixBase) else fact
 
 
 def _odd() -> int:
@@ -130,6 +131,6 @@ def transpose_of(graph: Matrix, given: Optional[Matrix], check: bool,
     if not values and is_both_ways(graph):
         return graph
     made: Any = found(graph, 'transpose', lambda: graph.T)
-    made.notes = turned(cast(Any, graph).notes)
+    made.notes = of_transpose(cast(Any, graph).notes)
     result: Matrix = made
     return result

@@ -6,8 +6,8 @@ from typing import Iterator, List, Optional
 import numpy
 
 from ..matrix import Matrix
+from ..operands import is_same
 from ..operators import Semiring, asm, binary
-from ..shared_entries import is_same
 from . import step_bounds
 from .bfs import Search, find_levels
 from .cached_properties import check_undirected, transpose_of

@@ -14,7 +14,7 @@ import numpy
 from ..io.matrix_text import Triples
 from ..pricing.call_price import Bound
 from ..pricing.call_sizes import CallSizes
-from . import rank_model, server_loops, step_bounds
+from . import path_bounds, rank_model, server_loops, step_bounds
 from .bfs import Search, run_search
 from .distance_measures import Eccentricities
 from .eigenvector_and_hits import find_eigenvector, find_hubs
@@ -101,7 +101,7 @@ def shortest_path(g: CallSizes) -> Optional[int]:
     if not g.given['weighted']:
         return _search(g, 6)
     lengths = _lengths(g, 'source', 'target')
-    return None if lengths is None else lengths + step_bounds.tree(g)
+    return None if lengths is None else lengths + path_bounds.tree(g)
 
 
 def shortest_paths(g: CallSizes) -> Optional[int]:
@@ -109,7 +109,7 @@ def shortest_paths(g: CallSizes) -> Optional[int]:
     if not g.given['weighted']:
         return None
     lengths = _lengths(g, 'source', '')
-    return None if lengths is None else lengths + step_bounds.tree(g)
+    return None if lengths is None else lengths + path_bounds.tree(g)
 
 
 def k_shortest_paths(g: CallSizes) -> Optional[int]:
@@ -117,7 +117,7 @@ def k_shortest_paths(g: CallSizes) -> Optional[int]:
     if not g.given['weighted']:
         return None
     lengths = _lengths(g, 'target', '', True)
-    return None if lengths is None else lengths + step_bounds.spurs(g)
+    return None if lengths is None else lengths + path_bounds.spurs(g)
 
 
 # -- centralities
@@ -338,7 +338,7 @@ def diameter(g: CallSizes) -> Optional[int]:
         there, back = (run_search(model, Search([start]), False) for model in models)
         far = max(int(there.max()), int(back.max()))
         if g.vertices >= SMALL or g.is_ample and far >= server_loops.LONG:
-            searched += 2 * step_bounds.whole_search(g)
+            searched += 2 * path_bounds.whole_search(g)
         if min(there.min(), back.min()) < 0:
             raise Unreached()
         return there, back
@@ -352,7 +352,7 @@ def diameter(g: CallSizes) -> Optional[int]:
     steps = g.check_transpose(makes=True) + 5 * g.entries + 2 * g.vertices + searched
     if many is not None or not left:
         return steps
-    return steps + g.check_both_ways + step_bounds.levels_of(g, left, int(bounds.most.max()) + 1)
+    return steps + g.check_both_ways + path_bounds.levels_of(g, left, int(bounds.most.max()) + 1)
 
 
 def all_pairs(g: CallSizes) -> Optional[int]:

@@ -11,7 +11,7 @@ from typing import TYPE_CHECKING, Any, Callable, Dict, Iterator, Optional, Type,
 
 from .. import units
 from ..errors import BudgetExceeded, SpmatError
-from ..io.exporters import Held
+from ..matrix_base import MatrixBase
 from .registry import Algorithm
 
 if TYPE_CHECKING:
@@ -154,11 +154,12 @@ def keep_units(algorithm: Algorithm) -> Callable[..., Any]:
 
     @functools.wraps(function)
     def call(*args: Any, **named: Any) -> Any:
-        if not any(isinstance(one, Held) and one.unit != 1 for one in (*args, *named.values())):
+        if not any(isinstance(one, MatrixBase) and one.unit != 1
+                   for one in (*args, *named.values())):
             return function(*args, **named)
         given = signature.bind(*args, **named)
         graph = next(iter(given.arguments.values()))
-        unit = graph.unit if isinstance(graph, Held) else 1
+        unit = graph.unit if isinstance(graph, MatrixBase) else 1
         counts = algorithm.values or bool(given.arguments.get('weighted'))
         if counts:
             _check_transpose(algorithm, given.arguments, unit)
@@ -167,7 +168,7 @@ def keep_units(algorithm: Algorithm) -> Callable[..., Any]:
         # so that a graph that is its own transpose stays so
         views: Dict[int, Any] = {}
         for name, one in given.arguments.items():
-            if isinstance(one, Held):
+            if isinstance(one, MatrixBase):
                 given.arguments[name] = views.setdefault(id(one), units.with_unit(one, 1))
         found = function(*given.args, **given.kwargs)
         return _in_unit(found, unit) if counts and algorithm.lengths else found
@@ -183,7 +184,7 @@ def unit_of(graph: Matrix, transpose: Optional[Matrix]) -> Fraction:
 
 def _check_transpose(algorithm: Algorithm, given: Dict[str, Any], unit: units.Unit) -> None:
     for name in ('GT', 'WT'):
-        if isinstance(given.get(name), Held):
+        if isinstance(given.get(name), MatrixBase):
             units.common('%s of a graph and its transpose' % algorithm.function.__name__, unit,
                          given[name].unit)
 
@@ -199,7 +200,7 @@ def _floor(cutoff: Any, unit: units.Unit) -> Any:
 def _in_unit(found: Any, unit: units.Unit) -> Any:
     """A result whose lengths are in a unit: a matrix, a path, a tree of paths, or a list of these.
     """
-    if isinstance(found, Held):
+    if isinstance(found, MatrixBase):
         found.unit = unit
     elif hasattr(found, 'set_unit'):
         found.set_unit(unit)

@@ -1,21 +1,17 @@
-"""Shortest paths as the vertices that they go through: to one vertex, to all as a tree, and the k
-shortest."""
+"""Shortest paths as the vertices that they go through: to one vertex, and to all as a tree."""
 from __future__ import annotations
 
-import heapq
-from typing import Any, Dict, Iterable, List, Optional, Set, Tuple
+from typing import Any, Dict, Iterable, List, Optional, Tuple
 
 import numpy
 
-from ..io.coo import whole
 from ..io.matrix_text import Triples
 from ..matrix import Matrix
 from ..operators import Operator, Semiring, asm, binary
 from ..units import Unit, to_decimals
-from . import step_bounds
+from . import path_bounds
 from .bfs import LEAST, NONE, Search, find_levels, run_search
-from .cached_properties import extremes, transpose_of
-from .graph_model import GraphModel
+from .cached_properties import extremes
 from .types import Array, Place, Vertex
 from .registry import algorithm
 from .results import of_vertices
@@ -26,10 +22,8 @@ from .utils import Progress, beside, find_place, name_of, order, product
 
 # what a length above the number of a vertex stays below
 WORD = 1 << 62
-AT_ONCE = 1 << 16              # edges of a graph that the client reads at once
 IS_SUM = Semiring(binary.any, binary.eq)
 LENGTHEN = Semiring(binary.any, binary.plus)
-Route = Tuple[int, List[Place]]                    # the length of a path, and its vertices
 
 
 class NoPath(ValueError):
@@ -67,7 +61,7 @@ class PathTree:
 
     def __init__(self, graph: Matrix, source: Place, lengths: Vector, parents: Array) -> None:
         self._graph, self._from, self._parents = graph, source, parents
-        self._far = _by_vertex(lengths)
+        self._far = index_by_vertex(lengths)
         self.source = name_of(graph, source)
         self.lengths = beside(graph, put_column(graph, lengths))
         self.predecessors = of_vertices(beside(graph, put_known(graph, parents, NONE)))
@@ -87,7 +81,7 @@ class PathTree:
         at = find_place(self._graph, target)
         if at not in self._far:
             raise NoPath('no path leads from %r to %r' % (self.source, target))
-        found = _path(self._graph, _walk(self._parents, self._from, at), self._far)
+        found = make_path(self._graph, _follow(self._parents, self._from, at), self._far)
         found.set_unit(self.lengths.unit)
         return found
 
@@ -96,11 +90,11 @@ class PathTree:
         self.lengths.unit = unit
 
 
-def _by_vertex(vector: Vector) -> Dict[Place, int]:
+def index_by_vertex(vector: Vector) -> Dict[Place, int]:
     return dict(zip(map(Place, vector.at.tolist()), vector.values.tolist()))
 
 
-def _walk(parents: Array, source: Place, target: Place) -> List[Place]:
+def _follow(parents: Array, source: Place, target: Place) -> List[Place]:
     """The path to a vertex, from the vertices before each."""
     found = [target]
     while found[-1] != source:
@@ -110,11 +104,11 @@ def _walk(parents: Array, source: Place, target: Place) -> List[Place]:
     return found[::-1]
 
 
-def _path(graph: Matrix, vertices: List[Place], far: Dict[Place, int]) -> Path:
+def make_path(graph: Matrix, vertices: List[Place], far: Dict[Place, int]) -> Path:
     return Path([name_of(graph, at) for at in vertices], [far[at] for at in vertices])
 
 
-def _lengths(G: Matrix, source: Place, GT: Optional[Matrix], weighted: bool,
+def find_distances(G: Matrix, source: Place, GT: Optional[Matrix], weighted: bool,
              query: Query) -> Vector:
     """How far the vertices are that the source reaches, by edges or by their values."""
     cutoff, target, check, progress = query
@@ -137,9 +131,9 @@ def _parents(lines: Traversal, source: Place, lengths: Vector, weighted: bool) -
     bits = max(1, lines.count - 1).bit_length()
     longest = int(lengths.values.max()) + most
     if least <= 0 or longest << bits >= WORD:
-        tight = find_vectors(_tight(lines.graph, lengths), None, False)
+        tight = find_vectors(_select_tight(lines.graph, lengths), None, False)
         return run_search(tight, Search([source]), True)
-    ring = Semiring(binary.min, _longer(bits, isinstance(lines, Columns))) if weighted else LEAST
+    ring = Semiring(binary.min, _lengthen(bits, isinstance(lines, Columns))) if weighted else LEAST
     words = lengths.values << bits | lengths.at
     at, values = lines.read(lines.step(lines.put(Vector(lengths.at, words)), ring))
     reached = numpy.zeros(lines.count, bool)       # with a cutoff an edge may lead to what isn't
@@ -150,14 +144,14 @@ def _parents(lines: Traversal, source: Place, lengths: Vector, weighted: bool) -
     return parents
 
 
-def _longer(bits: int, edge_first: bool) -> Operator:
+def _lengthen(bits: int, edge_first: bool) -> Operator:
     """A length above the number of a vertex, longer by an edge, which is the second operand or the
     first."""
     edge, length = ('r1', 'r2') if edge_first else ('r2', 'r1')
     return asm('binary', 'mov64 r0, %s\nlsh64 r0, %d\nadd64 r0, %s\nexit\n' % (edge, bits, length))
 
 
-def _tight(graph: Matrix, lengths: Vector) -> Matrix:
+def _select_tight(graph: Matrix, lengths: Vector) -> Matrix:
     """The edges that stand on shortest paths: those as long as the difference of their ends."""
     far = keep(graph, Triples(lengths.at, lengths.at, lengths.values, graph.nrows, graph.nrows))
     return product(product(far, graph, LENGTHEN), far, IS_SUM).select('nonzero')
@@ -166,7 +160,7 @@ def _tight(graph: Matrix, lengths: Vector) -> Matrix:
 @algorithm('the vertices of a shortest path', 'source', 'target', 'weighted', plot='route',
            fields=('node', 'length'), lengths=True, says='The vertices of a shortest path from one '
            'vertex to another, in order, with how far along it each ' 'is.',
-           steps=step_bounds.shortest_path)
+           steps=path_bounds.shortest_path)
 def shortest_path(G: Matrix, source: Vertex, target: Vertex, GT: Optional[Matrix] = None,
                   progress: Progress = None, *, weighted: bool = False, check: bool = True) -> Path:
     """A shortest path from one vertex to another.
@@ -220,20 +214,20 @@ def shortest_path(G: Matrix, source: Vertex, target: Vertex, GT: Optional[Matrix
         parents = run_search(find_vectors(G, GT, check), Search([start], None, end, progress), True)
         if parents[int(end)] == NONE:
             raise NoPath('no path leads from %r to %r' % (source, target))
-        vertices = _walk(parents, start, end)
-        return _path(G, vertices, {at: edges for edges, at in enumerate(vertices)})
-    lengths = _lengths(G, start, GT, True, Query(None, end, check, progress))
-    far = _by_vertex(lengths)
+        vertices = _follow(parents, start, end)
+        return make_path(G, vertices, {at: edges for edges, at in enumerate(vertices)})
+    lengths = find_distances(G, start, GT, True, Query(None, end, check, progress))
+    far = index_by_vertex(lengths)
     if end not in far:
         raise NoPath('no path leads from %r to %r' % (source, target))
     parents = _parents(find_vectors(G, GT, check, True), start, lengths, True)
-    return _path(G, _walk(parents, start, end), far)
+    return make_path(G, _follow(parents, start, end), far)
 
 
 @algorithm('a shortest path to each vertex, as a tree', 'source', 'weighted',
            fields=('node', 'length', 'predecessor'), lengths=True, says='A shortest path to each '
            'vertex that is reached: vertex, length, and the vertex before it; that is the source '
-           'itself there.', steps=step_bounds.shortest_paths)
+           'itself there.', steps=path_bounds.shortest_paths)
 def shortest_paths(G: Matrix, source: Vertex, GT: Optional[Matrix] = None,
                    progress: Progress = None, *, weighted: bool = False,
                    cutoff: Optional[int] = None, check: bool = True) -> PathTree:
@@ -280,14 +274,14 @@ def shortest_paths(G: Matrix, source: Vertex, GT: Optional[Matrix] = None,
     """
     order(G, GT)
     at = find_place(G, source)
-    lengths = _lengths(G, at, GT, weighted, Query(cutoff, None, check, progress))
+    lengths = find_distances(G, at, GT, weighted, Query(cutoff, None, check, progress))
     return PathTree(G, at, lengths,
                     _parents(find_vectors(G, GT, check, weighted), at, lengths, weighted))
 
 
 @algorithm('whether a path leads from one vertex to another', 'source', 'target',
            fields=('has_path',), says='Prints yes where a path leads from one vertex to another, '
-           'else no.', steps=step_bounds.has_path)
+           'else no.', steps=path_bounds.has_path)
 def has_path(G: Matrix, source: Vertex, target: Vertex, GT: Optional[Matrix] = None, *,
              check: bool = True) -> bool:
     """Whether a path leads from one vertex to another.
@@ -328,150 +322,3 @@ def has_path(G: Matrix, source: Vertex, target: Vertex, GT: Optional[Matrix] = N
     start, end = find_place(G, source), find_place(G, target)
     levels = run_search(find_traversal(G, GT, check), Search([start], None, end), False)
     return int(levels[int(end)]) != NONE
-
-
-class Spurs:
-    """Searches by the client for paths to one vertex around what is barred. Rows of a large graph
-    are fetched as they are met, and lengths to the target that leave out what is barred say where
-    to look first (A*)."""
-
-    def __init__(self, lines: Traversal, target: Place, home: Vector, weighted: bool) -> None:
-        self.target, self.home = target, _by_vertex(home)
-        self._lines, self._weighted = lines, weighted
-        self._rows: Dict[Place, List[Tuple[Place, int]]] = {}
-
-    def near(self, i: Place) -> List[Tuple[Place, int]]:
-        """Where the edges of a vertex lead, and how long they are; those alone from where the
-        target is reached. 1 run, once."""
-        if i not in self._rows:
-            got = self._lines.push(vector_of([i], [0]), LENGTHEN)
-            far = got.values if self._weighted else numpy.ones_like(got.at)
-            self._rows[i] = [(j, edge) for j, edge in zip(map(Place, got.at.tolist()), far.tolist())
-                             if j in self.home]
-        return self._rows[i]
-
-    def search(self, start: Place, barred: Set[Place], not_first: Set[Place]) -> Optional[Route]:
-        """The shortest path that enters no barred vertex, and leaves the start for none of some;
-        with its length. None where there is none."""
-        far: Dict[Place, int] = {start: 0}
-        before: Dict[Place, Place] = {}
-        done: Set[Place] = set()
-        heap = [(self.home[start], self.home[start], start)]
-        while heap:
-            _, _, i = heapq.heappop(heap)
-            if i == self.target:
-                found = [i]
-                while found[-1] != start:
-                    found.append(before[found[-1]])
-                return far[i], found[::-1]
-            if i in done:
-                continue
-            done.add(i)
-            for j, edge in self.near(i):
-                if j in barred or j in done or (i == start and j in not_first):
-                    continue
-                if j not in far or far[i] + edge < far[j]:
-                    far[j], before[j] = far[i] + edge, i
-                    heapq.heappush(heap, (far[j] + self.home[j], self.home[j], j))
-        return None
-
-
-@algorithm('the k shortest paths', 'source', 'target', 'k', 'weighted',
-           fields=('path', 'node', 'length'), lengths=True, says='The k shortest paths that pass '
-           'no vertex twice, a line for each vertex: the number of its path, from 1, the vertex, '
-           'and how far along the path it is.', steps=step_bounds.k_shortest_paths)
-def k_shortest_paths(G: Matrix, source: Vertex, target: Vertex, k: int, GT: Optional[Matrix] = None,
-                     *, weighted: bool = False, check: bool = True) -> List[Path]:
-    """The k shortest paths from one vertex to another that pass no vertex twice.
-
-    Parameters
-    ----------
-    G : Matrix
-        The graph; an entry (i, j) is an edge from i to j.
-    source : vertex
-        Where the paths begin.
-    target : vertex
-        Where they end.
-    k : int
-        How many.
-    GT : Matrix, optional
-        The transpose. Without it the client makes it, once; for an undirected graph hand in G.
-    weighted : bool, default False
-        Whether a length is a sum of values; else it is a number of edges.
-    check : bool, default True
-        Whether `GT` is checked to be the transpose, by 4 jobs, once.
-
-    Returns
-    -------
-    list of Path
-        The shortest first; fewer than k where there are fewer.
-
-    Raises
-    ------
-    NoPath
-        If there is none; it is a ValueError.
-    ValueError
-        If k is below 1, or as `shortest_path` does.
-
-    Notes
-    -----
-    Yen's algorithm, by the client, with lengths to the target as a bound: networkx and igraph,
-    which have the whole graph at hand, are faster.
-
-    Runs: those of `bfs_levels` or `sssp`, once, and 1 for each vertex that is met on the way, but
-    for graphs of up to 65,536 edges, which the client reads at once.
-    Steps: theirs, and 5 an edge of these vertices.
-
-    networkx: `shortest_simple_paths`.
-
-    Examples
-    --------
-    >>> k_shortest_paths(G, 0, 3, 2)
-    [[0, 2, 3], [0, 1, 2, 3]]
-    """
-    order(G, GT)
-    start, end, k = find_place(G, source), find_place(G, target), whole(k, 'number of paths')
-    if k < 1:
-        raise ValueError('a number of paths is 1 or more, not %d' % k)
-    back = transpose_of(G, GT, check, values=weighted)
-    home = _lengths(back, end, G, weighted, Query(check=check))
-    lines = find_vectors(G, back, False, weighted)
-    if G.nvals <= AT_ONCE:
-        lines = GraphModel(G, Triples(*G.to_coo(), *G.shape))
-    spurs = Spurs(lines, end, home, weighted)
-    if start not in spurs.home:
-        raise NoPath('no path leads from %r to %r' % (source, target))
-    first = spurs.search(start, set(), set())
-    assert first is not None
-    found, seen = [first], {tuple(first[1])}
-    waiting: List[Route] = []
-    while len(found) < k:
-        for candidate in _aside(spurs, found):
-            if tuple(candidate[1]) not in seen:
-                seen.add(tuple(candidate[1]))
-                heapq.heappush(waiting, candidate)
-        if not waiting:
-            break
-        found.append(heapq.heappop(waiting))
-    return [_path(G, vertices, _along(spurs, vertices)) for _, vertices in found]
-
-
-def _along(spurs: Spurs, vertices: List[Place]) -> Dict[Place, int]:
-    """How far along a path its vertices are."""
-    far = {vertices[0]: 0}
-    for i, j in zip(vertices, vertices[1:]):
-        far[j] = far[i] + dict(spurs.near(i))[j]
-    return far
-
-
-def _aside(spurs: Spurs, found: List[Route]) -> Iterable[Route]:
-    """The shortest paths that leave the last one that was found at each of its vertices, and go
-    where none did."""
-    last = found[-1][1]
-    far = _along(spurs, last)
-    for at in range(len(last) - 1):
-        root = last[:at + 1]
-        taken = {path[at + 1] for _, path in found if path[:at + 1] == root}
-        tail = spurs.search(root[-1], set(root[:-1]), taken)
-        if tail is not None:
-            yield far[root[-1]] + tail[0], root[:-1] + tail[1]

@@ -8,7 +8,7 @@ import numpy
 
 from ..matrix import Matrix
 from ..operators import Semiring, asm, binary
-from . import server_loops, step_bounds
+from . import path_bounds, server_loops
 from .cached_properties import extremes
 from .types import Array, Place, Vertex
 from .registry import algorithm
@@ -270,7 +270,7 @@ def count_rounds(lines: Traversal, source: Place, extremes_: Tuple[int, int],
 
 
 @algorithm('lengths of shortest paths from a vertex', 'source', values=True, lengths=True,
-           runs=lambda g: g.rounds + 8, steps=step_bounds.sssp)
+           runs=lambda g: g.rounds + 8, steps=path_bounds.sssp)
 def sssp(W: Matrix, source: Vertex, WT: Optional[Matrix] = None, progress: Progress = None, *,
          cutoff: Optional[int] = None, target: Optional[Vertex] = None,
          check: bool = True) -> Matrix:

@@ -13,7 +13,7 @@ from ..errors import NotSettled
 from ..io.matrix_text import Triples
 from ..job_operators import Ring
 from ..matrix import Matrix
-from ..session_of_operands import common_session
+from ..operands import common_session
 from .cached_properties import found
 from .types import Array, Place, Vertex, Vertices
 

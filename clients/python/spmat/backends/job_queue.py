@@ -3,9 +3,10 @@ settle."""
 from __future__ import annotations
 
 import collections
+import copy
 from typing import Deque, Dict, Iterable, List, Optional, Tuple
 
-from ..errors import BudgetExceeded, Refused, without_frames
+from ..errors import BudgetExceeded, Refused, SpmatError
 from ..limits import MOST_PRICE, MOST_SIDE, QUEUE
 from ..wire.commands import Command, Reply
 from ..wire.connection import Connection
@@ -177,3 +178,12 @@ def _lose(job: ServerHandle, cause: BaseException) -> None:
     """The result is never made. The first cause counts."""
     if job.lost is None:
         job.lost = without_frames(cause)
+
+
+def without_frames(fault: BaseException) -> BaseException:
+    """The same exception without the frames that it came through, which would keep their
+    matrices."""
+    try:
+        return copy.copy(fault).with_traceback(None)
+    except Exception:  # pylint: disable=broad-exception-caught  # of whatever can't be copied
+        return SpmatError('%s: %s' % (type(fault).__name__, fault))

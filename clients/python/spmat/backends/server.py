@@ -9,7 +9,7 @@ import itertools
 import re
 from typing import TYPE_CHECKING, Any, Dict, List, Mapping, NamedTuple, Optional
 
-from ..errors import BudgetExceeded, OperatorRefused, Refused, refusal, without_frames
+from ..errors import BudgetExceeded, OperatorRefused, Refused, refusal
 from ..io import matrix_text
 from ..io.matrix_text import Triples
 from ..limits import MOST_OPERATOR, MOST_SIDE, MOST_TEXT
@@ -18,7 +18,7 @@ from ..wire.commands import Command, Reply
 from ..wire.connection import Connection
 from ..wire.reply_checks import NOTHING, Limits, check_text, longest_text, sizes_of_text
 from ..wire.session_lock import SessionLock
-from .job_queue import Queue
+from .job_queue import Queue, without_frames
 from .names import DeferredHandle, ServerNames, ServerHandle
 from .protocol import Backend, Budget, Handle, Job, Most, Run, most_of
 

@@ -7,8 +7,8 @@ from typing import TYPE_CHECKING, Any, Dict, List, NamedTuple, NoReturn, Optiona
 from ..io.matrix_text import Triples
 from ..limits import MOST_PRICE, MOST_SIDE
 from ..matrix import Matrix
+from ..operands import alias
 from ..operators import Operator
-from ..shared_entries import alias
 from . import protocol
 from .protocol import Backend, Budget, Handle, Job, Most, Run, most_of
 

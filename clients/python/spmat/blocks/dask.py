@@ -10,7 +10,8 @@ import uuid
 import warnings
 from typing import (Any, Callable, Dict, Iterable, List, Optional, Sequence, Tuple, Union, cast)
 
-from ..errors import Closed, without_frames
+from ..backends.job_queue import without_frames
+from ..errors import Closed
 from . import dask_watch, worker_store, worker_tasks
 from .dask_watch import OURS, ResultWatch, begin_counting, count_repeated
 from .errors import AtBlock

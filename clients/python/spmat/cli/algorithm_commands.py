@@ -18,8 +18,8 @@ from typing import Any, Callable, Dict, Iterable, List, Optional
 from .. import algorithms, draw as pictures, units
 from ..algorithms.communities import ROUNDS
 from ..algorithms.registry import ALGORITHMS, Algorithm
-from ..io.exporters import near, told
 from ..matrix import Matrix
+from ..matrix_base import abbreviate_names, suggest_names
 from . import graph_options, output
 from .exit_status import Ended, Status
 from .grammar import add_command, read_number
@@ -160,7 +160,8 @@ def find_vertex(graph: Matrix, word: str) -> Any:
             return name
     raise Ended(Status.WORDS,
                 'no vertex %s: %s' %
-                (word, near(word, names) or 'they are ' + told(names) if names
+                (word, suggest_names(word, names)
+                 or 'they are ' + abbreviate_names(names) if names
                  else 'the graph has none'))
 
 

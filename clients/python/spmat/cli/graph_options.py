@@ -13,9 +13,10 @@ from ..io.files import Loaded
 from ..io.columns import Layout
 from ..io.formats import FORMATS, GRAPH_FORMATS, READABLE, Request, format_of
 from ..io.values import UNITS
-from ..matrix import Matrix, bipartite
+from ..matrix import Matrix
 from ..metadata import Nodes
 from ..session import Session
+from ..submatrices import bipartite
 from .exit_status import Ended, Status, reading
 
 UNDIRECTED = ': --undirected takes the graph without directions, weights and loops'

@@ -23,7 +23,7 @@ from . import count_in_groups
 
 if TYPE_CHECKING:
     from ..backends.protocol import Budget, JobResult
-    from ..io.exporters import Held
+    from ..matrix_base import MatrixBase
     from ..mask import Mask
     from ..matrix import Matrix
     from ..operators import Operator, Semiring
@@ -115,12 +115,12 @@ def semirings(uses: Dict[str, str]) -> str:
         ['', 'what a product tells'], list(uses.items()))
 
 
-def sizes(shown: 'Held') -> str:
+def sizes(shown: 'MatrixBase') -> str:
     """Rows and columns."""
     return '%s &times; %s' % tuple(format(side, ',') for side in shown.shape)
 
 
-def known(shown: 'Held') -> List[str]:
+def known(shown: 'MatrixBase') -> List[str]:
     """What is known of a matrix beside its entries."""
     facts = {'directed': shown.directed is True, 'undirected': shown.directed is False,
              'unit %s' % shown.unit: shown.unit != 1,
@@ -140,7 +140,7 @@ def beside(*parts: str) -> str:
     return '<div style="display:flex;gap:16px;align-items:flex-start">%s</div>' % ''.join(parts)
 
 
-def few(shown: 'Held') -> Shown:
+def few(shown: 'Matrix') -> Shown:
     """What is shown of a matrix of few entries, all of which come to the client."""
     near: Cells = {}
     counts: Cells = {}
@@ -174,14 +174,14 @@ def first_cells(shown: 'Matrix') -> 'Matrix':
     return first.mxm(shown, 'any_second', mask=where.S)
 
 
-def values_of(shown: 'Held', near: Cells) -> Dict[Tuple[int, int], str]:
+def values_of(shown: 'MatrixBase', near: Cells) -> Dict[Tuple[int, int], str]:
     """What stored values stand for, as text."""
     vertices = shown.notes.value_names
     return {at: to_text(value, shown.unit) if vertices is None else str(vertices[value])
             for at, value in near.items()}
 
 
-def corner(shown: 'Held', near: Mapping[Tuple[int, int], Any]) -> str:
+def corner(shown: 'MatrixBase', near: Mapping[Tuple[int, int], Any]) -> str:
     """The first rows and columns with their values and names."""
     rows, columns = (range(min(CORNER, side)) for side in shown.shape)
     first: Sequence[Any] = shown.row_nodes or range(shown.nrows)

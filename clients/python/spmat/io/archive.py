@@ -6,6 +6,7 @@ Other programs can write and read it, too.
 """
 from __future__ import annotations
 
+import abc
 import collections
 import contextlib
 import datetime
@@ -19,18 +20,20 @@ import struct
 import zipfile
 import zlib
 from fractions import Fraction
-from typing import Any, Dict, Iterator, List, Mapping, NamedTuple, Optional, Tuple
+from typing import Any, Dict, Generic, Iterator, List, Mapping, NamedTuple, Optional, Tuple
 
 import numpy
 
 from ..errors import ReadError, SpmatError, TextRefused, TooLarge
 from ..limits import MOST_SIDE, MOST_TEXT
+from ..matrix_base import MatrixBase
 from ..metadata import Metadata, Nodes, Unnamed
 from ..units import as_unit
 from . import matrix_market
+from .array_importers import DupOp, Made
 from .coo import MOST
-from .exporters import Held
-from .files import RATIO, SMALL, replacing
+from .files import RATIO, SMALL, name_of, replacing
+from .formats import Request
 from .values import UNITS
 
 CONTENTS = 'matrices.json'
@@ -46,16 +49,92 @@ HEAD = 1 << 16                                     # bytes in which the sizes of
 FEW_CONTENTS = 1 << 22
 
 
-def save(path: Any, matrices: Mapping[str, Held]) -> None:
+class ArchiveSources(abc.ABC, Generic[Made]):
+    """What saves matrices, and loads them."""
+
+    def save(self, path: Any, **matrices: Made) -> None:
+        """Write matrices with the names of their vertices into one file.
+
+        A file that is there is replaced once the new one is whole.
+
+        Parameters
+        ----------
+        path : path
+            The file to write.
+        **matrices : Matrix
+            The matrices by name, as in ``save(path, G=G, ranks=ranks)``. Without any, all that were
+            made with a `name=` and are still held.
+
+        Raises
+        ------
+        TypeError
+            Where a name of a vertex is no text, number or date, or tuple or frozenset of these;
+            nothing is written then.
+        ValueError
+            Where there is no matrix to save.
+
+        Notes
+        -----
+        The file is a zip archive of Matrix Market texts and a `matrices.json`. `load` reads it.
+        """
+        write(path, choose(self._named(), matrices))
+
+    def load(self, path: Any) -> Dict[str, Made]:
+        """Read the matrices of a file that `save` wrote.
+
+        What the file says is held against the sizes of its matrices before the first of them is
+        made.
+
+        Parameters
+        ----------
+        path : path
+            The file to read.
+
+        Returns
+        -------
+        dict
+            The matrices by name, with the names of their vertices.
+
+        Raises
+        ------
+        ReadError
+            Where `save` didn't write the file, or it is damaged.
+
+        Notes
+        -----
+        No job.
+        """
+        found = {}
+        for called, text, known in read(path):
+            try:
+                found[called] = self._market('%s of %s' % (called, name_of(path)), text,
+                                             Request('mtx'), None, called)
+            except (TextRefused, TooLarge) as fault:
+                raise ReadError(name_of(path), None,
+                                'the entries of %s: %s' % (called, fault)) from None
+            found[called].notes = known
+        return found
+
+    def _named(self) -> Dict[str, Made]:
+        """The matrices that callers named and hold."""
+        return {}
+
+    @abc.abstractmethod
+    def _market(self, file: str, text: bytes, request: Request, dup_op: DupOp,
+                name: Optional[str]) -> Made:
+        """A matrix of a Matrix Market text."""
+
+
+def write(path: Any, matrices: Mapping[str, MatrixBase]) -> None:
     """Writes matrices with their names; a file that is there is replaced at the end. TypeError,
     before anything is written, for a name of a vertex that is no text, number, date, or tuple or
     frozenset of these."""
     contents: Dict[str, Any] = {'spmat': 1, 'matrices': {}}
     for number, (name, matrix) in enumerate(matrices.items()):
         contents['matrices'][name] = {
-            'entries': '%d.mtx' % number, 'rows': _encoded(matrix.notes.rows, name),
+            'entries': '%d.mtx' % number, 'rows': _encode(matrix.notes.rows, name),
             'columns': 'rows' if matrix.notes.columns is matrix.notes.rows
-            else _encoded(matrix.notes.columns, name),
+            else _encode(matrix.notes.columns, name),
             'unnamed': [matrix.notes.unnamed_rows.name.lower(),
                         matrix.notes.unnamed_columns.name.lower()],
             'directed': matrix.notes.directed, 'weighted': matrix.notes.weighted,
@@ -67,7 +146,7 @@ def save(path: Any, matrices: Mapping[str, Held]) -> None:
             contents['matrices'][name]['sides'] = matrix.notes.sides
         if matrix.notes.value_names is not None:
             vertices = ('rows' if matrix.notes.value_names is matrix.notes.rows
-                        else _encoded(matrix.notes.value_names, name))
+                        else _encode(matrix.notes.value_names, name))
             contents['matrices'][name]['values'], contents['spmat'] = vertices, VERSION
     with replacing(os.fspath(path)) as part, \
             zipfile.ZipFile(part, 'w', zipfile.ZIP_DEFLATED, compresslevel=1) as file:
@@ -90,7 +169,7 @@ def read(path: Any) -> Iterator[Tuple[str, bytes, Metadata]]:
     before the first of them is given."""
     with open(path, 'rb') as plain_file, _faults_of(os.fspath(path)), \
             zipfile.ZipFile(plain_file) as file:
-        for member in list(_members(file)):
+        for member in list(_list_members(file)):
             text = file.read(member.entries)
             if member.notes.value_names is not None:
                 _check_vertices(member, text)
@@ -118,16 +197,16 @@ def _faults_of(file: str) -> Iterator[None]:
                         % fault) from None
 
 
-def _members(file: zipfile.ZipFile) -> Iterator[Member]:
+def _list_members(file: zipfile.ZipFile) -> Iterator[Member]:
     """What a file says of its matrices, each held against the size of its entries."""
     _check_packed(file.getinfo(CONTENTS), FEW_CONTENTS)
-    contents = _typed(json.loads(file.read(CONTENTS)), dict, CONTENTS)
+    contents = _expect(json.loads(file.read(CONTENTS)), dict, CONTENTS)
     if contents.get('spmat') not in (1, VERSION):
         raise ReadError(file.filename or '', None,
                         'its version is %r, and this client reads versions 1 and %d' % (
                             contents.get('spmat'), VERSION))
-    for called, about in _typed(contents['matrices'], dict, 'matrices').items():
-        entries = _typed(_typed(about, dict, called)['entries'], str, 'entries')
+    for called, about in _expect(contents['matrices'], dict, 'matrices').items():
+        entries = _expect(_expect(about, dict, called)['entries'], str, 'entries')
         info = file.getinfo(entries)
         if info.file_size > MOST_TEXT:
             raise ValueError('the text of %s has %d bytes, and a session takes %d'
@@ -135,7 +214,7 @@ def _members(file: zipfile.ZipFile) -> Iterator[Member]:
         _check_packed(info, SMALL)
         with file.open(entries) as text:
             sizes = matrix_market.Reader(io.BytesIO(text.read(HEAD)))
-        yield Member(called, entries, _notes(about, (sizes.nrows, sizes.ncols)))
+        yield Member(called, entries, _read_notes(about, (sizes.nrows, sizes.ncols)))
 
 
 def _check_packed(info: zipfile.ZipInfo, few: int) -> None:
@@ -144,7 +223,7 @@ def _check_packed(info: zipfile.ZipInfo, few: int) -> None:
         raise ValueError('%s unpacks to more than %d times its length' % (info.filename, RATIO))
 
 
-def _typed(thing: Any, kind: Any, what: str) -> Any:
+def _expect(thing: Any, kind: Any, what: str) -> Any:
     """A thing of the kind that it has to be of. ValueError where it isn't."""
     if not isinstance(thing, kind):
         raise ValueError('%s: expected %s, got %.40r' % (what,
@@ -153,26 +232,26 @@ def _typed(thing: Any, kind: Any, what: str) -> Any:
     return thing
 
 
-def _notes(about: Dict[str, Any], shape: Tuple[int, int]) -> Metadata:
+def _read_notes(about: Dict[str, Any], shape: Tuple[int, int]) -> Metadata:
     """What is known of a matrix of these sizes. ValueError where it can't be."""
-    rows = _decoded(about['rows'], shape[0])
-    columns = _decoded(about['columns'], shape[1], rows)
-    vertices = _decoded(about.get('values'), None, rows)
+    rows = _decode(about['rows'], shape[0])
+    columns = _decode(about['columns'], shape[1], rows)
+    vertices = _decode(about.get('values'), None, rows)
     # which older files don't say
-    words = _typed(about.get('unnamed', ['positions', 'positions']), list, 'unnamed')
+    words = _expect(about.get('unnamed', ['positions', 'positions']), list, 'unnamed')
     if len(words) != 2:
         raise ValueError('unnamed: expected two words, of rows and of columns, got %d' % len(words))
-    first, second = (Unnamed[_typed(word, str, 'unnamed').upper()] for word in words)
+    first, second = (Unnamed[_expect(word, str, 'unnamed').upper()] for word in words)
     for what in ('directed', 'weighted'):
         if about[what] is not None:
-            _typed(about[what], bool, what)
+            _expect(about[what], bool, what)
     unit, sides = about.get('unit', '1'), about.get('sides', 0)
     if unit not in UNITS and UNIT.fullmatch(str(unit)) is None:
         raise ValueError('a unit is a number above 0, not %.40r' % (unit,))
     if type(sides) is not int or not -1 <= sides <= 1:
         raise ValueError('sides are -1, 0 or 1, not %.40r' % (sides,))
     return Metadata(rows, columns, about['directed'], about['weighted'],
-                 _typed(about['source'], str, 'source'),
+                 _expect(about['source'], str, 'source'),
                  as_unit(unit if unit in UNITS else Fraction(unit)), vertices, first, second, sides)
 
 
@@ -185,7 +264,7 @@ def _check_vertices(member: Member, text: bytes) -> None:
                          % (member.name, count))
 
 
-def _encoded(names: Optional[Nodes], matrix: str) -> Any:
+def _encode(names: Optional[Nodes], matrix: str) -> Any:
     """Names as JSON has them: a tuple as a list; of whole numbers that follow one another the first
     and their number."""
     if names is None:
@@ -193,14 +272,14 @@ def _encoded(names: Optional[Nodes], matrix: str) -> Any:
     if len(names) > 1 and type(names[0]) is int and names == list(
         range(names[0], names[0] + len(names))) and set(map(type, names)) == {int}:
         return {'first': names[0], 'count': len(names)}
-    return [_encoded_name(name, matrix) for name in names]
+    return [_encode_name(name, matrix) for name in names]
 
 
-def _encoded_name(name: Any, matrix: str) -> Any:
+def _encode_name(name: Any, matrix: str) -> Any:
     if isinstance(name, tuple):
-        return [_encoded_name(part, matrix) for part in name]
+        return [_encode_name(part, matrix) for part in name]
     if isinstance(name, frozenset):
-        return {'frozenset': sorted((_encoded_name(part, matrix) for part in name), key=repr)}
+        return {'frozenset': sorted((_encode_name(part, matrix) for part in name), key=repr)}
     kind = type(name).__name__
     if kind in TIMES and type(name).__module__.partition('.')[0] in ('datetime', 'numpy', 'pandas'):
         if kind == 'datetime64':
@@ -218,7 +297,7 @@ def _encoded_name(name: Any, matrix: str) -> Any:
     return name
 
 
-def _decoded(names: Any, count: Optional[int], rows: Optional[Nodes] = None) -> Optional[Nodes]:
+def _decode(names: Any, count: Optional[int], rows: Optional[Nodes] = None) -> Optional[Nodes]:
     """Names of so many vertices, or of any number of them; those of the rows where it says so.
     ValueError where there are others, or one stands twice."""
     if names == 'rows':
@@ -234,23 +313,23 @@ def _decoded(names: Any, count: Optional[int], rows: Optional[Nodes] = None) -> 
         if not 0 <= many <= MOST_SIDE or abs(first) > MOST or count not in (None, many):
             raise ValueError('%d names from %d on, for %s vertices' % (many, first, count))
         return Nodes(range(first, first + many))
-    if count not in (None, len(_typed(names, list, 'names'))):
+    if count not in (None, len(_expect(names, list, 'names'))):
         raise ValueError('%d names for %s vertices' % (len(names), count))
-    found = Nodes(map(_decoded_name, names))
+    found = Nodes(map(_decode_name, names))
     if len(found.places) != len(found):
         twice = next(name for name, many in collections.Counter(found).items() if many > 1)
         raise ValueError('the name %r stands twice' % (twice,))
     return found
 
 
-def _decoded_name(name: Any) -> Any:
+def _decode_name(name: Any) -> Any:
     if isinstance(name, dict):
-        return (frozenset(map(_decoded_name, name['frozenset'])) if 'frozenset' in name
-                else _decoded_time(name))
-    return tuple(map(_decoded_name, name)) if isinstance(name, list) else name
+        return (frozenset(map(_decode_name, name['frozenset'])) if 'frozenset' in name
+                else _decode_time(name))
+    return tuple(map(_decode_name, name)) if isinstance(name, list) else name
 
 
-def _decoded_time(name: Dict[str, str]) -> Any:
+def _decode_time(name: Dict[str, str]) -> Any:
     """A date or a time of Python, numpy or pandas. ImportError where the module isn't there."""
     if 'date' in name:
         return datetime.date.fromisoformat(name['date'])
@@ -260,14 +339,16 @@ def _decoded_time(name: Dict[str, str]) -> Any:
         if DATETIME64.fullmatch(name['unit']) is None:
             raise ValueError('no kind of times: %.40r' % name['unit'])
         return numpy.array([name['datetime64']], name['unit'])[0]
-    time = importlib.import_module('pandas').Timestamp(_typed(name['Timestamp'], str, 'Timestamp'))
-    return time.tz_convert(_typed(name['zone'], str, 'zone')) if 'zone' in name else time
+    time = importlib.import_module('pandas').Timestamp(_expect(name['Timestamp'], str, 'Timestamp'))
+    return time.tz_convert(_expect(name['zone'], str, 'zone')) if 'zone' in name else time
 
 
-def chosen(named: Mapping[str, Held], given: Mapping[str, Held]) -> Dict[str, Held]:
+def choose(named: Mapping[str, MatrixBase],
+           given: Mapping[str, MatrixBase]) -> Dict[str, MatrixBase]:
     """The matrices to be saved: those that are given, or those that have a name. TypeError for what
     is no matrix, ValueError where there are none."""
-    wrong: List[str] = [name for name, matrix in given.items() if not isinstance(matrix, Held)]
+    wrong: List[str] = [name for name, matrix in given.items()
+                        if not isinstance(matrix, MatrixBase)]
     if wrong:
         raise TypeError('%s is no matrix, but %s' % (wrong[0], type(given[wrong[0]]).__name__))
     if not given and not named:

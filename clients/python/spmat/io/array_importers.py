@@ -6,14 +6,14 @@ import abc
 from typing import Any, Generic, Iterable, Optional, Sequence, TypeVar
 
 from .. import overflow, units
+from ..matrix_base import MatrixBase
 from ..metadata import NOTHING, Axes, axes_of, sizes_of
 from ..operators import Op
 from . import arrays, coo, matrix_market, networkx_adjacency
-from .exporters import Held
 from .matrix_text import Triples
 from .values import Rounding, scaled
 
-Made = TypeVar('Made', bound=Held)
+Made = TypeVar('Made', bound=MatrixBase)
 DupOp = Optional[Op]
 
 
@@ -289,8 +289,7 @@ class ArraySources(abc.ABC, Generic[Made]):
         -----
         In python-graphblas `Matrix.from_dicts`.
         """
-        return self.from_coo(*coo.from_dicts(nested, order), nrows, ncols, scale=scale,
-                             name=name)
+        return self.from_coo(*coo.from_dicts(nested, order), nrows, ncols, scale=scale, name=name)
 
     def from_scipy_sparse(self, matrix: Any, *, scale: Optional[float] = None,
                           name: Optional[str] = None) -> Made:
@@ -369,39 +368,12 @@ class ArraySources(abc.ABC, Generic[Made]):
         overflow.note(made, triples.values)
         return made
 
-    def adopt(self, matrix: Held, *, name: Optional[str] = None) -> Made:
-        """A copy of a matrix of another session, with its names.
-
-        Parameters
-        ----------
-        matrix : Matrix
-            The matrix. Its session's budget may be spent: reading takes no step.
-        name : str, optional
-            A name for the copy.
-
-        Returns
-        -------
-        Matrix
-            A matrix of this session, with the same shape, entries and names.
-
-        Notes
-        -----
-        No job: the entries come to the client and go to this session. GraphBLAS:
-        `Matrix_extractTuples`, and `Matrix_build`.
-        """
-        rows, columns, values = matrix.entries()
-        made = self._from(Triples(rows, columns, values, *matrix.shape), name=name)
-        made.notes = matrix.notes
-        overflow.note(made, values)
-        return made
-
     @abc.abstractmethod
     def _folded(self, triples: Triples, dup_op: DupOp) -> Triples:
         """Each position once: what shares one is folded by an operator."""
 
 
-def _note_values(made: Made, rounding: Rounding, unit: units.Unit, axes: Axes,
-                 values: Any) -> Made:
+def _note_values(made: Made, rounding: Rounding, unit: units.Unit, axes: Axes, values: Any) -> Made:
     """A matrix that the caller made by indexes, with what its rows and columns are called, what
     rounding did to its values, and what they are parts of."""
     made.notes = NOTHING.with_axes(*axes)

@@ -10,8 +10,9 @@ from typing import (TYPE_CHECKING, Any, Callable, Iterable, Iterator, List, Name
 
 import numpy
 
+from ..metadata import Nodes, check_names
+
 if TYPE_CHECKING:
-    from ..metadata import Nodes
     Array = numpy.ndarray[Any, Any]
 else:
     Array = numpy.ndarray
@@ -97,8 +98,8 @@ def _is_masked(thing: Any) -> bool:
 def _check_column(many: Any, what: str) -> None:
     """TypeError where this isn't a column of numbers but something else that can be gone
     through."""
-    from .exporters import Held
-    if isinstance(many, Held):
+    from ..matrix_base import MatrixBase
+    if isinstance(many, MatrixBase):
         _refuse(what, 'a matrix', 'write A.to_list() of a column, or A.to_coo()')
     if hasattr(many, 'tocoo'):
         _refuse(what, 'a matrix of scipy.sparse', 'from_scipy_sparse takes it')
@@ -154,8 +155,8 @@ def table_of(thing: Any) -> Table:
 
 def _check_table(thing: Any) -> None:
     """TypeError where this is something else than a table."""
-    from .exporters import Held
-    if isinstance(thing, Held):
+    from ..matrix_base import MatrixBase
+    if isinstance(thing, MatrixBase):
         raise TypeError(
             'expected a table, not a matrix: A.dup() copies it, s.adopt(A) takes one of another '
             'session')
@@ -171,7 +172,6 @@ def _check_table(thing: Any) -> None:
 
 def _names_of(labels: Any, what: str) -> Optional[Nodes]:
     """The labels of a table's side as names; None where these are its positions."""
-    from ..metadata import Nodes, check_names
     if labels.isna().any() if type(labels).__name__ != 'MultiIndex' else False:
         raise ValueError(
             'a label of the %ss is missing: give it one, or frame.reset_index(drop=True)' % what)

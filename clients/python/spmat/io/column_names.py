@@ -3,7 +3,7 @@ vertices."""
 from __future__ import annotations
 
 import re
-from typing import List, NamedTuple, Optional, Sequence, Set, Tuple
+from typing import Any, List, NamedTuple, Optional, Sequence, Set, Tuple
 
 
 def _read_pairs(text: str) -> Set[Tuple[str, str]]:
@@ -139,3 +139,11 @@ def _find_kind(field: str) -> Optional[str]:
     spelled = (last, last[:-1] if last.endswith('s') else last,
                last[:-2] if last.endswith('id') else last)
     return next((word for word in spelled if word in KINDS), None)
+
+
+def check_kinds(ends: Sequence[Any], bipartite: Optional[bool]) -> None:
+    """ValueError where columns are called by two kinds of vertices, and nobody said what they
+    are."""
+    question = ask_two_kinds(*map(str, ends)) if bipartite is None and len(ends) == 2 else None
+    if question is not None:
+        raise ValueError(question)

@@ -1,15 +1,15 @@
-"""Matrices from edges by name, from files, and from what `save` wrote. What sessions and sessions
-in blocks share."""
+"""Matrices from edges by name, from files, and from other sessions. What sessions and sessions in
+blocks share."""
 from __future__ import annotations
 
-import abc
-from typing import Any, Dict, Iterable, Optional, Sequence
+from typing import TYPE_CHECKING, Any, Iterable, Optional, Sequence
 
 from .. import overflow, units
-from ..errors import ReadError, Refused, TextRefused, TooLarge
-from . import archive, arrays, matrix_market
+from ..errors import ReadError, Refused
+from . import arrays, matrix_market
+from .archive import ArchiveSources
 from .array_importers import ArraySources, DupOp, Made
-from .column_names import ask_two_kinds
+from .column_names import check_kinds
 from .columns import Column, Comments, Layout
 from .edge_sources import edges_of_frame, graph_of_list
 from .edges import Graph, How, graph_of
@@ -17,10 +17,13 @@ from .files import name_of
 from .formats import OF_LISTS, Request, check_format, check_layout, read
 from .matrix_text import Triples
 
+if TYPE_CHECKING:
+    from ..matrix import Matrix
+
 __all__ = ['DupOp', 'Sources']
 
 
-class Sources(ArraySources[Made]):
+class Sources(ArraySources[Made], ArchiveSources[Made]):
     """What makes matrices of edges and files, once triples can be sent."""
 
     def from_edgelist(self, edges: Iterable[Any], *, directed: bool = True,
@@ -88,7 +91,7 @@ class Sources(ArraySources[Made]):
         """
         if arrays.is_frame(edges):
             frame: Any = edges
-            _check_kinds(frame.columns[:2], bipartite)
+            check_kinds(frame.columns[:2], bipartite)
             edges = arrays.edges_of_frame(frame)
         layout = Layout(values=values, scale=scale, missing=missing, unit=unit,
                         date_format=date_format)
@@ -150,7 +153,7 @@ class Sources(ArraySources[Made]):
         With `dup_op` 1 job and 1 run, where any edge is given twice; else no job. GraphBLAS:
         `Matrix_build`. In networkx `from_pandas_edgelist`.
         """
-        _check_kinds((source, target), bipartite)
+        check_kinds((source, target), bipartite)
         layout = Layout(scale=scale, missing=missing, unit=unit, date_format=date_format)
         edges = edges_of_frame(frame, (source, target), edge_attr, layout)
         how = How(directed, nodelist, bool(bipartite))
@@ -292,72 +295,31 @@ class Sources(ArraySources[Made]):
         known = Layout(values=values, scale=scale, bipartite=bipartite, **layout)
         return self._read(path, Request(format, known, directed, nodelist, max_bytes), dup_op, name)
 
-    def save(self, path: Any, **matrices: Made) -> None:
-        """Write matrices with the names of their vertices into one file.
-
-        A file that is there is replaced once the new one is whole.
+    def adopt(self, matrix: 'Matrix', *, name: Optional[str] = None) -> Made:
+        """A copy of a matrix of another session, with its names.
 
         Parameters
         ----------
-        path : path
-            The file to write.
-        **matrices : Matrix
-            The matrices by name, as in ``save(path, G=G, ranks=ranks)``. Without any, all that were
-            made with a `name=` and are still held.
-
-        Raises
-        ------
-        TypeError
-            Where a name of a vertex is no text, number or date, or tuple or frozenset of these;
-            nothing is written then.
-        ValueError
-            Where there is no matrix to save.
-
-        Notes
-        -----
-        The file is a zip archive of Matrix Market texts and a `matrices.json`. `load` reads it.
-        """
-        archive.save(path, archive.chosen(self._named(), matrices))
-
-    def load(self, path: Any) -> Dict[str, Made]:
-        """Read the matrices of a file that `save` wrote.
-
-        What the file says is held against the sizes of its matrices before the first of them is
-        made.
-
-        Parameters
-        ----------
-        path : path
-            The file to read.
+        matrix : Matrix
+            The matrix. Its session's budget may be spent: reading takes no step.
+        name : str, optional
+            A name for the copy.
 
         Returns
         -------
-        dict
-            The matrices by name, with the names of their vertices.
-
-        Raises
-        ------
-        ReadError
-            Where `save` didn't write the file, or it is damaged.
+        Matrix
+            A matrix of this session, with the same shape, entries and names.
 
         Notes
         -----
-        No job.
+        No job: the entries come to the client and go to this session. GraphBLAS:
+        `Matrix_extractTuples`, and `Matrix_build`.
         """
-        found = {}
-        for called, text, known in archive.read(path):
-            try:
-                found[called] = self._market('%s of %s' % (called, name_of(path)), text,
-                                             Request('mtx'), None, called)
-            except (TextRefused, TooLarge) as fault:
-                raise ReadError(name_of(path), None,
-                                'the entries of %s: %s' % (called, fault)) from None
-            found[called].notes = known
-        return found
-
-    def _named(self) -> Dict[str, Made]:
-        """The matrices that callers named and hold."""
-        return {}
+        rows, columns, values = matrix.entries()
+        made = self._from(Triples(rows, columns, values, *matrix.shape), name=name)
+        made.notes = matrix.notes
+        overflow.note(made, values)
+        return made
 
     def _read(self, path: Any, request: Request, dup_op: DupOp, name: Optional[str]) -> Made:
         file, text = name_of(path), matrix_market.load(path, request.max_bytes)
@@ -390,11 +352,6 @@ class Sources(ArraySources[Made]):
     def _tell(self, what: str, done: int, of: int) -> None:
         """Tells of long work, where somebody listens."""
 
-    @abc.abstractmethod
-    def _market(self, file: str, text: bytes, request: Request, dup_op: DupOp,
-                name: Optional[str]) -> Made:
-        """A matrix of a Matrix Market text."""
-
     def _graph(self, graph: Graph, layout: Layout, dup_op: DupOp, name: Optional[str]) -> Made:
         """A matrix of edges, those that share a position folded where an operator is given."""
         unit = (units.of_read(layout.scale, dup_op, layout.unit) if graph.notes.weighted
@@ -423,11 +380,3 @@ class Sources(ArraySources[Made]):
         if graph.notes.directed is False:
             return self._both_ways(graph.triples, name)
         return self._from(graph.triples, name=name)
-
-
-def _check_kinds(ends: Sequence[Any], bipartite: Optional[bool]) -> None:
-    """ValueError where columns are called by two kinds of vertices, and nobody said what they
-    are."""
-    question = ask_two_kinds(*map(str, ends)) if bipartite is None and len(ends) == 2 else None
-    if question is not None:
-        raise ValueError(question)

@@ -1,4 +1,5 @@
-"""What a matrix holds, written out with its names: CSV, lists of edges, parquet, tables of pandas.
+"""What a matrix holds, written out with its names: CSV, lists of edges, parquet, tables of pandas;
+and as Matrix Market text.
 
 Lists are written such that reading gives the same edges again: names are quoted where they have to
 be, and refused where no list has them.
@@ -16,7 +17,9 @@ from typing import (IO, Any, Callable, Dict, Iterable, Iterator, List, Optional,
 
 from ..errors import ReadError
 from ..extras import import_extra
-from ..metadata import NOTHING, Metadata, vertices_of
+from ..mask import warn_user
+from ..matrix_base import MatrixBase
+from ..metadata import vertices_of
 from ..units import Unit, is_whole, to_decimal, to_decimals, to_text
 from . import edge_list_layout, files
 from .columns import Layout
@@ -33,21 +36,13 @@ MARKS = ('#', '%', '\ufeff')                       # what a line begins with tha
 OTHERWISE = 'save() keeps such names, or set others, as G.nodes = names'
 
 
-class Written:
+class FileExports(MatrixBase):
     """What writes a matrix. Rows and columns have their names, or numbers from 0 where they have
     none.
 
     Values are what stored numbers stand for: they are divided by the matrix' unit, and where they
     are vertices have their names. `raw=True` writes stored numbers; `scale` divides these by
     another number."""
-
-    nrows: int
-    ncols: int
-    notes: Metadata = NOTHING
-
-    def entries(self, *, arrays: Optional[bool] = None, dtype: Any = None) -> Tuple[Any, Any, Any]:
-        """Rows, columns (from 0) and values."""
-        raise NotImplementedError
 
     def _is_vector(self) -> bool:
         """Whether this is a column or a row, and not a graph: one that was read, or of one row and
@@ -192,6 +187,31 @@ class Written:
             part = os.path.join(folder, 'part')
             table.to_parquet(part, index=False)
             os.replace(part, path)
+
+    def mmwrite(self, target: Any) -> None:
+        """Writes the text to a path, or to a file opened in binary.
+
+        It warns where values have a unit, which the text has not.
+
+        Parameters
+        ----------
+        target : path or file
+            Where the text goes.
+
+        Notes
+        -----
+        Runs the queue where this matrix waits. In python-graphblas `io.mmwrite`.
+        """
+        if self.unit != 1:
+            warn_user('mmwrite writes the stored whole numbers, which are %s times what they stand '
+                      'for: to_csv writes decimals, and save() keeps the unit' % self.unit,
+                      UserWarning)
+        if not hasattr(target, 'write'):
+            with files.replacing(os.fspath(target)) as file:
+                file.writelines(self._texts())
+            return
+        for piece in self._texts():
+            target.write(piece)
 
 
 @contextlib.contextmanager

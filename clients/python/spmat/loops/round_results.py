@@ -50,6 +50,12 @@ def split_bodies(replies: bytes) -> Tuple[bytes, Deque[Body]]:
         bodies.append(Body(replies, line, pos))
 
 
+def read_body(matrix: Any) -> Body:
+    """The entries of a matrix that is there."""
+    text = matrix.to_text()
+    return Body(text, 0, len(text))
+
+
 def is_refused(replies: bytes) -> bool:
     """Whether one of these replies, without texts, is a refusal."""
     return replies.startswith(b'no ') or b'\nno ' in replies

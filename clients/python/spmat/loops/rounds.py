@@ -13,8 +13,8 @@ from typing import (TYPE_CHECKING, Any, Callable, Dict, List, Mapping, NamedTupl
 
 from .. import oversized_jobs
 from ..backends.protocol import Handle, Job
-from ..backends.trace import (Jobs, Made, NotAlike, NotTraced, TraceBackend, Traced, TracedJob,
-                              Value)
+from ..backends.trace import (Jobs, Made, NotAlike, NotTraced, TraceBackend, TraceHandle, Traced,
+                              TracedJob, Value)
 from ..errors import TooLarge, UnitsDiffer
 from ..matrix import Matrix
 from ..metadata import Metadata
@@ -44,6 +44,23 @@ class State(Dict[str, Any]):
 
 
 Step = Callable[[State, int], Mapping[str, Any]]
+
+
+def check_state(state: Mapping[str, Any]) -> State:
+    """The state as it begins. TypeError or ValueError where it is none."""
+    if not isinstance(state, Mapping) or not state:
+        raise TypeError('the state of a loop is its matrices by name, such as {"front": F}, not %r'
+                        % (state,))
+    for name, matrix in state.items():
+        if not hasattr(type(matrix), 'mxm') or isinstance(getattr(matrix, 'handle', None),
+                                                          TraceHandle):
+            raise TypeError('%r of the state is no matrix of a session, but %s'
+                            % (name, type(matrix).__name__))
+    sessions = {matrix.session for matrix in state.values()}
+    if len(sessions) > 1:
+        raise ValueError('the matrices of a state are of one session, and here of %d'
+                         % len(sessions))
+    return State(state)
 
 
 class RoundJobs(NamedTuple):

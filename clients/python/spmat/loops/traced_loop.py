@@ -15,13 +15,13 @@ import time
 from typing import (TYPE_CHECKING, Any, Callable, Dict, List, Mapping, Optional, Sequence, Set,
                     Union, cast)
 
-from ..backends.trace import TraceHandle
 from ..backends.placeholders import Placeholder, current_price
 from ..errors import NotSettled, Refused
 from ..io.coo import whole
-from .round_results import Body, Shown
-from .rounds import State, TracedRounds, of_two, results
-from .trips import Counts, Place, Round, Trips, Until, count_entries, first_met, advance_place
+from .round_results import Shown, read_body
+from .rounds import State, TracedRounds, check_state, of_two, results
+from .trips import (Counts, Each, Place, Round, Trips, Until, advance_place, as_until,
+                    count_entries, first_met, report_rounds)
 
 if TYPE_CHECKING:
     from ..algorithms.utils import Progress
@@ -30,20 +30,6 @@ if TYPE_CHECKING:
 FIRST = 4                                          # rounds of the first trip
 # seconds of a trip: those that may be in vain grow to the one, others to the other
 QUICK, LONG = .002, .05
-Each = Callable[[int, Counts], Any]
-
-
-def _as_until(end: Union[Until, Callable[[Counts], bool]]) -> Until:
-    if isinstance(end, Until):
-        return end
-    function: Any = end
-    if not callable(function):
-        raise TypeError(
-            'until= is spmat.empty("name"), spmat.steady("name") or a function of the numbers '
-            'of entries by name, not %r' % (end,))
-    return Until((), lambda counts, _: bool(function(counts)))
-
-
 class Loop:
     """A step that is made again and again: `spmat.loop` makes one.
 
@@ -75,7 +61,7 @@ class Loop:
 
     def __init__(self, step: Callable[..., Mapping[str, Any]], state: Mapping[str, Any],
                  show: Sequence[str] = (), alike: bool = False) -> None:
-        self._step, begun = of_two(step), _check_state(state)
+        self._step, begun = of_two(step), check_state(state)
         # where no trips are; what is known of matrices stands with them
         self._own_place = Place(0, dict(begun), {}, {})
         self._longest_side = max(int(side) for matrix in begun.values() for side in matrix.shape)
@@ -169,10 +155,10 @@ class Loop:
         A few rounds behind the end may be made in vain, and cost steps: with `empty` up to 128,
         else up to those that take 2 ms; with `advance` none.
         """
-        end, begun = _as_until(until), self._resumed()
+        end, begun = as_until(until), self._resumed()
         most = 1 + self._longest_side if most is None else whole(most, 'number of rounds')
         self._check_names(end.names)
-        if not self.rounds(end, most, _report_rounds(each, progress, 0)):
+        if not self.rounds(end, most, report_rounds(each, progress, 0)):
             raise NotSettled(
                 'did not converge after %d rounds: most= allows more, and advance() makes '
                 'rounds without an end; the state is that behind them' % most)
@@ -194,7 +180,7 @@ class Loop:
         """
         self._resumed()
         rounds = whole(rounds, 'number of rounds')
-        self.rounds(None, rounds, _report_rounds(each, progress, rounds))
+        self.rounds(None, rounds, report_rounds(each, progress, rounds))
 
     def rounds(self, end: Optional[Until], most: int,
                report: Callable[[int, List[Round]], Any]) -> bool:
@@ -291,7 +277,7 @@ class Loop:
         trips, number = self._trips, self.number + 1
         try:
             got = self._by_step(end) if trips is None else trips.make_one()
-            bodies = {name: _read_body(got[name]) for name in self._show}
+            bodies = {name: read_body(got[name]) for name in self._show}
         except Refused as fault:
             fault.round = number
             raise
@@ -348,40 +334,6 @@ class Loop:
                 if name not in self._results:
                     raise ValueError('until= looks at %r, which no step returns: it has %s'
                                      % (name, ', '.join(sorted(self._results))))
-
-
-def _report_rounds(each: Optional[Each], progress: 'Progress',
-           of: int) -> Callable[[int, List[Round]], None]:
-    """Tells both of rounds, of which the first has this number."""
-    def report(first: int, rounds: List[Round]) -> None:
-        for number, one in enumerate(rounds, first):
-            if each is not None:
-                each(number, one.counts)
-            if progress is not None:
-                progress('round', number, of)
-    return report
-
-
-def _read_body(matrix: Any) -> Body:
-    text = matrix.to_text()
-    return Body(text, 0, len(text))
-
-
-def _check_state(state: Mapping[str, Any]) -> State:
-    """The state as it begins. TypeError or ValueError where it is none."""
-    if not isinstance(state, Mapping) or not state:
-        raise TypeError('the state of a loop is its matrices by name, such as {"front": F}, not %r'
-                        % (state,))
-    for name, matrix in state.items():
-        if not hasattr(type(matrix), 'mxm') or isinstance(getattr(matrix, 'handle', None),
-                                                          TraceHandle):
-            raise TypeError('%r of the state is no matrix of a session, but %s'
-                            % (name, type(matrix).__name__))
-    sessions = {matrix.session for matrix in state.values()}
-    if len(sessions) > 1:
-        raise ValueError('the matrices of a state are of one session, and here of %d'
-                         % len(sessions))
-    return State(state)
 
 
 def loop(step: Callable[..., Mapping[str, Any]], state: Mapping[str, Any],

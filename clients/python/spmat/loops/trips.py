@@ -7,8 +7,8 @@ Where something in a trip is refused, that state is there as it was.
 from __future__ import annotations
 
 import collections
-from typing import (TYPE_CHECKING, Callable, Deque, Dict, List, Mapping, NamedTuple, Optional,
-                    Sequence, Tuple)
+from typing import (TYPE_CHECKING, Any, Callable, Deque, Dict, List, Mapping, NamedTuple, Optional,
+                    Sequence, Tuple, Union)
 
 from ..backends.names import ServerHandle
 from ..backends.protocol import AMPLE
@@ -21,6 +21,7 @@ from .round_text import Pending, Renderer, Sources, Template, Writing, keys_of
 from .rounds import RoundJobs, State, TracedRounds, make_round
 
 if TYPE_CHECKING:
+    from ..algorithms.utils import Progress
     from ..session import Session
 
 # of a trip: two of them and their line ends fit into a pipe
@@ -29,6 +30,7 @@ MOST_ROUNDS = 64                                   # of a trip
 # so many trips' steps have to be there: two under way, and one made again
 SPARE = 3
 Counts = Dict[str, int]
+Each = Callable[[int, Counts], Any]
 
 
 class Place(NamedTuple):
@@ -76,6 +78,17 @@ def steady(name: str) -> Until:
     return Until((name,), lambda counts, before: counts[name] == before.get(name))
 
 
+def as_until(end: Union[Until, Callable[[Counts], bool]]) -> Until:
+    if isinstance(end, Until):
+        return end
+    function: Any = end
+    if not callable(function):
+        raise TypeError(
+            'until= is spmat.empty("name"), spmat.steady("name") or a function of the numbers '
+            'of entries by name, not %r' % (end,))
+    return Until((), lambda counts, _: bool(function(counts)))
+
+
 def first_met(end: Optional[Until], before: Counts, rounds: Sequence[Round]) -> Optional[int]:
     """The first of some rounds in which an end is met."""
     if end is not None:
@@ -84,6 +97,18 @@ def first_met(end: Optional[Until], before: Counts, rounds: Sequence[Round]) -> 
                 return at
             before = one.counts
     return None
+
+
+def report_rounds(each: Optional[Each], progress: 'Progress',
+                  of: int) -> Callable[[int, List[Round]], None]:
+    """Tells both of rounds, of which the first has this number."""
+    def report(first: int, rounds: List[Round]) -> None:
+        for number, one in enumerate(rounds, first):
+            if each is not None:
+                each(number, one.counts)
+            if progress is not None:
+                progress('round', number, of)
+    return report
 
 
 class Trip(CommandBatch):

@@ -11,7 +11,7 @@ import numpy
 
 from ..backends.estimate import most_halvings
 from ..backends.protocol import AMPLE
-from ..shared_entries import is_same
+from ..operands import is_same
 
 
 class Degrees(NamedTuple):

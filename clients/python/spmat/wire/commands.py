@@ -8,14 +8,18 @@ from __future__ import annotations
 
 from typing import Any, Callable, List, Mapping, NamedTuple, Optional, Tuple, Union
 
-from ..errors import Closed, Near, ProtocolError, Refused
-from .protocol import WORDS_WITH_BODY, Behind, brought
+from ..errors import Closed, ProtocolError, Refused, refusal
+from ..refusal_rules import OF_GATEWAY, is_placed
+from .protocol import COMMANDS, WORDS_WITH_BODY, Behind, brought
 from .reply_checks import NOTHING, Limits, check_first_line
 
 PIECE = 1 << 20
 LONGEST_LINE = 1 << 16
 # bytes of the replies to a batch, unless it says fewer
 MOST_REPLIES = 1 << 28
+
+# gives the line that stands at a place that a rule names
+Near = Callable[[str, int], str]
 
 
 class Reply(NamedTuple):
@@ -203,3 +207,26 @@ class Incoming:
         if not self._fill(self._bytes):
             raise Closed(self._fault())
         self.received += len(self._bytes) - before
+
+
+def read_refusal(reply: str, command: Command) -> Refused:
+    """The exception of a reply `no ..` to a command."""
+    words, near = reply.split(), command.near
+    rule = words[1] if len(words) > 1 else ''
+    numbers = [int(word) for word in words[2:] if word.isdigit()]
+    line = near(rule, numbers[0]) if near is not None and numbers and is_placed(rule) else ''
+    detail = (_describe_form(command.line) if rule in ('S1', 'S2') else ' '.join(words[2:])
+              if rule in OF_GATEWAY else '')
+    return refusal(rule, numbers, command.line, line, detail)
+
+
+def _describe_form(line: str) -> str:
+    """How the command of a line is written, in words; of a line that is no command's all there
+    are."""
+    word = line.split()[0] if line.split() else ''
+    if word in COMMANDS:
+        words = COMMANDS[word].words
+        return 'it is written `%s`%s' % (('%s %s' % (word, words)).strip(),
+                                         '; KIND is unary, binary or index' if 'KIND' in words
+                                         else '')
+    return 'commands are ' + ', '.join(COMMANDS)

@@ -22,10 +22,11 @@ import threading
 import weakref
 from typing import Callable, Deque, Iterable, Iterator, List, Mapping, Optional, Tuple, Union
 
-from ..errors import OF_GATEWAY, Closed, Near, Refused, SpmatError, refusal_of
+from ..errors import Closed, Refused, SpmatError
 from ..io.coo import whole
 from ..limits import MOST_STEPS, MOST_WORKERS
-from .commands import PIECE, Command, CommandBatch, Incoming, Reply
+from ..refusal_rules import OF_GATEWAY
+from .commands import PIECE, Command, CommandBatch, Incoming, Near, Reply, read_refusal
 from .protocol import WORDS_WITH_BODY
 from .reply_checks import NOTHING, Limits
 from .server_program import Program, program_words
@@ -363,7 +364,7 @@ class Connection:
             self.progress(what, done, of)
 
     def _refused(self, reply: str, command: Command) -> Refused:
-        refused = refusal_of(reply, command.line, command.near)
+        refused = read_refusal(reply, command)
         words = command.line.split()
         # a body may stand behind a line that was refused for its words, and be taken for commands
         is_out_of_step = (refused.rule == 'S2'

@@ -11,9 +11,10 @@ import re
 from types import MappingProxyType
 from typing import Dict, List, Mapping, NamedTuple, NoReturn, Optional, Sequence, Tuple
 
-from ..errors import OF_GATEWAY, ProtocolError
+from ..errors import ProtocolError
 from ..io import parse_integers
 from ..limits import MOST_PRICE, MOST_SIDE, MOST_SLOTS, MOST_STEPS, QUEUE
+from ..refusal_rules import OF_GATEWAY
 from .protocol import COMMANDS
 
 LONGEST_NUMBER = 20                                # digits: 2^64 - 1 has as many

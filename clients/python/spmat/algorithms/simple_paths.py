@@ -1,0 +1,171 @@
+"""The k shortest paths that pass no vertex twice, by Yen's algorithm."""
+from __future__ import annotations
+
+import heapq
+from typing import Dict, Iterable, List, Optional, Set, Tuple
+
+import numpy
+
+from ..io.coo import whole
+from ..io.matrix_text import Triples
+from ..matrix import Matrix
+from . import path_bounds
+from .cached_properties import transpose_of
+from .graph_model import GraphModel
+from .registry import algorithm
+from .shortest_path_trees import (LENGTHEN, NoPath, Path, find_distances, index_by_vertex,
+                                  make_path)
+from .single_source_paths import Query
+from .traversal import Traversal, Vector, find_vectors, vector_of
+from .types import Place, Vertex
+from .utils import find_place, order
+
+AT_ONCE = 1 << 16              # edges of a graph that the client reads at once
+Route = Tuple[int, List[Place]]                    # the length of a path, and its vertices
+
+
+class Spurs:
+    """Searches by the client for paths to one vertex around what is barred. Rows of a large graph
+    are fetched as they are met, and lengths to the target that leave out what is barred say where
+    to look first (A*)."""
+
+    def __init__(self, lines: Traversal, target: Place, home: Vector, weighted: bool) -> None:
+        self.target, self.home = target, index_by_vertex(home)
+        self._lines, self._weighted = lines, weighted
+        self._rows: Dict[Place, List[Tuple[Place, int]]] = {}
+
+    def near(self, i: Place) -> List[Tuple[Place, int]]:
+        """Where the edges of a vertex lead, and how long they are; those alone from where the
+        target is reached. 1 run, once."""
+        if i not in self._rows:
+            got = self._lines.push(vector_of([i], [0]), LENGTHEN)
+            far = got.values if self._weighted else numpy.ones_like(got.at)
+            self._rows[i] = [(j, edge) for j, edge in zip(map(Place, got.at.tolist()), far.tolist())
+                             if j in self.home]
+        return self._rows[i]
+
+    def search(self, start: Place, barred: Set[Place], not_first: Set[Place]) -> Optional[Route]:
+        """The shortest path that enters no barred vertex, and leaves the start for none of some;
+        with its length. None where there is none."""
+        far: Dict[Place, int] = {start: 0}
+        before: Dict[Place, Place] = {}
+        done: Set[Place] = set()
+        heap = [(self.home[start], self.home[start], start)]
+        while heap:
+            _, _, i = heapq.heappop(heap)
+            if i == self.target:
+                found = [i]
+                while found[-1] != start:
+                    found.append(before[found[-1]])
+                return far[i], found[::-1]
+            if i in done:
+                continue
+            done.add(i)
+            for j, edge in self.near(i):
+                if j in barred or j in done or (i == start and j in not_first):
+                    continue
+                if j not in far or far[i] + edge < far[j]:
+                    far[j], before[j] = far[i] + edge, i
+                    heapq.heappush(heap, (far[j] + self.home[j], self.home[j], j))
+        return None
+
+
+@algorithm('the k shortest paths', 'source', 'target', 'k', 'weighted',
+           fields=('path', 'node', 'length'), lengths=True, says='The k shortest paths that pass '
+           'no vertex twice, a line for each vertex: the number of its path, from 1, the vertex, '
+           'and how far along the path it is.', steps=path_bounds.k_shortest_paths)
+def k_shortest_paths(G: Matrix, source: Vertex, target: Vertex, k: int, GT: Optional[Matrix] = None,
+                     *, weighted: bool = False, check: bool = True) -> List[Path]:
+    """The k shortest paths from one vertex to another that pass no vertex twice.
+
+    Parameters
+    ----------
+    G : Matrix
+        The graph; an entry (i, j) is an edge from i to j.
+    source : vertex
+        Where the paths begin.
+    target : vertex
+        Where they end.
+    k : int
+        How many.
+    GT : Matrix, optional
+        The transpose. Without it the client makes it, once; for an undirected graph hand in G.
+    weighted : bool, default False
+        Whether a length is a sum of values; else it is a number of edges.
+    check : bool, default True
+        Whether `GT` is checked to be the transpose, by 4 jobs, once.
+
+    Returns
+    -------
+    list of Path
+        The shortest first; fewer than k where there are fewer.
+
+    Raises
+    ------
+    NoPath
+        If there is none; it is a ValueError.
+    ValueError
+        If k is below 1, or as `shortest_path` does.
+
+    Notes
+    -----
+    Yen's algorithm, by the client, with lengths to the target as a bound: networkx and igraph,
+    which have the whole graph at hand, are faster.
+
+    Runs: those of `bfs_levels` or `sssp`, once, and 1 for each vertex that is met on the way, but
+    for graphs of up to 65,536 edges, which the client reads at once.
+    Steps: theirs, and 5 an edge of these vertices.
+
+    networkx: `shortest_simple_paths`.
+
+    Examples
+    --------
+    >>> k_shortest_paths(G, 0, 3, 2)
+    [[0, 2, 3], [0, 1, 2, 3]]
+    """
+    order(G, GT)
+    start, end, k = find_place(G, source), find_place(G, target), whole(k, 'number of paths')
+    if k < 1:
+        raise ValueError('a number of paths is 1 or more, not %d' % k)
+    back = transpose_of(G, GT, check, values=weighted)
+    home = find_distances(back, end, G, weighted, Query(check=check))
+    lines = find_vectors(G, back, False, weighted)
+    if G.nvals <= AT_ONCE:
+        lines = GraphModel(G, Triples(*G.to_coo(), *G.shape))
+    spurs = Spurs(lines, end, home, weighted)
+    if start not in spurs.home:
+        raise NoPath('no path leads from %r to %r' % (source, target))
+    first = spurs.search(start, set(), set())
+    assert first is not None
+    found, seen = [first], {tuple(first[1])}
+    waiting: List[Route] = []
+    while len(found) < k:
+        for candidate in _find_deviations(spurs, found):
+            if tuple(candidate[1]) not in seen:
+                seen.add(tuple(candidate[1]))
+                heapq.heappush(waiting, candidate)
+        if not waiting:
+            break
+        found.append(heapq.heappop(waiting))
+    return [make_path(G, vertices, _measure_path(spurs, vertices)) for _, vertices in found]
+
+
+def _measure_path(spurs: Spurs, vertices: List[Place]) -> Dict[Place, int]:
+    """How far along a path its vertices are."""
+    far = {vertices[0]: 0}
+    for i, j in zip(vertices, vertices[1:]):
+        far[j] = far[i] + dict(spurs.near(i))[j]
+    return far
+
+
+def _find_deviations(spurs: Spurs, found: List[Route]) -> Iterable[Route]:
+    """The shortest paths that leave the last one that was found at each of its vertices, and go
+    where none did."""
+    last = found[-1][1]
+    far = _measure_path(spurs, last)
+    for at in range(len(last) - 1):
+        root = last[:at + 1]
+        taken = {path[at + 1] for _, path in found if path[:at + 1] == root}
+        tail = spurs.search(root[-1], set(root[:-1]), taken)
+        if tail is not None:
+            yield far[root[-1]] + tail[0], root[:-1] + tail[1]
