@@ -31,5 +31,7 @@ pub fn signed_byte_count(size: SignedSize) -> u8
 pub fn is_outside_stack(first: i64, count: u8) -> bool
     ensures { result ≡ is_outside_stack first count }
 {
+    // Places count down from the top, so the stack ends at 0. A `count` of 0 is a place that is
+    // only moved, which may be the top itself.
     first < -512 || first > -i64::from(count)
 }

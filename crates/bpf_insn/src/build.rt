@@ -21,6 +21,7 @@ fn reg(number: u8) -> Reg
     requires { number < 11 }
     ensures { number_of_reg result ≡ number }
 {
+    // The contract admits 0 to 10 only, so the last arm is R10 alone.
     match number {
         0 => Reg::R0,
         1 => Reg::R1,
@@ -44,6 +45,7 @@ macro_rules! ops {
     ) => {
         match ($which, $variant) {
             $($((AluCode::$code, $offset) => AluOp::$op,)+)*
+            // `check` refuses every other pair of a code and an offset before.
             _ => unreachable!(),
         }
     };
@@ -81,6 +83,7 @@ fn end_size(imm: u32) -> EndSize
     match imm {
         16 => EndSize::B16,
         32 => EndSize::B32,
+        // `check` admits 16, 32 and 64 only.
         _ => EndSize::B64,
     }
 }
@@ -152,6 +155,7 @@ pub fn insn_of(opcode: Opcode, slot: Slot) -> Insn
             offset,
             imm,
         },
+        // The decoder builds a wide load itself, since this needs the second slot as well.
         Opcode::Wide => unreachable!(),
     }
 }
@@ -162,6 +166,7 @@ fn alu_insn(width: Width, code: AluCode, source: Source, slot: Slot) -> Insn
     ensures { IsOfSlot result slot }
 {
     let dst = reg(slot.dst);
+    // MOVSX has no opcode of its own: it is MOV X with an offset, the number of bits moved.
     if let (AluCode::Mov, Source::X) = (code, source) {
         if let Some(extension) = extension(width, slot.offset) {
             let src = reg(slot.src);
@@ -191,6 +196,7 @@ pub fn wide_of(slot: Slot, high: u32) -> Insn
 {
     Insn::Wide {
         dst: reg(slot.dst),
+        // The halves don't overlap, so the sum carries nothing and fits 64 bits.
         value: u64::from(high) * 0x1_0000_0000 + u64::from(slot.imm),
     }
 }

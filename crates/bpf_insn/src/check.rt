@@ -13,7 +13,9 @@ fn is_outside_profile(slot: Slot) -> bool
     ensures { result ≡ is_outside_profile slot }
 {
     match slot.opcode {
+        // CALL; atomics; legacy packet loads. BPF has them, so V3 tells an author more than V2.
         0x85 | 0xc3 | 0xdb | 0x20 | 0x28 | 0x30 | 0x40 | 0x48 | 0x50 => true,
+        // Any other source field makes it a load of a map's address or the like.
         0x18 => slot.src != 0,
         _ => false,
     }
@@ -35,13 +37,14 @@ fn has_bad_field(opcode: Opcode, slot: Slot) -> bool
 }
 
 /// The opcode of a first slot, or the lowest rule that its fields break. The second slot of a wide
-/// load is looked at elsewhere.
+/// load is checked elsewhere.
 #[tactic(auto, using(crate::proofs::Faults::bad_register_is_lowest, crate::proofs::Faults::bad_field_is_lowest))]
 pub fn check(slot: Slot) -> Result<Opcode, CodeRule>
     ensures right { IfOk result (λ o. IsRight o slot) }
     ensures inside { IfOk result (λ o. is_outside_profile slot ≡ false) }
     ensures lowest { IfErr result (λ rule. (bytes : List ℕ) → IsLowest (SlotBreaks slot bytes) rule) }
 {
+    // V3 before V2: none of these bytes is in the table of opcodes, which would call them unknown.
     if is_outside_profile(slot) {
         return Err(CodeRule::OutsideProfile);
     }

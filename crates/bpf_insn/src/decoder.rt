@@ -22,8 +22,8 @@ use std::alloc::Global;
 
 /// The program whose code the bytes are, or why there is none.
 ///
-/// The length is looked at first (`V1`), then each slot in order, and in a slot the rules in order
-/// (`V2` to `V6`). `Memory` is answered only where the bytes are the code of a program.
+/// The length is checked first (`V1`), then each slot in order, and in a slot the rules in order
+/// (`V2` to `V6`). `Memory` is returned only if the bytes are the code of a program.
 #[tactic(auto, using(crate::proofs::OneReading::one_reading))]
 pub fn decode(alloc: Global, code: &[u8]) -> Result<Program, DecodeError>
     ensures ok { IfOk result (Spells code.now) }
@@ -33,15 +33,17 @@ pub fn decode(alloc: Global, code: &[u8]) -> Result<Program, DecodeError>
     ensures exact { (p : List Insn) → Spells code.now p
         → MatchResult result (λ q. q ≡ p) (λ e. e ≡ DecodeError.Memory) }
 
-    // What holds of all bytes: so the answer is the only one.
+    // This holds of all bytes, so the result is the only one possible.
     ensures one_reading { HasOneReading code.now }
 {
     if has_bad_length(code.len()) {
+        // Where the code breaks off, or the first slot that is too many.
         let slot = (code.len() / 8).min(MOST_SLOTS) as u64;
         let rule = CodeRule::BadLength;
         return Err(DecodeError::Fault(Fault { slot, rule }));
     }
-    // Where there is no memory, the code is read all the same: its fault goes before the refusal.
+    // Without memory the code is read all the same: its fault comes before the refusal.
+    // One cell a slot: `push_cells` never reallocates, so memory can be refused here alone.
     let room = Vec::with_capacity(alloc, code.len() / 8).ok();
     read_program(code, room)
 }
@@ -52,8 +54,8 @@ fn has_bad_length(len: usize) -> bool
     len == 0 || len % 8 != 0 || len > 8 * MOST_SLOTS
 }
 
-/// The program of code of a right length, in room for all of its slots; or the code's fault; or,
-/// where there is neither a fault nor room, `Memory`.
+/// The program of code of a valid length, in a list with capacity for all of its slots; or the
+/// code's fault; or, if there is neither a fault nor capacity, `Memory`.
 fn read_program(code: &[u8], room: Option<Vec<Option<Insn>>>) -> Result<Program, DecodeError>
     requires length { has_bad_length (length code.now) ≡ false }
     requires room { IfSome room (λ r. (r.items ≡ []) × (length code.now ≤ 8 * vec_capacity r)) }
@@ -70,7 +72,10 @@ fn read_program(code: &[u8], room: Option<Vec<Option<Insn>>>) -> Result<Program,
             Err(rule) => return Err(DecodeError::Fault(Fault { slot, rule })),
         };
         cells = with_cells(cells, insn);
+        // Slots, not instructions: a wide load is two, and faults are reported by slot.
         let slots = insn.slots();
+        // `split_at` yields both halves, of which the loop's invariant speaks: read code, then the
+        // rest.
         let (_, after) = rest.split_at(8 * slots);
         rest = after;
         slot += slots as u64;
@@ -82,13 +87,14 @@ fn read_program(code: &[u8], room: Option<Vec<Option<Insn>>>) -> Result<Program,
     }
 }
 
-/// The cells with those of the instruction, where there is room for them.
+/// The cells with those of the instruction, if a list was allocated.
 fn with_cells(cells: Option<Vec<Option<Insn>>>, insn: Insn) -> Option<Vec<Option<Insn>>>
     requires { IfSome cells (λ was. vec_len was + slots_of insn ≤ vec_capacity was) }
     ensures some { is_some result ≡ is_some cells }
     ensures more { IfSome result (λ now. IfSome cells (λ was.
         (now.items ≡ was.items ++ cells_of insn) × (vec_capacity was ≤ vec_capacity now))) }
 {
+    // No list, no cells: the code is read on for its fault alone.
     let Some(mut cells) = cells else {
         return None;
     };
@@ -106,6 +112,7 @@ fn front(bytes: &[u8]) -> Result<Insn, CodeRule>
     let slot = Slot::read(bytes);
     match check(slot) {
         Err(rule) => Err(rule),
+        // Nothing remains where the load is in the last slot. `upper_half` tells.
         Ok(Opcode::Wide) => match upper_half(&bytes[8..]) {
             Some(high) => Ok(wide_of(slot, high)),
             None => Err(CodeRule::BrokenWideLoad),
@@ -121,9 +128,12 @@ fn upper_half(bytes: &[u8]) -> Option<u32>
         × (take 8 bytes.now ≡ 0 ∷ 0 ∷ 0 ∷ 0 ∷ to_le_bytes w32 high)) }
     ensures none { IfNone result (take 4 bytes.now ≢ 0 ∷ 0 ∷ 0 ∷ 0 ∷ []) }
 {
+    // A wide load in the last slot has no second half.
     if bytes.len() < 8 {
         return None;
     }
+    // Opcode, registers and offset of the second half. They break V6, not V2 to V5, since no
+    // instruction begins there.
     if bytes[0] != 0 || bytes[1] != 0 || bytes[2] != 0 || bytes[3] != 0 {
         return None;
     }

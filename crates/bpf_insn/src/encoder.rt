@@ -14,10 +14,11 @@ pub fn encode(alloc: Global, program: &Program) -> Result<Vec<u8>, AllocError>
     ensures code { IfOk result (λ code. Spells code.items program.now) }
     ensures only { IfOk result (λ code. IsOnlyCodeOf code.items program.now) }
 
-    // What holds of all instructions: so these bytes spell no other program.
+    // This is a law of all instructions, so these bytes spell no other program.
     ensures law { NoSpellingBeginsAnother }
 {
     let cells = program.cells();
+    // Each cell is eight bytes, so the appends below don't reallocate.
     let mut code = Vec::with_capacity(alloc, 8 * cells.len())?;
     for cell in cells {
         push_cell(&mut code, *cell)?;
@@ -31,6 +32,7 @@ fn push_cell(code: &mut Vec<u8>, cell: Option<Insn>) -> Result<(), AllocError>
 {
     match cell {
         Some(insn) => push_spelling(code, insn),
+        // The second half of a wide load, written together with the first.
         None => Ok(()),
     }
 }

@@ -1,4 +1,4 @@
-//! What each opcode asks of the fields of its slot.
+//! Which fields each opcode uses, and which values it allows in them.
 ghost use Rattle.std.specs.Prelude.{◌≡◌};
 ghost use Rattle.bpf_insn.specs.Fields.{uses_dst, uses_src, allows_offset, allows_imm};
 
@@ -29,12 +29,14 @@ pub fn uses_src(opcode: Opcode) -> bool
     }
 }
 
-/// Whether the bits may stand in the opcode's offset field.
+/// Whether the opcode's offset field may have these bits.
 pub fn allows_offset(opcode: Opcode, offset: u16) -> bool
     ensures { result ≡ allows_offset opcode offset }
 {
     match opcode {
+        // 1 makes the operation signed: SDIV and SMOD.
         Opcode::Alu(_, AluCode::Div | AluCode::Mod, _) => offset == 0 || offset == 1,
+        // Not 0 is MOVSX, which moves so many low bits. A narrow one can't extend from 32.
         Opcode::Alu(Width::W32, AluCode::Mov, Source::X) => offset == 0
             || offset == 8
             || offset == 16,
@@ -51,7 +53,7 @@ pub fn allows_offset(opcode: Opcode, offset: u16) -> bool
     }
 }
 
-/// Whether the bits may stand in the opcode's imm field.
+/// Whether the opcode's imm field may have these bits.
 pub fn allows_imm(opcode: Opcode, imm: u32) -> bool
     ensures { result ≡ allows_imm opcode imm }
 {

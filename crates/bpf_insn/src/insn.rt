@@ -89,8 +89,7 @@ pub enum SignedSize {
     B32,
 }
 
-/// The second operand of an operation or a comparison: a number that stands in the code, or a
-/// register.
+/// The second operand of an operation or a comparison: a number in the code, or a register.
 #[derive(Clone, Copy)]
 pub enum Operand {
     Imm(i32),
@@ -178,4 +177,5 @@ pub enum Insn {
     },
 }
 
+// A program is a list of these, and a step copies one: a field more in one form enlarges all.
 const _: () = prove!(size_of::<Insn>() <= 16);

@@ -9,10 +9,10 @@
 //! Read `reg` and `insn` (what an instruction is), `rule` and `fault` (what can be wrong),
 //! `program`; `table` (a row for each operation and condition), `opcode`, `fields` and `slot`,
 //! `spell` and `encoder`, `check`, `build` and `decoder`; then what an instruction means:
-//! `operands`, `content` and `frame` (what stands in the machine), `reads` and `bounds` (what an
+//! `operands`, `content` and `frame` (the state of the machine), `reads` and `bounds` (what an
 //! instruction reads, writes and accesses), `arithmetic` (what it computes). The machine in code is
-//! `machine`, which only tests run. What it all means stands in specs/: Rule, Opcode, Fields,
-//! Spelling, Broken, Program, Code, then Arithmetic, Reads, Effects, Machine, Stepping, Run.
+//! `machine`, which only tests run. Its meaning is in specs/: Rule, Opcode, Fields, Spelling,
+//! Broken, Program, Code, then Arithmetic, Reads, Effects, Machine, Stepping, Run.
 #![tactic(auto)]
 
 pub mod arithmetic;

@@ -1,7 +1,7 @@
 //! The definition's machine, in code. The program doesn't call it: tests run it, and compare the
 //! program with it.
 //!
-//! Read `state` (what stands in it), `memory` (loads and stores), `jumps`, `rules` and `execute` (a
+//! Read `state` (its contents), `memory` (loads and stores), `jumps`, `rules` and `execute` (a
 //! step: where it leads, whether it may, what it writes), `stepped` and `tagged` (the machine), and
 //! `run`.
 mod execute;

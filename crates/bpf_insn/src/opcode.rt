@@ -24,7 +24,7 @@ pub enum AluCode {
     Arsh,
 }
 
-/// Where the second operand stands: in imm (K) or in the source register (X).
+/// Where the second operand is: in imm (K) or in the source register (X).
 #[derive(Clone, Copy)]
 pub enum Source {
     K,
@@ -55,6 +55,7 @@ impl Opcode {
     {
         match self {
             Opcode::Alu(width, code, source) => alu_number(width, code_number(code), source),
+            // NEG and END aren't in the table of operations, as they have one operand.
             Opcode::Neg(width) => alu_number(width, 0x8, Source::K),
             Opcode::End(ByteOrder::Little) => 0xd4,
             Opcode::End(ByteOrder::Big) => 0xdc,
@@ -63,7 +64,9 @@ impl Opcode {
             Opcode::Ja32 => 0x06,
             Opcode::Jump(width, cond, source) => jump_number(width, cond_number(cond), source),
             Opcode::Exit => 0x95,
+            // 0x61, 0x63 and 0x62 are mode MEM with size bits 0. The size is in bits 3 and 4.
             Opcode::Ldx(size) => 0x61 + 8 * size_number(size),
+            // MEMSX has no size of 64 bits, so the three are listed.
             Opcode::Ldsx(SignedSize::B8) => 0x91,
             Opcode::Ldsx(SignedSize::B16) => 0x89,
             Opcode::Ldsx(SignedSize::B32) => 0x81,
@@ -82,6 +85,7 @@ fn alu_number(width: Width, code: u8, source: Source) -> u8
         Width::W32 => 4,
         Width::W64 => 7,
     };
+    // Sums of digits, as in the definition: the code is below 16, so nothing carries.
     16 * code + 8 * source as u8 + class
 }
 
@@ -89,6 +93,7 @@ fn jump_number(width: Width, code: u8, source: Source) -> u8
     requires { code < 16 }
     ensures { result ≡ operation code (source_bit source) (jump_class width) }
 {
+    // JMP is class 5 and JMP32 class 6, the narrow one above, unlike ALU and ALU64.
     let class = match width {
         Width::W32 => 6,
         Width::W64 => 5,
@@ -138,6 +143,7 @@ fn size_number(size: Size) -> u8
     ensures { result ≡ size_number size }
 {
     match size {
+        // The numbers of RFC 9669, section 5: W, H, B, DW.
         Size::B32 => 0,
         Size::B16 => 1,
         Size::B8 => 2,
@@ -170,6 +176,7 @@ fn alu_opcode(width: Width, code: u8, source: Source) -> Option<Opcode>
         numbered_codes,
         code,
         else {
+            // NEG and END have codes of arithmetic, but one operand, and so no row in the table.
             0x8 => {
                 return match source {
                     Source::K => Some(Opcode::Neg(width)),
@@ -215,6 +222,8 @@ fn jump_opcode(width: Width, code: u8, source: Source) -> Option<Opcode>
         numbered_conds,
         code,
         else {
+            // JA and EXIT have codes of jumps without a condition. JA's class selects its offset
+            // field.
             _ => {
                 return match (code, width, source) {
                     (0x0, Width::W64, Source::K) => Some(Opcode::Ja),
@@ -238,11 +247,13 @@ pub fn opcode_of(byte: u8) -> Option<Opcode>
     } else {
         Source::X
     };
+    // The low three bits are the class.
     match byte % 8 {
         4 => alu_opcode(Width::W32, byte / 16, source),
         7 => alu_opcode(Width::W64, byte / 16, source),
         5 => jump_opcode(Width::W64, byte / 16, source),
         6 => jump_opcode(Width::W32, byte / 16, source),
+        // The classes of memory are few and irregular enough to be listed.
         _ => match byte {
             0x71 => Some(Opcode::Ldx(Size::B8)),
             0x69 => Some(Opcode::Ldx(Size::B16)),

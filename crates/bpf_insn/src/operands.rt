@@ -13,7 +13,7 @@ pub enum Kind {
     Index,
 }
 
-/// What an operator is called on: words, which stand in R1 onwards at the entry.
+/// What an operator is called on: words, in R1 onwards at the entry.
 #[derive(Clone, Copy, Debug, PartialEq, Eq)]
 pub enum Operands {
     /// R1 is `x`.

@@ -15,10 +15,13 @@ use std::marker::Model;
 /// The most slots that a program has.
 pub const MOST_SLOTS: usize = 4096;
 
-/// A program: a list of instructions, of 1 to 4,096 slots, kept by slot. A contract sees the list.
+/// A program: a list of instructions, of 1 to 4,096 slots, stored by slot. A contract sees the
+/// list.
 #[derive(Drop)]
 pub struct Program {
+    // By slot, since jumps count slots: a target is an index, with no search.
     cells: Vec<Option<Insn>>,
+    // Stored, as the cells of wide loads make it less than the number of cells.
     len: u64,
 }
 
@@ -45,6 +48,7 @@ impl Program {
         if insns.is_empty() {
             return Err(InsnsError::Fault(bad_length(0)));
         }
+        // The length is checked before memory is asked for, so V1 comes before a refusal.
         let Some(slots) = slots_of_all(&insns) else {
             return Err(InsnsError::Fault(bad_length(MOST_SLOTS as u64)));
         };
@@ -97,14 +101,16 @@ impl Program {
     pub fn insn_at(&self, slot: u64) -> Option<&Insn>
         ensures { option_copied result ≡ insn_at self.now slot }
     {
+        // Exact: usize has 64 bits on the system that this is built for.
         self.cell(slot as usize)
     }
 
-    /// What stands in the cell of a slot, which None does past the end too.
+    /// The instruction in the cell of a slot, or None, past the end too.
     fn cell(&self, slot: usize) -> Option<&Insn>
         ensures { option_copied result ≡ unwrap_or (slice_get (layout self.now) slot) None }
     {
         match self.cells.get(slot) {
+            // The second half of a wide load counts as no instruction, like a slot past the end.
             Some(Some(insn)) => Some(insn),
             _ => None,
         }
@@ -124,13 +130,14 @@ impl Insn {
     }
 }
 
-/// Appends the slots of the instruction, for which there is room.
+/// Appends the slots of the instruction, for which the list has capacity.
 pub(crate) fn push_cells(cells: &mut Vec<Option<Insn>>, insn: Insn)
     requires { vec_len cells.old + slots_of insn ≤ vec_capacity cells.old }
     ensures items { cells.new.items ≡ cells.old.items ++ cells_of insn }
     ensures len { vec_len cells.new ≡ vec_len cells.old + slots_of insn }
     ensures capacity { vec_capacity cells.old ≤ vec_capacity cells.new }
 {
+    // The capacity is there, so a push allocates nothing and can't be refused.
     cells.push(Some(insn)).unwrap();
     if let Insn::Wide { .. } = insn {
         cells.push(None).unwrap();
@@ -157,6 +164,7 @@ fn slots_of_all(insns: &[Insn]) -> Option<usize>
     let mut slots = 0;
     for insn in insns {
         slots += insn.slots();
+        // Inside the loop: the sum of any number of instructions then can't overflow.
         if slots > MOST_SLOTS {
             return None;
         }
@@ -164,7 +172,7 @@ fn slots_of_all(insns: &[Insn]) -> Option<usize>
     Some(slots)
 }
 
-/// The slots of the instructions in order, in room for all of them.
+/// The slots of the instructions in order, in a list with capacity for all of them.
 fn lay(insns: &[Insn], room: Vec<Option<Insn>>) -> Vec<Option<Insn>>
     requires empty { room.items ≡ [] }
     requires room { slot_count insns.now ≤ vec_capacity room }

@@ -7,27 +7,27 @@ use crate::bounds::{byte_count, signed_byte_count};
 use crate::insn::{AluOp, Insn, Operand, Width};
 use crate::reg::Reg;
 
-/// The registers that an instruction reads, by what is wanted in them.
+/// The registers that an instruction reads, by the content that it needs.
 #[derive(Clone, Copy)]
 pub enum Reads {
     /// None is read.
     Nothing,
-    /// A number is wanted.
+    /// A number is needed.
     AsNumber(Reg),
-    /// A number is wanted in both.
+    /// A number is needed in both.
     AsNumbers(Reg, Reg),
-    /// A number or a place is wanted, to be copied or moved.
+    /// A number or a place is needed, to be copied or moved.
     AsContent(Reg),
-    /// A place is wanted: the base of an access.
+    /// A place is needed: the base of an access.
     AsPlace(Reg),
-    /// A place is wanted in the first, the base of a store, and a number in the second.
+    /// A place is needed in the first, the base of a store, and a number in the second.
     AsPlaceAndNumber(Reg, Reg),
 }
 
-/// What a load or a store accesses: so many bytes, at an offset from the place in its base.
+/// What a load or a store accesses: a number of bytes, at an offset from the place in its base.
 #[derive(Clone, Copy)]
 pub struct Access {
-    /// The register in which the place stands.
+    /// The register that holds the place.
     pub base: Reg,
     /// In bytes, from that place up to the first byte.
     pub offset: i16,
@@ -71,7 +71,7 @@ impl Reads {
         }
     }
 
-    /// Those in which a number is wanted.
+    /// Those that must be numbers.
     pub fn numbers(self) -> Registers
         ensures { listed result ≡ numbers_of self }
     {
@@ -82,7 +82,7 @@ impl Reads {
         }
     }
 
-    /// Those in which a place is wanted.
+    /// Those that must be places.
     pub fn places(self) -> Registers
         ensures { listed result ≡ places_of self }
     {
@@ -202,13 +202,16 @@ fn alu_reads(width: Width, op: AluOp, dst: Reg, src: Operand) -> Reads
 {
     match src {
         Operand::Imm(_) => match (width, op) {
+            // This instruction alone moves a place, and MOV X of 64 bits alone copies one.
             (Width::W64, AluOp::Add) => Reads::AsContent(dst),
+            // MOV overwrites its destination without a look at it.
             (_, AluOp::Mov) => Reads::Nothing,
             _ => Reads::AsNumber(dst),
         },
         Operand::Register(src) => match (width, op) {
             (Width::W64, AluOp::Mov) => Reads::AsContent(src),
             (_, AluOp::Mov) => Reads::AsNumber(src),
+            // Both are read, the destination too: it is the first operand.
             _ => Reads::AsNumbers(dst, src),
         },
     }

@@ -3,11 +3,11 @@ ghost use Rattle.std.specs.Prelude.{◌≡◌};
 
 use std::fmt;
 
-/// What can be wrong with code, in the order in which a slot is looked at: the rule of the
-/// lowest number is the one that is named.
+/// What can be wrong with code, in the order in which a slot is checked: the rule of the lowest
+/// number is reported.
 ///
-/// The decoder looks at the first six, the machine and the verifier at the others. The names,
-/// `V1` to `V16`, are part of the interface.
+/// The decoder checks the first six, the machine and the verifier the others. The names, `V1` to
+/// `V16`, are part of the interface.
 #[derive(Clone, Copy, Debug, PartialEq, Eq)]
 pub enum CodeRule {
     /// `V1`: the code has no slot, half a slot, or more than 4,096 slots.
@@ -18,8 +18,8 @@ pub enum CodeRule {
     OutsideProfile,
     /// `V4`: a register field that the instruction uses is above 10.
     RegisterAboveTen,
-    /// `V5`: a field that the instruction does not use is not 0, or one of few values has
-    /// another.
+    /// `V5`: a field that the instruction does not use is not 0, or a field has a value that is not
+    /// one of the few allowed.
     UnusedField,
     /// `V6`: the second slot of a wide load is missing, or its first 32 bits are not 0.
     BrokenWideLoad,
@@ -33,11 +33,11 @@ pub enum CodeRule {
     NoExitAtEnd,
     /// `V11`: a register is read that was never set.
     UnsetRead,
-    /// `V12`: a register is read that two ways leave with different contents.
+    /// `V12`: a register is read that two paths set differently.
     MixedRead,
-    /// `V13`: a place in the stack is read where a number is wanted.
+    /// `V13`: a place in the stack is read where a number is needed.
     NumberWanted,
-    /// `V14`: a number is read where a place in the stack is wanted.
+    /// `V14`: a number is read where a place in the stack is needed.
     PlaceWanted,
     /// `V15`: an access, or a moved place, lies outside the stack.
     OutsideStack,

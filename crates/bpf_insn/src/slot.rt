@@ -8,6 +8,7 @@ pub struct Slot {
     pub opcode: u8,
     pub dst: u8,
     pub src: u8,
+    // Raw bits: the layout of a slot doesn't depend on which fields are signed.
     pub offset: u16,
     pub imm: u32,
 }
@@ -33,6 +34,7 @@ impl Slot {
         let [opcode, registers, o0, o1, i0, i1, i2, i3] = bytes;
         Slot {
             opcode,
+            // The destination is the low nibble, on little-endian code.
             dst: registers % 16,
             src: registers / 16,
             offset: u16::from_le_bytes([o0, o1]),
@@ -50,6 +52,7 @@ impl Slot {
         let [i0, i1, i2, i3] = self.imm.to_le_bytes();
         [
             self.opcode,
+            // Both are below 16, so the sum is the two nibbles and fits a byte.
             self.dst + 16 * self.src,
             o0,
             o1,

@@ -32,6 +32,7 @@ pub fn first_slot(insn: Insn) -> Slot
             dst,
             src,
         } => {
+            // The number of bits moved goes where MOV has offset 0.
             let bits = offset_of_extension(extension);
             with_registers(opcode_of_extension(extension), dst, src, bits)
         }
@@ -78,6 +79,7 @@ pub fn first_slot(insn: Insn) -> Slot
             offset.cast_unsigned(),
             imm.cast_unsigned(),
         ),
+        // The upper half is the imm of the second slot.
         Insn::Wide { dst, value } => with_imm(Opcode::Wide, dst, 0, (value % 0x1_0000_0000) as u32),
     }
 }
@@ -91,6 +93,7 @@ pub fn second_slot(value: u64) -> Slot
         dst: 0,
         src: 0,
         offset: 0,
+        // A quotient of a 64-bit word by 2^32 fits, so the cast is exact.
         imm: (value / 0x1_0000_0000) as u32,
     }
 }
@@ -171,7 +174,7 @@ macro_rules! offsets {
     };
 }
 
-/// The offset that tells SDIV and SMOD from DIV and MOD.
+/// The offset that distinguishes SDIV and SMOD from DIV and MOD.
 fn offset_of_op(op: AluOp) -> u16
     ensures { result ≡ offset_of_op op }
 {
@@ -224,6 +227,7 @@ fn source_field(operand: Operand) -> u8
     ensures small { result < 16 }
 {
     match operand {
+        // The source field isn't used by K, so it must be 0 (V5).
         Operand::Imm(_) => 0,
         Operand::Register(reg) => reg.number(),
     }
@@ -234,6 +238,7 @@ fn imm_field(operand: Operand) -> u32
 {
     match operand {
         Operand::Imm(imm) => imm.cast_unsigned(),
+        // Nor is imm used by X.
         Operand::Register(_) => 0,
     }
 }

@@ -1,13 +1,14 @@
 //! The table of operations and conditions. Whatever has an arm for each of these, here and in the
 //! crates above, takes its arms from it.
 
-/// Calls the macro `arms` with the table, before what else it is given.
+/// Calls the macro `arms` with the table, followed by the other arguments.
 ///
-/// - A code of operations has its number, and a row for each operation of the code: the offset that tells it from the others, its
-///   name in mnemonics, its flat instructions, and the `Change` of bpf_known, where loops are compiled for it with a number.
+/// - A code of operations has its number, and a row for each operation of the code: the offset that
+///   distinguishes it, its name in mnemonics, its flat instructions, and, if loops are compiled for
+///   it with a constant, the `Change` of bpf_known.
 /// - A condition has its number, its mnemonic, its type in bpf_flat, and its flat jumps.
 ///
-/// Flat instructions are on a word and on a register, wide, then narrow.
+/// Flat instructions take a constant, then a register, first at 64 bits, then at 32.
 #[macro_export]
 macro_rules! by_table {
     ($arms:ident, $($rest:tt)*) => {

@@ -1,4 +1,4 @@
-//! The operands of a line, before an instruction is made of them.
+//! The operands of a line, before an instruction is built from them.
 ghost use Rattle.std.specs.Prelude.{◌≡◌, ◌≢◌, ◌≤◌, ◌∷◌, [], List, Some, None, length, map, MatchOption};
 ghost use Rattle.bpf_text.specs.declared.argument.Argument.{Argument};
 ghost use Rattle.bpf_text.specs.Lines as spec;
@@ -15,7 +15,7 @@ use text_words::held_decimal;
 /// The magnitude of the least number of 64 bits.
 const LEAST_MAGNITUDE: u64 = 1 << 63;
 
-/// What a word in the place of an operand says.
+/// What a word says as an operand.
 #[derive(Clone, Copy)]
 pub enum Argument {
     /// One of `r0` to `r10`.
@@ -24,20 +24,21 @@ pub enum Argument {
     UnknownRegister,
     /// A signed number of 64 bits.
     Number(i64),
-    /// A number that 64 bits do not hold.
+    /// A number that doesn't fit 64 bits.
     HugeNumber,
 }
 
 /// The operands of a line. No instruction has more than three.
 #[derive(Clone, Copy)]
 pub enum Arguments {
+    // By number, not a list: reading a line allocates nothing.
     Empty,
     One(Argument),
     Two(Argument, Argument),
     Three(Argument, Argument, Argument),
 }
 
-/// A number behind no sign or `+`.
+/// A number after no sign or `+`.
 fn positive(magnitude: u64) -> Argument
     ensures { result ≡ spec.positive magnitude }
 {
@@ -47,10 +48,11 @@ fn positive(magnitude: u64) -> Argument
     }
 }
 
-/// A number behind `-`.
+/// A number after `-`.
 fn negative(magnitude: u64) -> Argument
     ensures { result ≡ spec.negative magnitude }
 {
+    // The one number whose magnitude doesn't fit i64.
     if magnitude == LEAST_MAGNITUDE {
         return Argument::Number(i64::MIN);
     }
@@ -60,15 +62,17 @@ fn negative(magnitude: u64) -> Argument
     }
 }
 
-/// What a word in the place of an operand says, if it says anything.
+/// What a word says as an operand, if it says anything.
 fn parse_word(word: &[u8]) -> Option<Argument>
     ensures { result ≡ spec.argument_of word.now }
 {
+    // Before `r` with digits in general, so that what is left is no register.
     if let Some(register) = register_named(word) {
         return Some(Argument::Register(register));
     }
     match word {
         [b'r', digits @ ..] => {
+            // For its check alone: all digits, and at least one.
             held_decimal(digits)?;
             Some(Argument::UnknownRegister)
         }
@@ -78,7 +82,7 @@ fn parse_word(word: &[u8]) -> Option<Argument>
     }
 }
 
-/// What an operand says: one word, with blanks round it.
+/// What an operand says: one word, surrounded by blanks.
 fn parse_operand(text: &[u8]) -> Option<Argument>
     ensures { result ≡ spec.argument_in text.now }
 {
@@ -90,18 +94,20 @@ fn parse_operand(text: &[u8]) -> Option<Argument>
 }
 
 impl Arguments {
-    /// The operands in the text behind a mnemonic, where they are three at most and each says
+    /// The operands in the text after a mnemonic, if they are three at most and each says
     /// something.
     pub fn parse(text: &[u8]) -> Option<Arguments>
         ensures { MatchOption result
             ((all : List Argument) → length all ≤ 3 → map spec.argument_in (spec.operand_texts_of text.now) ≢ map Some all)
             (λ found. map spec.argument_in (spec.operand_texts_of text.now) ≡ map Some (list_of found)) }
     {
+        // An empty list, and not one empty operand: `exit` has none.
         if is_blank_text(text) {
             return Some(Arguments::Empty);
         }
         let (operand, rest) = cut(text, Separator::Comma);
         let first = parse_operand(operand)?;
+        // `rest` is None without a comma. After a comma an operand must follow.
         let Some(rest) = rest else {
             return Some(Arguments::One(first));
         };
@@ -114,13 +120,14 @@ impl Arguments {
         let third = parse_operand(operand)?;
         match rest {
             None => Some(Arguments::Three(first, second, third)),
+            // More operands than any instruction has.
             Some(_) => None,
         }
     }
 }
 
 impl Argument {
-    /// R0 in the place of a register, and 0 in that of a number.
+    /// R0 for a register, and 0 for a number.
     fn cleared(self) -> Argument
         ensures { result ≡ cleared self }
     {
@@ -141,7 +148,7 @@ impl Argument {
 }
 
 impl Arguments {
-    /// R0 in the place of each register, and 0 in that of each number.
+    /// R0 for each register, and 0 for each number.
     pub fn cleared(self) -> Arguments
         ensures { list_of result ≡ map cleared (list_of self) }
     {

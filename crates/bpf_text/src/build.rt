@@ -51,6 +51,7 @@ pub fn build(mnemonic: Mnemonic, arguments: Arguments) -> Option<Insn>
             let offset = arguments.offset()?;
             Some(Insn::Ja { offset })
         }
+        // The offset of `ja32` is in the imm field, and has 32 bits.
         Mnemonic::Ja32 => {
             let offset = arguments.imm()?;
             Some(Insn::Ja32 { offset })

@@ -18,11 +18,12 @@ pub fn disassemble(alloc: Global, program: &Program) -> Result<String, AllocErro
     ensures text { IfOk result (λ text. string_bytes text ≡ canonical_text program.now) }
     ensures only { IfOk result (λ text. IsOnlyTextOf (string_bytes text) program.now) }
 
-    // What holds of all programs: so assembling undoes disassembling.
+    // This is a law of all programs, so assembling undoes disassembling.
     ensures law { CanonicalTextsStand }
 {
     let mut text = String::new(alloc);
     for slot in 0..program.slots() {
+        // None is the second half of a wide load, which its one line covers.
         if let Some(insn) = program.insn_at(slot) {
             push_line(&mut text, *insn)?;
         }
@@ -86,6 +87,7 @@ fn push_argument(text: &mut String, argument: Argument) -> Result<(), AllocError
     match argument {
         Argument::Register(register) => text.push_str(register_name(register)),
         Argument::Number(number) => text.push_str(Buffer::new().format(number)),
+        // No instruction has these. They come from reading a text alone.
         Argument::UnknownRegister | Argument::HugeNumber => Ok(()),
     }
 }
@@ -157,6 +159,7 @@ impl Arguments {
             ),
             Insn::Wide { dst, value } => Arguments::Two(
                 Argument::Register(dst),
+                // A wide load is written as a signed number, as all values are.
                 Argument::Number(value.cast_signed()),
             ),
         }

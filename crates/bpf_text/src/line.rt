@@ -1,4 +1,4 @@
-//! How a line is cut into its parts.
+//! How a line is split into its parts.
 ghost use Rattle.std.specs.Prelude.{◌≡◌, ◌∷◌, [], MatchOption};
 ghost use Rattle.std.specs.List.{before_first, after_first, slice_split};
 ghost use Rattle.bpf_text.specs.Lines as spec;
@@ -6,10 +6,10 @@ ghost use Rattle.bpf_text.specs.inner.Cuts.{separates};
 
 use text_words::{is_blank, unindented};
 
-/// The most bytes that a line has, its line end not counted.
+/// The most bytes that a line has, not counting its line end.
 pub const MOST_BYTES: usize = 1024;
 
-/// What a text is cut at.
+/// Where a text is split.
 #[derive(Clone, Copy)]
 pub enum Separator {
     /// `;` or `#`, which begin a comment.
@@ -31,7 +31,7 @@ impl Separator {
     }
 }
 
-/// What stands before the first separator, and what follows that, if there is one.
+/// The text before the first separator, and the text after it, if there is one.
 pub fn cut(text: &[u8], at: Separator) -> (&[u8], Option<&[u8]>)
     ensures front { result.0.now ≡ before_first (separates at) text.now }
     ensures behind { MatchOption result.1
@@ -43,20 +43,22 @@ pub fn cut(text: &[u8], at: Separator) -> (&[u8], Option<&[u8]>)
 {
     for (i, byte) in text.iter().enumerate() {
         if at.is(*byte) {
+            // None, where there is no separator, differs from an empty rest: `exit,` has an operand
+            // too many.
             return (&text[..i], Some(&text[i + 1..]));
         }
     }
     (text, None)
 }
 
-/// Whether a text is nothing but blanks.
+/// Whether a text has only blanks.
 pub fn is_blank_text(text: &[u8]) -> bool
     ensures { result ≡ spec.is_blank_text text.now }
 {
     text.iter().all(|byte| is_blank(*byte))
 }
 
-/// The first word of a text, and what follows the blank behind it.
+/// The first word of a text, and what follows the blank after it.
 pub fn first_word(text: &[u8]) -> (&[u8], &[u8])
     ensures word { result.0.now ≡ spec.first_word text.now }
     ensures behind { result.1.now ≡ spec.behind_word text.now }

@@ -12,9 +12,9 @@ use std::alloc::Global;
 pub struct Listing {
     insns: Vec<Insn>,
     slots: usize,
-    /// Whether there was memory for all of them. Without it reading goes on, for the sake of a
-    /// fault.
+    /// Whether there was memory for all of them. Without it reading goes on, to find a fault.
     is_whole: bool,
+    // So that the sum in `add` can't overflow.
     ghost few: { slots ≤ 4096 },
 }
 
@@ -39,6 +39,7 @@ impl Listing {
     pub fn is_empty(&self) -> bool
         ensures { (is : List Insn) → Lists self.now is → IsTrue result ↔ (is ≡ []) }
     {
+        // By slots, since the list may have lost instructions to want of memory.
         self.slots == 0
     }
 
@@ -53,7 +54,7 @@ impl Listing {
         }
     }
 
-    /// Reads a line, or answers the lowest rule that it breaks.
+    /// Reads a line, or returns the lowest rule that it breaks.
     pub fn read(&mut self, line: &[u8]) -> Result<(), AsmRule>
         ensures { (before : List Insn) → Lists self.old before
             → MatchResult result
@@ -67,7 +68,7 @@ impl Listing {
         }
     }
 
-    /// Adds an instruction behind the others, where the slots are not too many.
+    /// Appends an instruction, if the slots are not too many.
     fn add(&mut self, insn: Insn) -> Result<(), AsmRule>
         ensures { (before : List Insn) → Lists self.old before
             → MatchResult result
@@ -75,10 +76,12 @@ impl Listing {
             (λ rule. (rule ≡ AsmRule.BadLength) × (4096 < self.old.slots + slots_of insn)) }
     {
         let slots = self.slots + slots_of(insn);
+        // Before the list grows: A6 comes at the line that passes the limit.
         if slots > MOST_SLOTS {
             return Err(AsmRule::BadLength);
         }
         self.slots = slots;
+        // Reading goes on: a fault in a later line is reported even without memory for the program.
         if self.insns.push(insn).is_err() {
             self.is_whole = false;
         }

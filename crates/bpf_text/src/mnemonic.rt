@@ -48,7 +48,7 @@ impl Mnemonic {
         }
     }
 
-    /// Its two parts: letters, and numbers of bits.
+    /// Its two parts: letters, and bit widths.
     pub fn parts(self) -> (&'static str, &'static str)
         ensures { result.0.now ++ result.1.now ≡ mnemonic_text self }
     {
@@ -76,12 +76,13 @@ impl Mnemonic {
     pub fn parse(word: &[u8]) -> Option<Mnemonic>
         ensures { MatchOption result ((f : Mnemonic) → mnemonic_text f ≢ word.now) (λ f. mnemonic_text f ≡ word.now) }
     {
+        // Letters never contain a digit, so the first digit begins the widths.
         let (letters, bits) = word.split_at(count_of_letters(word));
         parse_parts(letters, bits)
     }
 }
 
-/// How many bytes stand before the first digit.
+/// How many bytes there are before the first digit.
 fn count_of_letters(word: &[u8]) -> usize
     ensures count { result ≡ tables.count_of_letters word.now }
     ensures within { result ≤ length word.now }
@@ -94,10 +95,11 @@ fn count_of_letters(word: &[u8]) -> usize
     word.len()
 }
 
-/// The mnemonic with these letters and numbers of bits.
+/// The mnemonic with these letters and bit widths.
 fn parse_parts(letters: &[u8], bits: &[u8]) -> Option<Mnemonic>
     ensures { result ≡ tables.mnemonic_of_parts letters.now bits.now }
 {
+    // No two tables have a name in common, so their order makes no difference.
     if let Some(op) = names::operation_named(letters) {
         let width = names::width_named(bits)?;
         return Some(Mnemonic::Alu { width, op });
@@ -113,7 +115,7 @@ fn parse_parts(letters: &[u8], bits: &[u8]) -> Option<Mnemonic>
     parse_stem(names::stem_named(letters)?, bits)
 }
 
-/// The mnemonic of this stem with these numbers of bits.
+/// The mnemonic of this stem with these bit widths.
 fn parse_stem(stem: Stem, bits: &[u8]) -> Option<Mnemonic>
     ensures { result ≡ tables.mnemonic_of_stem stem bits.now }
 {
@@ -136,6 +138,7 @@ fn parse_stem(stem: Stem, bits: &[u8]) -> Option<Mnemonic>
         Stem::St => Some(Mnemonic::St {
             size: names::size_named(bits)?,
         }),
+        // `ja` is the only stem with and without a width.
         Stem::Ja => {
             if bits == b"32".as_slice() {
                 return Some(Mnemonic::Ja32);

@@ -1,5 +1,5 @@
-//! The names of the parts of a mnemonic (operations, conditions, orders of bytes, numbers of bits)
-//! and of registers. Each table is written once, and read in both directions.
+//! The names of the parts of a mnemonic (operations, conditions, byte orders, bit widths) and of
+//! registers. Each table is written once, and read in both directions.
 ghost use Rattle.std.specs.Prelude.{◌≡◌};
 ghost use Rattle.bpf_text.specs.Names as spec;
 ghost use Rattle.bpf_text.specs.inner.Names as inner;
@@ -10,7 +10,7 @@ use bpf_insn::{
     AluOp, ByteOrder, Cond, EndSize, Extension, Reg, SignedSize, Size, Width, by_table,
 };
 
-/// The letters of the mnemonics that name no operation, condition or order of bytes.
+/// The letters of the mnemonics that are no operation, condition or byte order.
 #[derive(Clone, Copy)]
 pub enum Stem {
     Neg,
@@ -104,6 +104,7 @@ pub fn width_name(width: Width) -> &'static str
 pub fn width_named(name: &[u8]) -> Option<Width>
     ensures { result ≡ named spec.width_name tables.all_widths name.now }
 {
+    // A search over the names that are written, so the two directions can't disagree.
     WIDTHS
         .iter()
         .copied()

@@ -1,4 +1,4 @@
-//! One operand of a line, in the place of a register or of a field.
+//! One operand of a line, as a register or a field.
 ghost use Rattle.std.specs.Prelude.{◌≡◌, ◌≢◌, ◌<◌, ◌^◌, ℕ, ℤ, MatchOption};
 ghost use Rattle.std.specs.Int.{cast_signed, w16, w32, w64};
 ghost use Rattle.std.specs.Int.RustNames.{FitsSigned};
@@ -31,6 +31,7 @@ impl Argument {
             (λ n. FitsSigned w16 n × (argument.Number n ≡ self)) }
     {
         match self {
+            // Out of range is None, as a wrong kind is. `broken_rule` tells the two apart.
             Argument::Number(number) => i16::try_from(number).ok(),
             _ => None,
         }
@@ -55,6 +56,7 @@ impl Argument {
             (λ v. (v < 2 ^ 64) × (argument.Number (cast_signed w64 v) ≡ self)) }
     {
         match self {
+            // Every signed number of 64 bits is a word, so none is out of range.
             Argument::Number(number) => Some(number.cast_unsigned()),
             _ => None,
         }
@@ -68,6 +70,7 @@ impl Argument {
     {
         match self {
             Argument::Register(register) => Some(Operand::Register(register)),
+            // Anything but a register has to be a number, also a word that was meant as a register.
             _ => Some(Operand::Imm(self.imm()?)),
         }
     }

@@ -3,8 +3,8 @@ ghost use Rattle.std.specs.Prelude.{◌≡◌};
 
 use std::fmt;
 
-/// What can be wrong with assembly text, in the order in which a line is looked at: the rule of the
-/// lowest number is the one that is named.
+/// What can be wrong with assembly text, in the order in which a line is checked: the rule of the
+/// lowest number is reported.
 ///
 /// The names, `A1` to `A6`, are part of the interface.
 #[derive(Clone, Copy, Debug, PartialEq, Eq)]
@@ -14,14 +14,14 @@ pub enum AsmRule {
     /// `A2`: no instruction has the mnemonic.
     UnknownMnemonic,
     /// `A3`: there are too few or too many operands, or one of them is no register or no number
-    /// where that is wanted.
+    /// where one is expected.
     MalformedOperands,
     /// `A4`: an operand is `r` and digits, and none of `r0` to `r10`.
     UnknownRegister,
     /// `A5`: a number is outside its field.
     NumberOutOfRange,
     /// `A6`: the text has more than 4,096 slots of code, at the line that passes them; or it has no
-    /// instruction, at the line behind the last.
+    /// instruction, at the line after the last.
     BadLength,
 }
 

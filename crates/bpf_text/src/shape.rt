@@ -1,4 +1,4 @@
-//! The operands of a line, in the places that the forms of instructions have.
+//! The operands of a line, by the forms that instructions have.
 ghost use Rattle.std.specs.Prelude.{◌≡◌, ◌≢◌, ◌<◌, ◌∷◌, ◌^◌, ℕ, ℤ, [], MatchOption};
 ghost use Rattle.std.specs.Int.{cast_signed, w16, w32, w64};
 ghost use Rattle.std.specs.Int.RustNames.{FitsSigned};

@@ -15,13 +15,14 @@ use crate::mnemonic::Mnemonic;
 use crate::rule::AsmRule;
 use bpf_insn::Insn;
 
-/// The instruction of a line, or None where the line is skipped; or the lowest rule that it breaks,
-/// but for that of the length of the whole.
+/// The instruction of a line, or None if the line is skipped; or the lowest rule that it breaks,
+/// except the one on the length of the whole text.
 pub fn read_line(line: &[u8]) -> Result<Option<Insn>, AsmRule>
     ensures short { IfOk result (λ _. IsShort line.now) }
     ensures gives { IfOk result (Gives line.now) }
     ensures err { IfErr result (λ rule. (before : List Insn) → IsLowestBroken before line.now rule) }
 {
+    // Before the comment is cut off: it counts.
     if line.len() > MOST_BYTES {
         return Err(AsmRule::LineTooLong);
     }
@@ -36,12 +37,13 @@ pub fn read_line(line: &[u8]) -> Result<Option<Insn>, AsmRule>
     }
 }
 
-/// The instruction of a mnemonic with what stands behind it, or the lowest rule that they break.
+/// The instruction of a mnemonic and the text after it, or the lowest rule that they break.
 fn read_statement(word: &[u8], operands: &[u8]) -> Result<Insn, AsmRule>
     ensures { MatchResult result
         (Names word.now (map argument_in (operand_texts_of operands.now)))
         (IsLowestMisnamed word.now (map argument_in (operand_texts_of operands.now))) }
 {
+    // A2, then A3, then what `build` finds: in the order of the rules' numbers.
     let Some(mnemonic) = Mnemonic::parse(word) else {
         return Err(AsmRule::UnknownMnemonic);
     };
@@ -54,15 +56,16 @@ fn read_statement(word: &[u8], operands: &[u8]) -> Result<Insn, AsmRule>
     }
 }
 
-/// The lowest rule that is broken where no instruction of the mnemonic has these operands.
+/// The lowest rule that is broken if no instruction of the mnemonic has these operands.
 fn broken_rule(mnemonic: Mnemonic, arguments: Arguments) -> AsmRule
     requires { (i : Insn) → Fits i → mnemonic_of i ≡ mnemonic → operands_of i ≢ list_of arguments }
     ensures { IsLowestMisnamed (mnemonic_text mnemonic) (map Some (list_of arguments)) result }
 {
-    // An instruction with operands of these kinds is one with R0 and 0 in their places, too.
+    // Operands of the right kinds would also form an instruction with R0 and 0 instead.
     let Some(_) = build(mnemonic, arguments.cleared()) else {
         return AsmRule::MalformedOperands;
     };
+    // A4 before A5. Kinds and number are right, so one of the two is broken.
     if arguments.have_unknown_register() {
         AsmRule::UnknownRegister
     } else {

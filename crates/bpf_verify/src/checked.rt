@@ -17,8 +17,8 @@ use bpf_insn::{Kind, Program};
 use std::alloc::Global;
 use std::marker::Model;
 
-/// A program that has passed both passes as an operator of a kind, with what is known at each of
-/// its slots. A contract sees an `Accepted`, of which `IsAccepted` holds.
+/// A program that has passed both passes as an operator of a kind, with the facts at each of its
+/// slots. A contract sees an `Accepted`, of which `IsAccepted` holds.
 #[derive(Drop)]
 pub(crate) struct Checked {
     kind: Kind,
@@ -36,9 +36,9 @@ impl Model for Checked {
     ghost invariant = { λ o. IsAccepted (record { kind = o.kind; insns = o.program; table = o.table.items }) };
 }
 
-/// The program with what is known at its slots, where it has no slot fault and no path shows a
-/// fault. Else the program comes back, with its first fault, or, where it has no slot fault, with
-/// want of memory.
+/// The program with the facts at its slots, if it has no slot fault and no path shows a fault.
+/// Otherwise the program comes back, with its first fault, or, if it has no slot fault, with
+/// `Memory`.
 pub(crate) fn check(
     alloc: Global,
     program: Program,
@@ -50,6 +50,7 @@ pub(crate) fn check(
     ensures back { IfErr result (λ refusal. refusal.0 ≡ program) }
     ensures refused { IfErr result (λ refusal. ExplainsRefusal kind program refusal.1) }
 {
+    // Before any memory is asked for: a slot fault comes before "out of memory".
     if let Some(fault) = slot_fault(&program) {
         return Err((program, VerifyError::Fault(fault)));
     }
@@ -64,7 +65,7 @@ pub(crate) fn check(
 }
 
 impl Checked {
-    /// How the operator is called.
+    /// The kind of operands.
     pub fn kind(&self) -> Kind
         ensures { result ≡ self.now.kind }
     {
@@ -76,6 +77,7 @@ impl Checked {
         ensures same { result.now ≡ self.now.insns }
         ensures accepted { IsAccepted self.now }
     {
+        // For the prover: using a field brings in what the type promises.
         let _ = &self.table;
         &self.program
     }
@@ -87,7 +89,7 @@ impl Checked {
         self.program
     }
 
-    /// What is known of R0 to R10 at a slot, or None where no path leads.
+    /// What is known of R0 to R10 at a slot, or None if no path leads there.
     pub fn typing(&self, slot: u64) -> Option<[Tag; 11]>
         ensures some { IfSome result (λ tags. (k : Types) × (typing self.now slot ≡ Some k) × (tags ≡ k.tags)) }
         ensures none { IfNone result (typing self.now slot ≡ None) }
@@ -100,7 +102,7 @@ impl Checked {
     }
 
     /// Whether all paths to a slot have stored the byte at a place of the stack, -512 to -1, or
-    /// None where no path leads.
+    /// None if no path leads there.
     pub fn stored(&self, slot: u64, place: i64) -> Option<bool>
         requires above { negsuc 511 ≤ℤ place }
         requires below { place <ℤ pos 0 }
@@ -108,6 +110,8 @@ impl Checked {
         ensures none { IfNone result (typing self.now slot ≡ None) }
         ensures typed { IsTyping self.now.insns (entry_tags self.now.kind) slot (typing self.now slot) }
     {
+        // Places count from the top, bytes from the bottom. The sum is 0 to 511, so the cast is
+        // exact.
         let byte = (place + 512).unsigned_abs() as usize;
         match self.facts(slot) {
             Some(facts) => Some(facts.marks.has(byte)),
@@ -115,11 +119,12 @@ impl Checked {
         }
     }
 
-    /// What is known at a slot, or None where no path leads.
+    /// The facts at a slot, or None if no path leads there.
     fn facts(&self, slot: u64) -> Option<Facts>
         ensures facts { typing self.now slot ≡ known_in (Some result) }
         ensures accepted { IsAccepted self.now }
     {
+        // A slot outside the program is one that no path reaches.
         if slot < self.table.len() as u64 {
             self.table[slot as usize]
         } else {
@@ -137,6 +142,7 @@ fn entry_tags(kind: Kind) -> [Tag; 11]
     let [first, second, third, fourth] = match kind {
         Kind::Unary => [Tag::Number, unset, unset, unset],
         Kind::Binary => [Tag::Number, Tag::Number, unset, unset],
+        // The value, its row, its column and the thunk.
         Kind::Index => [Tag::Number; 4],
     };
     [

@@ -1,4 +1,4 @@
-//! Why a program is no operator.
+//! Why a program isn't an operator.
 use bpf_insn::Fault;
 use thiserror::Error;
 

@@ -1,4 +1,4 @@
-//! What is known at a slot, and what an instruction makes of it.
+//! The facts at a slot, and how an instruction changes them.
 ghost use Rattle.std.specs.Prelude.{◌≡◌, ◌||◌, ℕ, true, false, length, IfNone, IfSome};
 ghost use Rattle.bpf_insn.specs.declared.reg.Reg.{Reg};
 ghost use Rattle.bpf_insn.specs.Rule.{IsLowest};
@@ -11,7 +11,7 @@ use crate::marks::Marks;
 use crate::tag::Tag;
 use bpf_insn::{AluOp, CodeRule, Insn, Operand, Reg, Width};
 
-/// What is known at a slot, of all the paths that lead there: a tag for each register, and which
+/// The facts at a slot, about all the paths that lead there: a tag for each register, and which
 /// bytes of the stack were stored.
 #[derive(Clone, Copy)]
 pub(crate) struct Facts {
@@ -20,7 +20,7 @@ pub(crate) struct Facts {
 }
 
 impl Facts {
-    /// What is known at the entry: no byte was stored.
+    /// The facts at the entry: no byte was stored.
     pub fn at_entry(tags: [Tag; 11]) -> Facts
         ensures tags { result.tags ≡ tags }
         ensures bytes { (byte : ℕ) → is_marked result.marks byte ≡ false }
@@ -38,12 +38,12 @@ impl Facts {
         self.tags[reg.number() as usize]
     }
 
-    /// The rule of the lowest number that the instruction breaks by what is known, if it breaks
-    /// one.
+    /// The rule of the lowest number that the instruction breaks by the facts, if it breaks one.
     pub fn refusal(&self, insn: Insn) -> Option<CodeRule>
         ensures none { IfNone result (BreaksNone (known self.now) insn) }
         ensures some { IfSome result (IsLowest (λ rule. breaks (known self.now) insn rule ≡ true)) }
     {
+        // In the order of the rules' numbers. V7 to V10 are the slot pass's.
         if self.reads_unset(insn) {
             Some(CodeRule::UnsetRead)
         } else if self.reads_mixed(insn) {
@@ -85,7 +85,7 @@ impl Facts {
             .any(|reg| self.tag(*reg).is_mixed())
     }
 
-    /// Whether a place stands where the instruction wants a number.
+    /// Whether the instruction reads a place where it needs a number.
     fn reads_place_as_number(&self, insn: Insn) -> bool
         ensures { result ≡ breaks (known self.now) insn CodeRule.NumberWanted }
     {
@@ -96,7 +96,7 @@ impl Facts {
             .any(|reg| self.tag(*reg).is_place())
     }
 
-    /// Whether a number stands where the instruction wants a place.
+    /// Whether the instruction reads a number where it needs a place.
     fn reads_number_as_place(&self, insn: Insn) -> bool
         ensures { result ≡ breaks (known self.now) insn CodeRule.PlaceWanted }
     {
@@ -111,6 +111,7 @@ impl Facts {
     fn leaves_stack(&self, insn: Insn) -> bool
         ensures { result ≡ leaves_stack self.now.tags insn }
     {
+        // The one instruction that moves a place. It accesses no bytes, hence 0.
         if let Insn::Alu {
             width: Width::W64,
             op: AluOp::Add,
@@ -138,6 +139,8 @@ impl Facts {
     {
         match insn.load_access() {
             Some(access) => {
+                // The rules before this one hold, so the base is a place and the access is inside
+                // the stack.
                 let first = self.tag(access.base).first_byte(access.offset);
                 self.marks.misses(first as usize, access.bytes)
             }
@@ -145,7 +148,7 @@ impl Facts {
         }
     }
 
-    /// What is known after an instruction that breaks no rule.
+    /// The facts after an instruction that breaks no rule.
     pub fn after(&self, insn: Insn) -> Facts
         requires { leaves_stack self.now.tags insn ≡ false }
         ensures { IsAfter (known self.now) insn (known result) }
@@ -160,6 +163,7 @@ impl Facts {
         requires { leaves_stack self.now.tags insn ≡ false }
         ensures { result ≡ new_tags self.now.tags (written_reg insn) (written_tag self.now.tags insn) }
     {
+        // Copied: the facts at this slot stay in the table.
         let mut tags = self.tags;
         if let Some(reg) = insn.written_reg() {
             tags[reg.number() as usize] = self.written_tag(insn);
@@ -185,6 +189,7 @@ impl Facts {
         ensures { result ≡ written_tag self.now.tags insn }
     {
         match insn {
+            // ADD of imm moves a place, and MOV copies one.
             Insn::Alu {
                 width: Width::W64,
                 op: AluOp::Add,
@@ -197,16 +202,18 @@ impl Facts {
                 src: Operand::Register(src),
                 ..
             } => self.tag(src),
+            // Nothing else that writes a register can write a place.
             _ => Tag::Number,
         }
     }
 
-    /// What is known where two ways meet.
+    /// The facts where two paths meet.
     pub fn join(&self, other: &Facts) -> Facts
         ensures { IsJoined (known self.now) (known other.now) (known result) }
     {
         Facts {
             tags: joined(&self.tags, &other.tags),
+            // A load has to be right on every path, so only bytes that both stored count.
             marks: self.marks.and(&other.marks),
         }
     }
@@ -223,4 +230,5 @@ fn joined(left: &[Tag; 11], right: &[Tag; 11]) -> [Tag; 11]
     tags
 }
 
+// One for each slot: 4,096 of them are half a megabyte.
 const _: () = prove!(size_of::<Option<Facts>>() <= 120);

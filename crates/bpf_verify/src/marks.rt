@@ -23,6 +23,7 @@ impl Marks {
         requires { byte < 512 }
         ensures { result ≡ is_marked self.now byte }
     {
+        // `%` and `/` by 64 are the bit and the word.
         self.words[byte / 64] >> (byte % 64) & 1 == 1
     }
 
@@ -40,6 +41,7 @@ impl Marks {
         ensures { (other : ℕ) → is_marked self.new other
             ≡ (is_marked self.old other || list_any (nat_eq other) (bytes_from first count)) }
     {
+        // An access has at most eight bytes, so this loop is short.
         for byte in first..first + usize::from(count) {
             self.set(byte);
         }
@@ -63,6 +65,7 @@ impl Marks {
         ensures { (byte : ℕ) → is_marked result byte ≡ (is_marked self.now byte && is_marked other.now byte) }
     {
         let mut words = self.words;
+        // By whole words: eight operations instead of 512.
         for i in 0..8 {
             words[i] = self.words[i] & other.words[i];
         }

@@ -17,16 +17,15 @@ use bpf_known::{KnownCall, known_of, number_in};
 use std::alloc::Global;
 use std::marker::Model;
 
-/// A program that was verified as an operator of a kind, with what is known at each of its slots,
-/// its flat code, and how its calls are known. A contract sees an `Accepted`, of which `IsAccepted`
-/// holds.
+/// A program that was verified as an operator of a kind, with the facts at each of its slots, its
+/// flat code, and its family. A contract sees an `Accepted`, of which `IsAccepted` holds.
 #[derive(Drop)]
 pub struct Operator {
     checked: Checked,
     code: FlatCode,
-    /// How its calls are known, if its program is.
+    /// The family of its program, if it is recognised.
     known: Option<KnownCall>,
-    /// The number that stands in the program.
+    /// The constant in the program.
     number: u64,
 }
 
@@ -44,8 +43,8 @@ impl Model for Operator {
         × IfSome o.known (IsKnown o.checked.kind o.checked.insns) × (o.number ≡ number_in o.checked.insns) };
 }
 
-/// The operator of the program, where it has no slot fault and no path shows a fault. Else the
-/// program comes back, with its first fault, or, where it has no slot fault, with want of memory.
+/// The operator of the program, if it has no slot fault and no path shows a fault. Otherwise the
+/// program comes back, with its first fault, or, if it has no slot fault, with `Memory`.
 pub fn verify(
     alloc: Global,
     program: Program,
@@ -61,6 +60,7 @@ pub fn verify(
     let checked = check(alloc, program, kind)?;
     match FlatCode::of(alloc, &checked) {
         Ok(code) => Ok(Operator::new(checked, code)),
+        // The caller gets its program back, whatever was refused.
         Err(_) => Err((checked.into_program(), VerifyError::Memory)),
     }
 }
@@ -71,6 +71,7 @@ impl Operator {
         requires { IsFlat checked code }
         ensures { result ≡ checked }
     {
+        // Here, once, so that a call looks nothing up.
         let known = known_of(checked.kind(), checked.program());
         let number = number_in(checked.program());
         Operator {
@@ -81,7 +82,7 @@ impl Operator {
         }
     }
 
-    /// What holds of any operator. Only the prover looks at it.
+    /// What holds of any operator. It is for the prover alone.
     #[inline(always)]
     pub fn recall(&self)
         ensures { IsAccepted self.now }
@@ -97,7 +98,7 @@ impl Operator {
         self.checked.program().len()
     }
 
-    /// How the operator is called.
+    /// The kind of operands.
     pub fn kind(&self) -> Kind
         ensures { result ≡ self.now.kind }
     {
@@ -112,7 +113,7 @@ impl Operator {
         self.checked.program()
     }
 
-    /// What is known of R0 to R10 at a slot, or None where no path leads.
+    /// What is known of R0 to R10 at a slot, or None if no path leads there.
     pub fn typing(&self, slot: u64) -> Option<[Tag; 11]>
         ensures some { IfSome result (λ tags. (k : Types) × (typing self.now slot ≡ Some k) × (tags ≡ k.tags)) }
         ensures none { IfNone result (typing self.now slot ≡ None) }
@@ -122,7 +123,7 @@ impl Operator {
     }
 
     /// Whether all paths to a slot have stored the byte at a place of the stack, -512 to -1, or
-    /// None where no path leads.
+    /// None if no path leads there.
     pub fn stored(&self, slot: u64, place: i64) -> Option<bool>
         requires above { negsuc 511 ≤ℤ place }
         requires below { place <ℤ pos 0 }
@@ -146,7 +147,7 @@ impl Operator {
         &self.code
     }
 
-    /// How its calls are known, if its program is.
+    /// The family of its program, if it is recognised.
     #[inline]
     pub fn known(&self) -> Option<KnownCall>
         ensures { IfSome result (IsKnown self.now.kind self.now.insns) }
@@ -154,7 +155,7 @@ impl Operator {
         self.known
     }
 
-    /// The number that stands in the program.
+    /// The constant in the program.
     #[inline(always)]
     pub fn number(&self) -> u64
         ensures { result ≡ number_in self.now.insns }

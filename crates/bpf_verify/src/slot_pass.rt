@@ -1,4 +1,4 @@
-//! The slot pass: what is wrong with a program whatever its registers hold (V7 to V10).
+//! The slot pass: faults of a program that don't depend on its registers (V7 to V10).
 ghost use Rattle.std.specs.Prelude.{◌≡◌, ◌<◌, ◌≤◌, ◌+◌, ℕ, IfSome, IfNone, Some, None};
 ghost use Rattle.bpf_insn.specs.Program.{slots_of, IsProgram};
 ghost use Rattle.bpf_insn.specs.Machine.{goes_back, goes_nowhere};
@@ -17,6 +17,7 @@ pub(crate) fn slot_fault(program: &Program) -> Option<Fault>
     ensures program { IsProgram program.now }
 {
     for slot in 0..program.slots() {
+        // Slots outside, rules inside: the lowest slot counts first, then the lowest rule.
         if let Some(rule) = rule_at(program, slot) {
             return Some(Fault { slot, rule });
         }
@@ -34,6 +35,7 @@ fn rule_at(program: &Program, slot: u64) -> Option<CodeRule>
 {
     match program.insn_at(slot) {
         Some(insn) => slot_rule(program, slot, *insn),
+        // The second half of a wide load breaks no rule.
         None => None,
     }
 }
@@ -44,6 +46,7 @@ fn slot_rule(program: &Program, slot: u64, insn: Insn) -> Option<CodeRule>
     ensures { result ≡ slot_rule program.now slot insn }
 {
     let to = jump_target(slot, insn);
+    // In the order of the rules' numbers.
     if goes_back(slot, to) {
         Some(CodeRule::JumpsBack)
     } else if goes_nowhere(program, to) {
@@ -51,17 +54,19 @@ fn slot_rule(program: &Program, slot: u64, insn: Insn) -> Option<CodeRule>
     } else if writes_r10(insn) {
         Some(CodeRule::StackTopWritten)
     } else if ends_without_exit(program, slot, insn) {
+        // All jumps lead forward, so only the last instruction can run past the end.
         Some(CodeRule::NoExitAtEnd)
     } else {
         None
     }
 }
 
-/// Where the instruction jumps to, if it may jump.
+/// The slot that the instruction jumps to, if it may jump.
 fn jump_target(slot: u64, insn: Insn) -> Option<i64>
     requires { slot < 4096 }
     ensures { result ≡ jump_target slot insn }
 {
+    // Signed: an offset may lead before slot 0. A slot is below 4,096, so the cast is exact.
     let next = slot as i64 + 1;
     match insn {
         Insn::Ja { offset } => Some(next + i64::from(offset)),
@@ -85,6 +90,7 @@ fn goes_nowhere(program: &Program, to: Option<i64>) -> bool
     ensures { result ≡ goes_nowhere program.now to }
 {
     match to {
+        // The sign is tested first, since the cast would make a slot of a negative number.
         Some(to) => to < 0 || program.insn_at(to as u64).is_none(),
         None => false,
     }

@@ -13,7 +13,7 @@ pub enum Tag {
     Unset,
     /// All paths leave a number in it.
     Number,
-    /// All paths leave this place in it: how many bytes from the stack's top, -512 to 0.
+    /// All paths leave this place in it: its distance in bytes from the stack's top, -512 to 0.
     Place(i16),
     /// All paths set it, and not all to a number, nor all to the same place.
     Mixed,
@@ -60,6 +60,7 @@ impl Tag {
     {
         match self {
             Tag::Place(place) => (i64::from(place) + i64::from(offset) + 512).unsigned_abs(),
+            // As in the definition, which has to be total. Such an access was refused before.
             _ => 0,
         }
     }
@@ -70,19 +71,22 @@ impl Tag {
         ensures { result ≡ moved_tag self by }
     {
         match self {
+            // Inside the stack by the contract, so the cast is exact.
             Tag::Place(place) => Tag::Place((i64::from(place) + i64::from(by)) as i16),
             _ => self,
         }
     }
 
-    /// What is known where two ways meet.
+    /// What is known where two paths meet.
     pub(crate) fn join(self, other: Tag) -> Tag
         ensures { result ≡ joined self other }
     {
         match (self, other) {
+            // Unset wins, also over Mixed: V11 is reported before V12.
             (Tag::Unset, _) | (_, Tag::Unset) => Tag::Unset,
             (Tag::Number, Tag::Number) => Tag::Number,
             (Tag::Place(o), Tag::Place(p)) if o == p => Tag::Place(o),
+            // Reported only if the register is read (V12). Until then it may be carried along.
             _ => Tag::Mixed,
         }
     }

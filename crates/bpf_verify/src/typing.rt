@@ -1,4 +1,4 @@
-//! The pass that finds what is known at each slot: one visit a slot, in ascending order.
+//! The pass that finds the facts at each slot: one visit a slot, in ascending order.
 ghost use Rattle.std.specs.Prelude.{◌≡◌, ◌+◌, ℕ, List, vec_len, pos, IfOk, IfErr, Some, None};
 ghost use Rattle.bpf_insn.specs.Program.{slot_count};
 ghost use Rattle.bpf_insn.specs.Rule.{IsLowest};
@@ -15,8 +15,8 @@ use crate::tag::Tag;
 use bpf_insn::{CodeRule, Fault, Insn, Program};
 use std::alloc::Global;
 
-/// What is known at each slot of a program that has no slot fault, or the first fault that paths
-/// show, or want of memory.
+/// The facts at each slot of a program that has no slot fault, or the first fault that paths show,
+/// or `Memory`.
 pub(crate) fn typed(
     alloc: Global,
     program: &Program,
@@ -28,10 +28,12 @@ pub(crate) fn typed(
     ensures len { IfOk result (λ table. vec_len table ≡ slot_count program.now) }
     ensures refused { IfErr result (ExplainsTyping program.now entry) }
 {
+    // All of it at once. The pass itself allocates nothing.
     let Ok(mut table) = vec![in alloc; None; program.slots() as usize] else {
         return Err(VerifyError::Memory);
     };
     table[0] = Some(Facts::at_entry(entry));
+    // One pass suffices: jumps lead forward, so all paths to a slot were followed before its turn.
     for slot in 0..program.slots() {
         if let Err(rule) = visit(program, &mut table, slot) {
             return Err(VerifyError::Fault(Fault { slot, rule }));
@@ -40,8 +42,8 @@ pub(crate) fn typed(
     Ok(table)
 }
 
-/// Looks at one slot. Where some path leads there, what is known after its instruction goes to the
-/// slots that may follow, or the instruction breaks a rule, of which the lowest is answered.
+/// Visits one slot. If some path leads there, the facts after its instruction go to the slots that
+/// may follow, or the instruction breaks a rule, and the lowest such rule is returned.
 fn visit(program: &Program, table: &mut Vec<Option<Facts>>, slot: u64) -> Result<(), CodeRule>
     requires { IsVisit program.now (vec_len table.old) slot }
     ensures len { vec_len table.new ≡ vec_len table.old }
@@ -53,6 +55,8 @@ fn visit(program: &Program, table: &mut Vec<Option<Facts>>, slot: u64) -> Result
     let Some(insn) = program.insn_at(slot) else {
         return Ok(());
     };
+    // No path leads here, so the slot isn't typed, and its instruction may break any rule of V11 to
+    // V16.
     let Some(facts) = table[slot as usize] else {
         return Ok(());
     };
@@ -63,7 +67,7 @@ fn visit(program: &Program, table: &mut Vec<Option<Facts>>, slot: u64) -> Result
     Ok(())
 }
 
-/// Joins what is known after an instruction to what is known at each slot that may follow.
+/// Joins the facts after an instruction to the facts at each slot that may follow.
 fn lead_on(program: &Program, table: &mut Vec<Option<Facts>>, slot: u64, insn: Insn, facts: &Facts)
     requires { IsLeading program.now (vec_len table.old) slot insn }
     ensures len { vec_len table.new ≡ vec_len table.old }
@@ -74,6 +78,7 @@ fn lead_on(program: &Program, table: &mut Vec<Option<Facts>>, slot: u64, insn: I
         Insn::Exit => {}
         Insn::Ja { offset } => lead(program, table, slot, next + i64::from(offset), facts),
         Insn::Ja32 { offset } => lead(program, table, slot, next + i64::from(offset), facts),
+        // Both, whatever the condition: every path counts, whether or not some operands take it.
         Insn::Jump { offset, .. } => {
             lead(program, table, slot, next, facts);
             lead(program, table, slot, next + i64::from(offset), facts);
@@ -83,18 +88,19 @@ fn lead_on(program: &Program, table: &mut Vec<Option<Facts>>, slot: u64, insn: I
     }
 }
 
-/// Joins what is known to what is known at one slot.
+/// Joins facts to the facts at one slot.
 fn lead(program: &Program, table: &mut Vec<Option<Facts>>, slot: u64, to: i64, facts: &Facts)
     requires len { vec_len table.old ≡ slot_count program.now }
     requires good { IsGoodTarget program.now slot to }
     ensures len { vec_len table.new ≡ vec_len table.old }
     ensures adds { Adds to (known facts.now) table.old.items table.new.items }
 {
+    // A slot of the program, since the slot pass has checked every target.
     let to = to.unsigned_abs() as usize;
     table[to] = Some(merged(table[to], facts));
 }
 
-/// What is known where a way comes to a slot, which is the first or joins what is known there.
+/// The facts where a path gets to a slot: it is the first, or joins the facts there.
 fn merged(there: Option<Facts>, facts: &Facts) -> Facts
     ensures { IsMerged (known_in (Some there)) (known facts.now) (known result) }
 {

@@ -19,6 +19,7 @@ impl Frame {
           registers = new_registers self.old.registers (written self.old.registers self.old.stack insn);
         } }
     {
+        // Read before the stack changes: what is written is defined by the state before the step.
         let written = self.written(insn);
         self.write_stack(insn);
         if let Some((reg, content)) = written {
@@ -94,6 +95,7 @@ impl Frame {
         ensures { result ≡ alu_content self.now.registers width op dst src }
     {
         match (width, op, src) {
+            // These two are the only operations on a place: a move of it, and a copy.
             (Width::W64, AluOp::Add, Operand::Imm(n)) => moved(self.content(dst), n),
             (Width::W64, AluOp::Mov, Operand::Register(src)) => self.content(src),
             _ => Content::Number(arithmetic(width, op, self.number(dst), self.operand(src))),
@@ -123,6 +125,7 @@ impl Frame {
                 imm,
             } => {
                 let index = self.stack_index(base, offset) as usize;
+                // At 64 bits ST stores imm with its sign extended.
                 store(size, &mut self.stack, index, i64::from(imm).cast_unsigned());
             }
             _ => {}
@@ -138,6 +141,8 @@ fn moved(content: Content, by: i32) -> Content
     match content {
         Content::Unset => Content::Unset,
         Content::Number(n) => Content::Number(n.wrapping_add(i64::from(by).cast_unsigned())),
+        // In i64, since imm has 32 bits. The sum is within -512 to 0 by the contract, so the cast
+        // is exact.
         Content::Place(place) => Content::Place((i64::from(place) + i64::from(by)) as i16),
     }
 }

@@ -19,6 +19,7 @@ impl Frame {
     pub fn next_slot(&self, insn: Insn) -> Option<i64>
         ensures { result ≡ next_slot self.now.registers self.now.slot insn }
     {
+        // Signed and wide: a jump may point before slot 0, and `ja32` adds 32 bits.
         let after = i64::from(self.slot) + 1;
         match insn {
             Insn::Exit => None,
@@ -31,6 +32,8 @@ impl Frame {
                 right,
                 offset,
             } => {
+                // Without two numbers the condition has no value. The step is refused by V11 or
+                // V13, so this slot is never used.
                 if !self.are_numbers(insn) {
                     return None;
                 }
@@ -40,6 +43,7 @@ impl Frame {
                     Some(after)
                 }
             }
+            // Over the second half, where no instruction begins.
             Insn::Wide { .. } => Some(after + 1),
             _ => Some(after),
         }
@@ -81,6 +85,7 @@ pub fn goes_back(slot: u32, next: Option<i64>) -> bool
     ensures { result ≡ goes_back slot next }
 {
     match next {
+        // Equal counts as back: a jump to itself would never end.
         Some(to) => to <= i64::from(slot),
         None => false,
     }
@@ -96,8 +101,10 @@ pub fn landing(program: &Program, next: Option<i64>) -> Result<Option<u32>, Code
     let Some(to) = next else {
         return Ok(None);
     };
+    // The sign is tested first, since the cast would make a slot of a negative number.
     if to < 0 || !begins(program, to as u64) {
         return Err(CodeRule::JumpsNowhere);
     }
+    // `begins` holds below 4,096 alone, so the cast is exact.
     Ok(Some(to as u32))
 }

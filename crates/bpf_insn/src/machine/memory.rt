@@ -8,7 +8,7 @@ ghost use Rattle.bpf_insn.specs.Effects.{bytes_at, loaded, loaded_signed, stored
 
 use crate::insn::{SignedSize, Size};
 
-/// The number that stands at an index of the stack.
+/// The number at an index of the stack.
 pub fn load(size: Size, stack: &[Option<u8>; 512], index: usize) -> u64
     requires { index + byte_count size ≤ 512 }
     ensures { result ≡ loaded size stack.now index }
@@ -31,7 +31,7 @@ pub fn load(size: Size, stack: &[Option<u8>; 512], index: usize) -> u64
     }
 }
 
-/// The number that stands at an index of the stack, with its sign extended to 64 bits.
+/// The number at an index of the stack, with its sign extended to 64 bits.
 pub fn load_signed(size: SignedSize, stack: &[Option<u8>; 512], index: usize) -> u64
     requires { index + signed_byte_count size ≤ 512 }
     ensures { result ≡ loaded_signed size stack.now index }
@@ -73,6 +73,7 @@ fn byte(bytes: &[Option<u8>], index: usize) -> u8
     requires { index < length bytes.now }
     ensures { result ≡ unwrap_or (slice_index_or bytes.now index None) 0 }
 {
+    // As in the definition, which has to be total. V16 stops a step that would load such a byte.
     bytes[index].unwrap_or(0)
 }
 
@@ -92,6 +93,7 @@ pub fn store(size: Size, stack: &mut [Option<u8>; 512], index: usize, value: u64
     ensures { stack.new ≡ stored size stack.old index value }
 {
     match size {
+        // The low bytes are taken by a remainder, after which the cast loses nothing.
         Size::B8 => stack[index..index + 1].copy_from_slice(&[Some((value % 0x100) as u8)]),
         Size::B16 => {
             let low = (value % 0x1_0000) as u16;

@@ -25,6 +25,8 @@ impl Frame {
         ensures unbroken { IfOk result (λ next. BreaksNone program.now self.now insn) }
         ensures broken { IfErr result (BreaksFirst program.now self.now insn) }
     {
+        // The tests follow the numbers of the rules, so the first that fires is the lowest. V10 and
+        // V12 are missing: they speak of code and of several paths, not of one step.
         let next = self.next_slot(insn);
         if goes_back(self.slot, next) {
             return Err(CodeRule::JumpsBack);
@@ -58,7 +60,7 @@ impl Frame {
             .any(|reg| self.content(*reg).is_unset())
     }
 
-    /// Whether a place stands where the instruction wants a number.
+    /// Whether the instruction reads a place where it needs a number.
     fn reads_place_as_number(&self, insn: Insn) -> bool
         ensures { result ≡ any_stands is_place self.now.registers (number_reads insn) }
     {
@@ -69,7 +71,7 @@ impl Frame {
             .any(|reg| self.content(*reg).is_place())
     }
 
-    /// Whether a number stands where the instruction wants a place.
+    /// Whether the instruction reads a number where it needs a place.
     fn reads_number_as_place(&self, insn: Insn) -> bool
         ensures { result ≡ any_stands is_number self.now.registers (place_reads insn) }
     {
@@ -85,6 +87,7 @@ impl Frame {
         ensures { result ≡ leaves_stack self.now.registers insn }
     {
         match insn {
+            // The one instruction that moves a place. All others leave the stack by an access only.
             Insn::Alu {
                 width: Width::W64,
                 op: AluOp::Add,
@@ -120,6 +123,7 @@ impl Frame {
                 i64::from(place) + i64::from(access.offset),
                 access.bytes,
             ),
+            // Unset or a number: V11 or V14 is reported before this rule.
             _ => false,
         }
     }
@@ -128,6 +132,7 @@ impl Frame {
         ensures { result ≡ moves_outside (content self.now.registers reg) by }
     {
         match self.content(reg) {
+            // No bytes are accessed: the moved place alone has to be inside.
             Content::Place(place) => is_outside_stack(i64::from(place) + i64::from(by), 0),
             _ => false,
         }

@@ -28,6 +28,7 @@ pub fn run_tagged(program: &Program, kind: Kind, operands: &Operands) -> Ran
     ensures ends { AllWithin program.now operands.now (length program.now) }
 {
     let mut tagged = Tagged::enter(kind, operands);
+    // A bound that suffices: each step goes to a higher slot.
     for taken in 0..program.slots() {
         match tagged.step(program) {
             Stepped::Went => {}
@@ -40,5 +41,6 @@ pub fn run_tagged(program: &Program, kind: Kind, operands: &Operands) -> Ran
             Stepped::Stuck(fault) => return Ran::Stuck(fault),
         }
     }
+    // The last slot can't be passed: a step that would go there is stuck by V8.
     unreachable!()
 }

@@ -1,4 +1,4 @@
-//! What stands in the machine, looked at.
+//! Reading the state of the machine.
 ghost use Rattle.std.specs.Prelude.{◌≡◌};
 
 use crate::content::Content;
@@ -10,21 +10,21 @@ impl Content {
     ghost use Rattle.std.specs.Prelude.{◌≡◌};
     ghost use Rattle.bpf_insn.specs.Reads.{is_unset, is_number, is_place};
 
-    /// Whether nothing stands there yet.
+    /// Whether the register was never set.
     pub(crate) fn is_unset(self) -> bool
         ensures { result ≡ is_unset self }
     {
         matches!(self, Content::Unset)
     }
 
-    /// Whether a number stands there.
+    /// Whether it is a number.
     pub(crate) fn is_number(self) -> bool
         ensures { result ≡ is_number self }
     {
         matches!(self, Content::Number(_))
     }
 
-    /// Whether a place stands there.
+    /// Whether it is a place.
     pub(crate) fn is_place(self) -> bool
         ensures { result ≡ is_place self }
     {
@@ -36,19 +36,21 @@ impl Frame {
     ghost use Rattle.bpf_insn.specs.Reads.{content};
     ghost use Rattle.bpf_insn.specs.Effects.{number, operand, stack_index};
 
-    /// What stands in a register.
+    /// The content of a register.
     pub fn content(&self, reg: Reg) -> Content
         ensures { result ≡ content self.now.registers reg }
     {
         self.registers[reg.number() as usize]
     }
 
-    /// The number in a register, or 0 where no number stands there.
+    /// The number in a register, or 0 if it has none.
     pub fn number(&self, reg: Reg) -> u64
         ensures { result ≡ number (content self.now.registers reg) }
     {
         match self.content(reg) {
             Content::Number(n) => n,
+            // As in the definition, which has to be total: a step that needs a number is refused
+            // before.
             _ => 0,
         }
     }
@@ -58,6 +60,7 @@ impl Frame {
         ensures { result ≡ operand self.now.registers source }
     {
         match source {
+            // Sign-extended at both widths: ALU and JMP32 then take the low half.
             Operand::Imm(n) => i64::from(n).cast_unsigned(),
             Operand::Register(reg) => self.number(reg),
         }
@@ -68,7 +71,10 @@ impl Frame {
         ensures { result ≡ stack_index (content self.now.registers base) offset }
     {
         match self.content(base) {
+            // `unsigned_abs` is total, as the definition is. Inside the stack, the sum isn't
+            // negative.
             Content::Place(place) => (i64::from(place) + i64::from(offset) + 512).unsigned_abs(),
+            // As in the definition. A step that needs a place is refused before.
             _ => 0,
         }
     }

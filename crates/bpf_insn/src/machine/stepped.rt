@@ -1,7 +1,7 @@
-//! What a step answers.
+//! The result of a step.
 use crate::fault::Fault;
 
-/// What a step of the machine answers.
+/// The result of a step of the machine.
 #[derive(Clone, Copy, Debug, PartialEq, Eq)]
 pub enum Stepped {
     /// The machine went on to another slot.

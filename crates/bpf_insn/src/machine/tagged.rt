@@ -1,4 +1,4 @@
-//! The tagged machine, which knows of each register what stands in it.
+//! The tagged machine, which knows the kind of content of each register.
 ghost use Rattle.std.specs.Prelude.{◌≡◌, true, replicate};
 ghost use Rattle.bpf_insn.specs.Machine.{kind_of, arguments, enter, slot_of, is_at_insn};
 ghost use Rattle.bpf_insn.specs.Stepping.{IsReady, IsStepped};
@@ -13,8 +13,8 @@ use crate::program::Program;
 use crate::reg::Reg;
 use std::marker::Model;
 
-/// The tagged machine on a call of an operator. It looks at each rule before it takes a step, so
-/// it runs any program, and tells where and why one is stuck.
+/// The tagged machine on a call of an operator. It checks each rule before it takes a step, so it
+/// runs any program, and reports where and why one is stuck.
 #[derive(Drop)]
 pub struct Tagged {
     frame: Frame,
@@ -53,6 +53,7 @@ impl Tagged {
                 rest,
                 rest,
                 rest,
+                // R10 is the top, from which all places count.
                 Content::Place(0),
             ],
             stack: empty_stack(),
@@ -83,6 +84,7 @@ impl Tagged {
             Ok(next) => next,
             Err(rule) => return Stepped::Stuck(Fault { slot, rule }),
         };
+        // Only EXIT has no next slot: a broken jump was refused above.
         let Some(to) = next else {
             let value = self.frame.number(Reg::R0);
             self.value = Some(value);
@@ -94,7 +96,7 @@ impl Tagged {
     }
 }
 
-/// What stands in R1 to R4 at the entry.
+/// The contents of R1 to R4 at the entry.
 fn arguments(operands: &Operands) -> [Content; 4]
     ensures { result ≡ arguments operands.now }
 {
@@ -115,5 +117,6 @@ fn arguments(operands: &Operands) -> [Content; 4]
 fn empty_stack() -> [Option<u8>; 512]
     ensures { result ≡ replicate 512 None }
 {
+    // Nothing is stored yet, so V16 refuses a load of any byte.
     [None; 512]
 }
