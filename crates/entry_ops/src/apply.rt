@@ -18,11 +18,11 @@ use csr_store::Matrix;
 use job_forms::{Chunk, Region, is_blank_under};
 use std::alloc::Global;
 
-/// What an operator makes of each word of a region: a unary one of the word alone, an index
-/// operator of the word, its row, its column and the thunk.
+/// An operator applied to each word of a region: a unary one to the word alone, an index operator
+/// to the word, its row, its column and the thunk.
 ///
-/// With a mask calls are made for the positions alone that it stores. `calls` is scratch, kept from
-/// region to region.
+/// With a mask, calls are made only for the positions that it stores. `calls` is scratch that
+/// regions share.
 pub fn apply_region<'m>(
     alloc: Global,
     calls: &mut Calls,
@@ -36,9 +36,11 @@ pub fn apply_region<'m>(
     ensures { IsPartOf a.now.columns (apply_at operator.now thunk a.now) (apply_calls_at operator.now thunk a.now)
         region.entry result }
 {
+    // Row starts tell, before any row is read.
     if is_blank_under(a, region.mask, &region.range) {
         return blank_region(alloc, a.columns(), region.range);
     }
+    // Then the result has the positions of A, so rows are copied and each cell is written once.
     if region.mask.is_none() && is_in_run(region.range.start..region.range.end) {
         return map_region(alloc, calls, a, operator, thunk, region.range);
     }
@@ -57,10 +59,10 @@ pub fn apply_region<'m>(
     )
 }
 
-/// The words of a region for which the answer of an index operator is not 0.
+/// The words of a region for which an index operator doesn't return 0.
 ///
-/// With a mask calls are made for the positions alone that it stores. `calls` is scratch, kept from
-/// region to region.
+/// With a mask, calls are made only for the positions that it stores. `calls` is scratch that
+/// regions share.
 pub fn select_region<'m>(
     alloc: Global,
     calls: &mut Calls,
@@ -77,6 +79,7 @@ pub fn select_region<'m>(
     if is_blank_under(a, region.mask, &region.range) {
         return blank_region(alloc, a.columns(), region.range);
     }
+    // Without a mask all calls are made first, and the selected cells are copied once.
     let Some(mask) = region.mask else {
         return keep_region(alloc, calls, a, operator, thunk, region.range);
     };

@@ -1,5 +1,5 @@
-//! Regions in which nothing is made, since an operand or the mask has no entry in their rows. They
-//! are ended at once.
+//! Regions without any call, since an operand or the mask has no entry in their rows. They are
+//! ended at once.
 ghost use Rattle.std.specs.Prelude.{◌≤◌, ◌-◌, ◌∷◌, []};
 ghost use Rattle.csr_store.specs.Along.{along};
 ghost use Rattle.job_forms.specs.Region.{IsMade};
@@ -19,6 +19,7 @@ pub fn blank_region(alloc: Global, columns: u64, range: Range<u64>) -> Chunk
     }) [] result }
 {
     let mut making = Making::begin(alloc, range.start, columns);
+    // One step for all rows: none of them is looked at.
     let ended = making.rows.end_blank(range.end - range.start);
     making.finish(ended)
 }

@@ -1,4 +1,4 @@
-//! A column reduced: each of its rows comes to the one word that it has, so the rows are copied,
+//! A column reduced: each of its rows has one word, which is its result, so the rows are copied,
 //! and no call is made.
 ghost use Rattle.std.specs.Prelude.{◌≡◌, ◌<◌, ◌≤◌, ◌-◌, ℕ, [], None, IsTrue, length, slice_index, slice_index_or};
 ghost use Rattle.csr_store.specs.Mask.{mask_of};
@@ -13,15 +13,16 @@ use job_forms::{Chunk, Region};
 use std::alloc::Global;
 use std::ops::Range;
 
-/// How many words are copied at a time.
+/// How many words are copied at once.
 const MOST_WORDS: usize = 64;
 
-/// Whether the rows of a region are those of a column, all of one run, and no mask hides any.
+/// Whether the rows of a region are those of a column, all in one run, and no mask hides any.
 pub fn is_column(a: &Matrix, region: &Region<'_>) -> bool
     requires { region.now.range.start ≤ region.now.range.end }
     ensures { IsTrue result → (a.now.columns ≡ 1) × (mask_of region.now.mask ≡ None)
         × IsInRun region.now.range.start region.now.range.end }
 {
+    // A row of one word at most is its own fold.
     if a.columns() != 1 {
         return false;
     }
@@ -31,7 +32,7 @@ pub fn is_column(a: &Matrix, region: &Region<'_>) -> bool
     }
 }
 
-/// Takes the words of cells.
+/// Copies the words of cells.
 #[inline(always)]
 fn take_words(cells: &[Cell], words: &mut [u64; MOST_WORDS])
     requires { length cells.now ≤ 64 }
@@ -52,6 +53,7 @@ fn write_all(rows: &mut RowCopy<'_>)
 {
     let entries = rows.entries();
     let mut words = [0; MOST_WORDS];
+    // `RowCopy` copies positions. Values have to be written, here the old ones.
     while rows.written() < entries {
         let many = (entries - rows.written()).min(MOST_WORDS);
         take_words(rows.next_cells(many), &mut words);
@@ -59,7 +61,7 @@ fn write_all(rows: &mut RowCopy<'_>)
     }
 }
 
-/// The rows of a range, all of one run, as they are, and no call. Takes their memory.
+/// The rows of a range, all in one run, as they are, and no call. Allocates their memory.
 pub fn copy_rows(alloc: Global, a: &Matrix, range: Range<u64>) -> Chunk
     requires range { (range.start ≤ range.end) × IsInRun range.start range.end }
     requires within { range.end ≤ a.now.rows }

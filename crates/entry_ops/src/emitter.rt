@@ -1,5 +1,4 @@
-//! Rows whose cells are added at once, and whose values are put in place when gathered calls are
-//! made.
+//! Rows whose cells are added at once, and whose values are written when gathered calls are made.
 ghost use Rattle.std.specs.Prelude.{◌≡◌, ◌<◌, ◌+◌, ◌^◌, ◌∷◌, [], length, OnOk, OnErr};
 ghost use Rattle.bpf_insn.specs.Machine.{kind_of};
 ghost use Rattle.bpf_run.specs.Meaning.{value_of};
@@ -18,12 +17,12 @@ use job_forms::{Chunk, Making};
 use std::alloc::{AllocError, Global};
 use std::marker::Model;
 
-/// Rows, the entries whose values are those of calls that wait, and the steps of the calls that
-/// were made.
+/// Rows, the entries whose values are those of gathered calls, and the steps of the calls that were
+/// made.
 #[derive(Drop)]
 pub struct Emitter {
     rows: Rows,
-    /// The entry of each call that waits, in step with the gathered operands.
+    /// The entry of each gathered call, in the order of the operands.
     indices: [usize; MOST_CALLS],
     steps: u64,
 }
@@ -52,7 +51,7 @@ impl Emitter {
         }
     }
 
-    /// Reserves room for as many rows and cells.
+    /// Reserves memory for so many rows and cells.
     pub fn reserve(&mut self, rows: usize, cells: usize) -> Result<(), AllocError>
         ensures { self.new ≡ self.old }
     {
@@ -60,8 +59,8 @@ impl Emitter {
         self.rows.reserve(cells)
     }
 
-    /// What was made: the rows, unless memory was refused, and the steps. What is left of the room
-    /// that was made is given back.
+    /// The finished chunk: the rows, unless memory was refused, and the steps. Reserved memory that
+    /// wasn't used is freed.
     pub fn finish(self, filled: Result<(), AllocError>) -> Chunk
         ensures { result ≡ finished (record { rows = self.rows; steps = self.steps }) filled }
     {
@@ -70,21 +69,23 @@ impl Emitter {
             steps,
             ..
         } = self;
+        // Memory was reserved for the most cells that could come.
         rows.trim();
         Making { rows, steps }.finish(filled)
     }
 
-    /// Makes the calls that were gathered, and puts their values in place.
+    /// Makes the calls that were gathered, and writes their values.
     pub fn flush(&mut self, operator: &Operator, calls: &mut Calls)
         requires holds { Holds operator.now self.old calls.old }
         requires room { self.old.steps + steps_of (calls_on operator.now calls.old.operands) < 2 ^ 64 }
         ensures { IsFlushed operator.now self.old calls.old self.new calls.new }
     {
+        // Charged whatever comes after: the calls are made.
         self.steps += calls.make(operator);
         put_values(&self.indices, calls.values(), &mut self.rows);
     }
 
-    /// Flushes where no further call fits in.
+    /// Flushes if no further call fits in.
     #[inline(always)]
     fn make_room(&mut self, operator: &Operator, calls: &mut Calls)
         requires holds { Holds operator.now self.old calls.old }
@@ -112,8 +113,11 @@ impl Emitter {
             self.old calls.old self.new calls.new result }
     {
         self.make_room(operator, calls);
+        // The index of the cell that is pushed below.
         self.indices[calls.len()] = self.rows.entries();
         calls.gather(operands);
+        // 0 until the call is made. If memory is refused here, the gathered calls aren't made, nor
+        // charged.
         self.rows.push(column, 0)?;
         Ok(())
     }
@@ -146,13 +150,14 @@ impl Emitter {
     }
 }
 
-/// Puts values in their places: all at once where these follow one another.
+/// Writes values to their entries: all at once if these are consecutive.
 fn put_values(indices: &[usize], values: &[u64], rows: &mut Rows)
     requires have { HavePlaces indices.now values.now (entries_of rows.old) }
     requires rise { Rise 0 indices.now values.now }
     ensures { rows.new ≡ placed indices.now values.now rows.old }
 {
     let many = values.len();
+    // Indices ascend, so the first and the last tell whether they are consecutive.
     if many > 0 && indices[many - 1] - indices[0] == many - 1 {
         rows.set_values(indices[0], values);
         return;

@@ -1,5 +1,5 @@
-//! Rows folded many at once: each row that is open has a lane, and a call is made of each together
-//! with the others'.
+//! Folding many rows at once: each open row has a lane, and a call for each is made together with
+//! the others'.
 ghost use Rattle.std.specs.Prelude.{◌≡◌, ◌<◌, ◌≤◌, ◌+◌, ◌++◌, ◌∷◌, [], ℕ, if◌then◌else◌, length, map, IfOk, OnOk};
 ghost use Rattle.bpf_insn.specs.declared.operands.Kind.TheVariants as kinds;
 ghost use Rattle.bpf_verify.specs.Accepted.{Accepted};
@@ -28,15 +28,14 @@ use csr_store::{Matrix, Rows};
 use std::alloc::{AllocError, Global};
 use std::marker::Model;
 
-/// How many rows follow one another in a block. Its results are all known before the first is
-/// added.
+/// How many consecutive rows are in a block. All its results are known before the first is added.
 pub const BLOCK_ROWS: usize = 256;
 
-/// Fewer lanes are folded to their ends, one after the other. There are so few only where no row is
-/// left to begin.
+/// Fewer lanes are folded to their ends, one by one. They are so few only when no row is left to
+/// begin.
 const FEW_LANES: usize = 20;
 
-/// Rows that follow one another: so many from the first on.
+/// Consecutive rows: so many from the first on.
 #[derive(Clone, Copy)]
 pub struct Block {
     pub first: u64,
@@ -48,7 +47,7 @@ pub struct Block {
 #[derive(Drop)]
 pub struct Folds<'m> {
     lanes: OpenRows<'m>,
-    /// What each row that was begun comes to. Of an open row it isn't known yet.
+    /// The result of each row that was begun. For an open row it isn't known yet.
     results: Vec<Option<u64>>,
     steps: u64,
 }
@@ -66,7 +65,7 @@ impl<'m> Model for Folds<'m> {
 }
 
 impl<'m> Folds<'m> {
-    /// No row yet, and no call. Takes all the memory that any number of blocks wants.
+    /// No row yet, and no call. Allocates all the memory that any number of blocks needs.
     pub fn new(alloc: Global) -> Result<Self, AllocError>
         ensures { IfOk result (λ e. e ≡ record { lanes = []; results = []; steps = 0 }) }
     {
@@ -93,10 +92,13 @@ impl<'m> Folds<'m> {
     {
         let number = self.results.len();
         let Some((first, behind)) = cells.split_first() else {
+            // The capacity is that of a block, so no push is refused.
             self.results.push(None).unwrap();
             return;
         };
+        // The fold so far. It is the result if the row has no other cell.
         self.results.push(Some(first.1)).unwrap();
+        // A row of one cell takes no call, and hence no lane.
         if let Some((next, rest)) = behind.split_first() {
             self.lanes.push(OpenRow {
                 number,
@@ -117,6 +119,7 @@ impl<'m> Folds<'m> {
             → IsFolding f a.entry.now (mask_of mask.entry) block.first block.many total self.new }
     {
         while self.lanes.len() < MOST_CALLS && self.results.len() < block.many {
+            // Rows begin in order, so the number of results is the next row's.
             let row = block.first + self.results.len() as u64;
             self.begin_row(shown_cells(a, mask, row));
         }
@@ -132,7 +135,7 @@ impl<'m> Folds<'m> {
         self.steps += self.lanes.call(operator, calls, &mut self.results);
     }
 
-    /// Makes all the calls of the last lane, in one run.
+    /// Makes all remaining calls of the last lane.
     fn finish_last(&mut self, operator: &Operator)
         requires can { CanGo operator.now self.old }
         requires some { 0 < length self.old.lanes }
@@ -177,17 +180,20 @@ impl<'m> Folds<'m> {
         self.fill(a, mask, block);
         while self.lanes.len() > 0 {
             self.go(operator, calls);
+            // Lanes that ended are free again. Kept full, they share each call among as many rows
+            // as possible.
             self.fill(a, mask, block);
         }
     }
 
-    /// Adds the rows of the block: each has its result in its one column, or nothing.
+    /// Adds the rows of the block: each has its result in its one column, or no entry.
     pub fn add_to(&self, rows: &mut Rows) -> Result<(), AllocError>
         requires columns { rows.old.columns ≡ 1 }
         requires closed { rows.old.opened ≡ [] }
         ensures { OnOk result
             (rows.new ≡ record rows.old { ended = rows.old.ended ++ map (cell_at 0) self.now.results; opened = [] }) }
     {
+        // Counted, so that memory is reserved once.
         let known = self.results.iter().filter(|value| value.is_some()).count();
         rows.reserve(known)?;
         rows.reserve_rows(self.results.len())?;
@@ -221,7 +227,7 @@ pub fn row_shown(mask: Option<&Matrix>, row: u64) -> bool
     }
 }
 
-/// The cells of a row that are folded: none where the mask doesn't show the row.
+/// The cells of a row that are folded: none if the mask doesn't show the row.
 pub fn shown_cells<'m>(a: &'m Matrix, mask: Option<&'m Matrix>, row: u64) -> &'m [Cell]
     requires { row < a.now.rows }
     ensures { result.now ≡ (if passes (mask_of mask.entry) (row, 0) then row_of a.entry.now row else []) }

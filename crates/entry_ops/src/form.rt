@@ -1,4 +1,4 @@
-//! What each form makes of a position.
+//! The result of each form at a position.
 ghost use Rattle.std.specs.Prelude.{◌≡◌};
 ghost use Rattle.csr_store.specs.Along.{cell_at};
 ghost use Rattle.job_forms.specs.Forms.{operands_at};
@@ -18,13 +18,13 @@ use std::alloc::AllocError;
 pub enum EntryForm {
     /// The operator on each word, and with a thunk on its position too.
     Apply(Option<u64>),
-    /// The operator where both have a word, and else a copy.
+    /// The operator where both have a word, otherwise a copy.
     Union,
     /// The operator where both have a word.
     Both,
 }
 
-/// What stands at a position in the operands.
+/// The words of the operands at a position.
 #[derive(Clone, Copy)]
 pub struct WordPair {
     pub row: u64,
@@ -33,7 +33,7 @@ pub struct WordPair {
     pub right: Option<u64>,
 }
 
-/// Adds what a form makes of a position: a copy, the value of a call, or nothing.
+/// Adds the result of a form at a position: a copy, the value of a call, or nothing.
 #[inline(always)]
 pub fn emit(
     form: EntryForm,
@@ -59,6 +59,7 @@ pub fn emit(
         }
         EntryForm::Union => match (pair.left, pair.right) {
             (Some(x), Some(y)) => emitter.call(operator, calls, column, Operands::Binary { x, y }),
+            // A copy is known at once. It may end up between cells that still wait.
             (Some(x), None) => emitter.copy(column, x),
             (None, Some(y)) => emitter.copy(column, y),
             (None, None) => Ok(()),
@@ -70,7 +71,7 @@ pub fn emit(
     }
 }
 
-/// What an operator is called on: a word, and with a thunk its position too.
+/// The operands of a call: a word, and with a thunk its position too.
 #[inline(always)]
 pub fn operands_of(thunk: Option<u64>, row: u64, column: u64, x: u64) -> Operands
     ensures { result ≡ operands_at thunk (row, column) x }

@@ -1,4 +1,4 @@
-//! Rows folded one after the other, call after call.
+//! Folding rows one by one, call by call.
 ghost use Rattle.std.specs.Prelude.{◌≡◌, ◌<◌, ◌^◌, [], if◌then◌else◌};
 ghost use Rattle.bpf_insn.specs.declared.operands.Kind.TheVariants as kinds;
 ghost use Rattle.bpf_run.specs.Calls.{steps_of};
@@ -14,7 +14,7 @@ use csr_store::Matrix;
 use job_forms::{Making, Region};
 use std::alloc::AllocError;
 
-/// What a row comes to, unless it has no cell, and the steps of its calls.
+/// The result of a row, unless it has no cell, and the steps of its calls.
 #[derive(Clone, Copy)]
 struct Folded {
     value: Option<u64>,
@@ -40,6 +40,7 @@ fn fold_row(operator: &Operator, cells: &[Cell]) -> Folded
             steps: 0,
         };
     };
+    // The first call takes the first two words, so `fold` gets them apart from the rest.
     let folded = fold(operator, first.1, next.1, rest);
     Folded {
         value: Some(folded.value),
@@ -47,7 +48,7 @@ fn fold_row(operator: &Operator, cells: &[Cell]) -> Folded
     }
 }
 
-/// The cells of a row that are folded: none where the mask doesn't show the row.
+/// The cells of a row that are folded: none if the mask doesn't show the row.
 #[inline(always)]
 fn shown<'m>(cells: &'m [Cell], mask: Option<&'m Matrix>, row: u64) -> &'m [Cell]
     ensures { result.now ≡ (if passes (mask_of mask.entry) (row, 0) then cells.now else []) }
@@ -68,14 +69,17 @@ pub fn fill_in_order(
     let first = region.range.start;
     let end = region.range.end;
     let many = (end - first) as usize;
+    // Before the first call: memory is refused here, if at all, without a charge.
     making.rows.reserve_rows(many)?;
     making
         .rows
+        // A row has one result at most, and none without entries.
         .reserve(many.min(entries_between(a, first, end)))?;
     let mut reader = a.rows_from(first);
     for row in first..end {
         let cells = reader.next_row();
         let folded = fold_row(operator, shown(cells, region.mask, row));
+        // Charged first: adding the row may be refused memory.
         making.steps += folded.steps;
         add_row(&mut making.rows, folded.value)?;
     }

@@ -1,5 +1,5 @@
-//! The entries of rows that an index operator is called on, 64 at a time, whichever rows they stand
-//! in.
+//! The entries of rows that an index operator is called on, 64 at a time, regardless of row
+//! boundaries.
 ghost use Rattle.std.specs.Prelude.{◌≡◌, ◌<◌, ◌≤◌, ◌-◌, ◌++◌, length, nat_lt};
 ghost use Rattle.bpf_insn.specs.declared.operands.Kind.TheVariants as kinds;
 ghost use Rattle.bpf_run.specs.Calls.{entries_of};
@@ -13,14 +13,15 @@ use csr_store::{Matrix, RowReader};
 use std::marker::Model;
 use std::ops::Range;
 
-/// The entries that are to be called, with their positions and a thunk: those that are left of a
-/// row, and those of the rows behind it up to an end. A contract sees the operands of their calls.
+/// The entries that are still to be called, with their positions and a thunk: those that are left
+/// of a row, and those of the rows after it up to an end. A contract sees the operands of their
+/// calls.
 #[derive(Drop)]
 pub struct IndexCalls<'m> {
     thunk: u64,
     columns: u64,
     row: u64,
-    /// What is left of `row`: nothing where there is one column at most.
+    /// What is left of `row`: nothing if there is one column at most.
     left: &'m [Cell],
     reader: RowReader<'m>,
     end: u64,
@@ -65,13 +66,17 @@ impl<'m> IndexCalls<'m> {
         ensures gathers { Gathers self.old calls.old self.new calls.new result }
         ensures some { result ≡ nat_lt 0 (length calls.new.operands) }
     {
+        // Rows have one entry at most. Gathering single entries is then cheaper than gathering
+        // rows.
         if self.columns <= 1 {
             return gather_column(&mut self.reader, self.end, self.thunk, calls);
         }
+        // In locals, so that the loop doesn't write through `self`.
         let mut row = self.row;
         let mut left = self.left;
         while left.len() <= MOST_CALLS - calls.len() {
             calls.gather_entries(left, row, self.thunk);
+            // The number of the row that the reader returns next.
             row = self.reader.row();
             if row >= self.end {
                 self.left = &[];
@@ -79,6 +84,7 @@ impl<'m> IndexCalls<'m> {
             }
             left = self.reader.next_row();
         }
+        // The rest of a row that doesn't fit waits for the next calls.
         let (now, later) = left.split_at(MOST_CALLS - calls.len());
         calls.gather_entries(now, row, self.thunk);
         self.row = row;

@@ -1,4 +1,4 @@
-//! Cells that are kept or not by answers, in a few places of their own before they are added to
+//! Cells that are selected by the results of calls, in a small buffer before they are added to
 //! rows.
 ghost use Rattle.std.specs.Prelude.{◌≡◌, ◌<◌, ◌≤◌, ◌+◌, ◌++◌, ◌∷◌, [], nat_eq, if◌then◌else◌, take, IfOk, OnOk};
 ghost use Rattle.entry_ops.specs.inner.Standing.{FollowIn, with_cells, with_end};
@@ -8,11 +8,12 @@ use crate::operand_rows::Cell;
 use csr_store::Rows;
 use std::alloc::AllocError;
 
-/// How many cells there is room for.
+/// How many cells the buffer holds.
 pub const MOST_KEPT: usize = 64;
 
-/// Puts a cell behind those that are kept, and counts it where its answer is not 0. It is written
-/// all the same, so nothing waits for the answer: which cells are kept can't be foretold.
+/// Writes a cell after those that are selected, and counts it if its result is not 0. It is written
+/// in any case, so that no branch depends on the result: no processor predicts which cells are
+/// selected.
 #[inline(always)]
 pub fn keep_if(kept: &mut [Cell; MOST_KEPT], many: usize, cell: Cell, answer: u64) -> usize
     requires { many < 64 }
@@ -20,11 +21,12 @@ pub fn keep_if(kept: &mut [Cell; MOST_KEPT], many: usize, cell: Cell, answer: u6
     ensures kept { take result kept.new ≡ (if nat_eq answer 0 then take many kept.old else take many kept.old ++ cell ∷ []) }
 {
     kept[many] = cell;
+    // The next cell overwrites one that isn't counted.
     many + usize::from(answer != 0)
 }
 
-/// Makes a place for one cell more: where there is none, all that are kept are added to the rows.
-/// Returns how many wait.
+/// Makes the buffer hold another cell: if it is full, its cells are added to the rows. Returns how
+/// many it then has.
 #[inline(always)]
 pub fn make_place(
     rows: &mut Rows,
@@ -44,7 +46,7 @@ pub fn make_place(
     Ok(0)
 }
 
-/// Adds the cells that are kept, and ends the open row.
+/// Adds the cells of the buffer, and ends the open row.
 pub fn end_kept(rows: &mut Rows, kept: &[Cell]) -> Result<(), AllocError>
     requires { FollowIn kept.now rows.old }
     ensures { OnOk result (rows.new ≡ with_end (with_cells kept.now rows.old)) }

@@ -1,20 +1,19 @@
 //! Operations entry by entry, with operators of the user's own. [`apply_rows`], [`select_rows`],
-//! [`union_rows`], [`both_rows`] and [`reduce_rows`] each make the rows of a range of a result,
+//! [`union_rows`], [`both_rows`] and [`reduce_rows`] each compute the rows of a range of a result,
 //! under a mask if there is one, which are a part of what job_forms defines (`IsPartOf`).
 //! [`apply_region`], [`select_region`], [`union_region`], [`both_region`] and [`reduce_region`]
-//! make the same with room for calls that is kept from region to region, as workers do.
+//! compute the same with buffers for calls that regions share, as workers do.
 //!
-//! Calls are gathered across rows and made many together, so a cell stands before its value is
-//! known. Without a mask apply copies rows of one run (`runs`) and gives their entries the values
-//! of calls (`mapping`); so do union and both where their operands have the same positions
-//! (`pairs`), which an operator that is known by its program is called on in a loop of its own
-//! (`pair_calls`). Select without a mask makes all calls first (`select_unmasked`). Otherwise rows
-//! are filled cell by cell (`rows`): by two rows read side by side (`merge`), or along the row of a
-//! mask (`masked`); `form` says what a form makes of a position, and `emitter` puts values in their
-//! places. Under a mask select's last cells wait for their answers
-//! (`select`, over `select_buffer` and `kept_cells`). A column is reduced by copying it (`column`).
-//! Other rows are reduced one after the other by a short operator (`in_order`), many at once by a
-//! longer one (`folds`, over `open_rows`).
+//! Calls are gathered across rows and made many together, so a cell is added before its value is
+//! known. Without a mask, apply copies rows of one run (`runs`) and gives their entries the values
+//! of calls (`mapping`); so do union and both if their operands have the same positions (`pairs`),
+//! for which a recognised operator is called in a loop of its own (`pair_calls`). Select without a
+//! mask makes all calls first (`select_unmasked`). Otherwise rows are filled cell by cell (`rows`):
+//! from two rows read side by side (`merge`), or along the row of a mask (`masked`); `form` defines
+//! the result of a form at a position, and `emitter` writes values to their entries. Under a mask,
+//! select's last cells wait for their results (`select`, over `select_buffer` and `kept_cells`). A
+//! column is reduced by copying it (`column`). Other rows are reduced one by one with a short
+//! operator (`in_order`), many at once with a longer one (`folds`, over `open_rows`).
 //!
 //! Read `ranges`, `apply`, `union` and `reduce` first, then `rows` with `specs/inner/Walking.antt`
 //! and `specs/inner/Placing.antt`.

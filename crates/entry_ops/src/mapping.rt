@@ -1,5 +1,5 @@
 //! Apply, and union and both of rows that are alike, without a mask: rows are copied with the
-//! values of calls, 64 at a time, whichever row their entries stand in.
+//! values of calls, 64 at a time, regardless of row boundaries.
 ghost use Rattle.std.specs.Prelude.{◌≡◌, ◌<◌, ◌≤◌, ◌+◌, ◌-◌, ◌^◌, None, Ok};
 ghost use Rattle.bpf_insn.specs.declared.operands.Kind.TheVariants as kinds;
 ghost use Rattle.bpf_run.specs.Calls.{calls_on, steps_of, words_of};
@@ -59,6 +59,7 @@ impl Mapping<'_> {
         let entries = self.rows.entries();
         while self.rows.written() < entries {
             let many = (entries - self.rows.written()).min(MOST_CALLS);
+            // From the copy itself, so that the operand isn't read a second time.
             calls.gather_words(self.rows.next_cells(many));
             self.make(operator, calls);
         }
@@ -92,6 +93,8 @@ impl Mapping<'_> {
         ensures waits { NoneWaits kinds.Binary calls.new }
         ensures further { IsFurther operator.now (pairs_in next.entry.left.now next.entry.right.now) self.old self.new }
     {
+        // A compiled loop reads its pairs where they are. Gathering them would cost more than the
+        // calls.
         match call_known_pairs(operator, &next, values) {
             Some(steps) => {
                 self.steps += steps;
@@ -151,8 +154,8 @@ impl Mapping<'_> {
     }
 }
 
-/// The rows of a range, all of one run, of what an operator makes of each word, without a mask.
-/// Their memory is taken first, so that on want of it no call was made.
+/// The rows of a range, all in one run, with an operator applied to each word, without a mask.
+/// Their memory is allocated first, so that no call was made if it is refused.
 pub fn map_region(
     alloc: Global,
     calls: &mut Calls,
@@ -178,9 +181,9 @@ pub fn map_region(
     mapping.finish()
 }
 
-/// The rows of a range of a union, or of where both have a word. Where these rows are of one run
-/// and alike in both operands, and there is no mask, they are copied with the values of calls, and
-/// their memory is taken first, so that on want of it no call was made.
+/// The rows of a range of a union, or of positions that both operands have. If these rows are in
+/// one run and alike in both operands, and there is no mask, they are copied with the values of
+/// calls, and their memory is allocated first, so that no call was made if it is refused.
 pub fn merge_region(
     alloc: Global,
     calls: &mut Calls,
@@ -194,10 +197,12 @@ pub fn merge_region(
     ensures { IsFormMade (form_of form) operator.now sources.entry.left.now (mask_of sources.entry.right)
         (mask_of sources.entry.mask) range.start (range.end - range.start) result }
 {
+    // Positions differ, or a mask hides some: the rows have to be read side by side.
     let Some(pairs) = Pairs::of_rows(sources, range.start..range.end) else {
         return fill_region(alloc, calls, form, operator, sources, range);
     };
     operator.recall();
+    // Either operand would do, as they have the same positions.
     let rows = match sources.left.copying(alloc, range.start..range.end) {
         Ok(rows) => rows,
         Err(error) => return Chunk::refused(error),

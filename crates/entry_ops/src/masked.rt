@@ -1,4 +1,4 @@
-//! The row of a mask walked along, and rows read beside it.
+//! Reading rows along the row of a mask.
 ghost use Rattle.std.specs.Prelude.{◌≡◌, ℕ, List, Some};
 ghost use Rattle.bpf_verify.specs.Accepted.{Accepted};
 ghost use Rattle.csr_store.specs.Ascending.{Ascends};
@@ -15,7 +15,7 @@ use bpf_verify::Operator;
 use job_forms::RowCursor;
 use std::alloc::AllocError;
 
-/// The row of the second operand, where a form has one.
+/// The row of the second operand, if a form has one.
 #[inline(always)]
 fn second_for<'a>(form: EntryForm, right: &'a [Cell]) -> &'a [Cell]
     ensures ascends { (n : ℕ) → Ascends 0 n right.now → Ascends 0 n result.now }
@@ -30,7 +30,7 @@ fn second_for<'a>(form: EntryForm, right: &'a [Cell]) -> &'a [Cell]
     }
 }
 
-/// Adds the cells of a row, of those positions that a mask's row stores.
+/// Adds the cells of a row, at those positions that a mask's row stores.
 #[inline(always)]
 pub fn fill_masked(
     form: EntryForm,
@@ -52,8 +52,10 @@ pub fn fill_masked(
     let mut lefts = RowCursor::new(sides.left);
     let mut rights = RowCursor::new(second_for(form, sides.right));
     let mut masks = mask;
+    // Along the mask's row: only its positions may have a result.
     while let Some((shown, rest)) = masks.split_first() {
         let column = shown.0;
+        // All three rows ascend, so each is read once.
         lefts.advance_to(column);
         rights.advance_to(column);
         let pair = WordPair {

@@ -12,7 +12,7 @@ use bpf_run::Calls;
 use bpf_verify::Operator;
 use std::alloc::AllocError;
 
-/// Adds what a form makes of the cells that are left of one row where the other has none.
+/// Adds the result of a form for the cells that are left of one row when the other has ended.
 #[inline(always)]
 fn add_rest(form: EntryForm, emitter: &mut Emitter, cells: &[Cell]) -> Result<(), AllocError>
     requires { FollowIn cells.now emitter.old.rows }
@@ -23,11 +23,12 @@ fn add_rest(form: EntryForm, emitter: &mut Emitter, cells: &[Cell]) -> Result<()
     match form {
         EntryForm::Union => emitter.copy_all(cells),
         EntryForm::Both => Ok(()),
+        // Not reached with two operands, as apply has one.
         EntryForm::Apply(_) => Ok(()),
     }
 }
 
-/// The pair of a cell of the first operand, where the second has none.
+/// The pair of a cell of the first operand, if the second has none.
 #[inline(always)]
 fn left_alone(row: u64, cell: &Cell) -> WordPair
     ensures { result ≡ record { row = row; column = cell.now.0; left = Some cell.now.1; right = None } }
@@ -40,7 +41,7 @@ fn left_alone(row: u64, cell: &Cell) -> WordPair
     }
 }
 
-/// The pair of a cell of the second operand, where the first has none.
+/// The pair of a cell of the second operand, if the first has none.
 #[inline(always)]
 fn right_alone(row: u64, cell: &Cell) -> WordPair
     ensures { result ≡ record { row = row; column = cell.now.0; left = None; right = Some cell.now.1 } }
@@ -53,7 +54,7 @@ fn right_alone(row: u64, cell: &Cell) -> WordPair
     }
 }
 
-/// Adds the cells of a row of a union, or of where both have a word, all of which pass.
+/// Adds the cells of a row of a union, or of positions that both operands have, all of which pass.
 #[inline(always)]
 pub fn fill_merged(
     form: EntryForm,
@@ -92,5 +93,6 @@ pub fn fill_merged(
             rights = ys;
         }
     }
+    // The first operand has ended. `both` has nothing to add then.
     add_rest(form, emitter, rights)
 }

@@ -1,5 +1,5 @@
-//! The open rows of a block of a reduction, up to 64 of them, in columns: a fold and a next word
-//! stand beside those of the others, so that a call of each is gathered at once.
+//! The open rows of a block of a reduction, up to 64 of them, in columns: folds in one list and
+//! next words in another, so that a call for each is gathered at once.
 ghost use Rattle.std.specs.Prelude.{◌≡◌, ◌<◌, ◌≤◌, ◌++◌, ◌∷◌, [], length, take, IfOk};
 ghost use Rattle.bpf_insn.specs.declared.operands.Kind.TheVariants as kinds;
 ghost use Rattle.bpf_verify.specs.Accepted.{Accepted, IsAccepted};
@@ -12,8 +12,7 @@ use bpf_verify::Operator;
 use std::alloc::{AllocError, Global};
 use std::marker::Model;
 
-/// A row that is open: its number in the block, its fold so far, its next word, and the cells
-/// behind that.
+/// An open row: its number in the block, its fold so far, its next word, and the cells after that.
 #[derive(Clone, Copy)]
 pub struct OpenRow<'m> {
     pub number: usize,
@@ -22,7 +21,7 @@ pub struct OpenRow<'m> {
     pub rest: &'m [Cell],
 }
 
-/// What is not read for a call: the row's number in the block, and the cells behind its next word.
+/// What a call doesn't read: the row's number in the block, and the cells after its next word.
 #[derive(Clone, Copy)]
 pub struct Lane<'m> {
     number: usize,
@@ -70,7 +69,7 @@ impl<'m> OpenRows<'m> {
         self.lanes.len()
     }
 
-    /// Gives all of them up.
+    /// Drops all of them.
     pub fn clear(&mut self)
         ensures { self.new ≡ [] }
     {
@@ -79,7 +78,7 @@ impl<'m> OpenRows<'m> {
         self.next.clear();
     }
 
-    /// Opens one more.
+    /// Opens another row.
     pub fn push(&mut self, row: OpenRow<'m>)
         requires room { length self.old < 64 }
         ensures { self.new ≡ self.old ++ open_of row.entry ∷ [] }
@@ -88,12 +87,13 @@ impl<'m> OpenRows<'m> {
             number: row.number,
             rest: row.rest,
         };
+        // The capacity is 64 from the start, so no push is refused.
         self.lanes.push(lane).unwrap();
         self.so_far.push(row.so_far).unwrap();
         self.next.push(row.next).unwrap();
     }
 
-    /// Gives the last one up.
+    /// Removes the last one.
     pub fn pop(&mut self) -> OpenRow<'m>
         requires some { 0 < length self.old }
         ensures { self.old ≡ self.new ++ open_of result ∷ [] }
@@ -110,7 +110,7 @@ impl<'m> OpenRows<'m> {
         row
     }
 
-    /// Gives up all but the first lanes.
+    /// Drops all but the first lanes.
     fn truncate(&mut self, left: usize)
         requires { left ≤ length self.old }
         ensures { self.new ≡ take left self.old }
@@ -120,8 +120,8 @@ impl<'m> OpenRows<'m> {
         self.next.truncate(left);
     }
 
-    /// Makes the next call of each row, all of them together. Rows that end have their results
-    /// then, and no lane.
+    /// Makes the next call of each row, all of them together. Rows that end then have their
+    /// results, and no lane.
     pub fn call(
         &mut self,
         operator: &Operator,
@@ -138,6 +138,7 @@ impl<'m> OpenRows<'m> {
         ensures more { 0 < length self.old → 0 < result }
         ensures waits { NoneWaits kinds.Binary calls.new }
     {
+        // Both lists are in the order of lanes, so they are copied as they are.
         calls.gather_pairs(&self.so_far, &self.next);
         let steps = calls.make(operator);
         self.so_far.copy_from_slice(calls.values());
@@ -149,8 +150,8 @@ impl<'m> OpenRows<'m> {
     }
 }
 
-/// Takes the next word of each row that has one. The others have their results, and the rows that
-/// are left come first then, and are counted.
+/// Takes the next word of each row that has one. The others get their results, and the rows that
+/// are left are moved to the front and counted.
 fn take_next<'m>(
     lanes: &mut [Lane<'m>],
     so_far: &mut [u64],
@@ -168,6 +169,7 @@ fn take_next<'m>(
         (in_columns (take result lanes.new) (take result so_far.new) (take result next.new)) results.new }
 {
     let mut left = lanes.len();
+    // From the last on: the lane that fills a gap was handled already.
     for i in (0..lanes.len()).rev() {
         if let Some((first, rest)) = lanes[i].rest.split_first() {
             next[i] = first.1;

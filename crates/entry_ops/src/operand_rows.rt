@@ -29,7 +29,7 @@ pub struct Sources<'a> {
     pub mask: Option<&'a Matrix>,
 }
 
-/// What reads the operands and the mask, row by row.
+/// Readers of the operands and the mask, row by row.
 #[derive(Drop)]
 pub struct OperandReader<'a> {
     left: RowReader<'a>,
@@ -37,7 +37,7 @@ pub struct OperandReader<'a> {
     mask: Option<RowReader<'a>>,
 }
 
-/// What reads a matrix from a row on, if there is one.
+/// A reader of a matrix from a row on, if there is one.
 fn reader_of<'a>(matrix: Option<&'a Matrix>, row: u64) -> Option<RowReader<'a>>
     requires within { IfSome (mask_of matrix) (λ g. row ≤ g.rows) }
     ensures reads { result ≡ reading_at (mask_of matrix.entry) row }
@@ -77,12 +77,13 @@ fn cells_or_none(row: Option<&[Cell]>) -> &[Cell]
 }
 
 impl<'a> OperandReader<'a> {
-    /// Of the rows from one on.
+    /// Readers of the rows from one on.
     pub fn begin(sources: Sources<'a>, row: u64) -> Self
         requires alike { AreAlike sources }
         requires within { row ≤ sources.left.now.rows }
         ensures { AreRead sources.entry row result }
     {
+        // For the prover: a matrix has rows that ascend and lie within its columns.
         sources.left.recall();
         OperandReader {
             left: sources.left.rows_from(row),
@@ -91,7 +92,7 @@ impl<'a> OperandReader<'a> {
         }
     }
 
-    /// What is read for the next row of the result, of the same operands and mask.
+    /// The rows of the same operands and mask for the next row of the result.
     #[inline(always)]
     pub fn next_operands(&mut self, sources: Sources<'a>, row: u64) -> OperandRows<'a>
         requires read { AreRead sources row self.old }
@@ -109,13 +110,15 @@ impl<'a> OperandReader<'a> {
     }
 }
 
-/// The most cells for which room is made before it is known that they come. More is made as they
-/// come.
+/// The most cells for which memory is reserved before it is known that they come. More is reserved
+/// as they come.
 pub const MOST_ROOM: usize = 65_536;
 
 /// How many entries the rows of a matrix have from one on up to another.
 pub fn entries_between(matrix: &Matrix, first: u64, end: u64) -> usize {
     let starts = matrix.starts();
+    // By `get`, and saturating: the number is only an amount to reserve, so no contract bounds the
+    // rows.
     match (starts.get(first as usize), starts.get(end as usize)) {
         (Some(from), Some(to)) => to.saturating_sub(*from) as usize,
         _ => 0,

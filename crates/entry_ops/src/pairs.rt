@@ -1,5 +1,5 @@
-//! The entries of two matrices that a binary operator is called on where both have the same
-//! positions, 64 at a time, whichever rows they stand in.
+//! The entries of two matrices that a binary operator is called on if both have the same positions,
+//! 64 at a time, regardless of row boundaries.
 ghost use Rattle.std.specs.Prelude.{◌≡◌, ◌<◌, ◌≤◌, ◌+◌, ◌-◌, ◌++◌, ℕ, [], None, length, IfSome, IsTrue};
 ghost use Rattle.bpf_insn.specs.declared.operands.Kind.TheVariants as kinds;
 ghost use Rattle.csr_store.specs.Grid.{row_of};
@@ -16,8 +16,8 @@ use csr_store::Matrix;
 use std::marker::Model;
 use std::ops::Range;
 
-/// Cells that are still to be called, each with that in its place among others. A contract sees the
-/// operands of their calls.
+/// Cells that are still to be called, each with the cell at the same index of another list. A
+/// contract sees the operands of their calls.
 #[derive(Drop)]
 pub struct Pairs<'m> {
     left: &'m [Cell],
@@ -37,14 +37,15 @@ impl<'m> Model for Pairs<'m> {
 }
 
 impl<'m> Pairs<'m> {
-    /// The entries of a range of rows, where there is no mask, and these rows are of one run and
-    /// alike in both operands: each has entries at the same columns. They are compared as two
-    /// lists, and no row is looked up.
+    /// The entries of a range of rows, if there is no mask, and these rows are in one run and alike
+    /// in both operands: each has entries at the same columns. They are compared as two lists, and
+    /// no row is looked up.
     pub fn of_rows(sources: Sources<'m>, range: Range<u64>) -> Option<Self>
         requires { HaveRows sources range.start range.end }
         ensures pairs { IfSome result (λ p. ArePaired sources.entry range.start (range.end - range.start) p) }
         ensures one_run { IfSome result (λ p. IsInRun range.start range.end) }
     {
+        // Cells of one run are one list, which is what makes the comparison cheap.
         if !is_in_run(range.start..range.end) {
             return None;
         }
@@ -54,6 +55,7 @@ impl<'m> Pairs<'m> {
         let a = sources.left;
         a.recall();
         b.recall();
+        // Rows of equal lengths and, below, equal columns throughout: then all positions are equal.
         if !are_as_long(a, b, range.start..range.end) {
             return None;
         }
@@ -65,7 +67,7 @@ impl<'m> Pairs<'m> {
         Some(Pairs { left, right })
     }
 
-    /// Takes off the pairs that come next, up to 64 of them, if there are any.
+    /// Removes the pairs that come next, up to 64 of them, if there are any.
     #[inline(always)]
     pub fn next_pairs(&mut self) -> Option<CellPairs<'m>>
         ensures some { IfSome result (λ p. ArePairs p × (0 < length p.left.now)
@@ -84,7 +86,7 @@ impl<'m> Pairs<'m> {
     }
 }
 
-/// Gathers the words of cells, each with that in its place among others.
+/// Gathers the words of cells, each with that of the cell at the same index of another list.
 pub fn gather_each(calls: &mut Calls, left: &[Cell], right: &[Cell])
     requires same { length right.now ≡ length left.now }
     requires room { length calls.old.operands + length left.now ≤ 64 }
@@ -99,7 +101,7 @@ pub fn gather_each(calls: &mut Calls, left: &[Cell], right: &[Cell])
 }
 
 /// Whether each row of a range has as many entries in one matrix as in another. All are compared,
-/// in a loop without a way out.
+/// in a loop without an early return.
 fn are_as_long(a: &Matrix, b: &Matrix, range: Range<u64>) -> bool
     requires { (range.end ≤ a.now.rows) × (range.end ≤ b.now.rows) }
     ensures { IsTrue result → (i : ℕ) → range.start ≤ i → i < range.end → length (row_of a.now i) ≡ length (row_of b.now i) }
@@ -110,6 +112,7 @@ fn are_as_long(a: &Matrix, b: &Matrix, range: Range<u64>) -> bool
     let mut same = true;
     for i in range.start..range.end {
         let next = i as usize;
+        // `&=`, not a branch: without an early return this becomes vector code.
         same &= first[next + 1] - first[next] == second[next + 1] - second[next];
     }
     same
@@ -125,6 +128,7 @@ fn have_same_columns(left: &[Cell], right: &[Cell]) -> bool
     let mut same = true;
     let mut next = 0;
     for cell in left {
+        // As above.
         same &= cell.0 == right[next].0;
         next += 1;
     }

@@ -1,4 +1,4 @@
-//! The rows of any range of a result, with the room for calls made for these alone.
+//! The rows of any range of a result, with buffers for calls that are allocated for these alone.
 ghost use Rattle.std.specs.Prelude.{◌≡◌, ◌≤◌};
 ghost use Rattle.bpf_insn.specs.declared.operands.Kind.TheVariants as kinds;
 ghost use Rattle.csr_store.specs.Mask.{HasShape, mask_of};
@@ -26,7 +26,7 @@ use job_forms::{Chunk, Region};
 use std::alloc::Global;
 use std::ops::Range;
 
-/// What an operator makes of each word of a range of rows, as [`apply_region`] does.
+/// An operator applied to each word of a range of rows, as [`apply_region`] does.
 pub fn apply_rows<'m>(
     alloc: Global,
     a: &'m Matrix,
@@ -41,6 +41,7 @@ pub fn apply_rows<'m>(
     ensures { IsPartOf a.now.columns (apply_at operator.now thunk a.now) (apply_calls_at operator.now thunk a.now)
         (record { range = range; mask = mask.entry }) result }
 {
+    // Callers of one range alone. Workers use `apply_region`, with calls that they reuse.
     let mut calls = match Calls::new(alloc) {
         Ok(calls) => calls,
         Err(error) => return Chunk::refused(error),
@@ -55,8 +56,8 @@ pub fn apply_rows<'m>(
     )
 }
 
-/// The words of a range of rows for which the answer of an index operator is not 0, as
-/// [`select_region`] does.
+/// The words of a range of rows for which an index operator doesn't return 0, as [`select_region`]
+/// does.
 pub fn select_rows<'m>(
     alloc: Global,
     a: &'m Matrix,

@@ -16,9 +16,9 @@ use csr_store::Matrix;
 use job_forms::{Chunk, Making, Region, is_blank_under};
 use std::alloc::{AllocError, Global};
 
-/// The rows of an operator of up to so many instructions are folded one after the other: by the
-/// clock a call of one that has more is dearer than its share of a call in lanes, where the next
-/// words of many rows are gathered for each.
+/// Rows are folded one by one with an operator of up to so many instructions. With a longer one, in
+/// wall-clock time, a single call costs more than its share of a call in lanes, for each of which
+/// the next words of many rows are gathered.
 const MOST_IN_ORDER: u64 = 5;
 
 /// Adds the reductions of the rows of a region, block by block.
@@ -43,6 +43,7 @@ fn fill_in_blocks<'m>(
             many: many as usize,
         };
         folds.fold(operator, calls, a, region.mask, block);
+        // The sum over all blocks so far, set before `add_to` may be refused memory.
         making.steps = folds.steps();
         folds.add_to(&mut making.rows)?;
         first += many;
@@ -53,9 +54,9 @@ fn fill_in_blocks<'m>(
 /// The reduction of each row of a region to one value, in the one column of the result.
 ///
 /// A row is folded by ascending column, beginning with its first word. So without a mask a column
-/// comes to itself, and is copied. With a mask, of one column, calls are made for the rows alone at
-/// which it stores something. By a short operator rows are folded one after the other; by a longer
-/// one up to 64 of them at once, a call of each made together with the others', in the scratch.
+/// is its own result, and is copied. With a mask, of one column, calls are made only for the rows
+/// at which it stores something. With a short operator rows are folded one by one; with a longer
+/// one up to 64 of them at once, a call for each made together with the others', in the scratch.
 pub fn reduce_region<'m>(
     alloc: Global,
     calls: &mut Calls,
@@ -67,6 +68,7 @@ pub fn reduce_region<'m>(
     requires region { IsRegion a.now.rows 1 region }
     ensures { IsPartOf 1 (reduce_at operator.now a.now) (reduce_calls_at operator.now a.now) region.entry result }
 {
+    // For the prover: lengths of operators and sizes of matrices bound all sums below.
     operator.recall();
     a.recall();
     if is_blank_under(a, region.mask, &region.range) {

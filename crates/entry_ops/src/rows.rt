@@ -41,11 +41,13 @@ fn fill_operands(
     ensures { Fills operator.now (calls_along (form_of form) operator.now sides.entry)
         (with_cells (cells_along (form_of form) operator.now sides.entry)) emitter.old calls.old emitter.new calls.new result }
 {
+    // The form is a constant in each arm, so that each inlined loop is compiled for it.
     match (form, sides.mask) {
         (Apply(thunk), Some(mask)) => {
             fill_masked(Apply(thunk), operator, calls, emitter, sides, mask)
         }
         (Apply(thunk), None) => {
+            // Without a mask the row is its own: each of its positions passes.
             fill_masked(Apply(thunk), operator, calls, emitter, sides, sides.left)
         }
         (Union, Some(mask)) => fill_masked(Union, operator, calls, emitter, sides, mask),
@@ -73,6 +75,7 @@ fn fill(
         emitter.old calls.old emitter.new calls.new result }
 {
     let mut operand_reader = OperandReader::begin(sources, range.start);
+    // Readers keep their list of cells, so only every 256th row is looked up.
     for row in range.start..range.end {
         let sides = operand_reader.next_operands(sources, row);
         fill_operands(form, operator, calls, emitter, sides)?;
@@ -81,8 +84,8 @@ fn fill(
     Ok(())
 }
 
-/// For how many cells room is made at once: for all that there may be, where these are not very
-/// many. A union without a mask has at least half of them.
+/// How many cells memory is reserved for: all that there may be, unless these are very many. A
+/// union without a mask has at least half of them.
 fn room_for(form: EntryForm, sources: Sources, first: u64, end: u64) -> usize {
     let left = entries_between(sources.left, first, end);
     let right = match sources.right {
@@ -95,6 +98,7 @@ fn room_for(form: EntryForm, sources: Sources, first: u64, end: u64) -> usize {
         EntryForm::Both => left.min(right),
     };
     match (form, sources.mask) {
+        // No limit: at least half of the cells come, whatever the positions.
         (EntryForm::Union, None) => most,
         (_, None) => most.min(MOST_ROOM),
         (_, Some(mask)) => most.min(MOST_ROOM).min(entries_between(mask, first, end)),
@@ -118,6 +122,7 @@ pub fn fill_region(
     operator.recall();
     let mut emitter = Emitter::begin(alloc, range.start, sources.left.columns());
     let rows = (range.end - range.start) as usize;
+    // Before the first call: if memory is refused here, nothing is charged.
     match emitter.reserve(rows, room_for(form, sources, range.start, range.end)) {
         Ok(()) => {}
         Err(error) => return emitter.finish(Err(error)),
@@ -127,6 +132,7 @@ pub fn fill_region(
         Ok(()) => {}
         Err(error) => return emitter.finish(Err(error)),
     }
+    // The calls of the last rows still wait.
     emitter.flush(operator, calls);
     emitter.finish(Ok(()))
 }

@@ -1,4 +1,4 @@
-//! The words at positions of a mask for which the answer of an index operator is not 0, row by row.
+//! The words at positions of a mask for which an index operator doesn't return 0, row by row.
 ghost use Rattle.std.specs.Prelude.{◌≡◌, ◌<◌, ◌-◌, None, Some};
 ghost use Rattle.bpf_insn.specs.declared.operands.Kind.TheVariants as kinds;
 ghost use Rattle.csr_store.specs.Mask.{HasShape};
@@ -24,7 +24,7 @@ pub struct Masked<'a> {
     pub mask: &'a Matrix,
 }
 
-/// Adds the words of a row that the operator keeps, of those at positions that the mask's row
+/// Adds the words of a row that the operator selects, at those positions that the mask's row
 /// stores.
 fn keep_row(
     thunk: u64,
@@ -43,6 +43,7 @@ fn keep_row(
         (with_cells (form_row (forms.Select thunk) operator.now masked.entry.a.now None (Some masked.entry.mask.now) row))
         sieve.old calls.old sieve.new calls.new result }
 {
+    // For the prover: rows ascend, so the cursor misses no cell.
     masked.a.recall();
     masked.mask.recall();
     let mut cells = RowCursor::new(masked.a.row(row));
@@ -83,7 +84,7 @@ fn keep_rows(
     Ok(())
 }
 
-/// The rows of a range of what an operator keeps, under a mask.
+/// The rows of a range of what an operator selects, under a mask.
 pub fn sift_region(
     alloc: Global,
     calls: &mut Calls,
@@ -107,6 +108,7 @@ pub fn sift_region(
         Ok(()) => {}
         Err(error) => return sieve.finish(Err(error)),
     }
+    // The last calls. Adding their cells may be refused memory, after they were charged.
     let flushed = sieve.flush(operator, calls);
     sieve.finish(flushed)
 }

@@ -1,4 +1,4 @@
-//! Rows whose last cells wait for the values of gathered calls, and stand where those are not 0.
+//! Rows whose last cells wait for the values of gathered calls, and are added if those are not 0.
 ghost use Rattle.std.specs.Prelude.{◌≡◌, ◌<◌, ◌≤◌, ◌+◌, ◌^◌, ◌∷◌, [], length, vec_capacity, OnOk, OnErr, IfOk};
 ghost use Rattle.bpf_insn.specs.Machine.{kind_of};
 ghost use Rattle.bpf_run.specs.Meaning.{value_of};
@@ -18,6 +18,7 @@ use std::alloc::{AllocError, Global};
 use std::marker::Model;
 
 /// The most marks that wait.
+// More than calls, since the ends of rows are marks too: many rows may have few cells.
 const MOST_MARKS: usize = 256;
 
 /// What is still to be added to some rows.
@@ -25,11 +26,11 @@ const MOST_MARKS: usize = 256;
 pub enum Mark {
     /// The end of the open row.
     End,
-    /// A cell that stands where the value of the next call is not 0.
+    /// A cell that is added if the value of the next call is not 0.
     Kept { column: u64, word: u64 },
 }
 
-/// Rows, what is marked behind them while calls wait, and the steps of the calls that were made.
+/// Rows, the marks that wait for calls after them, and the steps of the calls that were made.
 #[derive(Drop)]
 pub struct SelectBuffer {
     rows: Rows,
@@ -64,7 +65,7 @@ impl SelectBuffer {
         })
     }
 
-    /// What was made: the rows, unless memory was refused, and the steps.
+    /// The finished chunk: the rows, unless memory was refused, and the steps.
     pub fn finish(self, filled: Result<(), AllocError>) -> Chunk
         ensures { result ≡ finished (record { rows = self.rows; steps = self.steps }) filled }
     {
@@ -79,13 +80,14 @@ impl SelectBuffer {
         ensures made { OnOk result (IsFlushed operator.now self.old calls.old self.new calls.new) }
         ensures spent { OnErr result (self.new.steps ≡ self.old.steps + steps_of (calls_on operator.now calls.old.operands)) }
     {
+        // Charged first: adding cells may be refused memory.
         self.steps += calls.make(operator);
         put_values(&self.marks, calls.values(), &mut self.rows)?;
         self.marks.clear();
         Ok(())
     }
 
-    /// Flushes where no further mark or call fits in.
+    /// Flushes if no further mark or call fits in.
     #[inline(always)]
     pub fn make_room(&mut self, operator: &Operator, calls: &mut Calls) -> Result<(), AllocError>
         requires holds { Holds operator.now self.old calls.old }
@@ -100,7 +102,7 @@ impl SelectBuffer {
         Ok(())
     }
 
-    /// Adds a cell with a word where the value of a call is not 0.
+    /// Adds a cell with a word if the value of a call is not 0.
     #[inline(always)]
     pub fn keep(
         &mut self,
@@ -116,6 +118,7 @@ impl SelectBuffer {
             self.old calls.old self.new calls.new result }
     {
         self.make_room(operator, calls)?;
+        // After `make_room` this can't be refused.
         self.marks.push(Mark::Kept { column, word }).unwrap();
         calls.gather(operands);
         Ok(())
@@ -133,8 +136,8 @@ impl SelectBuffer {
     }
 }
 
-/// Adds what is marked to rows, each call with its value. Cells that are kept wait for the end of
-/// their row.
+/// Adds what is marked to rows, each call with its value. Selected cells wait for the end of their
+/// row.
 fn put_values(marks: &[Mark], values: &[u64], rows: &mut Rows) -> Result<(), AllocError>
     requires fits { Fits marks.now values.now rows.old }
     requires few { length marks.now ≤ 256 }
@@ -150,6 +153,7 @@ fn put_values(marks: &[Mark], values: &[u64], rows: &mut Rows) -> Result<(), All
                 many = 0;
             }
             Mark::Kept { column, word } => {
+                // Before the cell is written, which happens whether it is selected or not.
                 many = make_place(rows, &kept, many)?;
                 many = keep_if(&mut kept, many, (column, word), values[next]);
                 next += 1;

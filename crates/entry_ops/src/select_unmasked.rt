@@ -1,4 +1,4 @@
-//! Select without a mask: all cells are called, and then those that are kept are copied.
+//! Select without a mask: all cells are called, and then those that are selected are copied.
 ghost use Rattle.std.specs.Prelude.{◌≡◌, ◌≤◌, ◌<◌, ◌+◌, ◌-◌, ◌^◌, None, IfOk, OnOk, OnErr};
 ghost use Rattle.bpf_insn.specs.declared.operands.Kind.TheVariants as kinds;
 ghost use Rattle.bpf_run.specs.Calls.{calls_on, values_on, steps_of, Charges};
@@ -15,8 +15,8 @@ use job_forms::Chunk;
 use std::alloc::{AllocError, Global};
 use std::ops::Range;
 
-/// The answers of an operator on all entries that come, in their order. Room for so many is taken
-/// first. Counts the steps of the calls that were made.
+/// The results of an operator on all entries that come, in their order. Memory for `room` results
+/// is allocated first. Counts the steps of the calls that were made.
 fn answers_of(
     alloc: Global,
     calls: &mut Calls,
@@ -31,6 +31,7 @@ fn answers_of(
         × (steps.new ≡ steps.old + steps_of (calls_on operator.now index_calls.entry))) }
     ensures spent { OnErr result (Charges (calls_on operator.now index_calls.entry) steps.old steps.new) }
 {
+    // For all entries at once: if it is refused, no call was made.
     let mut answers = Vec::with_capacity(alloc, room)?;
     while index_calls.gather(calls) {
         *steps += calls.make(operator);
@@ -39,8 +40,8 @@ fn answers_of(
     Ok(answers)
 }
 
-/// The rows of a range of what an operator keeps, without a mask. On want of memory for the answers
-/// no call was made.
+/// The rows of a range of what an operator selects, without a mask. If memory for the results is
+/// refused, no call was made.
 pub fn keep_region(
     alloc: Global,
     calls: &mut Calls,
@@ -61,6 +62,7 @@ pub fn keep_region(
     let mut steps = 0;
     calls.begin(operator.kind());
     match answers_of(alloc, calls, operator, index_calls, room, &mut steps) {
+        // The number of selected cells is known by now, so the rows are allocated exactly.
         Ok(answers) => Chunk {
             result: Rows::kept(alloc, a, range, &answers),
             steps,

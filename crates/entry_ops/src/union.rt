@@ -17,8 +17,8 @@ use std::alloc::Global;
 /// A region of the union of two matrices: the operator where both have a word, and a copy where one
 /// has.
 ///
-/// With a mask calls are made for the positions alone that it stores. `calls` is scratch, kept from
-/// region to region.
+/// With a mask, calls are made only for the positions that it stores. `calls` is scratch that
+/// regions share.
 pub fn union_region<'m>(
     alloc: Global,
     calls: &mut Calls,
@@ -33,6 +33,7 @@ pub fn union_region<'m>(
     ensures { IsPartOf a.now.columns (union_at operator.now a.now b.now) (joint_calls_at operator.now a.now b.now)
         region.entry result }
 {
+    // Both have to be blank: the union copies the words of either.
     if is_blank_under(a, region.mask, &region.range)
         && is_blank_under(b, region.mask, &region.range)
     {
@@ -55,8 +56,8 @@ pub fn union_region<'m>(
 
 /// The operator where two matrices both have a word, in a region.
 ///
-/// With a mask calls are made for the positions alone that it stores. `calls` is scratch, kept from
-/// region to region.
+/// With a mask, calls are made only for the positions that it stores. `calls` is scratch that
+/// regions share.
 pub fn both_region<'m>(
     alloc: Global,
     calls: &mut Calls,
@@ -71,6 +72,7 @@ pub fn both_region<'m>(
     ensures { IsPartOf a.now.columns (both_at operator.now a.now b.now) (joint_calls_at operator.now a.now b.now)
         region.entry result }
 {
+    // One suffices: a position needs a word of each.
     if is_blank_under(a, region.mask, &region.range)
         || is_blank_under(b, region.mask, &region.range)
     {

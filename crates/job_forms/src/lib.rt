@@ -1,14 +1,14 @@
-//! What the form of a job means: what stands at each position of a result, which calls are made for
+//! The meaning of a form of job: the entry at each position of a result, which calls are made for
 //! it, and how many multiplications a product takes.
 //!
 //! The one contract: `specs/Forms.antt` and `specs/Product.antt` are operations of the GraphBLAS,
 //! with operators of the user's own, position by position. `entry_ops` and `row_product` compute
-//! rows by these definitions, and `job_plan` tells and prices jobs by them, so that neither waits
-//! for the other. Rows are made of a [`Region`] of a result, and told with the steps of the calls
-//! ([`Chunk`], by `specs/Region.antt`). What is computed here is what several of them need:
-//! [`mult_count`] and [`mult_count_in`] say how many multiplications a product takes, before any is
-//! made; [`is_blank_under`] tells rows in which nothing is made; and a [`RowCursor`] reads a row
-//! beside another by ascending columns.
+//! rows by these definitions, and `job_plan` describes and prices jobs by them, so that neither
+//! depends on the other. Rows are computed for a [`Region`] of a result, and returned with the
+//! steps of the calls ([`Chunk`], by `specs/Region.antt`). What is computed here is what several of
+//! them need: [`mult_count`] and [`mult_count_in`] count the multiplications of a product, before
+//! any is made; [`is_blank_under`] finds rows of which no call is made; and a [`RowCursor`] reads a
+//! row alongside another by ascending columns.
 //!
 //! Read `specs/Forms.antt` first, then `specs/Product.antt` and `specs/Region.antt` with `region`,
 //! then `row_cursor`, and `count` last.

@@ -1,4 +1,4 @@
-//! A part of a result, and what is made of it.
+//! A part of a result, and the rows that are computed for it.
 ghost use Rattle.std.specs.Prelude.{◌≡◌, ◌≤◌, ◌-◌, ◌↔◌, List, IfSome, IsTrue};
 ghost use Rattle.bpf_run.specs.Calls.{Call};
 ghost use Rattle.csr_store.specs.Mask.{mask_of};
@@ -10,15 +10,15 @@ use std::alloc::{AllocError, Global};
 use std::ops::Range;
 
 /// A part of a result: rows of a range, under a mask if there is one. A mask is structural
-/// (`GrB_STRUCTURE` of the GraphBLAS): a position passes where it stores something.
+/// (`GrB_STRUCTURE` of the GraphBLAS): a position passes if the mask has an entry there.
 #[derive(Drop)]
 pub struct Region<'m> {
     pub range: Range<u64>,
     pub mask: Option<&'m Matrix>,
 }
 
-/// Whether a matrix or the mask has no entry in the rows of a range. That is seen from where rows
-/// start, and no row is looked at.
+/// Whether a matrix or the mask has no entry in the rows of a range. The row starts tell, so no row
+/// is read.
 pub fn is_blank_under(a: &Matrix, mask: Option<&Matrix>, range: &Range<u64>) -> bool
     requires mask { IfSome mask (λ m. range.now.end ≤ m.now.rows) }
     requires within { range.now.end ≤ a.now.rows }
@@ -33,8 +33,7 @@ pub fn is_blank_under(a: &Matrix, mask: Option<&Matrix>, range: &Range<u64>) -> 
     }
 }
 
-/// What was made of a part of a result: its rows, or want of memory; and the steps of the calls
-/// that were made.
+/// The rows of a part of a result, or "out of memory"; and the steps of the calls that were made.
 #[derive(Drop)]
 pub struct Chunk {
     pub result: Result<Rows, AllocError>,
@@ -42,7 +41,7 @@ pub struct Chunk {
 }
 
 impl Chunk {
-    /// Want of memory, before any call was made.
+    /// Out of memory, before any call was made.
     pub fn refused(error: AllocError) -> Self
         ensures { (run : Run) (calls : List Call) → IsMade run calls result }
     {
@@ -53,7 +52,7 @@ impl Chunk {
     }
 }
 
-/// Rows that are being made, with the steps of the calls so far.
+/// Rows under construction, with the steps of the calls so far.
 #[derive(Drop)]
 pub struct Making {
     pub rows: Rows,
@@ -71,7 +70,7 @@ impl Making {
         }
     }
 
-    /// What was made: the rows, unless memory was refused, and the steps.
+    /// The finished chunk: the rows, unless memory was refused, and the steps.
     pub fn finish(self, filled: Result<(), AllocError>) -> Chunk
         ensures { result ≡ finished self filled }
     {
@@ -81,6 +80,7 @@ impl Making {
                 result: Ok(rows),
                 steps,
             },
+            // The steps stay: calls that were made are charged, whatever came after them.
             Err(error) => Chunk {
                 result: Err(error),
                 steps,

@@ -1,15 +1,15 @@
-//! A row that is read beside another.
+//! Reading a row alongside another.
 ghost use Rattle.std.specs.Prelude.{◌≡◌, ◌≤◌, ℕ};
 ghost use Rattle.csr_store.specs.Ascending.{Ascends, at};
 ghost use Rattle.job_forms.specs.inner.Cursor.{first_column};
 
 use std::marker::Model;
 
-/// Where a row is read, by ascending columns. A contract sees the cells that are left.
+/// A position in a row, by ascending columns. A contract sees the cells that are left.
 #[derive(Drop)]
 pub struct RowCursor<'r> {
     cells: &'r [(u64, u64)],
-    /// The column of the first of them, and the greatest number where none is left.
+    /// The column of the first of them, or the greatest number if none is left.
     next: u64,
 }
 
@@ -32,6 +32,7 @@ fn first_column(cells: &[(u64, u64)]) -> u64
 {
     match cells.first() {
         Some(cell) => cell.0,
+        // Greater than any column, so that the end needs no test of its own.
         None => u64::MAX,
     }
 }
@@ -48,12 +49,13 @@ impl<'r> RowCursor<'r> {
         }
     }
 
-    /// Passes over the cells in front of a column.
+    /// Skips the cells before a column.
     #[inline(always)]
     pub fn advance_to(&mut self, column: u64)
         ensures { (n : ℕ) → Ascends 0 n self.old → Ascends column n self.new
             × ((j : ℕ) → column ≤ j → at self.old j ≡ at self.new j) }
     {
+        // In locals, so that the loop doesn't write through `self`.
         let mut cells = self.cells;
         let mut next = self.next;
         while next < column {
@@ -67,11 +69,12 @@ impl<'r> RowCursor<'r> {
         self.next = next;
     }
 
-    /// The word at a column, where what is left begins there or later.
+    /// The word at a column, if what is left begins there or later.
     #[inline(always)]
     pub fn word_at(&self, column: u64) -> Option<u64>
         ensures { (n : ℕ) → Ascends column n self.now → result ≡ at self.now column }
     {
+        // Compared without a look at the cells, which are read on a hit alone.
         if self.next != column {
             return None;
         }

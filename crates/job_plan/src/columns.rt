@@ -1,4 +1,4 @@
-//! Copies of the columns that the products of a batch are by.
+//! Copies of the columns that a batch multiplies by.
 ghost use Rattle.std.specs.Prelude.{◌≡◌, ◌≢◌, ◌≤◌, ◌<◌, [], ◌∷◌, ◌++◌, length, get_or, true, false, None, Some, if◌then◌else◌};
 ghost use Rattle.std.specs.Prelude.{IfOk, IfSome, IsTrue, MatchOption};
 ghost use Rattle.std.specs.Arc.{arc_value};
@@ -15,14 +15,15 @@ use std::alloc::{AllocError, Global};
 use std::marker::Model;
 use std::sync::Arc;
 
-/// How many times the rows of a column may be read in vain, before the search for its copy is given
-/// up.
+/// How many times the rows of a column may be compared without success, before the search for its
+/// copy is given up.
 const PATIENCE: u64 = 4;
 
-/// A copy of a column, with an owner more of the matrix that it was made of. A contract sees that
-/// matrix.
+/// A copy of a column, with another owner of the matrix that it was copied from. A contract sees
+/// that matrix.
 #[derive(Drop)]
 pub struct Copied {
+    // Its sizes are compared before its words.
     matrix: Version,
     column: Column,
 }
@@ -49,6 +50,7 @@ impl Copied {
         ensures { IfOk result (λ c. c ≡ arc_value matrix.now) }
     {
         let column = Column::of(alloc, matrix)?;
+        // A further owner may be refused memory, as any allocation may.
         let matrix = Arc::try_clone(matrix)?;
         Ok(Copied { matrix, column })
     }
@@ -77,17 +79,19 @@ impl Copied {
         word_of(self.column.word(k))
     }
 
-    /// The first row at which another column differs: 0 where the sizes do, and none where nothing
-    /// does.
+    /// The first row at which another column differs: 0 if the sizes do, and none if nothing does.
     #[tactic(auto, using(crate::proofs::Copies::same_columns, crate::proofs::Copies::other_words))]
     fn difference(&self, other: &Matrix) -> Option<u64>
         requires { other.now.columns ≡ 1 }
         ensures { MatchOption result (column_of self.now ≡ column_of other.now) (λ _. self.now ≢ other.now) }
     {
+        // Two comparisons tell most columns apart.
         if !self.is_sized_as(other) {
             return Some(0);
         }
         for k in 0..other.rows() {
+            // By words and by whether there is one: two owners of one matrix can't be recognised as
+            // such.
             if self.word(k) != word_at(other, k) {
                 return Some(k);
             }
@@ -96,7 +100,7 @@ impl Copied {
     }
 }
 
-/// A word that may not be there.
+/// A word that may be absent.
 #[inline(always)]
 fn word_of(word: (u64, bool)) -> Option<u64>
     ensures { result ≡ (if word.1 then Some word.0 else None) }
@@ -114,8 +118,8 @@ fn word_at(column: &Matrix, k: u64) -> Option<u64>
     word_of(column.word_in_column(k))
 }
 
-/// What a search for a copy may answer: its place, that there is none, or that the search would
-/// take too long.
+/// The result of a search for a copy: its index, that there is none, or that the search would take
+/// too long.
 enum Found {
     At(u64),
     Nowhere,
@@ -128,11 +132,13 @@ fn find(copies: &[Copied], column: &Matrix) -> Found
     requires { column.now.columns ≡ 1 }
     ensures { IsFound copies.now column.now result }
 {
+    // In rows compared. Columns that differ late would otherwise make the search quadratic.
     let mut left = PATIENCE * column.rows();
     for (nth, copy) in copies.iter().enumerate() {
         let Some(row) = copy.difference(column) else {
             return Found::At(nth as u64);
         };
+        // A comparison that ends at a row has read so many rows.
         if row > left {
             return Found::Unknown;
         }
@@ -141,18 +147,20 @@ fn find(copies: &[Copied], column: &Matrix) -> Found
     Found::Nowhere
 }
 
-/// Whether one more copy takes no more words than the cells that it is of. The first copy may also
-/// take as many as tell where the rows of its matrix start.
+/// Whether another copy takes no more words than the cells that it is copied from. The first copy
+/// may also take as many as its matrix has row starts.
 fn fits(copies: &[Copied], column: &Matrix) -> bool
     ensures { IsTrue result → FitsBehind copies.now column.now }
 {
     let rows = column.rows();
+    // Row starts count once, as the other columns may share them.
     let starts = if copies.is_empty() { rows + 1 } else { 0 };
+    // A copy has a word and a bit per row, a matrix two words per entry.
     rows + rows.div_ceil(64) <= starts + 2 * column.entries()
 }
 
-/// Puts the copy of a column behind others, where it fits and there is memory for it, and tells its
-/// place.
+/// Appends the copy of a column, if it is small enough and there is memory for it, and returns its
+/// index.
 fn add(alloc: Global, copies: &mut Vec<Copied>, matrix: &Version) -> Option<u64>
     requires { (arc_value matrix.now).columns ≡ 1 }
     ensures { MatchOption result (copies.new.items ≡ copies.old.items) (λ p. (p ≡ length copies.old.items)
@@ -162,22 +170,26 @@ fn add(alloc: Global, copies: &mut Vec<Copied>, matrix: &Version) -> Option<u64>
     if !fits(copies, matrix) {
         return None;
     }
+    // A copy only saves time, so a job whose copy is refused does without.
     let Ok(copy) = Copied::of(alloc, matrix) else {
         return None;
     };
     let nth = copies.len() as u64;
+    // The copy is dropped if the list can't grow.
     match copies.push(copy) {
         Ok(()) => Some(nth),
         Err(_) => None,
     }
 }
 
-/// The column that a product is by, where a copy of it pays.
+/// The column that a product is by, if a copy of it pays.
 fn paid(priced: &Priced) -> Option<&Version>
     ensures { IfSome result (λ v. IsBy (arc_value v.now) priced.now) }
 {
     let form = priced.job().form();
     if let Form::Product { right, .. } = form {
+        // Price over round is the number of multiplications. It has to be at least the number of
+        // rows, each of which the copy reads.
         if right.columns() == 1 && price(priced) >= right.rows() * form.round() {
             return Some(right);
         }
@@ -185,7 +197,7 @@ fn paid(priced: &Priced) -> Option<&Version>
     None
 }
 
-/// The place of a job's copy, which is made if there is none yet.
+/// The index of a job's copy, which is created if there is none yet.
 #[tactic(auto, using(crate::proofs::Copies::adds_nothing, crate::proofs::Copies::adds_found, crate::proofs::Copies::adds_new))]
 fn place_for(alloc: Global, copies: &mut Vec<Copied>, priced: &Priced) -> Option<u64>
     ensures { Adds copies.old.items copies.new.items priced.now result }
@@ -200,15 +212,16 @@ fn place_for(alloc: Global, copies: &mut Vec<Copied>, priced: &Priced) -> Option
     }
 }
 
-/// The copies of a batch's columns, and for each job the place of its copy, if it has one.
+/// The copies of a batch's columns, and for each job the index of its copy, if it has one.
 #[derive(Drop)]
 pub(crate) struct Columns {
     copies: Vec<Copied>,
+    // An array, since a batch has at most 64 jobs: it takes no memory that could be refused.
     places: [Option<u64>; ROOM],
 }
 
 impl Columns {
-    /// Copies the columns that products are by, as far as that pays and there is memory: each once.
+    /// Copies the columns that products are by, each once, as far as that pays and there is memory.
     pub(crate) fn of(alloc: Global, jobs: &[Priced]) -> Columns
         requires { length jobs.now ≤ 64 }
         ensures { AreFor jobs.now result.copies.items result.places }
@@ -228,7 +241,7 @@ impl Columns {
         &self.copies
     }
 
-    /// The place of a job's copy, if it has one.
+    /// The index of a job's copy, if it has one.
     pub(crate) fn nth(&self, job: u64) -> Option<u64>
         ensures { result ≡ get_or self.now.places job None }
     {

@@ -1,4 +1,4 @@
-//! The six forms of jobs, whatever stands for their operators and matrices.
+//! The six forms of jobs, generic over their operators and matrices.
 ghost use Rattle.std.specs.Prelude.{◌≡◌};
 ghost use Rattle.job_plan.specs.Form.{IsMapped, all_some, first_and_second, matrices_of, operators_of};
 
@@ -7,30 +7,29 @@ use csr_store::Version;
 use std::sync::Arc;
 
 /// The six forms of jobs, each with just the operators, the thunk and the matrices that it takes.
-/// In a line these are names; in a job they are operators and matrices of which it is an owner,
-/// perhaps of the wrong kind and of shapes that don't fit: [`Priced::of`](crate::Priced::of) looks
-/// at that.
+/// In a line these are names; in a job they are operators and matrices that it owns, perhaps of the
+/// wrong kind and of shapes that don't fit: [`Priced::of`](crate::Priced::of) checks that.
 #[derive(Clone, Copy, Drop)]
 pub enum Form<O = Arc<Operator>, M = Version> {
-    /// What a unary operator makes of each word; with a thunk, what an index operator makes of it.
+    /// A unary operator applied to each word; with a thunk, an index operator.
     Apply {
         operator: O,
         thunk: Option<u64>,
         operand: M,
     },
-    /// The words for which an index operator's answer isn't 0.
+    /// The words for which an index operator doesn't return 0.
     Select {
         operator: O,
         thunk: u64,
         operand: M,
     },
-    /// What a binary operator makes of two words where both stand; where one does, that one.
+    /// A binary operator applied to two words where both have an entry; if one does, its word.
     Union {
         operator: O,
         left: M,
         right: M,
     },
-    /// What a binary operator makes of two words where both stand.
+    /// A binary operator applied to two words where both have an entry.
     Both {
         operator: O,
         left: M,
@@ -79,7 +78,8 @@ impl<O, M> Form<O, M> {
         }
     }
 
-    /// The same form, of what is made of each operator and of each matrix.
+    /// The same form, with each operator and each matrix converted.
+    // `Fn`, not `FnOnce`: a product has two of each.
     pub fn map<P, N, F: Fn(O) -> P, G: Fn(M) -> N>(self, of_operator: F, of_matrix: G) -> Form<P, N>
         requires operators { F.IsAlwaysCallable of_operator }
         requires matrices { G.IsAlwaysCallable of_matrix }
@@ -142,7 +142,7 @@ impl<O, M> Form<O, M> {
 }
 
 impl<O: Drop, M: Drop> Form<Option<O>, Option<M>> {
-    /// The form, if each of its operators and matrices is there.
+    /// The form, if all of its operators and matrices are there.
     pub fn transpose(self) -> Option<Form<O, M>>
         ensures { result ≡ all_some self }
     {

@@ -18,15 +18,16 @@ use csr_store::{MOST_ENTRIES, Matrix, Version};
 use std::marker::Model;
 use std::ops::Range;
 
-/// The most steps that a job may cost.
+/// The most steps that a job may cost. Rule J8.
 const MOST_STEPS: u64 = 4_294_967_296;
 
 /// A form with its operators and operands, a structural mask or none, and the name that the result
-/// will be bound to. A contract sees the `Job` of `specs/Job.antt`, in which versions and operators
-/// are the matrices and the accepted operators that they stand for.
+/// will be bound to. A contract sees the `Job` of `specs/Job.antt`, with matrices and accepted
+/// operators instead of their owners.
 #[derive(Drop)]
 pub struct Job {
     form: Form,
+    // Shared owners: rebinding a name doesn't affect a job that waits.
     mask: Option<Version>,
     output: String,
 }
@@ -95,6 +96,7 @@ impl Job {
         ensures priced { IfOk result (λ _. IsPriced self.now) }
         ensures fault { IfErr result (λ fault. job_fault self.now ≡ Some fault) }
     {
+        // Counted once: for a product these are the multiplications, which the price needs as well.
         let entries = self.check()?;
         let price = self.price_of_all(entries);
         if price > MOST_STEPS {
@@ -103,8 +105,8 @@ impl Job {
         Ok(price)
     }
 
-    /// How many entries the result can have, as the form says it; or the first rule that is broken,
-    /// of those that come before the price.
+    /// How many entries the result can have, by the form; or the first rule that is broken, of
+    /// those that come before the price.
     fn check(&self) -> Result<u64, JobError>
         ensures passes { IfOk result (λ _. Passes self.now) }
         ensures entries { IfOk result (λ n. n ≡ (costing self.now.form).entries self.now.mask) }
@@ -112,7 +114,9 @@ impl Job {
     {
         let form = &self.form;
         let mask = self.mask();
+        // For the prover: operators and matrices are valid, so nothing below overflows.
         form.recall();
+        // In the order of the refusals: J4, J5, J9, J7.
         if !form.has_its_kinds() {
             return Err(JobError::WrongKind);
         }
@@ -122,6 +126,7 @@ impl Job {
         if !has_shape(form.rows(), form.columns(), mask) {
             return Err(JobError::WrongMask);
         }
+        // After the shapes, as the multiplications of matrices that don't fit aren't defined.
         let entries = form.entries(mask);
         if entries > MOST_ENTRIES {
             return Err(JobError::ResultTooLarge);
@@ -129,8 +134,8 @@ impl Job {
         Ok(entries)
     }
 
-    /// The price, where it is known how many entries the result can have: of a product these are
-    /// its multiplications, which are counted once.
+    /// The price, given how many entries the result can have: for a product these are its
+    /// multiplications, which are counted once.
     fn price_of_all(&self, entries: u64) -> u64
         requires passes { Passes self.now }
         requires entries { entries ≡ (costing self.now.form).entries self.now.mask }
@@ -138,6 +143,7 @@ impl Job {
     {
         let form = &self.form;
         if let Form::Product { .. } = form {
+            // At most 2^24 times 2^13, so the product fits.
             return entries * form.round();
         }
         form.rounds(self.mask(), 0..form.rows()) * form.round()

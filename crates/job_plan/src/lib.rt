@@ -1,9 +1,9 @@
-//! Jobs: what they compute, what they may cost, the queue in which they wait, and the chunks that
-//! they are cut into.
+//! Jobs: what they compute, what they may cost, the queue in which they wait, and the chunks into
+//! which they are cut.
 //!
 //! A [`Job`] is an operation of the GraphBLAS with its operators, operands and mask. [`Priced::of`]
-//! takes one that breaks no rule, or hands it back with the first rule that it breaks. A [`Queue`]
-//! holds up to 64 of them, and [`Queue::take`] makes a [`Plan`] of those that wait: the jobs, cut
+//! accepts one that breaks no rule, or returns it with the first rule that it breaks. A [`Queue`]
+//! holds up to 64 of them, and [`Queue::take`] turns those that wait into a [`Plan`]: the jobs, cut
 //! into chunks of 256 rows, with copies of columns ([`Plan::copies`]).
 //!
 //! The one contract: the chunks cover each job's rows once and in order, their prices add up to the
@@ -12,9 +12,9 @@
 //! `specs/Price.antt` what it may cost, `specs/Refusal.antt` when it is refused, and
 //! `specs/Chunks.antt` how jobs are cut.
 //!
-//! Read `form` and `job` first, then `table` (that of the forms, in code) with `rows` (what rows
-//! count for), `priced`, `queue`, `plan`, and `columns` (copies of the columns that products are
-//! by).
+//! Read `form` and `job` first, then `table` (that of the forms, in code) with `rows` (counting
+//! entries of rows), `priced`, `queue`, `plan`, and `columns` (copies of the columns that products
+//! are by).
 #![tactic(auto)]
 
 mod columns;

@@ -22,7 +22,7 @@ use std::ops::Range;
 pub struct ChunkRows {
     pub job: u64,
     pub first: u64,
-    /// The row behind the last.
+    /// The row after the last.
     pub last: u64,
 }
 
@@ -30,6 +30,7 @@ pub struct ChunkRows {
 #[derive(Drop)]
 pub struct Plan {
     jobs: Vec<Priced>,
+    // Listed, as jobs differ in their rows: a worker finds a chunk by its number at once.
     chunks: Vec<ChunkRows>,
     columns: Columns,
 }
@@ -72,10 +73,11 @@ impl Plan {
         }
     }
 
-    /// What holds of any plan. Only the prover looks at it.
+    /// What holds of any plan. It is for the prover alone.
     pub fn recall(&self)
         ensures { IsPlan self.now }
     {
+        // Nothing is computed: the contracts of these two say it.
         let _ = self.jobs();
         let _ = self.chunks();
     }
@@ -90,14 +92,14 @@ impl Plan {
         &self.jobs
     }
 
-    /// The copies that were made of columns.
+    /// The copies of columns.
     pub fn copies(&self) -> &[Copied]
         ensures { AreCopies self.now result.now }
     {
         self.columns.copies()
     }
 
-    /// A copy of the column that a job is by, if one was made. Jobs by equal columns have the same.
+    /// A copy of the column that a job is by, if there is one. Jobs by equal columns have the same.
     pub fn column(&self, job: u64) -> Option<&Column>
         ensures { (j : is.Job) → slice_get self.now job ≡ Some j → IsCopyFor j.form result }
     {
@@ -117,7 +119,7 @@ impl Plan {
         self.chunks.len() as u64
     }
 
-    /// A chunk: the place of its job, its rows, and their price, which is counted anew each time.
+    /// A chunk: the index of its job, its rows, and their price, which is counted anew each time.
     pub fn chunk(&self, c: u64) -> (u64, Range<u64>, u64)
         requires { c < length (plan_chunks self.now) }
         ensures chunk { slice_get (plan_chunks self.now) c ≡ Some (record {
@@ -136,11 +138,12 @@ impl Plan {
         let (job, range) = self.chunk_rows(c);
         let jobs = self.jobs();
         let priced = &jobs[job as usize];
+        // Not stored: a batch doesn't need it (`chunk_rows`).
         let price = priced.job().price_of_rows(range.start..range.end);
         (job, range, price)
     }
 
-    /// A chunk without its price: the place of its job, and its rows.
+    /// A chunk without its price: the index of its job, and its rows.
     pub fn chunk_rows(&self, c: u64) -> (u64, Range<u64>)
         requires { c < length (plan_chunks self.now) }
         ensures { IsChunkAt self.now c result.0 result.1.start result.1.end }
@@ -161,11 +164,13 @@ pub(crate) fn cut(alloc: Global, jobs: &[Priced]) -> Result<Vec<ChunkRows>, Allo
     Ok(chunks)
 }
 
-/// Adds the chunks of a job.
+/// Appends the chunks of a job.
 fn cut_job(chunks: &mut Vec<ChunkRows>, nth: u64, job: &Job) -> Result<(), AllocError>
     ensures { OnOk result (chunks.new.items ≡ chunks.old.items ++ rows_of_job nth job.now) }
 {
     let rows = job.form().rows();
+    // The rows of a chunk are those of a block of entries, so a chunk's result is a block of the
+    // matrix.
     for number in 0..rows.div_ceil(RUN_ROWS) {
         let first = RUN_ROWS * number;
         let last = (first + RUN_ROWS).min(rows);

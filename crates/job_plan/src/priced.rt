@@ -1,4 +1,4 @@
-//! Jobs that were looked at, with their prices.
+//! Jobs that were checked, with their prices.
 ghost use Rattle.std.specs.Prelude.{◌≡◌, ◌≤◌};
 ghost use Rattle.job_plan.specs.Price.{price_of, IsWithinPrice};
 ghost use Rattle.job_plan.specs.Refusal.{job_fault, answered, IsPriced};
@@ -11,6 +11,7 @@ use std::marker::Model;
 #[derive(Drop)]
 pub struct Priced {
     job: Job,
+    // Stored, as counting a product's multiplications visits its entries.
     price: u64,
 }
 
@@ -46,14 +47,16 @@ impl Priced {
     {
         match job.appraise() {
             Ok(price) => Ok(Priced { job, price }),
+            // The job comes back: it owns matrices and operators.
             Err(error) => Err((job, error)),
         }
     }
 
-    /// What holds of any priced job. Only the prover looks at it.
+    /// What holds of any priced job. It is for the prover alone.
     pub(crate) fn recall(&self)
         ensures { IsPriced self.now }
     {
+        // Nothing is computed: the contract of `job` says it.
         let _ = self.job();
     }
 

@@ -15,6 +15,7 @@ pub const ROOM: usize = 64;
 /// Jobs that wait, in order of submission, up to 64 of them. A contract sees their list.
 #[derive(Drop)]
 pub struct Queue {
+    // For `take`, which allocates the next list.
     alloc: Global,
     jobs: Vec<Priced>,
 }
@@ -40,12 +41,13 @@ impl Model for Queue {
 }
 
 impl Queue {
-    /// No job, with room for 64.
+    /// No job, with capacity for 64.
     pub fn open(alloc: Global) -> Result<Queue, AllocError>
         ensures { IfOk result (λ q. q ≡ []) }
     {
         Ok(Queue {
             alloc,
+            // Here, so that submitting a job can't be refused memory.
             jobs: Vec::with_capacity(alloc, ROOM)?,
         })
     }
@@ -72,13 +74,15 @@ impl Queue {
         &self.jobs
     }
 
-    /// Puts a job last, and tells how many wait then. Takes no memory.
+    /// Appends a job, and returns how many wait then. Takes no memory.
     pub fn submit(&mut self, job: Priced) -> u64
         requires { length self.old < 64 }
         ensures jobs { self.new ≡ self.old ++ job ∷ [] }
         ensures number { result ≡ length self.old + 1 }
     {
+        // For the prover: what holds of the job is part of what the queue promises.
         job.recall();
+        // The capacity is 64 from the start, so the push can't be refused.
         self.jobs.push(job).unwrap();
         self.len()
     }
@@ -87,11 +91,13 @@ impl Queue {
     pub fn clear(&mut self)
         ensures { self.new ≡ [] }
     {
+        // Capacity stays.
         self.jobs.clear();
     }
 
-    /// Makes a plan of the jobs, and is then empty, with room for 64. The columns that products are
-    /// by are copied, each once, as far as that pays and there is memory ([`Plan::copies`]).
+    /// Turns the jobs into a plan, and is then empty, with capacity for 64. The columns that
+    /// products are by are copied, each once, as far as that pays and there is memory
+    /// ([`Plan::copies`]).
     ///
     /// # Errors
     ///
@@ -101,9 +107,12 @@ impl Queue {
         ensures empty { OnOk result (self.new ≡ []) }
         ensures kept { OnErr result (self.new ≡ self.old) }
     {
+        // All that can be refused comes before the first change, so a refusal leaves the queue as
+        // it was.
         let room = Vec::with_capacity(self.alloc, ROOM)?;
         let chunks = cut(self.alloc, &self.jobs)?;
         let jobs = mem::replace(&mut self.jobs, room);
+        // Copies can't be refused: a job without one runs as well.
         let columns = Columns::of(self.alloc, &jobs);
         Ok(Plan::new(jobs, chunks, columns))
     }

@@ -19,7 +19,7 @@ use job_forms::{mult_count, mult_count_in};
 use std::ops::Range;
 
 impl Form {
-    /// What holds of operators and matrices, whatever they are. Only the prover looks at it.
+    /// What holds of all operators and matrices. It is for the prover alone.
     pub(crate) fn recall(&self)
         ensures { IsForm (form_of self.now) }
     {
@@ -118,8 +118,8 @@ impl Form {
         }
     }
 
-    /// How many entries the result can have, of a form in which that may be more than a matrix
-    /// holds; else 0.
+    /// How many entries the result can have, for a form with which that may be more than a matrix
+    /// holds; otherwise 0.
     pub(crate) fn entries(&self, mask: Option<&Matrix>) -> u64
         requires shapes { (operation (form_of self.now)).shapes ≡ true }
         requires mask { has_shape (operation (form_of self.now)).rows (operation (form_of self.now)).columns (mask_of mask)
@@ -127,8 +127,10 @@ impl Form {
         ensures { result ≡ (costing (form_of self.now)).entries (mask_of mask.entry) }
     {
         match self {
+            // An upper bound, known without a visit: positions that both have count twice.
             Form::Union { left, right, .. } => left.entries() + right.entries(),
             Form::Product { left, right, .. } => mult_count(left, right, mask),
+            // No more entries than an operand, which is a matrix already.
             Form::Apply { .. } | Form::Select { .. } | Form::Both { .. } | Form::Reduce { .. } => 0,
         }
     }
@@ -139,6 +141,7 @@ impl Form {
         ensures few { result ≤ 8192 }
     {
         let (operator, other) = self.operators();
+        // A product makes a call of each in a round: a multiplication and an addition.
         match other {
             None => length(operator),
             Some(other) => length(operator) + length(other),
@@ -163,6 +166,7 @@ impl Form {
             (Form::Union { left, right, .. }, Some(mask)) => least_in(left, right, mask, range),
             (Form::Both { left, right, .. }, None) => lesser_in(left, right, range),
             (Form::Both { left, right, .. }, Some(mask)) => least_in(left, right, mask, range),
+            // The mask cuts by rows here, so counting takes it along.
             (Form::Product { left, right, .. }, _) => mults_in(left, right, mask, range),
             (Form::Reduce { operand, .. }, None) => folds_in(operand, range),
             (Form::Reduce { operand, .. }, Some(mask)) => folds_under(operand, mask, range),
@@ -170,8 +174,8 @@ impl Form {
     }
 }
 
-/// The kind of operator that `apply` takes: an index operator where there is a thunk, else a unary
-/// one.
+/// The kind of operator that `apply` takes: an index operator if there is a thunk, otherwise a
+/// unary one.
 fn kind_with(thunk: Option<u64>) -> Kind
     ensures { result ≡ kind_with thunk }
 {
@@ -181,7 +185,7 @@ fn kind_with(thunk: Option<u64>) -> Kind
     }
 }
 
-/// What holds of any operator and of any matrix. Only the prover looks at it.
+/// What holds of any operator and of any matrix. It is for the prover alone.
 fn recall(operator: &Operator, operand: &Matrix)
     ensures operator { IsAccepted operator.now }
     ensures operand { IsGrid operand.now }
@@ -202,6 +206,7 @@ fn length(operator: &Operator) -> u64
     ensures length { result ≡ length operator.now.insns }
     ensures few { result ≤ 4096 }
 {
+    // For the prover: an operator has at most 4,096 instructions.
     operator.recall();
     operator.len()
 }
@@ -212,7 +217,7 @@ fn same_shape(a: &Matrix, b: &Matrix) -> bool
     a.rows() == b.rows() && a.columns() == b.columns()
 }
 
-/// Whether a mask has these sizes, or there is none.
+/// Whether a mask has these sizes, or there is no mask.
 pub(crate) fn has_shape(rows: u64, columns: u64, mask: Option<&Matrix>) -> bool
     ensures shape { result ≡ has_shape rows columns (mask_of mask.entry) }
     ensures mask { IsMask (mask_of mask.entry) }
@@ -230,6 +235,7 @@ fn mults_in(a: &Matrix, b: &Matrix, mask: Option<&Matrix>, range: Range<u64>) ->
     requires within { range.end ≤ a.now.rows }
     ensures { result ≡ mults_under (mask_of mask.entry) a.now b.now range.start (range.end - range.start) }
 {
+    // `mult_count_in` takes ordered ranges alone.
     if range.end <= range.start {
         return 0;
     }

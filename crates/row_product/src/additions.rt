@@ -31,7 +31,7 @@ impl Model for Additions {
 }
 
 impl Additions {
-    /// Room for the additions, with none gathered.
+    /// Memory for the additions, with none gathered.
     pub(crate) fn new(alloc: Global) -> Result<Self, AllocError>
         ensures { IfOk result (λ a. a ≡ none_gathered) }
     {
@@ -39,6 +39,7 @@ impl Additions {
         calls.begin(Kind::Binary);
         Ok(Additions {
             calls,
+            // All of it here, so that gathering can't be refused memory.
             columns: Vec::with_capacity(alloc, MOST_CALLS)?,
         })
     }
@@ -53,7 +54,7 @@ impl Additions {
         self.calls.gather_pair(so_far, term);
     }
 
-    /// Makes all that were gathered, and puts what they come to at their columns. Returns the
+    /// Makes all additions that were gathered, and writes their sums at their columns. Returns the
     /// steps.
     pub(crate) fn make(&mut self, add: &Operator, sums: &mut Sums) -> u64
         requires add { add.now.kind ≡ kinds.Binary }
@@ -62,6 +63,7 @@ impl Additions {
         ensures none { self.new ≡ none_gathered }
     {
         let steps = self.calls.make(add);
+        // After all calls. No two additions are to one column, so none needs the result of another.
         write(&self.columns, self.calls.values(), sums);
         self.columns.clear();
         steps

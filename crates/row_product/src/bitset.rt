@@ -26,19 +26,20 @@ pub(crate) fn set_bit(bits: &mut [u64], column: u64)
     bits[nth] = word | 1 << (column % 64);
 }
 
-/// Clears the bits of so many columns, as far as there are, and of others in their words.
+/// Clears the bits of so many columns, as far as there are any, and of others in their words.
 pub(crate) fn clear_bits(columns: u64, bits: &mut Vec<u64>)
     ensures clear { (j : ℕ) → j < columns → bit_of bits.new.items j ≡ 0 }
     ensures kept { (j : ℕ) → bit_of bits.old.items j ≡ 0 → bit_of bits.new.items j ≡ 0 }
     ensures long { length bits.new.items ≡ length bits.old.items }
 {
+    // The list may be longer, from a product with more columns, whose bits are clear already.
     let words = bits.len().min((columns / 64) as usize + 1);
     for nth in 0..words {
         bits[nth] = 0;
     }
 }
 
-/// Clears the bits of listed columns, as far as there are, and of others in their words.
+/// Clears the bits of listed columns, as far as there are any, and of others in their words.
 pub(crate) fn clear_listed(listed: &[u64], bits: &mut Vec<u64>)
     ensures clear { (j : ℕ) → Contains listed.now j → bit_of bits.new.items j ≡ 0 }
     ensures kept { (j : ℕ) → bit_of bits.old.items j ≡ 0 → bit_of bits.new.items j ≡ 0 }
@@ -47,6 +48,7 @@ pub(crate) fn clear_listed(listed: &[u64], bits: &mut Vec<u64>)
     for column in listed {
         let nth = (*column / 64) as usize;
         if nth < bits.len() {
+            // The whole word: each bit of it that is set is that of a listed column.
             bits[nth] = 0;
         }
     }

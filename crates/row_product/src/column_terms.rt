@@ -1,5 +1,5 @@
-//! Words of a column that the cells of a row of A name, each multiplied: the terms of a row of a
-//! product of one column.
+//! The words of a column that the cells of a row of A name, each multiplied: the terms of a row of
+//! a product by one column.
 ghost use Rattle.std.specs.Prelude.{◌≡◌, ◌≤◌, ◌<◌, ◌++◌, ◌∷◌, [], if◌then◌else◌};
 ghost use Rattle.std.specs.Prelude.{None, Some, length, vec_capacity};
 ghost use Rattle.std.specs.FinMap as fin;
@@ -25,8 +25,8 @@ pub(crate) struct ColumnTerms<'c> {
     pub(crate) column: Option<&'c Column>,
 }
 
-/// The word at row `k` of a column, and whether there is one: by its copy, if there is one. Where
-/// there is no word it is any.
+/// The word at row `k` of a column, and whether there is one: from its copy, if there is one.
+/// Without a word the number is arbitrary.
 #[inline(always)]
 pub(crate) fn word_at(b: &Matrix, column: Option<&Column>, k: u64) -> (u64, bool)
     requires column { b.now.columns ≡ 1 }
@@ -41,8 +41,8 @@ pub(crate) fn word_at(b: &Matrix, column: Option<&Column>, k: u64) -> (u64, bool
 }
 
 /// Lists the terms of cells, each at column 0, by an operator that computes a function. Returns the
-/// steps. A term is listed before it is known whether there is a word for it, and taken back where
-/// there is none: a branch here would be mispredicted.
+/// steps. A term is listed before it is known whether there is a word for it, and removed if there
+/// is none: a branch here would be mispredicted.
 #[inline(always)]
 fn multiply<F: Function>(
     mul: &Operator,
@@ -65,8 +65,8 @@ fn multiply<F: Function>(
     steps
 }
 
-/// Lists what a call came to at column 0, and takes it back unless it stands. Returns the steps of
-/// the call, if it stands.
+/// Lists the result of a call at column 0, and removes it unless `stands`. Returns the steps of the
+/// call, if it stays.
 #[inline(always)]
 fn list_if(terms: &mut Vec<(u64, u64)>, called: Outcome, stands: bool) -> u64
     requires room { length terms.old.items < vec_capacity terms.old }
@@ -79,6 +79,7 @@ fn list_if(terms: &mut Vec<(u64, u64)>, called: Outcome, stands: bool) -> u64
     if stands {
         return called.steps;
     }
+    // The length alone changes. What the call computed isn't charged either.
     let _ = terms.take_last();
     0
 }
@@ -92,7 +93,7 @@ impl<'c> Loop for ColumnTerms<'c> {
 
     #[inline(never)]
     fn run<F: Function>(&self, mul: &Operator, terms: &mut Vec<(u64, u64)>) -> u64 {
-        // a loop for each: none asks at every cell whether there is a copy
+        // A loop for each, so that no cell has to ask whether there is a copy.
         match self.column {
             Some(column) => multiply::<F>(mul, self.cells, self.b, Some(column), terms),
             None => multiply::<F>(mul, self.cells, self.b, None, terms),
@@ -100,7 +101,7 @@ impl<'c> Loop for ColumnTerms<'c> {
     }
 }
 
-/// Gathers the words of cells with those of B that they meet, in place of what was gathered.
+/// Gathers the words of cells with the words of B that they meet, replacing what was gathered.
 pub(crate) fn gather(cells: &[(u64, u64)], b: &Matrix, column: Option<&Column>, calls: &mut Calls)
     requires { AreLent b.now column cells.now }
     ensures kind { calls.new.kind ≡ kinds.Binary }
@@ -113,7 +114,7 @@ pub(crate) fn gather(cells: &[(u64, u64)], b: &Matrix, column: Option<&Column>, 
     }
 }
 
-/// Gathers a pair of words, if it stands.
+/// Gathers a pair of words, if `stands`.
 #[inline(always)]
 fn gather_if(calls: &mut Calls, x: u64, word: u64, stands: bool)
     requires room { length calls.old.operands < 64 }
@@ -136,6 +137,7 @@ pub(crate) fn list_terms(values: &[u64], terms: &mut Vec<(u64, u64)>)
 {
     terms.clear();
     for value in values {
+        // The capacity is 64, so nothing can be refused.
         terms.push_reserved((0, *value));
     }
 }

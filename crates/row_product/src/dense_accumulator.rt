@@ -42,6 +42,7 @@ impl Model for DenseAccumulator {
 
 impl DenseAccumulator {
     /// Without columns yet.
+    // The buffers for calls. The sums get theirs in `widen`.
     pub(crate) fn new(alloc: Global) -> Result<Self, AllocError>
         ensures { IfOk result (λ a. a ≡ []) }
     {
@@ -52,14 +53,14 @@ impl DenseAccumulator {
         })
     }
 
-    /// For how many columns there is room.
+    /// How many columns the buffers hold.
     pub(crate) fn room(&self) -> usize
         ensures { length self.now ≤ result }
     {
         self.sums.room()
     }
 
-    /// Room for so many columns, none of which has a sum.
+    /// Makes the buffers hold at least so many columns, none of which has a sum.
     pub(crate) fn widen(&mut self, columns: u64) -> Result<(), AllocError>
         ensures { OnOk result (columns ≤ length self.new) }
     {
@@ -92,8 +93,8 @@ impl DenseAccumulator {
             )
     }
 
-    /// Puts a word times each of up to 64 cells into the open row, without a sum. The calls are
-    /// made, and charged, before memory may be wanting.
+    /// Appends a word times each of up to 64 cells to the open row, without a sum. The calls are
+    /// made, and charged, before memory may be refused.
     pub(crate) fn push_products(
         &mut self,
         factors: &MaskedFactors,
@@ -107,11 +108,12 @@ impl DenseAccumulator {
         ensures charged { AreCharged factors.now x cells.now making.old making.new }
         ensures sums { self.new ≡ self.old }
     {
+        // Charged first: the push may be refused memory.
         making.steps += self.products.make_with(factors.mul, x, cells);
         push_words(cells, self.products.values(), &mut making.rows)
     }
 
-    /// Puts the sums into the open row, by ascending column.
+    /// Appends the sums to the open row, by ascending column.
     pub(crate) fn emit(&mut self, columns: u64, rows: &mut Rows) -> Result<(), AllocError>
         requires { MayEmit columns self.old rows.old }
         ensures rows { OnOk result (rows.new ≡ record rows.old { opened = row_by rows.old.columns (slot self.old) }) }
@@ -134,6 +136,7 @@ fn add_terms(
     ensures put { ArePut add.now cells.now terms.now sums.old sums.new result }
     ensures none { additions.new ≡ none_gathered }
 {
+    // A compiled loop adds each term at once. Gathering it would cost more than adding it.
     if let Some(steps) = run_known(&Terms { cells, terms }, add, sums) {
         return steps;
     }
@@ -141,7 +144,7 @@ fn add_terms(
     additions.make(add, sums)
 }
 
-/// Puts terms at the columns of cells: the first of a column is its sum, and the addition of any
+/// Writes terms at the columns of cells: the first of a column is its sum, and the addition of any
 /// other is gathered.
 fn meet(cells: &[(u64, u64)], terms: &[u64], additions: &mut Additions, sums: &mut Sums)
     requires terms { AreTerms (length sums.old) cells.now terms.now }
@@ -151,6 +154,7 @@ fn meet(cells: &[(u64, u64)], terms: &[u64], additions: &mut Additions, sums: &m
 {
     for k in 0..cells.len() {
         let column = cells[k].0;
+        // No two cells of a row of B have one column, so this sum isn't among those that wait.
         match sums.get(column) {
             Some(so_far) => additions.gather(column, so_far, terms[k]),
             None => sums.begin_sum(column, terms[k]),

@@ -1,4 +1,4 @@
-//! A word for each column, which counts where the column's bit is set.
+//! A word for each column, which counts only if the column's bit is set.
 ghost use Rattle.std.specs.Prelude.{◌≡◌, ◌≤◌, ◌<◌, ◌*◌, []};
 ghost use Rattle.std.specs.Prelude.{ℕ, None, Some, length, set, slice_index_or, is_some, true, OnOk};
 ghost use Rattle.row_product.specs.inner.DenseSums.{AreMarked, AreAllListed};
@@ -11,11 +11,12 @@ use std::marker::Model;
 /// The sums of a row by their columns. A contract sees the sum of each column, if there is one.
 #[derive(Drop)]
 pub(crate) struct DenseSums {
-    /// How many columns there are. There may be room for more.
+    /// How many columns there are. The buffers may hold more.
     columns: u64,
+    // Those whose bit is clear are left over from earlier rows.
     words: Vec<u64>,
-    /// A bit for each column, in words of 64. Those that have a sum have theirs set, and no other
-    /// has.
+    /// A bit for each column, in words of 64. It is set if the column has a sum, and clear
+    /// otherwise.
     bits: Vec<u64>,
 }
 
@@ -43,19 +44,20 @@ impl DenseSums {
         }
     }
 
-    /// For how many columns there is room.
+    /// How many columns the buffers hold.
     pub(crate) fn room(&self) -> usize
         ensures { length self.now ≤ result }
     {
         self.words.len()
     }
 
-    /// Room for so many columns, none of which has a sum, where none had.
+    /// Makes the buffers hold so many columns, none of which has a sum, where none had.
     pub(crate) fn widen(&mut self, columns: u64) -> Result<(), AllocError>
         requires none { (j : ℕ) → slot self.old j ≡ None }
         ensures wide { OnOk result (length self.new ≡ columns) }
         ensures none { (j : ℕ) → slot self.new j ≡ None }
     {
+        // First, so that a refusal below leaves a consistent state: no columns.
         self.columns = 0;
         lengthen(&mut self.bits, (columns / 64) as usize + 1)?;
         lengthen(&mut self.words, columns as usize)?;
@@ -77,6 +79,7 @@ impl DenseSums {
         ensures none { (j : ℕ) → slot self.new j ≡ None }
         ensures long { length self.new ≡ length self.old }
     {
+        // The words stay: without their bits they don't count.
         clear_bits(self.columns, &mut self.bits);
     }
 
@@ -99,6 +102,7 @@ impl DenseSums {
         requires { column < length self.old }
         ensures { self.new ≡ set self.old column (Some sum) }
     {
+        // The word before its bit, which makes it count.
         self.words[column as usize] = sum;
         set_bit(&mut self.bits, column);
     }
@@ -110,6 +114,7 @@ impl DenseSums {
         requires there { is_some (slot self.old column) ≡ true }
         ensures { self.new ≡ set self.old column (Some sum) }
     {
+        // The bit is set already.
         self.words[column as usize] = sum;
     }
 
@@ -122,12 +127,13 @@ impl DenseSums {
     }
 }
 
-/// At least so many words, with zeros behind those that are there.
+/// Extends a list to at least so many words, with zeros after those that it has.
 fn lengthen(words: &mut Vec<u64>, least: usize) -> Result<(), AllocError>
     ensures long { OnOk result (least ≤ length words.new.items) }
     ensures same { (p : ℕ) → slice_index_or words.new.items p 0 ≡ slice_index_or words.old.items p 0 }
 {
     if least > words.len() {
+        // It never shrinks: the next product may be as wide.
         words.resize(least, 0)?;
     }
     Ok(())

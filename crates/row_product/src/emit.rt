@@ -1,4 +1,4 @@
-//! The sums of a row, put into the open row of the result.
+//! Appending the sums of a row to the open row of the result.
 ghost use Rattle.std.specs.Prelude.{◌≡◌, ◌≤◌, ◌<◌, ◌*◌, ◌++◌, true, false, length, OnOk};
 ghost use Rattle.std.specs.List.{AllByRecursion};
 ghost use Rattle.csr_store.specs.Along.{cell_at, row_by};
@@ -11,7 +11,7 @@ use crate::dense_sums::DenseSums;
 use csr_store::Rows;
 use std::alloc::AllocError;
 
-/// Puts the sum of a column, if there is one, into the open row.
+/// Appends the sum of a column, if there is one, to the open row.
 #[inline(always)]
 fn put_sum(column: u64, dense: &DenseSums, rows: &mut Rows) -> Result<(), AllocError>
     requires dense { column < length dense.now }
@@ -25,7 +25,7 @@ fn put_sum(column: u64, dense: &DenseSums, rows: &mut Rows) -> Result<(), AllocE
     }
 }
 
-/// Whether a column is none of those before the next, and one of so many.
+/// Whether next <= column < columns.
 #[inline(always)]
 fn is_due(column: u64, next: u64, columns: u64) -> bool
     ensures due { result ≡ true → (next ≤ column) × (column < columns) }
@@ -34,8 +34,8 @@ fn is_due(column: u64, next: u64, columns: u64) -> bool
     column >= next && column < columns
 }
 
-/// Puts the sums of the listed columns, which do not fall and are all that have one, into the open
-/// row.
+/// Appends the sums of the listed columns, which do not descend and are all that have one, to the
+/// open row.
 pub(crate) fn emit_listed(
     columns: u64,
     listed: &[u64],
@@ -48,6 +48,8 @@ pub(crate) fn emit_listed(
 {
     let mut next = 0;
     for column in listed {
+        // A column that is listed twice is skipped the second time, so nobody has to show that none
+        // is.
         if is_due(*column, next, columns) {
             put_sum(*column, dense, rows)?;
             next = *column + 1;
@@ -56,7 +58,7 @@ pub(crate) fn emit_listed(
     Ok(())
 }
 
-/// Puts the sums of the columns whose bit is set into the open row: for rows where many columns
+/// Appends the sums of the columns whose bit is set to the open row: for rows in which many columns
 /// have one.
 pub(crate) fn emit_marked(
     columns: u64,
@@ -71,13 +73,15 @@ pub(crate) fn emit_marked(
 {
     let mut next = 0;
     while next < columns {
+        // The last word may belong to the columns in part.
         let end = next + (columns - next).min(64);
         let mut left = bits[(next / 64) as usize];
-        // of 0 there are 64 zeros, so that the walk ends
+        // A word of 0 has 64 trailing zeros, which ends the walk.
         while (left.trailing_zeros() as u64) < end - next {
             let skip = left.trailing_zeros();
             next += skip as u64;
             put_sum(next, dense, rows)?;
+            // In two steps: `skip` may be 63, and a shift by 64 isn't defined.
             left = left >> skip >> 1;
             next += 1;
         }

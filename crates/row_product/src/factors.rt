@@ -12,12 +12,12 @@ pub struct Factors<'m> {
     pub mul: &'m Operator,
     pub a: &'m Matrix,
     pub b: &'m Matrix,
-    /// A copy of B, if there is one. It is made only of a B of one column.
+    /// A copy of B, if there is one. Only a B of one column is copied.
     pub column: Option<&'m Column>,
 }
 
 impl<'m> Factors<'m> {
-    /// What holds of any operators and matrices. Only the prover looks at it.
+    /// What holds of any operators and matrices. It is for the prover alone.
     pub(crate) fn recall(&self)
         ensures add { IsAccepted self.now.add.now }
         ensures mul { IsAccepted self.now.mul.now }

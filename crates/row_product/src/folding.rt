@@ -1,5 +1,5 @@
-//! The terms of a row, in the order of their columns, added up: those of one column are folded one
-//! after the other.
+//! The terms of a row, in the order of their columns, added up: those of one column are folded in
+//! sequence.
 ghost use Rattle.std.specs.Prelude.{◌≡◌, ◌≤◌, ◌+◌, ◌*◌, ◌++◌, length, vec_capacity};
 ghost use Rattle.row_product.specs.inner.SortedAccumulator.{MayFold, MayFoldBehind, FoldsBehind, AreFolded};
 
@@ -8,7 +8,7 @@ use crate::ordering::term;
 use bpf_run::{Function, Loop, run_known};
 use bpf_verify::Operator;
 
-/// Terms of a row, and the keys by which they are in order.
+/// Terms of a row, and the keys that put them in order.
 #[derive(Drop)]
 pub(crate) struct Ordered<'c> {
     pub(crate) listed: &'c [(u64, u64)],
@@ -32,11 +32,13 @@ fn fold_behind<C: Caller>(
     let mut steps = 0;
     for key in further.keys {
         let (column, word) = term(further.listed, *key);
+        // Equal columns are adjacent, so one sum is open at a time.
         if column == so_far.0 {
             let sum = C::make(add, so_far.1, word);
             so_far.1 = sum.value;
             steps += sum.steps;
         } else {
+            // At most one sum a term, for which there is capacity.
             sums.push_reserved(so_far);
             so_far = (column, word);
         }

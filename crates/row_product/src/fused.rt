@@ -1,6 +1,6 @@
-//! Rows of a product of one column by a usual ADD and a MUL that is known by its program: all rows
-//! of a range are made in one loop, in which both are compiled. A term goes into its sum as it is
-//! made, and nothing is listed.
+//! Rows of a product by one column with a usual ADD and a recognised MUL: all rows of a range are
+//! computed in one loop, into which both are compiled. A term goes into its sum at once, and
+//! nothing is listed.
 ghost use Rattle.std.specs.Prelude.{◌≡◌, ◌≤◌, ◌+◌, None, Some, IfSome, if◌then◌else◌};
 ghost use Rattle.bpf_insn.specs.declared.operands.Kind.TheVariants as kinds;
 ghost use Rattle.bpf_run.specs.Calls.{steps_of};
@@ -25,7 +25,7 @@ use std::marker::PhantomData;
 use std::mem::replace;
 use std::ops::Range;
 
-/// What a term makes of a sum so far, or begins it, by an operator that computes a function.
+/// Adds a term to a sum so far, or begins it, by an operator that computes a function.
 #[inline(always)]
 fn with_term<A: Function>(add: &Operator, so_far: Option<u64>, term: u64) -> Outcome
     requires { Computes add.now A.meaning A.price }
@@ -34,6 +34,7 @@ fn with_term<A: Function>(add: &Operator, so_far: Option<u64>, term: u64) -> Out
 {
     match so_far {
         Some(so_far) => call_by::<A>(add, so_far, term),
+        // The first term begins the fold, without a call: there is no identity.
         None => Outcome {
             value: term,
             steps: 0,
@@ -42,7 +43,7 @@ fn with_term<A: Function>(add: &Operator, so_far: Option<u64>, term: u64) -> Out
 }
 
 /// Adds a term to a sum, or begins it, if there is a word for it. Returns the steps. The addition
-/// is made before it is known whether there is: which cells name a word can't be foretold.
+/// is made before it is known whether there is: no processor predicts which cells name a word.
 #[inline(always)]
 fn add_if<A: Function>(add: &Operator, sum: &mut Option<u64>, term: Outcome, stands: bool) -> u64
     requires computes { Computes add.now A.meaning A.price }
@@ -82,7 +83,7 @@ fn sum_cells<A: Function, M: Function>(
     Summed { sum, steps }
 }
 
-/// Rows by operators that compute two functions, as types. It keeps nothing.
+/// Rows by operators that compute two functions, as types. It has no state.
 struct Fused<A, M>(PhantomData<(A, M)>);
 
 impl<A: Function, M: Function> RowAccumulator for Fused<A, M> {
@@ -90,7 +91,7 @@ impl<A: Function, M: Function> RowAccumulator for Fused<A, M> {
 
     ghost may_fill = { λ f i. Computes f.add.now A.meaning A.price × Computes f.mul.now M.meaning M.price };
 
-    /// Work linear in the words of A's row. Of a row that doesn't pass the mask nothing is read.
+    /// Work linear in the words of A's row. Nothing is read of a row that doesn't pass the mask.
     #[inline(always)]
     fn fill_row(
         &mut self,
@@ -102,7 +103,7 @@ impl<A: Function, M: Function> RowAccumulator for Fused<A, M> {
             return making.rows.end_row();
         }
         let row = factors.a.row(i);
-        // a loop for each: none asks at every cell whether there is a copy
+        // A loop for each, so that no cell has to ask whether there is a copy.
         let summed = match factors.column {
             Some(column) => sum_cells::<A, M>(factors, Some(column), row),
             None => sum_cells::<A, M>(factors, None, row),
@@ -111,21 +112,22 @@ impl<A: Function, M: Function> RowAccumulator for Fused<A, M> {
     }
 }
 
-/// Rows that are being made, and whether memory was wanting, once they are.
+/// Rows under construction, and, once they are complete, whether memory was refused.
 #[derive(Drop)]
 struct Filling {
     making: Making,
+    // A `Loop` returns a number alone, so the outcome is noted in its state.
     filled: Option<Result<(), AllocError>>,
 }
 
-/// Rows of a product of one column, for which an ADD is to be found.
+/// Rows of a product by one column, for which an ADD is to be recognised.
 #[derive(Drop)]
 struct ColumnRows<'f, 'm> {
     factors: &'f MaskedFactors<'m>,
     range: Range<u64>,
 }
 
-/// These rows by an ADD that computes a function, for which a MUL is to be found.
+/// These rows by an ADD that computes a function, for which a MUL is to be recognised.
 struct RowsBy<'r, 'f, 'm, A> {
     rows: &'r ColumnRows<'f, 'm>,
     add: PhantomData<A>,
@@ -146,9 +148,11 @@ impl<'f, 'm> Loop for ColumnRows<'f, 'm> {
             add: PhantomData,
         };
         let answer = run_known(&rows, self.factors.mul, filling);
+        // Taken apart, since a type without `Drop` can't go out of scope as it is.
         let RowsBy { rows: _, add: _ } = rows;
         match answer {
             Some(answer) => answer,
+            // No row was computed, and `filled` says so.
             None => 0,
         }
     }
@@ -169,13 +173,15 @@ impl<'r, 'f, 'm, A: Function> Loop for RowsBy<'r, 'f, 'm, A> {
         let mut room = Fused::<A, M>(PhantomData);
         let range = rows.range.start..rows.range.end;
         filling.filled = Some(fill_rows(rows.factors, range, &mut room, &mut filling.making));
+        // Taken apart, as above.
         let Fused(_) = room;
+        // The steps are in `making`.
         0
     }
 }
 
-/// Adds the rows of a range in one loop, in which both operators are compiled, if they are known so
-/// and B's column is full. Else it adds none.
+/// Adds the rows of a range in one loop, into which both operators are compiled, if they are
+/// recognised and B's column is full. Otherwise it adds none.
 pub(crate) fn fill_fused(
     alloc: Global,
     factors: &MaskedFactors,
@@ -186,15 +192,18 @@ pub(crate) fn fill_fused(
     ensures known { IfSome result (λ filled. AddsRows factors.now range.start range.end making.old making.new filled) }
     ensures unknown { result ≡ None → making.new ≡ making.old }
 {
-    // Each sum waits for the one before it, also where a term is missing: lists of terms pass over those.
+    // Each sum waits for the previous one, even if a term is missing. Lists of terms skip what is
+    // missing.
     if factors.b.entries() < factors.b.rows() {
         return None;
     }
+    // A `Loop` owns its state, so the rows move there and back. This is a placeholder.
     let none = Making::begin(alloc, range.start, factors.b.columns());
     let mut filling = Filling {
         making: replace(making, none),
         filled: None,
     };
+    // The number says nothing here: `filled` tells whether the loop ran.
     let _ = run_usual(&ColumnRows { factors, range }, factors.add, &mut filling);
     let Filling {
         making: made,

@@ -1,4 +1,4 @@
-//! The terms of a row of a product, listed as A's row names them.
+//! The terms of a row of a product, listed in the order of A's row.
 ghost use Rattle.std.specs.Prelude.{◌≡◌, ◌≤◌, ◌<◌, ◌+◌, ◌*◌, ◌++◌, length, vec_capacity};
 ghost use Rattle.std.specs.List.{AllByRecursion};
 ghost use Rattle.bpf_insn.specs.declared.operands.Kind.TheVariants as kinds;
@@ -24,12 +24,14 @@ pub(crate) struct Naming<'m> {
     pub(crate) i: u64,
 }
 
-/// Whether a mask lets a position pass, or there is none.
+/// Whether a mask lets a position pass, or there is no mask.
 #[inline(always)]
 fn lets_pass(mask: Option<&Matrix>, i: u64, j: u64) -> bool
     ensures { result ≡ passes (mask_of mask.entry) (i, j) }
 {
     match mask {
+        // By a search in the mask's row: terms are few here, and flags for all columns would take
+        // memory.
         Some(mask) => mask.get(i, j).is_some(),
         None => true,
     }
@@ -59,6 +61,7 @@ fn list_cells<C: Caller>(
     for cell in cells {
         if lets_pass(mask, i, cell.0) {
             let term = C::make(mul, x, cell.1);
+            // The list has capacity for all terms of the row, with or without a mask.
             listed.push_reserved((cell.0, term.value));
             steps += term.steps;
         }
@@ -66,8 +69,7 @@ fn list_cells<C: Caller>(
     steps
 }
 
-/// Lists the terms that the cells of a row of A give, one row of B after the other. Returns the
-/// steps.
+/// Lists the terms of the cells of a row of A, one row of B after another. Returns the steps.
 #[inline(always)]
 fn list_rows<C: Caller>(mul: &Operator, naming: &Naming, listed: &mut Vec<(u64, u64)>) -> u64
     requires may { MayList mul.now naming.now listed.old }
@@ -95,8 +97,8 @@ impl<'m> Loop for Naming<'m> {
     }
 }
 
-/// Lists the terms that the cells of a row of A give, in their order, in place of what was listed.
-/// Returns the steps.
+/// Lists the terms of the cells of a row of A, in their order, replacing what was listed. Returns
+/// the steps.
 pub(crate) fn list_terms(mul: &Operator, naming: &Naming, listed: &mut Vec<(u64, u64)>) -> u64
     requires may { MayList mul.now naming.now listed.old }
     ensures { Lists mul.now naming.now listed.old listed.new result }

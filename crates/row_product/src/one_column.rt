@@ -1,5 +1,5 @@
-//! Rows of a product of one column: the terms of a row are one list, which is folded. There is
-//! nothing to put in order.
+//! Rows of a product by one column: the terms of a row are one list, which is folded. There is
+//! nothing to sort.
 ghost use Rattle.std.specs.Prelude.{◌≡◌, ◌<◌, ◌^◌, [], IfOk, IfSome, OnOk};
 ghost use Rattle.bpf_insn.specs.declared.operands.Kind.TheVariants as kinds;
 ghost use Rattle.bpf_run.specs.Calls.{steps_of};
@@ -20,22 +20,22 @@ use csr_store::{Column, Matrix, Rows};
 use job_forms::Making;
 use std::alloc::{AllocError, Global};
 
-/// The terms of up to 64 cells of a row of A, and the calls that make them where the operator isn't
-/// known by its program.
+/// The terms of up to 64 cells of a row of A, and the calls that compute them if the operator isn't
+/// recognised.
 #[derive(Drop)]
 pub(crate) struct Summing {
     pub(crate) terms: Vec<(u64, u64)>,
     calls: Calls,
 }
 
-/// What the terms of a row come to, if there are any, and the steps.
+/// The sum of the terms of a row, if there are any, and the steps.
 #[derive(Drop)]
 pub(crate) struct Summed {
     pub(crate) sum: Option<u64>,
     pub(crate) steps: u64,
 }
 
-/// Whether a mask lets the one position of a row pass, or there is none.
+/// Whether a mask lets the one position of a row pass, or there is no mask.
 #[inline(always)]
 pub(crate) fn lets_pass(mask: Option<&Matrix>, i: u64) -> bool
     requires row { IfSome mask (λ m. i < m.now.rows) }
@@ -65,7 +65,7 @@ fn fold_terms(add: &Operator, so_far: u64, terms: &[(u64, u64)]) -> Outcome
     }
 }
 
-/// Folds the words of further terms into a sum, or begins it by the first. Returns the steps.
+/// Folds the words of further terms into a sum, or begins it with the first. Returns the steps.
 fn add_terms(add: &Operator, terms: &[(u64, u64)], sum: &mut Option<u64>) -> u64
     requires add { add.now.kind ≡ kinds.Binary }
     requires room { steps_of (fold_on_calls add.now sum.old (terms_of terms.now)) < 2 ^ 64 }
@@ -75,6 +75,7 @@ fn add_terms(add: &Operator, terms: &[(u64, u64)], sum: &mut Option<u64>) -> u64
         Some(so_far) => (so_far, terms),
         None => match terms.split_first() {
             Some((first, others)) => (first.1, others),
+            // No terms: the sum stays as it is, and may remain absent.
             None => return 0,
         },
     };
@@ -89,6 +90,7 @@ impl Summing {
         ensures { IfOk result (λ s. HasRoom s.terms) }
     {
         Ok(Summing {
+            // Both here, so that rows need no memory for their sums.
             terms: Vec::with_capacity(alloc, MOST_CALLS)?,
             calls: Calls::new(alloc)?,
         })
@@ -107,6 +109,7 @@ impl Summing {
         requires room { HasRoom self.old.terms }
         ensures { AreMultiplied mul.now b.now cells.now self.new.terms result }
     {
+        // A compiled loop lists its terms directly. Gathering them would cost more than the calls.
         if let Some(steps) = run_known(&ColumnTerms { cells, b, column }, mul, &mut self.terms) {
             return steps;
         }
@@ -127,6 +130,7 @@ impl Summing {
         let mut steps = 0;
         let mut cells = row;
         while !cells.is_empty() {
+            // In parts of 64 cells, which is as many as calls are made at once.
             let (now, rest) = cells.split_at(cells.len().min(MOST_CALLS));
             let multiplied = self.multiply(factors.mul, now, factors.b, factors.column);
             steps += multiplied + add_terms(factors.add, &self.terms, &mut sum);
@@ -135,8 +139,8 @@ impl Summing {
         Summed { sum, steps }
     }
 
-    /// Adds row `i` of the product, where its one position passes. All its calls are made, and
-    /// charged, before memory may be wanting.
+    /// Adds row `i` of the product, whose one position passes. All its calls are made, and charged,
+    /// before memory may be refused.
     fn fill_open(
         &mut self,
         factors: &MaskedFactors,
@@ -154,7 +158,7 @@ impl Summing {
 }
 
 /// Adds row `i` of the product, whose one position passes, once its terms are summed. All its calls
-/// are charged before memory may be wanting.
+/// are charged before memory may be refused.
 #[inline(always)]
 pub(crate) fn end_summed(
     factors: &MaskedFactors,
@@ -166,12 +170,13 @@ pub(crate) fn end_summed(
     requires summed { IsSummed factors.now (row_of factors.now.a.now i) summed.now.sum summed.now.steps }
     ensures { AddsCharged factors.now i making.old making.new result }
 {
+    // Charged first: the push may be refused memory.
     making.steps += summed.steps;
     put_sum(summed.sum, &mut making.rows)?;
     making.rows.end_row()
 }
 
-/// Puts the sum of a row's one column, if there is one, into the open row.
+/// Appends the sum of a row's one column, if there is one, to the open row.
 #[inline(always)]
 fn put_sum(sum: Option<u64>, rows: &mut Rows) -> Result<(), AllocError>
     requires column { rows.old.columns ≡ 1 }
@@ -189,7 +194,7 @@ impl RowAccumulator for Summing {
 
     ghost may_fill = { λ f i. Unit {0} };
 
-    /// Work linear in the words of A's row. Of a row that doesn't pass the mask nothing is read.
+    /// Work linear in the words of A's row. Nothing is read of a row that doesn't pass the mask.
     fn fill_row(
         &mut self,
         factors: &MaskedFactors,

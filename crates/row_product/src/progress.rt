@@ -1,4 +1,4 @@
-//! A row of the product in progress: rows of B, each times a word, added to its sums.
+//! A row of the product under construction: rows of B, each times a word, added to its sums.
 ghost use Rattle.std.specs.Prelude.{◌≡◌, ◌≤◌, [], length, take, IfOk, OnOk};
 ghost use Rattle.csr_store.specs.Ascending.{Ascends};
 ghost use Rattle.row_product.specs.inner.Adding.{taking};
@@ -11,12 +11,12 @@ use crate::factors::MaskedFactors;
 use bpf_run::MOST_CALLS;
 use std::alloc::{AllocError, Global};
 
-/// The sums in progress, and whether the mask allows each column.
+/// The sums under construction, and whether the mask allows each column.
 #[derive(Drop)]
 pub(crate) struct Progress {
     pub(crate) sums: DenseAccumulator,
     pub(crate) allowed: Vec<bool>,
-    /// Room for 64 cells. The first are those of a part of a row of B whose columns are allowed.
+    /// A buffer of 64 cells. The first are those of a part of a row of B whose columns are allowed.
     pub(crate) passing: Vec<(u64, u64)>,
 }
 
@@ -28,24 +28,26 @@ impl Progress {
         Ok(Progress {
             sums: DenseAccumulator::new(alloc)?,
             allowed: Vec::new(alloc),
+            // At full length, since `choose` writes by index.
             passing: vec![in alloc; (0, 0); MOST_CALLS]?,
         })
     }
 
-    /// Room for so many columns, at least, none of which has a sum.
+    /// Makes the buffers hold at least so many columns, none of which has a sum.
     pub(crate) fn widen(&mut self, columns: u64) -> Result<(), AllocError>
         requires { IsReady 0 self.old × AllForbidden self.old }
         ensures wide { OnOk result (IsReady columns self.new) }
         ensures ready { IsReady 0 self.new × AllForbidden self.new }
     {
+        // They only grow: flags are false between rows, so none has to be cleared.
         if columns as usize > self.allowed.len() {
             self.allowed.resize(columns as usize, false)?;
         }
         self.sums.widen(columns)
     }
 
-    /// Adds a word times each of up to 64 cells of a row of B to the sums: where it is masked, of
-    /// those whose columns are allowed.
+    /// Adds a word times each of up to 64 cells of a row of B to the sums: if `masked`, of those
+    /// whose columns are allowed.
     fn add_part(
         &mut self,
         factors: &MaskedFactors,
@@ -59,6 +61,7 @@ impl Progress {
             (stands self.new) result }
         ensures ready { IsReady factors.now.b.now.columns self.new × (self.new.allowed ≡ self.old.allowed) }
     {
+        // Without a mask no cell is copied.
         if !masked {
             return self.sums.add_cells(factors, x, cells);
         }
@@ -66,8 +69,8 @@ impl Progress {
         self.sums.add_cells(factors, x, &self.passing[..count])
     }
 
-    /// Adds a word times row `k` of B to the sums: where it is masked, at the allowed columns.
-    /// Returns the steps.
+    /// Adds a word times row `k` of B to the sums: if `masked`, at the allowed columns. Returns the
+    /// steps.
     fn add_row(&mut self, factors: &MaskedFactors, x: u64, k: u64, masked: bool) -> u64
         requires row { IsRowOfB factors.now k }
         requires ready { IsReady factors.now.b.now.columns self.old }
@@ -79,6 +82,7 @@ impl Progress {
         let mut cells = factors.b.row(k);
         let mut steps = 0;
         while !cells.is_empty() {
+            // In parts of 64 cells, which is as many as calls are made at once.
             let (now, rest) = cells.split_at(cells.len().min(MOST_CALLS));
             steps += self.add_part(factors, x, now, masked);
             cells = rest;
@@ -104,9 +108,9 @@ impl Progress {
     }
 }
 
-/// Puts the cells whose columns are allowed into the first places. Returns how many they are. Each
-/// cell is put, allowed or not, and the next goes over one that isn't: which are allowed can't be
-/// foretold, so no jump waits for it.
+/// Copies the cells whose columns are allowed to the front. Returns how many they are. Each cell is
+/// copied, allowed or not, and the next overwrites one that isn't: no processor predicts which are
+/// allowed, so no jump depends on it.
 fn choose(cells: &[(u64, u64)], allowed: &[bool], passing: &mut [(u64, u64)]) -> usize
     requires room { length cells.now ≤ length passing.old }
     requires within { Ascends 0 (length allowed.now) cells.now }

@@ -1,4 +1,4 @@
-//! The rows of any range of a product, with the room for sums made for these alone.
+//! The rows of any range of a product, with buffers for the sums of these alone.
 ghost use Rattle.std.specs.Prelude.{◌≡◌, ◌≤◌};
 ghost use Rattle.bpf_insn.specs.declared.operands.Kind.TheVariants as kinds;
 ghost use Rattle.csr_store.specs.Mask.{HasShape, mask_of};

@@ -18,12 +18,14 @@ fn sum_under(factors: &MaskedFactors, i: u64, progress: &mut Progress) -> u64
     ensures summed { AreSummed factors.now i (stands progress.new) result }
     ensures ready { IsReady factors.now.b.now.columns progress.new × AllForbidden progress.new }
 {
+    // Clears the sums of the last row.
     progress.sums.begin();
     match factors.mask {
         None => progress.add_rows(factors, i, false),
         Some(mask) => {
             allow(mask, i, &mut progress.allowed);
             let steps = progress.add_rows(factors, i, true);
+            // Undone before the next row, so that the flags are false between rows.
             forbid(mask, i, &mut progress.allowed);
             steps
         }
@@ -31,7 +33,7 @@ fn sum_under(factors: &MaskedFactors, i: u64, progress: &mut Progress) -> u64
 }
 
 /// Adds row `i` of the product, by its sums. All its calls are made, and charged, before memory may
-/// be wanting.
+/// be refused.
 fn fill_summed(
     factors: &MaskedFactors,
     i: u64,
@@ -44,6 +46,7 @@ fn fill_summed(
     ensures ready { IsReady factors.now.b.now.columns progress.new × AllForbidden progress.new }
 {
     let columns = factors.b.columns();
+    // Charged first: emitting the sums may be refused memory.
     making.steps += sum_under(factors, i, progress);
     progress.sums.emit(columns, &mut making.rows)?;
     making.rows.end_row()
@@ -55,16 +58,18 @@ impl RowAccumulator for Progress {
     ghost may_fill = { λ f i. Unit {0} };
 
     /// Work linear in the row's multiplications, the words of A's row and of the mask's, and its
-    /// own entries, but for their order.
+    /// own entries, apart from sorting these.
     fn fill_row(
         &mut self,
         factors: &MaskedFactors,
         i: u64,
         making: &mut Making,
     ) -> Result<(), AllocError> {
+        // A row that the mask stops isn't read, so it costs nothing.
         if !is_open(factors.mask, i) {
             return making.rows.end_row();
         }
+        // No sums, and no clearing of them: the row of B is the result.
         if let Some(cell) = sole_entry(factors, i) {
             return fill_sole(factors, i, cell, self, making);
         }

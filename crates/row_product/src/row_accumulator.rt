@@ -1,4 +1,4 @@
-//! Rows of a product, one after the other, in room for the sums of each.
+//! Rows of a product in sequence, with buffers for the sums of each.
 ghost use Rattle.std.specs.Prelude.{◌≤◌, ◌<◌, ℕ};
 ghost use Rattle.row_product.specs.declared.factors.MaskedFactors.{MaskedFactors as Those};
 ghost use Rattle.row_product.specs.inner.Masked.{IsBegun, IsNext, AddsRow, AddsRows};
@@ -8,10 +8,10 @@ use job_forms::Making;
 use std::alloc::AllocError;
 use std::ops::Range;
 
-/// Room in which a row of a product is summed: of all columns (`row`), or in lists of its terms
-/// alone (`sorted_accumulator`).
+/// The buffers in which a row of a product is summed: of all columns (`row`), or in lists of its
+/// terms alone (`sorted_accumulator`).
 pub(crate) trait RowAccumulator {
-    /// There is room for so many columns, as far as it has to be there before a row is begun.
+    /// The buffers hold so many columns, as far as that is needed before a row is begun.
     ghost is_ready: { ℕ → Self → Type 0 };
 
     /// The terms of a row aren't too many for it.
@@ -31,7 +31,7 @@ pub(crate) trait RowAccumulator {
         ensures ready { is_ready factors.now.b.now.columns self.new };
 }
 
-/// Adds the rows of a range, one after the other in the same room.
+/// Adds the rows of a range in sequence, with the same buffers.
 pub(crate) fn fill_rows<R: RowAccumulator>(
     factors: &MaskedFactors,
     range: Range<u64>,
@@ -47,6 +47,7 @@ pub(crate) fn fill_rows<R: RowAccumulator>(
     for i in range.start..range.end {
         room.fill_row(factors, i, making)?;
     }
+    // Rows that grew by doubling give back what they don't use: they become the result.
     making.rows.trim();
     Ok(())
 }

@@ -1,4 +1,4 @@
-//! A row of B read beside the mask's row, for the cells that pass.
+//! A row of B read alongside the mask's row, for the cells that pass.
 ghost use Rattle.std.specs.Prelude.{◌≡◌, ◌≤◌, ◌<◌, ◌++◌, ℕ, List, length, take};
 ghost use Rattle.csr_store.specs.Grid.{Cell};
 ghost use Rattle.row_product.specs.inner.Adding.{taking};
@@ -7,15 +7,15 @@ ghost use Rattle.row_product.specs.inner.RowUnderMask.{stores, IsRowUnderMask};
 use bpf_run::MOST_CALLS;
 use job_forms::RowCursor;
 
-/// What is left of a row of B, and of the mask's row beside it.
+/// What is left of a row of B, and of the mask's row.
 #[derive(Drop)]
 pub(crate) struct RowUnderMask<'r> {
     pub(crate) cells: &'r [(u64, u64)],
     pub(crate) mask: RowCursor<'r>,
 }
 
-/// Puts the next cells that pass, up to 64, into the first places. Returns what is left, and how
-/// many they are. Each cell is put, and the next goes over one that doesn't pass.
+/// Copies the next cells that pass, up to 64, to the front. Returns what is left, and how many they
+/// are. Each cell is copied, and the next overwrites one that doesn't pass.
 pub(crate) fn list_passing<'r>(
     row: RowUnderMask<'r>,
     passing: &mut [(u64, u64)],
@@ -37,8 +37,10 @@ pub(crate) fn list_passing<'r>(
         let Some((cell, more)) = cells.split_first() else {
             break;
         };
+        // Both rows ascend, so the mask's is read once.
         mask.advance_to(cell.0);
         passing[count] = *cell;
+        // Added, not branched on: no processor predicts which cells pass.
         count += usize::from(mask.word_at(cell.0).is_some());
         cells = more;
     }

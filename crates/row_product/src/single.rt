@@ -1,5 +1,5 @@
-//! Rows of A with one entry: a row of B, as far as it passes, each word multiplied. There is
-//! nothing to sum, nor to put in order.
+//! Rows of A with one entry: a row of B, as far as it passes, with each word multiplied. There is
+//! nothing to sum or to sort.
 ghost use Rattle.std.specs.Prelude.{◌≡◌, ◌≤◌, ◌+◌, ◌*◌, ◌++◌, ◌∷◌, []};
 ghost use Rattle.std.specs.Prelude.{length, IfSome, OnOk};
 ghost use Rattle.bpf_run.specs.Calls.{calls_on, pairs_with};
@@ -21,7 +21,7 @@ use csr_store::Rows;
 use job_forms::{Making, RowCursor};
 use std::alloc::AllocError;
 
-/// The one entry of row `i` of A, where it has no other.
+/// The one entry of row `i` of A, if it has no other.
 pub(crate) fn sole_entry(factors: &MaskedFactors, i: u64) -> Option<(u64, u64)>
     requires { IsRowOfA factors.now i }
     ensures { IfSome result (IsSole factors.now i) }
@@ -30,7 +30,7 @@ pub(crate) fn sole_entry(factors: &MaskedFactors, i: u64) -> Option<(u64, u64)>
     if row.len() == 1 { Some(row[0]) } else { None }
 }
 
-/// Puts cells with other words into the open row.
+/// Appends cells with other words to the open row.
 pub(crate) fn push_words(
     cells: &[(u64, u64)],
     words: &[u64],
@@ -71,7 +71,7 @@ fn push_row(
     making.rows.end_row()
 }
 
-/// Adds a row: a word times each of those of a row of B whose columns a mask's row stores.
+/// Adds a row: a word times each of those of a row of B whose columns are in a mask's row.
 fn push_row_under(
     factors: &MaskedFactors,
     cell: (u64, u64),
@@ -90,6 +90,7 @@ fn push_row_under(
     let (k, x) = cell;
     let cells = factors.b.row(k);
     // Reserve first: once calls are made, nothing may fail for want of memory.
+    // No more cells pass than the shorter of the two rows has.
     making.rows.reserve(cells.len().min(stored.len()))?;
     let mut row = RowUnderMask {
         cells,
@@ -105,7 +106,7 @@ fn push_row_under(
     making.rows.end_row()
 }
 
-/// Adds row `i` of the product, where row `i` of A has one entry.
+/// Adds row `i` of the product, if row `i` of A has one entry.
 pub(crate) fn fill_sole(
     factors: &MaskedFactors,
     i: u64,

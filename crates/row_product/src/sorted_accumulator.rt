@@ -1,4 +1,4 @@
-//! Rows of a product whose terms are few beside the columns: the terms are listed, put in order by
+//! Rows of a product whose terms are few compared with the columns: the terms are listed, sorted by
 //! their columns, and folded.
 ghost use Rattle.std.specs.Prelude.{◌≡◌, ◌≤◌, ◌<◌, ◌++◌, [], ℕ, true, length, OnOk};
 ghost use Rattle.bpf_run.specs.Calls.{steps_of};
@@ -18,14 +18,15 @@ use csr_store::Rows;
 use job_forms::{Making, is_open, mults_in_row};
 use std::alloc::{AllocError, Global};
 
-/// Room for the terms of a row, which is kept from row to row and from product to product.
+/// The buffers for the terms of a row, which are reused from row to row and from product to
+/// product.
 #[derive(Drop)]
 pub(crate) struct SortedAccumulator {
     /// The terms, each with its column, in the order of A's row.
     pub(crate) listed: Vec<(u64, u64)>,
-    /// Their keys: where they stand in the order of columns.
+    /// Their keys, which put them in the order of columns.
     pub(crate) keys: Vec<u64>,
-    /// What the terms of each column come to, by ascending column.
+    /// The sum of each column that has terms, by ascending column.
     pub(crate) sums: Vec<(u64, u64)>,
 }
 
@@ -39,10 +40,11 @@ impl SortedAccumulator {
         }
     }
 
-    /// Room for so many terms, in place of those that were listed.
+    /// Reserves memory for so many terms, replacing those that were listed.
     fn make_room(&mut self, terms: usize) -> Result<(), AllocError>
         ensures { OnOk result (HaveRoom terms self.new) }
     {
+        // Cleared before the lists grow, so that growing copies nothing.
         self.listed.clear();
         self.keys.clear();
         self.sums.clear();
@@ -65,6 +67,7 @@ impl SortedAccumulator {
             i,
         };
         let multiplied = list_terms(factors.mul, &naming, &mut self.listed);
+        // The keys are sorted, not the terms: a key is one word.
         put_in_order(&self.listed, &mut self.keys);
         let ordered = Ordered {
             listed: &self.listed,
@@ -73,8 +76,8 @@ impl SortedAccumulator {
         multiplied + fold_terms(factors.add, &ordered, &mut self.sums)
     }
 
-    /// Adds row `i` of the product, for whose terms there is room. All its calls are made, and
-    /// charged, before memory may be wanting.
+    /// Adds row `i` of the product, for whose terms memory is reserved. All its calls are made, and
+    /// charged, before memory may be refused.
     fn fill_listed(
         &mut self,
         factors: &MaskedFactors,
@@ -86,17 +89,19 @@ impl SortedAccumulator {
         requires room { HaveRoom (mults_of factors.now.b.now (row_of factors.now.a.now i)) self.old }
         ensures { AddsCharged factors.now i making.old making.new result }
     {
+        // Charged first: the push may be refused memory.
         making.steps += self.sum_row(factors, i);
         push_cells(&self.sums, &mut making.rows)?;
         making.rows.end_row()
     }
 }
 
-/// Puts cells into the open row, which has none yet.
+/// Appends cells to the open row, which has none yet.
 fn push_cells(cells: &[(u64, u64)], rows: &mut Rows) -> Result<(), AllocError>
     requires { IsBehindNone cells.now rows.old }
     ensures { OnOk result (rows.new ≡ record rows.old { opened = cells.now }) }
 {
+    // Once for all, so that the row grows at most once.
     rows.reserve(cells.len())?;
     for (column, word) in cells {
         rows.push(*column, *word)?;
@@ -109,7 +114,7 @@ impl RowAccumulator for SortedAccumulator {
 
     ghost may_fill = { λ f i. row_passes (mask_of f.mask) i ≡ true → mults_of f.b.now (row_of f.a.now i) < limit };
 
-    /// Memory, and work but for the order of the columns, go by the multiplications of the row.
+    /// Memory, and work apart from sorting columns, are linear in the multiplications of the row.
     fn fill_row(
         &mut self,
         factors: &MaskedFactors,
@@ -119,6 +124,7 @@ impl RowAccumulator for SortedAccumulator {
         if !is_open(factors.mask, i) {
             return making.rows.end_row();
         }
+        // By row starts, so that all memory is there before the first call.
         let terms = mults_in_row(factors.b, factors.a.row(i));
         self.make_room(terms as usize)?;
         self.fill_listed(factors, i, making)

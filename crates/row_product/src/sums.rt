@@ -15,8 +15,8 @@ use csr_store::Rows;
 use std::alloc::{AllocError, Global};
 use std::marker::Model;
 
-/// From one sum in so many columns on, going over the bits of all columns is cheaper than putting
-/// those that have one in order: 64 columns are one word.
+/// From one sum in so many columns on, reading the bits of all columns is cheaper than sorting
+/// those that have one: 64 columns are one word.
 const COLUMNS_A_SUM: u64 = 512;
 
 /// The sums of the row in progress. A contract sees the sum of each column, if there is one.
@@ -51,18 +51,20 @@ impl Sums {
         }
     }
 
-    /// For how many columns there is room.
+    /// How many columns the buffers hold.
     pub(crate) fn room(&self) -> usize
         ensures { length self.now ≤ result }
     {
         self.dense.room()
     }
 
-    /// Room for so many columns, none of which has a sum.
+    /// Makes the buffers hold so many columns, none of which has a sum.
     pub(crate) fn widen(&mut self, columns: u64) -> Result<(), AllocError>
         ensures { OnOk result (columns ≤ length self.new) }
     {
+        // The buffers are widened without sums, so that nothing has to move with its column.
         self.begin();
+        // Until all memory is there: a refusal leaves an empty list, which is consistent.
         self.most = 0;
         let most = (columns / COLUMNS_A_SUM) as usize;
         self.touched.reserve(most)?;
@@ -76,6 +78,7 @@ impl Sums {
         ensures none { (j : ℕ) → slot self.new j ≡ None }
         ensures long { length self.new ≡ length self.old }
     {
+        // A full list may lack columns, so then all bits are cleared.
         if self.touched.len() < self.most {
             self.dense.forget_listed(&self.touched);
         } else {
@@ -100,6 +103,7 @@ impl Sums {
         ensures { self.new ≡ set self.old column (Some sum) }
     {
         self.dense.put(column, sum);
+        // Once full, the list isn't read again, and needn't be continued.
         if self.touched.len() < self.most {
             self.touched.push_reserved(column);
         }
@@ -132,6 +136,7 @@ impl Sums {
                 self.dense.replace(column, sum.value);
                 sum.steps
             }
+            // The first term begins the sum, and costs no call.
             None => {
                 self.begin_sum(column, term);
                 0
@@ -139,7 +144,7 @@ impl Sums {
         }
     }
 
-    /// Puts the sums into the open row, by ascending column.
+    /// Appends the sums to the open row, by ascending column.
     pub(crate) fn emit(&mut self, columns: u64, rows: &mut Rows) -> Result<(), AllocError>
         requires { MayEmit columns self.old rows.old }
         ensures rows { OnOk result (rows.new ≡ record rows.old { opened = row_by rows.old.columns (slot self.old) }) }
@@ -147,9 +152,11 @@ impl Sums {
     {
         if self.touched.len() < self.most {
             rows.reserve(self.touched.len())?;
+            // Unstable, as columns are listed once. It takes no memory.
             self.touched.sort_unstable();
             return emit_listed(columns, &self.touched, &self.dense, rows);
         }
+        // Columns are read in order, so nothing has to be sorted.
         emit_marked(columns, self.dense.bits(), &self.dense, rows)
     }
 }

@@ -1,5 +1,5 @@
-//! Terms added to the sums of their columns, by operators that are known by their program: one
-//! after another, since nothing is gathered for a call that is compiled in place.
+//! Terms added to the sums of their columns by recognised operators: in sequence, since nothing is
+//! gathered for a call that is compiled in place.
 ghost use Rattle.std.specs.Prelude.{◌<◌, ◌^◌, length};
 ghost use Rattle.bpf_run.specs.Calls.{steps_of};
 ghost use Rattle.bpf_run.specs.Known.{Computes};
