@@ -1,5 +1,5 @@
-//! Entries gathered in any order, up to the first line that breaks a rule, where a position that is
-//! given again breaks none.
+//! Entries gathered in any order, up to the first line that breaks a rule; a position that is given
+//! again doesn't count as breaking one.
 ghost use Rattle.std.specs.Prelude.{◌≡◌, ◌<◌, ◌≤◌, ◌+◌, ◌++◌, ◌∷◌, [], None, length, drop, IfErr, IfOk, OnErr, OnOk};
 ghost use Rattle.csr_store.specs.Listed.{push_fault};
 ghost use Rattle.matrix_market.specs.inner.Gathering.{Adds, HasRoom, IsEnd, IsFaultAt, IsRead, Takes, Tells};
@@ -12,8 +12,8 @@ use crate::usual::{behind_feeds, entry_line, feed_before};
 use csr_store::{EntryList, StoreError};
 use std::alloc::{AllocError, Global};
 
-/// The entries of a text in their order, and its first fault, where a position that is given again
-/// is none.
+/// The entries of a text in their order, and its first fault, apart from positions that are given
+/// again.
 #[derive(Drop)]
 pub struct Gathering {
     pub list: EntryList,
@@ -27,30 +27,34 @@ struct Run {
     next: usize,
 }
 
-/// Gathers the entries that a size line says.
+/// Gathers as many entries as the size line declares.
 pub fn gather(alloc: Global, header: Header, start: Cursor<'_>) -> Result<Gathering, AllocError>
     ensures read { IfOk result (λ g. IsRead header start.entry g.list) }
     ensures told { IfOk result (λ g. Tells header start.entry g.list g.fault) }
 {
     let size = header.size;
     let mut list = EntryList::new(alloc, size.rows, size.columns);
+    // One allocation, so that pushing an entry doesn't move the others.
     list.reserve(room_for(header, start.rest.len()))?;
     let fault = gather_lines(&mut list, header, start)?;
     Ok(Gathering { list, fault })
 }
 
-/// For how many entries there is to be room: a line of one has at least four bytes.
+/// How many entries to allocate for: a line of one has at least four bytes.
 fn room_for(header: Header, bytes: usize) -> usize {
+    // A size line may declare anything, so the text's length bounds the allocation. The last line
+    // may have three bytes, as its LF may be missing.
     let entries = (header.size.entries as usize).min(bytes / 4 + 1);
     if header.banner.symmetric {
+        // Off the diagonal a line is two entries.
         entries.saturating_mul(2)
     } else {
         entries
     }
 }
 
-/// Gathers the entry lines into a list that has none, and tells the fault of the first line that
-/// breaks a rule.
+/// Gathers the entry lines into an empty list, and returns the fault of the first line that breaks
+/// a rule.
 fn gather_lines(
     list: &mut EntryList,
     header: Header,
@@ -61,9 +65,11 @@ fn gather_lines(
     ensures told { IfOk result (Tells header start.entry list.new) }
 {
     let mut cursor = start;
+    // Once: searching for the last LF again after each odd line would be quadratic.
     let behind = behind_feeds(cursor.rest);
     let mut given = 0;
     while given < header.size.entries {
+        // Lines of the usual form first, many at a time. `?` is want of memory.
         let run = gather_run(
             list,
             header,
@@ -73,6 +79,7 @@ fn gather_lines(
         )?;
         cursor = cursor_behind(cursor, run);
         given += run.given;
+        // The run ended early, at a line of another form or at one that breaks a rule.
         if given < header.size.entries {
             match gather_line(list, header, cursor)? {
                 Ok(behind) => {
@@ -83,17 +90,18 @@ fn gather_lines(
             }
         }
     }
+    // All declared entries are there. Anything else that isn't skipped is a fault.
     Ok(fault_behind(cursor))
 }
 
-/// Gathers the entries of the lines that a text begins with, so many at most, up to the first line
-/// that has not the usual form.
+/// Gathers the entries of the lines that a text begins with, up to a number of them, until the
+/// first line that doesn't have the usual form.
 ///
-/// The text ends with so many bytes behind its last LF, that LF among them. It is not looked for
-/// again here: a long last line would be gone over anew behind each line of another form.
+/// `behind` is the length of the text from its last LF on. It isn't searched for again here: a long
+/// last line would be scanned again after each line of another form.
 ///
-/// It is a function of its own in the program too, so that the loop over bytes has the registers to
-/// itself.
+/// It is a function of its own in the compiled program too, so that the loop over bytes has the
+/// registers to itself.
 #[inline(never)]
 fn gather_run(
     list: &mut EntryList,
@@ -109,18 +117,23 @@ fn gather_run(
 {
     let mut given = 0;
     let mut next = 0;
+    // No LF is left, so the last line goes through the rules.
     let Some(last) = feed_before(rest, behind) else {
         return Ok(Run { given, next });
     };
+    // The LF at `last` stops every scan, so none of them tests for the end of the text.
     while given < most && next <= last {
         let Some(line) = entry_line(rest, next, last, header.banner.pattern) else {
             return Ok(Run { given, next });
         };
         let found = Found {
+            // 0 wraps to the greatest number, so the test below finds it together with indices that
+            // are too large.
             row: line.row.wrapping_sub(1),
             column: line.column.wrapping_sub(1),
             word: line.word,
         };
+        // The rules decide what is wrong with it.
         if found.row >= header.size.rows || found.column >= header.size.columns {
             return Ok(Run { given, next });
         }
@@ -131,8 +144,8 @@ fn gather_run(
     Ok(Run { given, next })
 }
 
-/// Gathers the next entry line, whatever its form, and says what follows it. Where it breaks a
-/// rule, nothing is added, and its fault is told.
+/// Gathers the next entry line, whatever its form, and returns what follows it. If it breaks a
+/// rule, nothing is added, and its fault is returned.
 fn gather_line<'a>(
     list: &mut EntryList,
     header: Header,
@@ -144,9 +157,11 @@ fn gather_line<'a>(
     ensures kept { IfOk result (λ r. OnErr r (list.new ≡ list.old)) }
     ensures fault { IfOk result (λ r. IfErr r (IsFaultAt header cursor.entry)) }
 {
+    // The outer error is want of memory, the inner one the text's fault.
     match next_content(cursor) {
         Content::End(line) => Ok(Err(MarketError::Fault {
             rule: MarketRule::TooFewEntries,
+            // M9 is reported for the line after the last.
             line: line + 1,
         })),
         Content::TooLong(line) => Ok(Err(MarketError::Fault {
@@ -175,13 +190,14 @@ fn push_entry(list: &mut EntryList, header: Header, found: Found) -> Result<(), 
     ensures { OnOk result (Takes list.old header.banner.symmetric found list.new) }
 {
     push_word(list, found.row, found.column, found.word)?;
+    // An entry on the diagonal is its own mirror.
     if header.banner.symmetric && found.row != found.column {
         push_word(list, found.column, found.row, found.word)?;
     }
     Ok(())
 }
 
-/// Adds a word at a position inside the sizes of a list that isn't full. Nothing but memory can be
+/// Appends a word at a position inside the sizes of a list that isn't full. Only memory can be
 /// refused.
 #[inline(always)]
 fn push_word(list: &mut EntryList, row: u64, column: u64, word: u64) -> Result<(), AllocError>
@@ -191,6 +207,7 @@ fn push_word(list: &mut EntryList, row: u64, column: u64, word: u64) -> Result<(
     match list.push(row, column, word) {
         Ok(()) => Ok(()),
         Err(StoreError::Memory) => Err(AllocError),
+        // Indices and counts were checked, and a list doesn't look for positions given twice.
         Err(
             StoreError::IndexOutOfRange
             | StoreError::PositionGivenTwice
@@ -216,13 +233,14 @@ fn fault_behind(cursor: Cursor<'_>) -> Option<MarketError>
     }
 }
 
-/// The place behind a run of lines.
+/// The position after a run of lines.
 fn cursor_behind<'a>(cursor: Cursor<'a>, run: Run) -> Cursor<'a>
     requires lines { run.given ≤ run.next }
     requires within { run.next ≤ length cursor.rest.now }
     ensures rest { result.rest.now ≡ drop run.next cursor.entry.rest.now }
     ensures at { result.at ≡ cursor.entry.at + run.given }
 {
+    // Each line of a run is one entry, so lines are counted by entries.
     let rest = text_behind(cursor.rest, run.next);
     Cursor {
         rest,
@@ -230,7 +248,7 @@ fn cursor_behind<'a>(cursor: Cursor<'a>, run: Run) -> Cursor<'a>
     }
 }
 
-/// A text from a place on.
+/// A text from a position on.
 pub fn text_behind(text: &[u8], from: usize) -> &[u8]
     requires { from ≤ length text.now }
     ensures rest { result.now ≡ drop from text.now }

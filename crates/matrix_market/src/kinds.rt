@@ -37,6 +37,7 @@ pub struct Size {
 pub struct Header {
     pub banner: Banner,
     pub size: Size,
+    // Proved when the header is read, so that no sum over entries overflows later.
     ghost rows_small: { size.rows ≤ 16777216 },
     ghost columns_small: { size.columns ≤ 16777216 },
     ghost entries_small: { size.entries ≤ 16777216 },
@@ -44,7 +45,7 @@ pub struct Header {
     ghost square: { banner.symmetric ≡ true → size.rows ≡ size.columns },
 }
 
-/// What an entry line says, its position counted from 0.
+/// What an entry line says, with its position counted from 0.
 #[derive(Clone, Copy)]
 pub struct Found {
     pub row: u64,
@@ -65,11 +66,14 @@ pub fn skipped(line: &[u8]) -> bool
     }
 }
 
-/// The number that a word writes in decimal digits behind an optional `+`, held below 2^64.
+/// The number that a word writes in decimal digits after an optional `+`, or 2^64 - 1 if it is
+/// larger.
 fn number(word: &[u8]) -> Option<u64>
     ensures { result ≡ held_number (market.number word.now) }
 {
     match word {
+        // Held, not refused: a number too large is well formed, and breaks the rule on its range
+        // (M4, M6 or M7), not M3 or M5.
         [b'+', rest @ ..] => held_decimal(rest),
         _ => held_decimal(word),
     }
@@ -91,14 +95,16 @@ pub fn value(word: &[u8]) -> Option<(bool, u64)>
     }
 }
 
-/// The word of a value's sign and magnitude, where it is from -2^63 to 2^63 - 1.
+/// The word of a value's sign and magnitude, if it is from -2^63 to 2^63 - 1.
 pub fn word_in_range(negative: bool, magnitude: u64) -> Option<u64>
     ensures { result ≡ in_range (Some (negative, magnitude)) }
 {
     if negative {
+        // Greater only: -2^63 is in range.
         if magnitude > LEAST_MAGNITUDE {
             return None;
         }
+        // Two's complement. -0 is 0.
         return Some(0u64.wrapping_sub(magnitude));
     }
     if magnitude >= LEAST_MAGNITUDE {
@@ -110,9 +116,11 @@ pub fn word_in_range(negative: bool, magnitude: u64) -> Option<u64>
 fn check_size(symmetric: bool, rows: u64, columns: u64, entries: u64) -> Result<Size, MarketRule>
     ensures { result ≡ size_checked symmetric rows columns entries }
 {
+    // M4 before M12.
     if rows > MOST_SIDE
         || columns > MOST_SIDE
         || entries > MOST_ENTRIES
+        // A symmetric matrix may store each entry twice.
         || symmetric && entries > MOST_ENTRIES / 2
     {
         return Err(MarketRule::SizeAboveLimit);
@@ -136,6 +144,7 @@ fn check_entry(
 ) -> Result<Found, MarketRule>
     ensures { result ≡ entry_checked size i j (negative, magnitude) }
 {
+    // M6 before M7.
     if i == 0 || i > size.rows || j == 0 || j > size.columns {
         return Err(MarketRule::IndexOutsideMatrix);
     }
@@ -149,7 +158,7 @@ fn check_entry(
     }
 }
 
-/// The words of a text, where they are four.
+/// The words of a text, if there are four.
 fn four_words(text: &[u8]) -> Option<(&[u8], &[u8], &[u8], &[u8])>
     ensures { MatchOption result (length (words text.now) ≢ 4)
         (λ p. words text.now ≡ p.0.now ∷ p.1.now ∷ p.2.now ∷ p.3.now ∷ []) }
@@ -158,13 +167,14 @@ fn four_words(text: &[u8]) -> Option<(&[u8], &[u8], &[u8], &[u8])>
     let (b, rest) = first_word(rest)?;
     let (c, rest) = first_word(rest)?;
     let (d, rest) = first_word(rest)?;
+    // A fifth word is one too many.
     match first_word(rest) {
         None => Some((a, b, c, d)),
         Some(_) => None,
     }
 }
 
-/// Whether a word is the one that it is compared to, whatever the case of its letters.
+/// Whether a word equals another, ignoring the case of its letters.
 fn same(word: &[u8], wanted: &[u8]) -> bool
     requires { str_to_ascii_lowercase wanted.now ≡ wanted.now }
     ensures { result ≡ same_text (str_to_ascii_lowercase word.now) wanted.now }
@@ -195,9 +205,11 @@ pub fn read_banner(line: &[u8]) -> Result<Banner, MarketRule>
         None => return Err(MarketRule::MalformedBanner),
         Some(p) => p,
     };
+    // In exact case: the words after the first may have any.
     if head != b"%%MatrixMarket".as_slice() {
         return Err(MarketRule::MalformedBanner);
     }
+    // M1 is the number of words, M2 the words themselves.
     let (o, f, p, s) = match four_words(rest) {
         None => return Err(MarketRule::MalformedBanner),
         Some(q) => q,
@@ -220,6 +232,7 @@ pub fn read_banner(line: &[u8]) -> Result<Banner, MarketRule>
 pub fn read_size(symmetric: bool, line: &[u8]) -> Result<Size, MarketRule>
     ensures { result ≡ size_answer symmetric (size_words (words line.now)) }
 {
+    // M3 is the form of the line, M4 and M12 its numbers.
     match fields_of(line) {
         Fields::Three(a, b, c) => match number(a) {
             None => Err(MarketRule::MalformedSize),
@@ -243,6 +256,7 @@ pub fn read_entry(header: Header, line: &[u8]) -> Result<Found, MarketRule>
     let size = header.size;
     match fields_of(line) {
         Fields::Two(a, b) => {
+            // A value that the banner doesn't announce, or one that is missing, is M5.
             if !pattern {
                 return Err(MarketRule::MalformedEntry);
             }
@@ -250,6 +264,7 @@ pub fn read_entry(header: Header, line: &[u8]) -> Result<Found, MarketRule>
                 None => Err(MarketRule::MalformedEntry),
                 Some(i) => match number(b) {
                     None => Err(MarketRule::MalformedEntry),
+                    // An entry of a pattern has the value 1.
                     Some(j) => check_entry(size, i, j, false, 1),
                 },
             }

@@ -1,5 +1,5 @@
 //! Lines of entries, written from the last to the first, so that each digit is written once and in
-//! its place.
+//! its final position.
 ghost use Rattle.std.specs.Prelude.{◌≡◌, ◌<◌, ◌≤◌, ◌+◌, ◌++◌, ◌∷◌, [], All, decimal, drop, length};
 ghost use Rattle.csr_store.specs.Grid.{Cell, at_row, limit};
 ghost use Rattle.matrix_market.specs.CanonicalText.{entry_lines, value_text};
@@ -11,14 +11,14 @@ use itoa::write_digits;
 /// How many lines are written at a time.
 pub const MOST_LINES: usize = 64;
 
-/// The room for these lines: 40 bytes hold any line, and a label is copied whole.
+/// The buffer for these lines: 40 bytes hold any line, and a label is copied whole.
 pub const ROOM: usize = MOST_LINES * 40 + LABEL;
 
 /// The bytes of a label: a row has at most eight digits.
 const LABEL: usize = 16;
 
 /// What each line of a row begins with: the row's number, which counts from 1, and a space. They
-/// end the bytes.
+/// are at the end of the bytes.
 #[derive(Clone, Copy)]
 pub struct Label {
     row: u64,
@@ -35,37 +35,41 @@ pub fn label_of(row: u64) -> Label
     ensures { result.row ≡ row }
 {
     let mut bytes = [b' '; LABEL];
+    // Digits end one byte early: the last byte stays a space.
     let start = write_digits(row + 1, &mut bytes, LABEL - 1);
     Label { row, bytes, start }
 }
 
-/// Writes a label so that it ends at `end`. What stands before it is overwritten too.
+/// Writes a label so that it ends at `end`. The bytes before it are overwritten too.
 #[inline(always)]
 fn write_label(label: &Label, room: &mut [u8], end: usize) -> usize
     requires { (16 ≤ end) × (end ≤ length room.old) }
     ensures start { (result ≤ end) × (end ≤ result + 10) }
     ensures written { drop result room.new ≡ label_text label.now.row ++ drop end room.old }
 {
+    // All 16 bytes. Those before the label are free, as lines are written backwards.
     room[end - LABEL..end].copy_from_slice(&label.bytes);
     end - LABEL + label.start
 }
 
-/// Writes a value so that it ends at `end`, and says where it starts.
+/// Writes a value so that it ends at `end`, and returns where it starts.
 #[inline(always)]
 fn write_value(word: u64, room: &mut [u8], end: usize) -> usize
     requires { (20 ≤ end) × (end ≤ length room.old) }
     ensures start { (result ≤ end) × (end ≤ result + 20) }
     ensures written { drop result room.new ≡ value_text word ++ drop end room.old }
 {
+    // A word of 2^63 or more is a negative number.
     if word < 1 << 63 {
         return write_digits(word, room, end);
     }
+    // Exact for -2^63 as well, whose magnitude is the word itself.
     let start = write_digits(word.wrapping_neg(), room, end);
     room[start - 1] = b'-';
     start - 1
 }
 
-/// Writes what follows the label in an entry's line, and says where it starts.
+/// Writes what follows the label in an entry's line, and returns where it starts.
 #[inline(always)]
 fn write_rest(column: u64, word: u64, room: &mut [u8], end: usize) -> usize
     requires column { column < limit }
@@ -76,10 +80,11 @@ fn write_rest(column: u64, word: u64, room: &mut [u8], end: usize) -> usize
     room[end - 1] = b'\n';
     let space = write_value(word, room, end - 1) - 1;
     room[space] = b' ';
+    // Columns count from 1 in text.
     write_digits(column + 1, room, space)
 }
 
-/// Writes the lines of some cells of a row so that they end with the room, and says where they
+/// Writes the lines of some cells of a row so that they end with the buffer, and returns where they
 /// start.
 pub fn write_lines(label: &Label, cells: &[Cell], room: &mut [u8; ROOM]) -> usize
     requires few { length cells.now ≤ 64 }
@@ -89,6 +94,7 @@ pub fn write_lines(label: &Label, cells: &[Cell], room: &mut [u8; ROOM]) -> usiz
 {
     let mut start = ROOM;
     let mut left = cells.len();
+    // Backwards, since the length of a number is known only once it is written.
     while left > 0 {
         left -= 1;
         let (column, word) = cells[left];

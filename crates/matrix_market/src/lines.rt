@@ -5,13 +5,13 @@ use crate::cursor::Cursor;
 use crate::kinds::skipped;
 use text_words::first_line;
 
-/// The most bytes that a line has, its line end not counted.
+/// The most bytes that a line has, not counting its line end.
 pub const MOST_BYTES: usize = 1024;
 
-/// What comes behind blank lines and comments.
+/// What follows blank lines and comments.
 #[derive(Clone, Copy)]
 pub enum Content<'a> {
-    /// A line, and the place behind it.
+    /// A line, and the position after it.
     Line(&'a [u8], Cursor<'a>),
     /// The end, and the number of the last line.
     End(u64),
@@ -19,7 +19,7 @@ pub enum Content<'a> {
     TooLong(u64),
 }
 
-/// What comes behind blank lines and comments.
+/// What follows blank lines and comments.
 pub fn next_content(cursor: Cursor<'_>) -> Content<'_>
     ensures { ContentOf result cursor.entry }
 {
@@ -27,6 +27,7 @@ pub fn next_content(cursor: Cursor<'_>) -> Content<'_>
     let mut at = cursor.at;
     while let Some((line, more)) = first_line(rest) {
         at += 1;
+        // Before the line is skipped: comments are measured too.
         if line.len() > MOST_BYTES {
             return Content::TooLong(at);
         }

@@ -16,11 +16,11 @@ use csr_store::{Matrix, RepeatedPositions};
 use std::alloc::Global;
 use text_words::first_line;
 
-/// The matrix that a text stands for.
+/// The matrix that a text denotes.
 ///
-/// A text that breaks a rule is refused by the rule and the number of the first line that breaks
-/// one; on that line `LineTooLong` is looked at first, and then the rules in their order. `Memory`
-/// is answered where a growth was refused.
+/// A text that breaks a rule is refused with the rule and the number of the first line that breaks
+/// one; on that line `LineTooLong` is checked first, and then the rules in their order. `Memory` is
+/// returned if an allocation was refused.
 pub fn read(alloc: Global, text: &[u8]) -> Result<Matrix, MarketError>
     ensures text { IfOk result (λ m. IsTextOf text.now m) }
     ensures only { IfOk result (λ m. IsOnlyMatrix text.now m) }
@@ -29,7 +29,7 @@ pub fn read(alloc: Global, text: &[u8]) -> Result<Matrix, MarketError>
     read_text(alloc, text)
 }
 
-/// The same.
+/// The same, with the inner contract, from which that of `read` follows.
 fn read_text(alloc: Global, text: &[u8]) -> Result<Matrix, MarketError>
     ensures ok { IfOk result (λ m. IsTextOf text.now m) }
     ensures err { IfErr result (λ e. NamesFault text.now e) }
@@ -45,14 +45,18 @@ fn read_header(text: &[u8]) -> Result<(Header, Cursor<'_>), MarketError>
     ensures begun { IfOk result (λ p. Begun text.now p.0 p.1) }
     ensures err { IfErr result (λ e. NamesFault text.now e) }
 {
+    // For the prover, which knows that a length is below 2^63 only where it is read. `Cursor` needs
+    // it.
     let for_proof_length = text.len();
     let _ = for_proof_length;
+    // A text without a line lacks line 1.
     let Some((first, rest)) = first_line(text) else {
         return Err(MarketError::Fault {
             rule: MarketRule::MalformedBanner,
             line: 1,
         });
     };
+    // M11 comes first on every line.
     if first.len() > MOST_BYTES {
         return Err(MarketError::Fault {
             rule: MarketRule::LineTooLong,
@@ -64,6 +68,7 @@ fn read_header(text: &[u8]) -> Result<(Header, Cursor<'_>), MarketError>
         Ok(banner) => banner,
     };
     match next_content(Cursor { rest, at: 1 }) {
+        // M3 for a missing size line, at the line after the last.
         Content::End(at) => Err(MarketError::Fault {
             rule: MarketRule::MalformedSize,
             line: at + 1,
@@ -82,17 +87,20 @@ fn read_header(text: &[u8]) -> Result<(Header, Cursor<'_>), MarketError>
     }
 }
 
-/// Reads the entries that a size line says. A fault that is found is told without further memory,
-/// and so is a position that is given again before it.
+/// Reads as many entries as the size line declares. A fault is reported without further memory, and
+/// so is a position that is given again before it.
 fn read_entries(alloc: Global, header: Header, start: Cursor<'_>) -> Result<Matrix, MarketError>
     ensures { IsAnswer header start.entry result }
 {
     let Gathering { list, fault } = gather(alloc, header, start)?;
     match fault {
+        // The entries before the fault are in the list. If a position repeats among them, that line
+        // comes first.
         Some(fault) => match list.repeats() {
             Some(repeats) => Err(fault_of_repeat(header, start, repeats)),
             None => Err(fault),
         },
+        // No other fault, so the list may take memory to become a matrix.
         None => match list.settle()? {
             Ok(matrix) => Ok(matrix),
             Err(repeats) => Err(fault_of_repeat(header, start, repeats)),
@@ -100,7 +108,7 @@ fn read_entries(alloc: Global, header: Header, start: Cursor<'_>) -> Result<Matr
     }
 }
 
-/// The fault of the first line that gives a position again. A list was read from here on, of which
+/// The fault of the first line that gives a position again. A list was read from here on, in which
 /// these positions repeat.
 fn fault_of_repeat(header: Header, start: Cursor<'_>, repeats: RepeatedPositions) -> MarketError
     requires { IsRepeating header start repeats }

@@ -13,7 +13,7 @@ use crate::usual::{behind_feeds, entry_line, feed_before};
 use csr_store::RepeatedPositions;
 
 /// The number of the first line that gives a position again. A list of entries was read from here
-/// on, of which these positions repeat.
+/// on, in which these positions repeat.
 ///
 /// Reads the lines once more, up to that one, and takes no memory.
 pub fn line_of_repeat(header: Header, start: Cursor<'_>, repeats: RepeatedPositions) -> u64
@@ -25,6 +25,7 @@ pub fn line_of_repeat(header: Header, start: Cursor<'_>, repeats: RepeatedPositi
     let behind = behind_feeds(start.rest);
     loop {
         let Some((found, next)) = next_entry(header, cursor, behind) else {
+            // Every line up to the repeat was read before, and there is a repeat.
             unreachable!();
         };
         if meets(&mut repeats, header, found) {
@@ -34,8 +35,8 @@ pub fn line_of_repeat(header: Header, start: Cursor<'_>, repeats: RepeatedPositi
     }
 }
 
-/// Meets the entry of a line and, in a symmetric matrix, its mirror, and tells whether one of them
-/// has a position that was met before.
+/// Meets the entry of a line and, in a symmetric matrix, its mirror, and returns whether one of
+/// them has a position that was met before.
 #[inline(always)]
 fn meets(repeats: &mut RepeatedPositions, header: Header, found: Found) -> bool
     requires row { found.row < header.size.rows }
@@ -49,13 +50,14 @@ fn meets(repeats: &mut RepeatedPositions, header: Header, found: Found) -> bool
     if repeats.meet(found.row, found.column) {
         return true;
     }
+    // In the order in which the list took them.
     if has_mirror(header, found) {
         return repeats.meet(found.column, found.row);
     }
     false
 }
 
-/// Whether a line gives a mirror beside its entry.
+/// Whether a line gives a mirror as well as its entry.
 #[inline(always)]
 fn has_mirror(header: Header, found: Found) -> bool
     ensures { result ≡ (header.banner.symmetric && not (nat_eq found.row found.column)) }
@@ -63,9 +65,9 @@ fn has_mirror(header: Header, found: Found) -> bool
     header.banner.symmetric && found.row != found.column
 }
 
-/// What the next entry line says, and the place behind it, unless the line breaks a rule.
+/// What the next entry line says, and the position after it, unless the line breaks a rule.
 ///
-/// The text ends with so many bytes behind its last LF, that LF among them.
+/// `behind` is the length of the text from its last LF on.
 #[inline(always)]
 fn next_entry<'a>(header: Header, cursor: Cursor<'a>, behind: usize) -> Option<(Found, Cursor<'a>)>
     ensures entry { IfSome result (λ p. IsEntry header cursor.entry p.0 p.1) }
@@ -77,7 +79,7 @@ fn next_entry<'a>(header: Header, cursor: Cursor<'a>, behind: usize) -> Option<(
     }
 }
 
-/// The same of a line in its usual form.
+/// The same for a line in its usual form.
 #[inline(always)]
 fn usual_entry<'a>(header: Header, cursor: Cursor<'a>, behind: usize) -> Option<(Found, Cursor<'a>)>
     ensures { IfSome result (λ p. IsEntry header cursor.entry p.0 p.1) }
@@ -85,6 +87,7 @@ fn usual_entry<'a>(header: Header, cursor: Cursor<'a>, behind: usize) -> Option<
     let last = feed_before(cursor.rest, behind)?;
     let line = entry_line(cursor.rest, 0, last, header.banner.pattern)?;
     let found = Found {
+        // As in `gather_run`: 0 becomes an index that is too large.
         row: line.row.wrapping_sub(1),
         column: line.column.wrapping_sub(1),
         word: line.word,
@@ -97,7 +100,7 @@ fn usual_entry<'a>(header: Header, cursor: Cursor<'a>, behind: usize) -> Option<
     Some((found, Cursor { rest, at }))
 }
 
-/// The same of a line of any form.
+/// The same for a line of any form.
 fn any_entry<'a>(header: Header, cursor: Cursor<'a>) -> Option<(Found, Cursor<'a>)>
     ensures entry { IfSome result (λ p. IsEntry header cursor.entry p.0 p.1) }
     ensures none { IfNone result (LacksEntry header cursor.entry) }

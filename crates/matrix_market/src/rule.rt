@@ -1,4 +1,4 @@
-//! The rules that the text of a matrix is held to.
+//! The rules for the text of a matrix.
 ghost use Rattle.std.specs.Prelude.{◌≡◌};
 ghost use Rattle.matrix_market.specs.declared.rule.MarketError.TheVariants.{Memory};
 
@@ -6,8 +6,8 @@ use std::alloc::AllocError;
 use std::fmt;
 use thiserror::Error;
 
-/// What can be wrong with the text of a matrix, in the order in which a line is looked at, but for
-/// `LineTooLong`, which comes first. The rule of the first faulty line is the one that is named.
+/// What can be wrong with the text of a matrix, in the order in which a line is checked, except
+/// that `LineTooLong` comes first. The rule of the first faulty line is reported.
 ///
 /// The names, `M1` to `M12`, are part of the interface.
 #[derive(Clone, Copy, Debug, PartialEq, Eq)]
@@ -26,7 +26,7 @@ pub enum MarketRule {
     IndexOutsideMatrix,
     /// `M7`: a value is no signed number of 64 bits.
     ValueOutOfRange,
-    /// `M8`: the position, or the one that mirrors it, was given before.
+    /// `M8`: the position, or its mirror, was given before.
     PositionGivenTwice,
     /// `M9`: there are fewer entries than the size line says.
     TooFewEntries,

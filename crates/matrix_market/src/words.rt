@@ -1,10 +1,10 @@
-//! The words of a line, where they are few.
+//! The words of a line, if they are few.
 ghost use Rattle.text_words.specs.Words.{words};
 ghost use Rattle.matrix_market.specs.inner.Answers.{FieldsOf};
 
 use text_words::first_word;
 
-/// The words of a line, where they are two or three.
+/// The words of a line, if there are two or three.
 #[derive(Clone, Copy)]
 pub enum Fields<'a> {
     Two(&'a [u8], &'a [u8]),
@@ -12,7 +12,7 @@ pub enum Fields<'a> {
     Other,
 }
 
-/// The words of a line, where they are two or three.
+/// The words of a line, if there are two or three.
 pub fn fields_of(line: &[u8]) -> Fields<'_>
     ensures { FieldsOf result (words line.now) }
 {

@@ -14,11 +14,12 @@ use std::alloc::{AllocError, Global};
 /// The first line.
 const BANNER: &[u8] = b"%%MatrixMarket matrix coordinate integer general\n";
 
-/// Adds the size line.
+/// Appends the size line.
 fn push_sizes(out: &mut Vec<u8>, rows: u64, columns: u64, entries: u64) -> Result<(), AllocError>
     ensures { OnOk result (out.new.items ≡ out.old.items ++ size_line rows columns entries) }
 {
     let mut buffer = Buffer::new();
+    // One buffer in turn: its text is appended before the next number is written.
     out.extend_from_slice(buffer.format(rows).as_bytes())?;
     out.push(b' ')?;
     out.extend_from_slice(buffer.format(columns).as_bytes())?;
@@ -28,7 +29,7 @@ fn push_sizes(out: &mut Vec<u8>, rows: u64, columns: u64, entries: u64) -> Resul
     Ok(())
 }
 
-/// Adds the lines of the entries of a row. `room` is scratch, kept from row to row.
+/// Appends the lines of the entries of a row. `room` is a buffer that rows share.
 fn push_row(
     out: &mut Vec<u8>,
     room: &mut [u8; ROOM],
@@ -39,15 +40,18 @@ fn push_row(
     requires columns { All (λ (c : Cell). c.0 < limit) cells.now }
     ensures { OnOk result (out.new.items ≡ out.old.items ++ entry_lines (at_row row cells.now)) }
 {
-    // most rows of a sparse column have no entry, and a label takes some time
+    // Most rows of a sparse column have no entry, and formatting a label takes time.
     if cells.is_empty() {
         return Ok(());
     }
+    // Formatted once a row, and copied to each of its lines.
     let label = label_of(row);
     let mut left = cells;
+    // The buffer holds 64 lines.
     while left.len() > 0 {
         let (now, later) = left.split_at(left.len().min(MOST_LINES));
         let start = write_lines(&label, now, room);
+        // The lines are at its end, as they were written backwards.
         out.extend_from_slice(&room[start..])?;
         left = later;
     }
@@ -63,6 +67,7 @@ pub fn write(alloc: Global, matrix: &Matrix) -> Result<Vec<u8>, AllocError>
 {
     let mut out = Vec::from_slice(alloc, BANNER)?;
     push_sizes(&mut out, matrix.rows(), matrix.columns(), matrix.entries())?;
+    // On the stack: 2.5 KB, used for all rows.
     let mut room = [0; ROOM];
     for row in 0..matrix.rows() {
         push_row(&mut out, &mut room, row, matrix.row(row))?;

@@ -1,7 +1,7 @@
-//! Lines, words and numbers of texts, for each crate that reads one.
+//! Lines, words and numbers of texts, for each crate that reads text.
 //!
-//! The contracts are over `specs/Words.antt` and `specs/Numbers.antt`; what a line is, std says
-//! (`lines`).
+//! The contracts are over `specs/Words.antt` and `specs/Numbers.antt`; lines are those of std's
+//! `lines`.
 //!
 //! Read `words` and `numbers`, then `lines`.
 #![tactic(auto)]

@@ -7,6 +7,7 @@ fn strip_cr(line: &[u8]) -> &[u8]
     ensures { result.now ≡ strip_carriage_return line.now }
 {
     match line {
+        // One CR only: a second belongs to the line.
         [front @ .., b'\r'] => front,
         _ => line,
     }
@@ -19,6 +20,7 @@ pub fn first_line(text: &[u8]) -> Option<(&[u8], &[u8])>
     ensures lines { MatchOption result (lines text.now ≡ []) (λ p. lines text.now ≡ p.0.now ∷ lines p.1.now) }
     ensures shorter { IfSome result (λ p. length p.1.now < length text.now) }
 {
+    // Nothing after the last LF is no line, not an empty one.
     if text.is_empty() {
         return None;
     }
@@ -27,5 +29,6 @@ pub fn first_line(text: &[u8]) -> Option<(&[u8], &[u8])>
             return Some((strip_cr(&text[..i]), &text[i + 1..]));
         }
     }
+    // A CR is dropped before an LF alone, so the last line keeps its own.
     Some((text, &[]))
 }

@@ -12,7 +12,7 @@ pub fn is_blank(byte: u8) -> bool
     byte == b' ' || byte == b'\t'
 }
 
-/// A text without the blanks at its front.
+/// A text without the blanks at its start.
 #[inline]
 pub fn unindented(text: &[u8]) -> &[u8]
     ensures { result.now ≡ spec.unindented text.now }
@@ -22,10 +22,11 @@ pub fn unindented(text: &[u8]) -> &[u8]
             return &text[i..];
         }
     }
+    // Blanks alone are no word, so nothing is left.
     &[]
 }
 
-/// How long the word is that a text begins with.
+/// The length of the word that a text begins with.
 #[inline]
 fn word_length(text: &[u8]) -> usize
     requires { IsAtWord text.now }
@@ -37,6 +38,7 @@ fn word_length(text: &[u8]) -> usize
             return i;
         }
     }
+    // The last word ends with the text.
     text.len()
 }
 
@@ -46,8 +48,10 @@ pub fn first_word(text: &[u8]) -> Option<(&[u8], &[u8])>
     ensures { MatchOption result (words text.now ≡ []) (λ p. words text.now ≡ p.0.now ∷ words p.1.now) }
 {
     let text = unindented(text);
+    // Tested after the blanks: trailing ones begin no word.
     if text.is_empty() {
         return None;
     }
+    // The rest keeps the blank before the next word, which that call skips.
     Some(text.split_at(word_length(text)))
 }

@@ -1,4 +1,4 @@
-//! What bytes come from and go to.
+//! Where bytes come from and go to.
 ghost use Rattle.std.specs.Prelude.{◌≡◌, ◌+◌, ℕ, List, Option, length, OnOk, OnErr};
 ghost use Rattle.std.specs.Io.{ReadsAtMost, WritesAtMost};
 ghost use Rattle.std.specs.Io.KnownBytes.{ReadConsumes, WriteAppends, Appends};
@@ -8,27 +8,27 @@ ghost use Rattle.wire.specs.Prefixes.{IsPrefixOf};
 use std::io;
 use thiserror::Error;
 
-/// What bytes come from: a reader whose reads and failed reads are counted, for contracts alone.
+/// Where bytes come from: a reader whose reads and failed reads are counted, for contracts alone.
 pub trait Source {
-    // the bytes that are left, and the counts
+    // The bytes that are left, and the counts.
     ghost state: { Self → SourceState };
 
-    /// Reads into `buf` as `std::io::Read::read` does, and answers how many bytes it read. It
-    /// answers 0 only at the end of the stream, or where `buf` is empty.
+    /// Reads into `buf` as `std::io::Read::read` does, and returns how many bytes it read. It
+    /// returns 0 only at the end of the stream, or if `buf` is empty.
     fn read(&mut self, buf: &mut [u8]) -> io::Result<usize>
         ensures bound { ReadsAtMost result buf.new }
         ensures bytes { ReadConsumes (state self.old).remaining (state self.new).remaining result buf.new }
         ensures counted { IsRead (length buf.new) result (state self.old) (state self.new) };
 }
 
-/// What bytes go to: a writer whose writes and failed writes are counted, for contracts alone. A
+/// Where bytes go to: a writer whose writes and failed writes are counted, for contracts alone. A
 /// write that takes none of some bytes has failed too.
 pub trait Sink {
-    // the bytes that were taken, and the counts
+    // The bytes that were taken, and the counts.
     ghost state: { Self → SinkState };
 
-    /// Writes a front part of `buf` as `std::io::Write::write` does, and answers how many bytes
-    /// it took.
+    /// Writes a front part of `buf` as `std::io::Write::write` does, and returns how many bytes it
+    /// took.
     fn write(&mut self, buf: &[u8]) -> io::Result<usize>
         ensures bound { WritesAtMost result buf.now }
         ensures bytes { WriteAppends (state self.old).contents (state self.new).contents result buf.now }
@@ -57,6 +57,7 @@ pub fn put<W: Sink>(writer: &mut W, text: &[u8]) -> Result<(), WriteFailed>
     let mut at = 0;
     while at < text.len() {
         match writer.write(&text[at..]) {
+            // A device that takes nothing would be asked for ever.
             Ok(0) => return Err(WriteFailed),
             Ok(n) => at += n,
             Err(_) => return Err(WriteFailed),

@@ -1,4 +1,4 @@
-//! Why a stream could not be read on.
+//! Why a stream could not be read further.
 
 use thiserror::Error;
 

@@ -1,4 +1,4 @@
-//! Reading on, until a line or a body is there.
+//! Reading until a line or a body is complete.
 ghost use Rattle.std.specs.Prelude.{ℕ, ◌≡◌, ◌<◌, ◌≤◌, ◌++◌, OnOk, [], take, vec_capacity, vec_len, IfOk, IfNone, IfSome, Ok, Some};
 ghost use Rattle.wire.specs.Devices.{SourceState};
 ghost use Rattle.wire.specs.Fetching.{Fetched, IsLined, IsBody, failed_reads, reach};
@@ -10,7 +10,7 @@ use crate::input::Input;
 use crate::lines::{Found, find_first};
 use std::alloc::{AllocError, Global};
 
-/// What came before the next line, or in its place.
+/// What was found where the next line should be.
 #[derive(Clone, Copy, Debug, PartialEq, Eq)]
 pub enum Lined {
     /// A line.
@@ -21,19 +21,19 @@ pub enum Lined {
     Nothing,
 }
 
-/// What became of a body.
+/// The result of reading a body.
 #[derive(Drop)]
 pub enum Body {
     /// It was read.
     Whole(Vec<u8>),
-    /// It was read and dropped, since there was no room for it.
+    /// It was read and dropped, since there was no memory for it.
     Dropped,
     /// The input ended in it.
     Cut,
 }
 
-/// Takes the first line of the bytes that are held, which is copied out, where they have one.
-/// Nothing is read.
+/// Takes the first line of the buffered bytes, which is copied out, if they have one. Nothing is
+/// read.
 pub fn line_held(input: &mut Input, line: &mut Vec<u8>) -> Option<Lined>
     requires room { 1026 ≤ vec_capacity line.old }
     ensures fetched { IfSome result (λ lined. (s : SourceState) → Fetched 0
@@ -44,6 +44,7 @@ pub fn line_held(input: &mut Input, line: &mut Vec<u8>) -> Option<Lined>
     ensures less { result ≡ Some Lined.Whole → reach input.new < reach input.old }
 {
     match find_first(input.bytes(), input.has_ended()) {
+        // The rest has to be read, which may wait. The caller may have replies to write before.
         Found::Partial => None,
         Found::Over => Some(Lined::Over),
         Found::Nothing => Some(Lined::Nothing),
@@ -54,12 +55,12 @@ pub fn line_held(input: &mut Input, line: &mut Vec<u8>) -> Option<Lined>
     }
 }
 
-/// Reads on until a line is there, which is copied out and taken from the input.
+/// Reads until a line is complete, which is copied out and taken from the input.
 ///
 /// # Errors
 ///
-/// A read failed, or no more reads may be made, before a line was there. The bytes that came are
-/// kept.
+/// A read failed, or no more reads may be made, before a line was complete. The bytes that arrived
+/// stay in the input.
 pub fn next_line<R: Source>(
     input: &mut Input,
     reader: &mut R,
@@ -75,6 +76,7 @@ pub fn next_line<R: Source>(
 {
     'reading: loop {
         match find_first(input.bytes(), input.has_ended()) {
+            // Only as much as one read gives: the line may end in it.
             Found::Partial => match input.fill(reader) {
                 Ok(()) => {}
                 Err(fault) => return Err(fault),
@@ -89,64 +91,69 @@ pub fn next_line<R: Source>(
     }
 }
 
-/// The least room that is made for a body at once, in bytes.
+/// The least memory that is allocated for a body at once, in bytes.
 const STEP: usize = 8192;
 
-/// The most bytes that are made ready for one read into a body's room.
+/// The most bytes that are zeroed for one read into a body's memory.
 const PIECE: usize = 262_144;
 
-/// The room of a body of `length` bytes with the first part of it, which was held.
+/// The memory of a body of `length` bytes with the first part of it, which was buffered.
 ///
 /// # Errors
 ///
-/// There is no room for them.
+/// There is no memory for them.
 fn begin(alloc: Global, part: &[u8], length: u64) -> Result<Vec<u8>, AllocError>
     ensures { IfOk result (λ kept. kept.items ≡ part.now) }
 {
+    // Not `length`: announcing a large body costs the server nothing.
     let mut kept = Vec::with_capacity(alloc, (length as usize).min(STEP))?;
     kept.extend_from_slice(part)?;
     Ok(kept)
 }
 
-/// Makes some room ready behind the bytes of a body of `length` bytes that came. The room grows to
-/// twice of what came, and never past the body's end.
+/// Prepares memory after the bytes of a body of `length` bytes that arrived. The memory doubles,
+/// and never exceeds the body's length.
 ///
 /// # Errors
 ///
-/// There is no memory for more room.
+/// There is no memory to grow.
 fn extend(kept: &mut Vec<u8>, came: usize, length: usize) -> Result<(), AllocError>
     requires missing { came < length }
     requires within { (came ≤ vec_len kept.old) × (vec_len kept.old ≤ length) }
     ensures ready { OnOk result ((came < vec_len kept.new) × (take came kept.new.items ≡ take came kept.old.items)) }
     ensures within { vec_len kept.new ≤ length }
 {
+    // Bytes that were zeroed before are still free.
     if came < kept.len() {
         return Ok(());
     }
     let missing = length - came;
     if kept.capacity() == came {
+        // Exact, so that the last step stops at the body's end.
         kept.reserve_exact(missing.min(came.max(STEP)))?;
     }
+    // Zeroing far ahead would cost a client's announcement, not its bytes.
     let ready = missing.min(kept.capacity() - came).min(PIECE);
+    // Zeroed, since a read fills initialised bytes.
     kept.resize(came + ready, 0)
 }
 
-/// What became of a body that is kept.
+/// A body that is being stored.
 #[derive(Drop)]
 enum Kept {
     /// It came whole.
     Whole(Vec<u8>),
-    /// There was no room for what follows so many bytes of it. They were dropped.
+    /// There was no memory for what follows so many bytes of it. They were dropped.
     Full(usize),
     /// The input ended in it.
     Cut,
 }
 
-/// Reads the rest of a body of `length` bytes into its own room, behind the first part of it.
+/// Reads the rest of a body of `length` bytes into memory of its own, after the first part of it.
 ///
 /// # Errors
 ///
-/// A read failed, or no more reads may be made, before the body was there. What came of it is
+/// A read failed, or no more reads may be made, before the body was complete. What arrived of it is
 /// dropped.
 fn keep<R: Source>(
     input: &mut Input,
@@ -164,6 +171,7 @@ fn keep<R: Source>(
     let mut kept = first;
     let mut came = kept.len();
     'reading: loop {
+        // Before the end of the input is tested: it may end right after the body.
         if came == length {
             return Ok(Kept::Whole(kept));
         }
@@ -172,8 +180,10 @@ fn keep<R: Source>(
         }
         match extend(&mut kept, came, length) {
             Ok(()) => {}
+            // No fault of the stream: the rest is skipped, and the next command is found after it.
             Err(_) => return Ok(Kept::Full(came)),
         }
+        // Straight into the body's memory, without a copy in the buffer.
         match input.fill_behind(reader, &mut kept, came) {
             Ok(n) => came += n,
             Err(fault) => return Err(fault),
@@ -181,11 +191,11 @@ fn keep<R: Source>(
     }
 }
 
-/// Reads on until so many bytes of a body came, and drops them.
+/// Reads until so many bytes of a body have arrived, and drops them.
 ///
 /// # Errors
 ///
-/// A read failed, or no more reads may be made, before they came.
+/// A read failed, or no more reads may be made, before they arrived.
 fn skip<R: Source>(input: &mut Input, reader: &mut R, count: u64) -> Result<Body, ReadFault>
     ensures fetched { Fetched (failed_reads result)
         (record { source = R.state reader.old; held = input.old })
@@ -196,8 +206,10 @@ fn skip<R: Source>(input: &mut Input, reader: &mut R, count: u64) -> Result<Body
     'reading: loop {
         let there = input.bytes().len() as u64;
         let part = missing.min(there);
+        // Buffered bytes first: the next command may begin among them.
         input.take(part as usize);
         missing -= part;
+        // Before the end of the input is tested, as in `keep`.
         if missing == 0 {
             return Ok(Body::Dropped);
         }
@@ -211,12 +223,12 @@ fn skip<R: Source>(input: &mut Input, reader: &mut R, count: u64) -> Result<Body
     }
 }
 
-/// Reads the rest of a body of `length` bytes, of which the first part came. Where there is no room
-/// for it, it is dropped.
+/// Reads the rest of a body of `length` bytes, of which the first part arrived. If there is no
+/// memory for it, it is dropped.
 ///
 /// # Errors
 ///
-/// A read failed, or no more reads may be made, before the body was there. What came of it is
+/// A read failed, or no more reads may be made, before the body was complete. What arrived of it is
 /// dropped.
 fn read_rest<R: Source>(
     input: &mut Input,
@@ -235,17 +247,18 @@ fn read_rest<R: Source>(
     match keep(input, reader, first, length as usize) {
         Ok(Kept::Whole(body)) => Ok(Body::Whole(body)),
         Ok(Kept::Cut) => Ok(Body::Cut),
+        // Only what didn't arrive yet has to be skipped.
         Ok(Kept::Full(came)) => skip(input, reader, length - came as u64),
         Err(fault) => Err(fault),
     }
 }
 
-/// Reads on until a body of so many bytes is there, which is taken from the input. Its room grows
-/// as it comes. Where there is no room for it, it is dropped as it comes.
+/// Reads until a body of so many bytes is complete, which is taken from the input. Its memory grows
+/// as it arrives. If there is no memory for it, it is dropped as it arrives.
 ///
 /// # Errors
 ///
-/// A read failed, or no more reads may be made, before the body was there. What came of it is
+/// A read failed, or no more reads may be made, before the body was complete. What arrived of it is
 /// dropped.
 pub fn read_body<R: Source>(
     alloc: Global,
@@ -260,6 +273,7 @@ pub fn read_body<R: Source>(
 {
     let part = length.min(input.bytes().len() as u64) as usize;
     let begun = begin(alloc, &input.bytes()[..part], length);
+    // Taken even if memory was refused: the body is skipped then.
     input.take(part);
     match begun {
         Ok(first) => read_rest(input, reader, first, length),

@@ -1,4 +1,4 @@
-//! The bytes that were read of a stream and not used yet, in room made at the start.
+//! The bytes that were read from a stream and not used yet, in a buffer allocated at the start.
 ghost use Rattle.std.specs.Prelude.{◌≡◌, ◌<◌, ◌≤◌, ◌+◌, [], false};
 ghost use Rattle.std.specs.Prelude.{length, take, drop, vec_capacity, IfOk, IfErr, OnOk};
 ghost use Rattle.std.specs.Io.KnownBytes.{ReadConsumes};
@@ -13,10 +13,10 @@ use std::alloc::{AllocError, Global};
 use std::io;
 use std::marker::Model;
 
-/// How many bytes are held at most.
+/// How many bytes are buffered at most.
 pub const ROOM: usize = 8192;
 
-/// Bytes that were read and not used yet, whether the stream has ended behind them, and how many
+/// Bytes that were read and not used yet, whether the stream has ended after them, and how many
 /// reads may still be made.
 #[derive(Drop)]
 pub struct Input {
@@ -42,8 +42,8 @@ impl Model for Input {
     ghost invariant = { λ i. (i.from ≤ i.to) × (i.to ≤ vec_len i.room) × (vec_len i.room ≡ 8192) };
 }
 
-/// Reads into the part of the room from a place on. It counts as a read into any room does, be it
-/// of one byte.
+/// Reads into the part of a buffer from an index on. In the counts, a read into one byte is as good
+/// as any.
 fn read_behind<S: Source>(source: &mut S, room: &mut [u8], at: usize) -> io::Result<usize>
     requires { at < length room.old }
     ensures put { IsPut at result room.old room.new }
@@ -54,16 +54,17 @@ fn read_behind<S: Source>(source: &mut S, room: &mut [u8], at: usize) -> io::Res
 }
 
 impl Input {
-    /// No bytes, of a stream that has not ended and of which so many reads may be made, and room
-    /// for `ROOM` bytes.
+    /// No bytes, of a stream that has not ended and of which so many reads may be made, with a
+    /// buffer of `ROOM` bytes.
     ///
     /// # Errors
     ///
-    /// There is no memory for the room.
+    /// There is no memory for the buffer.
     pub fn new(alloc: Global, reads: u64) -> Result<Self, AllocError>
         ensures { IfOk result (λ i. i ≡ record { bytes = []; ended = false; reads_left = reads }) }
     {
         Ok(Input {
+            // Zeroed once. Reads overwrite it.
             room: vec![in alloc; 0; ROOM]?,
             from: 0,
             to: 0,
@@ -79,7 +80,7 @@ impl Input {
         &self.room[self.from..self.to]
     }
 
-    /// Whether the stream has ended behind these bytes.
+    /// Whether the stream has ended after these bytes.
     pub fn has_ended(&self) -> bool
         ensures { result ≡ self.now.ended }
     {
@@ -91,6 +92,7 @@ impl Input {
         requires { count ≤ length self.old.bytes }
         ensures { self.new ≡ record self.old { bytes = drop count self.old.bytes } }
     {
+        // Nothing moves until the next read needs the space.
         self.from += count;
     }
 
@@ -105,18 +107,21 @@ impl Input {
             (record { source = S.state source.new; held = self.new }) }
         ensures room { length self.new.bytes ≤ 8192 }
     {
+        // The bytes that are left move to the front, so a line is always in one piece.
         self.room.rotate_left(self.from);
         self.to -= self.from;
         self.from = 0;
+        // A failed read leaves the bytes that are left.
         let n = read_behind(source, &mut self.room, self.to)?;
         self.to += n;
+        // The buffer wasn't full, so 0 bytes are the end of the stream.
         if n == 0 {
             self.ended = true;
         }
         Ok(())
     }
 
-    /// Counts one more read.
+    /// Counts another read.
     ///
     /// # Errors
     ///
@@ -134,7 +139,7 @@ impl Input {
         Ok(())
     }
 
-    /// Reads some more bytes, by one read of the source. A read that gives none tells that the
+    /// Reads some more bytes, by one read of the source. A read that returns none means that the
     /// stream has ended.
     ///
     /// # Errors
@@ -148,16 +153,18 @@ impl Input {
         ensures room { length self.new.bytes ≤ 8192 }
         ensures spent { IsSpent result self.old self.new }
     {
+        // Before the read, as a read that fails counts as well.
         self.count_read()?;
         match self.read_some(source) {
             Ok(()) => Ok(()),
+            // Contracts speak of the failed call alone. A device may note its cause.
             Err(_) => Err(ReadFault::Failed),
         }
     }
 
-    /// Reads some more bytes into the part of a caller's room from a place on, by one read of the
-    /// source, where no bytes are held. Returns how many came. A read that gives none tells that
-    /// the stream has ended.
+    /// Reads some more bytes into the part of a caller's buffer from an index on, by one read of
+    /// the source, while no bytes are buffered here. Returns how many arrived. A read that returns
+    /// none means that the stream has ended.
     ///
     /// # Errors
     ///
@@ -195,6 +202,7 @@ impl Input {
         ensures left { self.new ≡ record self.old { bytes = drop taken self.old.bytes } }
     {
         line.clear();
+        // A line has 1,024 bytes at most, so the capacity suffices and this can't be refused.
         line.extend_from_slice(&self.bytes()[..length]).unwrap();
         self.take(taken);
     }

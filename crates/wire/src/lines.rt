@@ -4,10 +4,10 @@ ghost use Rattle.std.specs.Str.Lines.{strip_carriage_return};
 ghost use Rattle.wire.specs.Lines.{Uncut, At, cut_line, first};
 ghost use Rattle.wire.specs.inner.Found.{Matches};
 
-/// The most bytes that a line has, its line end not counted.
+/// The most bytes that a line has, not counting its line end.
 pub const LINE: usize = 1024;
 
-/// What stands first in the bytes of a stream.
+/// What the bytes of a stream begin with.
 #[derive(Clone, Copy, Debug, PartialEq, Eq)]
 pub enum Found {
     /// Less than a line, and more may come.
@@ -20,7 +20,7 @@ pub enum Found {
     Nothing,
 }
 
-/// Where the first LF stands.
+/// The index of the first LF.
 pub fn line_end(bytes: &[u8]) -> Option<usize>
     ensures { MatchOption result (cut_line bytes.now ≡ Uncut)
         (λ n. (n < length bytes.now) × (cut_line bytes.now ≡ At (take n bytes.now) (drop (n + 1) bytes.now))) }
@@ -43,12 +43,13 @@ pub fn strip_cr(line: &[u8]) -> &[u8]
     }
 }
 
-/// Finds the first line of a stream, which has `ended` behind these bytes or may go on.
+/// Finds the first line of a stream, which has `ended` after these bytes or may go on.
 pub fn find_first(bytes: &[u8], ended: bool) -> Found
     ensures { Matches bytes.now result (first ended bytes.now) }
 {
     match line_end(bytes) {
         Some(n) => {
+            // Measured without the CR: the limit is on the line.
             let length = strip_cr(&bytes[..n]).len();
             if length > LINE {
                 Found::Over
@@ -66,12 +67,14 @@ pub fn find_first(bytes: &[u8], ended: bool) -> Found
                 } else if bytes.len() > LINE {
                     Found::Over
                 } else {
+                    // A CR in front of no LF is part of the line.
                     Found::Line {
                         length: bytes.len(),
                         taken: bytes.len(),
                     }
                 }
             } else if bytes.len() < LINE + 2 {
+                // 1,024 bytes and a CR may still get their LF. Anything longer is too long already.
                 Found::Partial
             } else {
                 Found::Over

@@ -1,4 +1,4 @@
-//! The text that was said to a sink and is not written yet, in room made at the start.
+//! The text that waits to be written to a sink, in a buffer allocated at the start.
 ghost use Rattle.std.specs.Prelude.{◌≡◌, ◌≤◌, ◌+◌, [], true, false, is_ok, vec_len, vec_capacity, IfOk, OnOk};
 ghost use Rattle.wire.specs.Sending.{Sent};
 
@@ -25,11 +25,11 @@ impl Model for Output {
 }
 
 impl Output {
-    /// Nothing waits, and there is room for `ROOM` bytes.
+    /// Nothing waits, and the buffer has `ROOM` bytes.
     ///
     /// # Errors
     ///
-    /// There is no memory for the room.
+    /// There is no memory for the buffer.
     pub fn new(alloc: Global) -> Result<Self, AllocError>
         ensures { IfOk result (λ o. o ≡ []) }
     {
@@ -52,8 +52,8 @@ impl Output {
         empty(&mut self.room, writer)
     }
 
-    /// Says a text, which waits behind what waits. Where there is no room for it, what waited is
-    /// written first; a text that is longer than all the room doesn't wait.
+    /// Appends a text to what waits. If the buffer is too full for it, what waits is written first;
+    /// a text that is longer than the whole buffer doesn't wait.
     ///
     /// # Errors
     ///
@@ -66,9 +66,11 @@ impl Output {
     {
         match make_room(&mut self.room, writer, text.len()) {
             Ok(true) => {
+                // There is capacity, so a reply never needs memory.
                 self.room.extend_from_slice(text).unwrap();
                 Ok(())
             }
+            // Longer than the buffer, which is empty now: order is kept without a copy.
             Ok(false) => match put(writer, text) {
                 Ok(()) => Ok(()),
                 Err(failed) => Err(failed),
@@ -78,7 +80,7 @@ impl Output {
     }
 }
 
-/// Writes all that is in a room, which is then empty.
+/// Writes all that is in a buffer, which is then empty.
 fn empty<W: Sink>(room: &mut Vec<u8>, writer: &mut W) -> Result<(), WriteFailed>
     ensures sent { Sent (is_ok result) []
         (record { sink = W.state writer.old; waits = room.old.items })
@@ -88,6 +90,7 @@ fn empty<W: Sink>(room: &mut Vec<u8>, writer: &mut W) -> Result<(), WriteFailed>
 {
     match put(writer, room) {
         Ok(()) => {
+            // Only once all is written. After a fault the session ends.
             room.clear();
             Ok(())
         }
@@ -95,8 +98,8 @@ fn empty<W: Sink>(room: &mut Vec<u8>, writer: &mut W) -> Result<(), WriteFailed>
     }
 }
 
-/// Makes room for so many bytes more: empties it, where there is too little. Returns whether it is
-/// enough.
+/// Frees capacity for so many more bytes: empties the buffer if it has too little. Returns whether
+/// it is enough.
 fn make_room<W: Sink>(room: &mut Vec<u8>, writer: &mut W, count: usize) -> Result<bool, WriteFailed>
     ensures sent { Sent (is_ok result) []
         (record { sink = W.state writer.old; waits = room.old.items })
@@ -104,6 +107,7 @@ fn make_room<W: Sink>(room: &mut Vec<u8>, writer: &mut W, count: usize) -> Resul
     ensures enough { IfOk result (λ b. b ≡ true → vec_len room.new + count ≤ vec_capacity room.new) }
     ensures none { IfOk result (λ b. b ≡ false → room.new.items ≡ []) }
 {
+    // Written as late as possible, so that one write carries many replies.
     if count <= room.capacity() - room.len() {
         return Ok(true);
     }

@@ -8,7 +8,7 @@ use std::io::{Read, Write};
 use std::marker::Model;
 use std::sync::ledger::{Blank, Book, Ledger, Share};
 
-/// A count that only grows. It takes no memory and no time, and contracts alone see it.
+/// A count that only grows. It takes no memory and no time, and is seen by contracts alone.
 #[derive(Drop)]
 pub struct Count<L: Ledger> {
     book: Book<L>,
@@ -26,7 +26,7 @@ impl<L: Ledger> Model for Count<L> {
 }
 
 impl<L: Ledger> Count<L> {
-    /// A count of 0, by a ledger that nothing else is counted by.
+    /// A count of 0, by a ledger that counts nothing else.
     pub fn new(blank: Blank) -> Self
         requires { IsNewCount blank L.name L.parts }
         ensures { result ≡ 0 }
@@ -35,7 +35,7 @@ impl<L: Ledger> Count<L> {
         Count { book, share }
     }
 
-    /// One more.
+    /// Adds 1.
     pub fn tick(&mut self)
         ensures { self.new ≡ self.old + 1 }
     {
@@ -49,12 +49,13 @@ pub struct FromRead<R: Read + Drop, C: Ledger, F: Ledger> {
     inner: R,
     reads: Count<C>,
     failures: Count<F>,
+    // For contracts: a reader may not claim to need more input once the end was told.
     told_end: bool,
 }
 
 impl<R: Read + Drop, C: Ledger, F: Ledger> FromRead<R, C, F> {
-    /// A source that gives what the reader has left. `reads` and `failures` are new ledgers of at
-    /// least one part (`Blank::new(1)`), and the types `C` and `F` stand for them.
+    /// A source of what the reader has left. `reads` and `failures` are new ledgers of at least one
+    /// part (`Blank::new(1)`), and the types `C` and `F` are theirs.
     pub fn new(inner: R, reads: Blank, failures: Blank) -> Self
         requires reads { IsNewCount reads C.name C.parts }
         requires failures { IsNewCount failures F.name F.parts }
@@ -79,11 +80,14 @@ impl<R: Read + Drop, C: Ledger, F: Ledger> Source for FromRead<R, C, F> {
     } };
 
     fn read(&mut self, buf: &mut [u8]) -> io::Result<usize> {
+        // A read into an empty buffer asks for nothing. If it counted, a server could use up its
+        // reads without reading.
         if !buf.is_empty() {
             self.reads.tick();
         }
         let result = self.inner.read(buf);
         match &result {
+            // Only then are 0 bytes the end of the stream.
             Ok(0) if !buf.is_empty() => self.told_end = true,
             Ok(_) => {}
             Err(_) => self.failures.tick(),
@@ -92,8 +96,8 @@ impl<R: Read + Drop, C: Ledger, F: Ledger> Source for FromRead<R, C, F> {
     }
 }
 
-/// A sink over any writer. A writer that holds bytes back until it is flushed holds them back
-/// here too: give it one that passes each piece on, as `std::io::writer` of a runtime does.
+/// A sink over any writer. A writer that buffers bytes until it is flushed does so here too: give
+/// it one that passes each piece on, as `std::io::writer` of a runtime does.
 #[derive(Drop)]
 pub struct ToWrite<W: Write + Drop, C: Ledger, F: Ledger> {
     inner: W,
@@ -102,8 +106,8 @@ pub struct ToWrite<W: Write + Drop, C: Ledger, F: Ledger> {
 }
 
 impl<W: Write + Drop, C: Ledger, F: Ledger> ToWrite<W, C, F> {
-    /// A sink that adds to what the writer holds. `writes` and `failures` are new ledgers of at
-    /// least one part (`Blank::new(1)`), and the types `C` and `F` stand for them.
+    /// A sink that adds to the contents of the writer. `writes` and `failures` are new ledgers of
+    /// at least one part (`Blank::new(1)`), and the types `C` and `F` are theirs.
     pub fn new(inner: W, writes: Blank, failures: Blank) -> Self
         requires writes { IsNewCount writes C.name C.parts }
         requires failures { IsNewCount failures F.name F.parts }
@@ -125,6 +129,7 @@ impl<W: Write + Drop, C: Ledger, F: Ledger> Sink for ToWrite<W, C, F> {
         self.writes.tick();
         let result = self.inner.write(buf);
         let failed = match &result {
+            // A device that takes none of some bytes has failed, though it reports no error.
             Ok(n) => *n == 0 && !buf.is_empty(),
             Err(_) => true,
         };
