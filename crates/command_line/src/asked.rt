@@ -1,4 +1,4 @@
-//! What the program is asked to do, and why it can't be told.
+//! What the program is asked to do, and why that can't be determined.
 ghost use Rattle.std.specs.Prelude.{◌≡◌};
 ghost use Rattle.command_line.specs.declared.asked.SettingsFault.TheVariants.{Memory};
 
@@ -9,9 +9,8 @@ use thiserror::Error;
 /// What the program is asked to do.
 #[derive(Clone, Copy, Debug, PartialEq, Eq)]
 pub enum Settings {
-    /// Serve one session on standard input and output, with a budget of so many steps, and for so
-    /// many seconds without a word of its client, if a number is given. There is a log of it, or
-    /// none, as of `Serve`.
+    /// Serve one session on standard input and output, with a budget of `steps`. With `idle`, end
+    /// it after so many seconds in which its client is silent. The log is as for `Serve`.
     Run {
         steps: u64,
         workers: u64,
@@ -20,13 +19,12 @@ pub enum Settings {
         log_format: Option<LogFormat>,
         log_every: Option<u64>,
     },
-    /// Serve sessions on a port of this machine, all on one purse of so many steps: so many
-    /// sessions, if a number is given, and for so many seconds without a word of its client each,
-    /// if a number is given. Each session may last so many seconds, and each command has to arrive
-    /// with so many bytes a second, if numbers are given. Each session may spend so many steps, and
-    /// reserve so many at once, if numbers are given. There is a log of them, or none; its lines
-    /// may have a format; and it tells of the sessions that run after so many seconds each, if a
-    /// number is given.
+    /// Serve sessions on a port of this machine, all on one purse of `steps`: as many sessions as
+    /// given, or without end. `idle` ends a session after so many seconds in which its client is
+    /// silent. A session may last `session_seconds`, and each command has to arrive with `min_rate`
+    /// bytes a second. A session may spend `session_steps`, and reserve `session_reserve` at once.
+    /// There may be a log of them, in a format; every `log_every` seconds it reports the sessions
+    /// that run.
     Serve {
         port: u16,
         steps: u64,

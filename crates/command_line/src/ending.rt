@@ -1,4 +1,4 @@
-//! With which status the process ends, and what it says on standard error.
+//! The exit status of the process, and what it says on standard error.
 ghost use Rattle.std.specs.Prelude.{◌≡◌};
 ghost use Rattle.std.specs.Process.{exit_status};
 ghost use Rattle.command_line.specs.Endings.{code_of, status_of, said_by, session_words, words_of, failed_by, detail_in, detail_of};
@@ -16,7 +16,7 @@ pub enum Done {
     Session(End),
     /// All sessions of `serve`.
     Sessions,
-    /// The version was told.
+    /// The version was printed.
     Version,
 }
 
@@ -27,9 +27,9 @@ pub enum Failure {
     Settings(SettingsFault),
     /// There was no memory for what a command needs from its start.
     Memory,
-    /// The line that tells the port, or the version, could not be written.
+    /// The line with the port, or the version, could not be written.
     Output(Cause),
-    /// The one session broke off, where the system told it for this cause.
+    /// The one session broke off, perhaps with a cause that the system named.
     Session {
         fault: ServeFault,
         cause: Option<Cause>,
@@ -63,6 +63,7 @@ impl From<ListenFault> for Failure {
 #[derive(Clone, Copy, Debug, PartialEq, Eq)]
 pub enum Status {
     /// The session ended by `quit` or with its input, or all sessions were served.
+    // The numbers are the exit statuses, which are part of the interface.
     Ended = 0,
     /// A stream, the network or the memory failed.
     Failed = 1,
@@ -72,7 +73,7 @@ pub enum Status {
     SessionRefused = 3,
 }
 
-/// The second line of a fault, which tells its cause.
+/// The second line of a fault, which names its cause.
 #[derive(Clone, Copy, Debug, PartialEq, Eq)]
 pub enum Detail {
     /// Nothing.
@@ -89,6 +90,7 @@ impl fmt::Display for Detail {
     fn fmt<W: fmt::Write>(&self, f: &mut fmt::Formatter<W>) -> fmt::Result {
         match *self {
             Detail::Nothing => Ok(()),
+            // The line end comes first, so that a fault without a cause is one line.
             Detail::Failed(cause) => write!(f, "\nspmat: because {cause}"),
             Detail::NotBound { port, cause } => write!(
                 f,
@@ -101,8 +103,8 @@ impl fmt::Display for Detail {
     }
 }
 
-/// A fault as it is printed: its words, alone on a line, and a second line with its cause, where
-/// the system tells one.
+/// A fault as it is printed: its words, alone on a line, and a second line with its cause, if the
+/// system named one.
 #[derive(Clone, Copy, Debug, PartialEq, Eq)]
 pub struct Fault {
     pub words: &'static str,
@@ -111,6 +113,8 @@ pub struct Fault {
 
 impl fmt::Display for Fault {
     fn fmt<W: fmt::Write>(&self, f: &mut fmt::Formatter<W>) -> fmt::Result {
+        // Words first and unchanged, whatever the cause: the first line is the same on every
+        // system.
         let Fault { words, detail } = *self;
         write!(f, "{words}{detail}")
     }
@@ -123,7 +127,7 @@ pub enum Message {
     Nothing,
     /// A fault, on a line of its own, and its cause on the next.
     Fault(Fault),
-    /// The text that answers the words of the command line.
+    /// The text that replies to the words of the command line.
     Words(String),
 }
 
@@ -184,13 +188,14 @@ const NO_MEMORY: Fault = Fault {
     detail: Detail::Nothing,
 };
 
-/// What is said of a failure.
+/// The message of a failure.
 fn message_of(failure: Failure) -> Message
     ensures words { said_by result ≡ words_of (Err failure) }
     ensures detail { detail_in result ≡ detail_of (Err failure) }
 {
     match failure {
         Failure::Settings(SettingsFault::Words(text)) => Message::Words(text),
+        // The program prints the version itself, on standard output.
         Failure::Settings(SettingsFault::Version) => Message::Nothing,
         Failure::Settings(SettingsFault::Memory) | Failure::Memory => Message::Fault(NO_MEMORY),
         Failure::Output(cause) => Message::Fault(Fault {
@@ -206,25 +211,27 @@ fn message_of(failure: Failure) -> Message
     }
 }
 
-/// The status of what became of all.
+/// The exit status of an outcome.
 fn status_after(outcome: &Result<Done, Failure>) -> Status
     ensures { result ≡ status_of outcome.now }
 {
     match outcome {
         Ok(Done::Session(End::Refused(_))) => Status::SessionRefused,
         Ok(_) => Status::Ended,
+        // Asking for the version is no failure.
         Err(Failure::Settings(SettingsFault::Version)) => Status::Ended,
         Err(Failure::Settings(SettingsFault::Words(_))) => Status::WordsRefused,
         Err(_) => Status::Failed,
     }
 }
 
-/// How the process ends, by what became of all.
+/// The status and the message of an outcome.
 pub fn ending_of(outcome: Result<Done, Failure>) -> Ending
     ensures status { result.status ≡ status_of outcome }
     ensures message { said_by result.message ≡ words_of outcome }
     ensures detail { detail_in result.message ≡ detail_of outcome }
 {
+    // Before the outcome is taken apart.
     let status = status_after(&outcome);
     let message = match outcome {
         Ok(_) => Message::Nothing,
@@ -233,15 +240,17 @@ pub fn ending_of(outcome: Result<Done, Failure>) -> Ending
     Ending { status, message }
 }
 
-/// Says what there is to say, and gives the status for the system. Where standard error takes
-/// nothing, the status alone tells.
+/// Prints the message, and returns the status for the system. If standard error takes nothing, the
+/// status alone tells.
 pub fn finish<H: Eprint>(rt: &H, ending: Ending) -> ExitCode
     ensures { exit_status result ≡ code_of ending.status }
 {
     let Ending { status, message } = ending;
+    // A failure of standard error could be reported nowhere.
     let _ = match message {
         Message::Nothing => Ok(()),
         Message::Fault(fault) => rt.eprintln(fault),
+        // Without a line end: the text of `clap` has its own.
         Message::Words(text) => rt.eprint(text),
     };
     ExitCode::from(status as u8)

@@ -1,5 +1,4 @@
-//! The command line as `clap` reads it: its two commands, their options, and what `--help` says of
-//! them.
+//! The command line as `clap` reads it: its two commands, their options, and the text of `--help`.
 ghost use Rattle.std.specs.Prelude.{◌≡◌, false, IfOk};
 ghost use Rattle.clap.specs.Words.{app_of, rule_of};
 ghost use Rattle.clap.specs.declared.builder.command.Command.TheViews.{out-Command};
@@ -11,6 +10,7 @@ use clap::{Arg, ArgAction, Command, value_parser};
 use std::alloc::{AllocError, Global};
 
 /// The most steps that a budget opens with: 2^62.
+// i64, as the bounds of `clap`'s ranges are.
 pub const MOST_STEPS: i64 = 4_611_686_018_427_387_904;
 
 /// The most workers that run the jobs of a session.
@@ -22,13 +22,13 @@ pub const LAST_PORT: i64 = 65_535;
 /// The most sessions that can be asked for.
 pub const MOST_SESSIONS: i64 = 1_000_000;
 
-/// The most seconds that a session can be told to wait for its client.
+/// The longest that a session can be told to wait for its client, in seconds.
 pub const MOST_SECONDS: i64 = 1_000_000;
 
-/// The most bytes a second that a command can have to arrive with.
+/// The highest rate that a command can be required to arrive with, in bytes a second.
 pub const MOST_RATE: i64 = 1_000_000_000;
 
-/// An option `--NAME N`, which may have to be given.
+/// An option `--NAME N`, which may be required.
 fn number_option<'a>(
     alloc: Global,
     name: &'a str,
@@ -152,6 +152,7 @@ fn log_option<'a>(alloc: Global) -> Arg<'a>
         .help(
             "Write lines on standard error about the process, sessions that start or end, clients turned away, and refusals",
         )
+        // It takes no value: `clap` stores `true` for it, which `is_set` compares.
         .action(ArgAction::SetTrue)
 }
 
@@ -164,6 +165,7 @@ fn log_format_option<'a>(alloc: Global) -> Arg<'a>
         .long("log-format")
         .value_name("FORMAT")
         .help("Write the log as `text`, or as `json`: an object a line")
+        // Any text: `format_if_any` checks it, so that its refusal names both formats.
         .value_parser(ValueParser::String)
 }
 
@@ -222,6 +224,7 @@ pub fn program<'a>(alloc: Global) -> Result<Command<'a>, AllocError>
         .about(
             "A server for jobs over sparse matrices of 64-bit integers, whose operators are BPF code",
         )
+        // `spmat` alone would have nothing to do.
         .subcommand_required(true)
         .subcommand(run_command(alloc)?)?
         .subcommand(serve_command(alloc)?)

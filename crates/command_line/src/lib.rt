@@ -1,18 +1,17 @@
-//! What the words of the command line ask for, and how the program tells its end.
+//! What the words of the command line ask for, and how the program reports its end.
 //!
-//! The contracts: `settings` gives the settings that words ask for, exactly where the parser of
-//! command lines takes them and their numbers are in range, and tells where they ask for the
-//! version (`specs/Words.antt`, `specs/InRange.antt`); `ending_of` and `finish` give the exit
-//! status of each end, the words on standard error, and the cause behind them
-//! (`specs/Endings.antt`).
+//! The contracts: `settings` returns the settings that the words ask for, exactly if the parser of
+//! command lines accepts them and their numbers are in range, and reports if they ask for the
+//! version (`specs/Words.antt`, `specs/InRange.antt`); `ending_of` and `finish` determine the exit
+//! status of each end, the words on standard error, and the cause (`specs/Endings.antt`).
 //!
 //! Its modules in reading order:
 //!
-//! - `asked`: what the program can be asked to do, and why that can't be told;
+//! - `asked`: what the program can be asked to do, and why that can't be determined;
 //! - `grammar`: the command line as `clap` reads it, with what `--help` says;
 //! - `words`: the settings that the words of the command line give;
 //! - `version`: the version of the program;
-//! - `ending`: with which status the process ends, and what it says on standard error.
+//! - `ending`: the exit status of the process, and what it says on standard error.
 #![tactic(auto)]
 
 mod asked;

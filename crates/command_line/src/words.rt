@@ -17,28 +17,30 @@ use listener::LogFormat;
 use std::alloc::Global;
 use std::convert::AsStr;
 
-/// The text where a format is none, or an option has no number, which `clap` would have to let
-/// pass.
+/// The text if a format is unknown, or if an option has no number in its range, which `clap` would
+/// have to let pass.
 const NO_VALUES: &str =
     "error: --log-format is `text` or `json`; numbers are in their ranges, as `--help` of the command tells them\n";
 
-/// What follows the text where a command is named that there isn't.
+/// What follows the text if the command that is named doesn't exist.
 const OTHER_COMMANDS: &str =
     "\nAlgorithms on graphs, as pagerank, are commands of spmat-graph (python3 -m spmat).\n";
 
-/// The fault that an error of `clap` is: memory ran out, the version is asked for, or the words are
+/// The fault for an error of `clap`: memory ran out, the version is asked for, or the words are
 /// refused with its text.
 fn fault_of(alloc: Global, error: &clap::Error) -> SettingsFault
     ensures memory { kind_of error.now ≡ ErrorKind.OutOfMemory → result ≡ SettingsFault.Memory }
     ensures version { kind_of error.now ≡ ErrorKind.DisplayVersion → result ≡ SettingsFault.Version }
     ensures told { result ≡ SettingsFault.Version → kind_of error.now ≡ ErrorKind.DisplayVersion }
 {
+    // First: the text of this error would need memory as well.
     if error.kind() == ErrorKind::OutOfMemory {
         return SettingsFault::Memory;
     }
     if error.kind() == ErrorKind::DisplayVersion {
         return SettingsFault::Version;
     }
+    // The Python package has commands of its own, which users try here.
     let text = if error.kind() == ErrorKind::InvalidSubcommand {
         format!(in alloc; "{error}{OTHER_COMMANDS}")
     } else {
@@ -46,11 +48,12 @@ fn fault_of(alloc: Global, error: &clap::Error) -> SettingsFault
     };
     match text {
         Ok(text) => SettingsFault::Words(text),
+        // Formatting the text takes memory, too.
         Err(_) => SettingsFault::Memory,
     }
 }
 
-/// The number that an option has, where it lies in a range.
+/// The number of an option, if it lies in a range.
 fn number(matches: &ArgMatches<'_>, name: &str, least: u64, most: u64) -> Option<u64>
     ensures given { IfSome result (λ n. (least ≤ n) × (n ≤ most) ×
         IsNumberOf (one_of name.now (rows_of (found_of matches.now))) n) }
@@ -58,6 +61,8 @@ fn number(matches: &ArgMatches<'_>, name: &str, least: u64, most: u64) -> Option
         least ≤ n → n ≤ most → result ≡ Some n }
 {
     let number = matches.get_one::<u64>(name)?;
+    // `clap` was given the same range. It is tested here so that the contract follows from this
+    // code.
     if least <= number && number <= most {
         Some(number)
     } else {
@@ -81,18 +86,20 @@ fn is_set(matches: &ArgMatches<'_>, name: &str) -> bool
     ensures { result ≡ line.is_set (first_of name.now (rows_of (found_of matches.now))) }
 {
     match matches.get_str(name) {
+        // The value that `ArgAction::SetTrue` stores.
         Some(text) => text == "true",
         None => false,
     }
 }
 
-/// The number that an option has where it is given, if it lies in a range from 1.
+/// The number of an option if it is given, and if it lies in a range from 1.
 fn number_if_any(matches: &ArgMatches<'_>, name: &str, most: u64) -> Option<Option<u64>>
     ensures given { IfSome result (λ o. IsWithin most o ×
         IsNumberIfAny (one_of name.now (rows_of (found_of matches.now))) o) }
     ensures taken { (o : Option ℕ) → IsNumberIfAny (one_of name.now (rows_of (found_of matches.now))) o →
         IsWithin most o → result ≡ Some o }
 {
+    // Not given is an answer, too. Given and out of range isn't.
     if !is_given(matches, name) {
         return Some(None);
     }
@@ -100,7 +107,7 @@ fn number_if_any(matches: &ArgMatches<'_>, name: &str, most: u64) -> Option<Opti
     Some(Some(number))
 }
 
-/// The format of the log, where it is given.
+/// The format of the log, if it is given.
 fn format_if_any(matches: &ArgMatches<'_>) -> Option<Option<LogFormat>>
     ensures given { IfSome result (λ o. IsFormatIfAny (first_of (codes "log-format") (rows_of (found_of matches.now))) o) }
     ensures taken { (o : Option LogFormat) → IsFormatIfAny (first_of (codes "log-format") (rows_of (found_of matches.now))) o →
@@ -111,6 +118,7 @@ fn format_if_any(matches: &ArgMatches<'_>) -> Option<Option<LogFormat>>
         Some(text) => match text {
             "text" => Some(Some(LogFormat::Text)),
             "json" => Some(Some(LogFormat::Json)),
+            // Any other text is refused by `settings`, with the names of both formats.
             _ => None,
         },
     }
@@ -143,6 +151,7 @@ fn serve_settings(matches: &ArgMatches<'_>) -> Option<Settings>
     let steps = number(matches, "steps", 0, MOST_STEPS as u64)?;
     let workers = number(matches, "workers", 1, MOST_WORKERS as u64)?;
     Some(Settings::Serve {
+        // At most 65,535, so the cast is exact.
         port: number(matches, "port", 1, LAST_PORT as u64)? as u16,
         steps,
         workers,
@@ -168,6 +177,7 @@ fn settings_in(name: &str, matches: &ArgMatches<'_>) -> Option<Settings>
     match name {
         "run" => run_settings(matches),
         "serve" => serve_settings(matches),
+        // `clap` accepts no other command.
         _ => None,
     }
 }
@@ -176,9 +186,9 @@ fn settings_in(name: &str, matches: &ArgMatches<'_>) -> Option<Settings>
 ///
 /// # Errors
 ///
-/// `Words` with the text of `clap`, where it refuses them or they ask for help, `Version`, where
-/// they ask for the version, and `Memory`. Words that `clap` takes, with numbers in their ranges,
-/// are refused only where memory runs out.
+/// `Words` with the text of `clap`, if it refuses them or they ask for help, `Version`, if they ask
+/// for the version, and `Memory`. Words that `clap` accepts, with numbers in their ranges, are
+/// refused only if memory runs out.
 pub fn settings<'a, S: AsStr>(alloc: Global, words: &'a [S]) -> Result<Settings, SettingsFault>
     ensures asked { IfOk result (λ s. IsAsked (map S.text words.now) s) }
     ensures range { IfOk result (λ s. IsInRange s) }
@@ -198,5 +208,6 @@ pub fn settings<'a, S: AsStr>(alloc: Global, words: &'a [S]) -> Result<Settings,
             return Ok(settings);
         }
     }
+    // Reached by an unknown log format. Numbers out of range are refused by `clap` before.
     Err(SettingsFault::Words(String::from_str(alloc, NO_VALUES)?))
 }

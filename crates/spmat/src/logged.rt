@@ -14,8 +14,8 @@ use std::thread::{Threads, join};
 use std::time::Clock;
 use step_purse::Totals;
 
-/// What `run` is asked for: the steps of its session, its workers, and for how long it waits for
-/// its client, if a number of seconds is given.
+/// The request for `run`: the steps of its session, its workers, and for how long it waits for its
+/// client, if a number of seconds is given.
 #[derive(Clone, Copy, Debug, PartialEq, Eq)]
 pub struct Alone {
     pub steps: u64,
@@ -23,22 +23,26 @@ pub struct Alone {
     pub idle: Option<u64>,
 }
 
-/// How a log names the end of a session.
+/// How the log reports the end of a session.
 fn ending_of(told: &Result<Done, Failure>) -> Option<Ending> {
     match told {
         Ok(Done::Session(end)) => Some(Ending::Ended(*end)),
         Err(
             Failure::Session {
                 fault: _,
+                // The session itself knows only that a read or a write failed. The cause tells that
+                // time ran out.
                 cause: Some(Cause::Idle),
             },
         ) => Some(Ending::Cut(Cut::Idle)),
         Err(Failure::Session { fault, cause: _ }) => Some(Ending::BrokenOff(*fault)),
+        // No session was served, so there is no end of one.
         _ => None,
     }
 }
 
-/// Leaves a line of how a session ended that was refused something so often, if there is a log.
+/// Writes a line about the end of a session that was refused something `refused` times, if there is
+/// a log.
 pub fn note_end<R: Wait + Clock>(
     rt: &R,
     journal: Option<&Journal>,
@@ -54,6 +58,7 @@ pub fn note_end<R: Wait + Clock>(
 /// Why the process takes no other session.
 fn served(told: &Result<Done, Failure>) -> Result<(), ListenFault> {
     match told {
+        // The one fault that a server would have as well: no session could be set up.
         Err(
             Failure::Session {
                 fault: ServeFault::Memory,
@@ -65,8 +70,8 @@ fn served(told: &Result<Done, Failure>) -> Result<(), ListenFault> {
 }
 
 /// Serves one session on standard input and output, with a log that another thread writes to
-/// standard error meanwhile. Before the session starts it is written what it was asked for, and
-/// last what it took. Where no thread can be made, all is written at the end.
+/// standard error meanwhile. Before the session starts the log gets the request, and at the end
+/// what the session took. If no thread can be started, all is written at the end.
 pub fn run_logged<H>(rt: &H, alone: Alone, log: Log) -> Result<Done, Failure>
 where
     H: Clock
@@ -82,6 +87,7 @@ where
     requires idle { IsWithin 1000000 alone.idle }
     ensures { IsOfSession result }
 {
+    // As if the session's own memory were refused: nothing was read or written.
     let Ok(journal) = Journal::new(rt.alloc(), log.format, log.every, true) else {
         return Err(Failure::Session {
             fault: ServeFault::Memory,
@@ -95,6 +101,7 @@ where
     } = alone;
     let terms = ServerTerms {
         workers,
+        // `run` is a server of one session, so its log has the same lines.
         sessions: Some(1),
         idle,
         session_seconds: None,
@@ -105,6 +112,7 @@ where
     let told = serve_logged(rt, &journal, alone);
     let spent = journal.spent(rt);
     let totals = Totals {
+        // No contract relates the journal's sum to the steps, hence saturating.
         left: steps.saturating_sub(spent),
         reserved: 0,
         spent,
@@ -138,11 +146,13 @@ where
             steps: alone.steps,
             workers: alone.workers,
             idle: alone.idle,
+            // This function writes the log. `respond_on` ignores these three.
             log: false,
             log_format: None,
             log_every: None,
         };
         let told = respond_on(rt, Ok(settings), Some(journal));
+        // The writing thread waits for more until the journal ends.
         journal.end(rt);
         told
     };

@@ -1,13 +1,13 @@
 //! `spmat`, a server for jobs over sparse matrices whose operators are BPF code.
 //!
-//! The program is thin: `command_line` reads its words and tells its end; `solo` has one session on
-//! any two devices, `standard` makes sides of standard input and output, `logged` has the log of
+//! The program is thin: `command_line` reads its words and reports its end; `solo` has one session
+//! on any two devices, `standard` makes sides of standard input and output, `logged` has the log of
 //! such a session, and `serving` has sessions over TCP.
 //!
-//! What the words ask for is done by `answer`, over two devices that it is lent; its contract says
-//! what they gave and took (`specs/inner/Running.antt`). The functions above it make these devices
-//! of the standard streams, which no contract sees. For one of many sessions that is the contract
-//! of `listener::serve_within`. Which server settings ask for is the contract of `open_server`
+//! `answer` does what the words ask for, over two devices that it is lent; its contract says what
+//! they gave and took (`specs/inner/Running.antt`). The functions above it make these devices of
+//! the standard streams, which no contract sees. The contract for one of many sessions is that of
+//! `listener::serve_within`. Which server settings ask for is the contract of `open_server`
 //! (`specs/inner/Serving.antt`), and how serving a listener ends that of
 //! `listener::serve_acceptor`.
 #![tactic(auto)]
@@ -50,13 +50,14 @@ fn read_settings<H: Env + AllocGlobal>(rt: &H) -> Result<Settings, SettingsFault
 {
     let words: Vec<String> = match env::args(rt) {
         Ok(words) => words.collect(rt.alloc())?,
+        // Out of memory has a status and words of its own.
         Err(error) if error.kind() == ErrorKind::OutOfMemory => return Err(SettingsFault::Memory),
         Err(_) => return Err(SettingsFault::Words(String::from_str(rt.alloc(), NOT_TEXT)?)),
     };
     settings(rt.alloc(), words.as_slice())
 }
 
-/// Tells the version on standard output.
+/// Prints the version on standard output.
 fn tell_version<H: Print>(rt: &H) -> Result<Done, Failure>
     ensures { IsVersionTold result }
 {
@@ -66,8 +67,8 @@ fn tell_version<H: Print>(rt: &H) -> Result<Done, Failure>
     }
 }
 
-/// Serves one session on these devices, which know why a call of theirs failed. What it does is
-/// noted, where a watch is given.
+/// Serves one session on these devices, which know why a call of theirs failed. If a watch is
+/// given, it observes what the session does.
 fn run<I: Source, O: Sink, H: Threads + Wait + AllocGlobal>(
     rt: &H,
     source: &mut I,
@@ -82,6 +83,7 @@ fn run<I: Source, O: Sink, H: Threads + Wait + AllocGlobal>(
 {
     match solo::run(rt, source, sink, steps, workers, watch) {
         Ok(end) => Ok(Done::Session(end)),
+        // The devices have noted the cause. `explain` adds it once they are dropped.
         Err(fault) => Err(Failure::Session { fault, cause: None }),
     }
 }
@@ -110,13 +112,15 @@ where
     match settings {
         Settings::Run { steps, workers, .. } => run(rt, source, sink, steps, workers, watch),
         Settings::Serve { .. } => {
+            // A server leaves the devices alone: its sessions have sockets.
             serve(rt, open_server(rt, settings)?)?;
             Ok(Done::Sessions)
         }
     }
 }
 
-/// Does what the words of the command line ask for, where these devices are there for a session.
+/// Does what the words of the command line ask for. The devices are for a session, if they ask for
+/// one.
 fn answer<I: Source, O: Sink, H>(
     rt: &H,
     asked: Result<Settings, SettingsFault>,
@@ -144,7 +148,7 @@ where
     }
 }
 
-/// As `answer`, over a reader and a writer whose calls are counted by ledgers of the caller's.
+/// As `answer`, over a reader and a writer whose calls the caller's ledgers count.
 fn answer_counted<R: Read + Drop, W: Write + Drop, H, A: Ledger, B: Ledger, C: Ledger, D: Ledger>(
     rt: &H,
     asked: Result<Settings, SettingsFault>,
@@ -167,13 +171,15 @@ where
     requires writes { IsNewCount blanks.2 C.name C.parts × IsNewCount blanks.3 D.name D.parts }
     ensures { MayEnd asked result }
 {
+    // The types A to D are the names of these ledgers, so that the contracts of `answer` can speak
+    // of them.
     let (reads, failed_reads, writes, failed_writes) = blanks;
     let mut source = FromRead::<R, A, B>::new(reader, reads, failed_reads);
     let mut sink = ToWrite::<W, C, D>::new(writer, writes, failed_writes);
     answer(rt, asked, &mut source, &mut sink, watch)
 }
 
-/// As `answer`, over a reader and a writer, which end with it.
+/// As `answer`, over a reader and a writer, which are dropped when it returns.
 fn answer_over<R: Read + Drop, W: Write + Drop, H>(
     rt: &H,
     asked: Result<Settings, SettingsFault>,
@@ -193,6 +199,7 @@ where
     requires { IfOk asked (λ s. IsInRange s) }
     ensures { MayEnd asked result }
 {
+    // A ledger of one part each, and a fresh name for each type.
     let blanks = (Blank::new(1), Blank::new(1), Blank::new(1), Blank::new(1));
     answer_counted::<R, W, H, Brand, Brand, Brand, Brand>(rt, asked, reader, writer, watch, blanks)
 }
@@ -203,11 +210,12 @@ fn idle_of(asked: &Result<Settings, SettingsFault>) -> Option<u64>
 {
     match asked {
         Ok(Settings::Run { idle, .. }) => *idle,
+        // A server waits for its sockets, not for the standard streams.
         Ok(Settings::Serve { .. }) | Err(_) => None,
     }
 }
 
-/// Adds why a device failed to how a session broke off.
+/// Adds the cause of a device's failure to the outcome of a session.
 fn explain(
     told: Result<Done, Failure>,
     unread: Option<Cause>,
@@ -220,6 +228,7 @@ fn explain(
             let cause = match fault {
                 ServeFault::Read => unread,
                 ServeFault::Write => unwritten,
+                // No device failed.
                 ServeFault::Turns | ServeFault::Memory => None,
             };
             Err(Failure::Session { fault, cause })
@@ -228,8 +237,8 @@ fn explain(
     }
 }
 
-/// Does what the words of the command line ask for, a session on standard input and output. A log
-/// is told of it, if there is one.
+/// Does what the words of the command line ask for, with a session on standard input and output. A
+/// log gets an account of it, if there is one.
 fn respond_on<H>(
     rt: &H,
     asked: Result<Settings, SettingsFault>,
@@ -251,13 +260,16 @@ where
     let idle = idle_of(&asked);
     let watch = watch_in(rt, journal, Origin::Streams);
     let notice = Notice::of(rt, journal, watch);
+    // Written by the devices below, and read after `answer_over` has dropped them.
     let (mut unread, mut unwritten, mut refused) = (None, None, 0);
     let reader = Watching::new(Side::input(rt.reader(), idle, &mut unread), rt, watch);
     let writing = Watching::new(
+        // Unbuffered: `Output` of wire collects replies, and a second buffer would hold them back.
         Side::output(io::writer(rt), idle, &mut unwritten),
         rt,
         watch,
     );
+    // Outermost: it finds refusals in the bytes of the replies.
     let writer = Noticing::new(writing, notice, &mut refused);
     let told = answer_over(rt, asked, reader, writer, watch);
     let told = explain(told, unread, unwritten);
@@ -281,6 +293,7 @@ where
     ensures { MayEnd asked result }
 {
     match asked {
+        // Any of the three options of the log asks for one.
         Ok(
             Settings::Run {
                 steps,
@@ -306,7 +319,7 @@ where
     }
 }
 
-/// Says how it ended, and gives the status for the system.
+/// Reports how it ended, and returns the status for the system.
 fn tell<H: Eprint>(rt: &H, told: Result<Done, Failure>) -> ExitCode
     ensures { exit_status result ≡ code_of (status_of told) }
 {

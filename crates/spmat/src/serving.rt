@@ -16,8 +16,8 @@ use std::thread::{Threads, join};
 use std::time::Clock;
 use step_purse::{Pass, Purse};
 
-/// How a log is written: in which format, and after how many seconds each it tells of the sessions
-/// that run, if it does.
+/// How a log is written: in which format, and every how many seconds it reports the sessions that
+/// run, if it does.
 #[derive(Clone, Copy, Debug, PartialEq, Eq)]
 pub struct Log {
     pub format: LogFormat,
@@ -25,7 +25,7 @@ pub struct Log {
 }
 
 /// A server that listens: its listener with the address that it was bound to, its purse with the
-/// one pass, the terms of its sessions, and what their log is gathered in, if there is one.
+/// one pass, the terms of its sessions, and the journal of their log, if there is one.
 #[derive(Drop)]
 pub struct Server {
     listener: TcpListener,
@@ -36,7 +36,7 @@ pub struct Server {
     journal: Option<Journal>,
 }
 
-/// A purse of so many steps, with its one pass.
+/// A purse of `steps`, with its one pass.
 fn prepare(alloc: Global, steps: u64) -> Result<(Purse, Pass), AllocError>
     requires { steps ≤ 2 ^ 62 }
     ensures own { IfOk result (λ p. IsPassOf p.0 p.1) }
@@ -45,14 +45,15 @@ fn prepare(alloc: Global, steps: u64) -> Result<(Purse, Pass), AllocError>
     Purse::open(alloc, steps)
 }
 
-/// The address of this machine that other machines don't reach, with this port.
+/// The loopback address of this machine, with this port.
 fn local_address(port: u16) -> SocketAddr
     ensures { IsLocal port result }
 {
+    // Loopback alone: the server has no authentication. A gateway or sshd decides who gets here.
     SocketAddr::new(IpAddr::V4(Ipv4Addr::new(127, 0, 0, 1)), port)
 }
 
-/// Listens on a port of this machine, and tells the address.
+/// Listens on a port of this machine, and returns the address.
 ///
 /// # Errors
 ///
@@ -73,8 +74,9 @@ where
     }
 }
 
-/// The log that the words of the command line ask for: by its flag, or by how it is to be.
+/// The log that the words of the command line ask for: by its flag, or by an option on its form.
 pub fn log_of(is_asked: bool, format: Option<LogFormat>, every: Option<u64>) -> Option<Log> {
+    // An option on the form of a log would be useless without one.
     if is_asked || format.is_some() || every.is_some() {
         let format = match format {
             Some(format) => format,
@@ -86,7 +88,7 @@ pub fn log_of(is_asked: bool, format: Option<LogFormat>, every: Option<u64>) -> 
     }
 }
 
-/// What a log is gathered in, if there is to be one.
+/// The journal of a log, if there is to be one.
 fn journal_of(alloc: Global, log: Option<Log>) -> Result<Option<Journal>, AllocError> {
     match log {
         Some(Log { format, every }) => Ok(Some(Journal::new(alloc, format, every, false)?)),
@@ -102,8 +104,8 @@ struct Listening<'l> {
 }
 
 /// As `serve_on_terms`, with a log that another thread writes to standard error meanwhile: first
-/// that the server opens, then what sessions leave. Last it is written why the server closed. Where
-/// no thread can be made, all is written at the end.
+/// that the server opens, then the events of its sessions. At the end it gets why the server
+/// closed. If no thread can be started, all is written at the end.
 fn serve_logged<H>(
     rt: &H,
     journal: &Journal,
@@ -118,7 +120,9 @@ where
     ensures { OnOk result (terms.sessions ≢ None) }
 {
     let Listening { listener, address } = listening;
+    // One half serves the sessions. The other stays here, to read the totals when they have ended.
     let (mut own, given) = purse.split(rt, pass);
+    // From the purse, so that the log has what it really opened with.
     let steps = purse.totals(rt, &mut own).left;
     let served = move || -> Result<(), ListenFault>
         requires own { IsPassOf purse.now given }
@@ -130,21 +134,24 @@ where
             pass: given,
         };
         let served = serve_on_terms(rt, listener, supply, terms, Some(journal));
+        // The writing thread waits for more until the journal ends.
         journal.end(rt);
         served
     };
     let written = || {
+        // By the writing thread, so that the listener doesn't wait for standard error.
         journal.write_opening(rt, Origin::Address(address), VERSION, steps, terms);
         journal.write_out(rt);
     };
     let ((), served) = join(rt, written, served);
+    // After all sessions have handed back their passes, so the totals are final.
     let totals = purse.totals(rt, &mut own);
     journal.write_closing(rt, Origin::Address(address), &served, totals);
     served
 }
 
 /// The server that settings of `serve` ask for, which listens on a port of this machine and has
-/// said so.
+/// reported it.
 ///
 /// # Errors
 ///
@@ -186,6 +193,7 @@ where
             };
             open_on(rt, port, steps, terms, log_of(log, log_format, log_every))
         }
+        // `requires serve`: only settings of `serve` get here.
         Settings::Run { .. } => unreachable!(),
     }
 }
@@ -205,6 +213,7 @@ where
     ensures terms { IfOk result (λ server. server.terms ≡ terms) }
     ensures refused { IfErr result (λ failure. MayRefuse port failure) }
 {
+    // Memory, then the port, then the line: the order of the errors above.
     let Ok((purse, pass)) = prepare(rt.alloc(), steps) else {
         return Err(Failure::Memory);
     };
@@ -212,6 +221,7 @@ where
         return Err(Failure::Memory);
     };
     let (listener, address) = listen(rt, port)?;
+    // Bound already, so a client that reads this line can connect.
     if let Err(error) = println!(rt; "listening {port}") {
         return Err(Failure::Output(Cause::of(&error)));
     }
@@ -225,11 +235,11 @@ where
     })
 }
 
-/// Serves sessions until their number is reached, or no more connections are taken.
+/// Serves sessions until their number is reached, or no more connections are accepted.
 ///
 /// # Errors
 ///
-/// No more connections are taken, or there was no memory for the first session.
+/// No more connections are accepted, or there was no memory for the first session.
 pub fn serve<H>(rt: &H, server: Server) -> Result<(), Failure>
 where
     H: Threads + Wait + Clock + Sync + Eprint + AllocGlobal,

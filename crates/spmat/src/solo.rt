@@ -1,4 +1,4 @@
-//! One session on two devices, within a purse of its own.
+//! One session on two devices, with a purse of its own.
 ghost use Rattle.std.specs.Prelude.{◌≡◌, [], IfOk};
 ghost use Rattle.command_line.specs.InRange.{HasRoom};
 ghost use Rattle.step_purse.specs.Passes.{IsPassOf};
@@ -15,7 +15,7 @@ use std::thread::Threads;
 use step_purse::{Pass, Purse};
 use wire::{Sink, Source};
 
-/// What a session works with: a purse, its one pass, and the room.
+/// What a session works with: a purse, its one pass, and its memory.
 #[derive(Drop)]
 struct Prepared {
     purse: Purse,
@@ -23,8 +23,7 @@ struct Prepared {
     room: Session,
 }
 
-/// A purse of so many steps, and the room of a session each of whose batches runs on so many
-/// workers.
+/// A purse of `steps`, and the memory of a session whose batches run on `workers`.
 fn prepare(alloc: Global, steps: u64, workers: u64) -> Result<Prepared, AllocError>
     requires { HasRoom steps workers }
     ensures own { IfOk result (λ p. IsPassOf p.purse p.pass × (p.purse.allowance ≡ steps)) }
@@ -32,17 +31,17 @@ fn prepare(alloc: Global, steps: u64, workers: u64) -> Result<Prepared, AllocErr
     ensures room { IfOk result (λ p. p.room ≡ full_session workers) }
 {
     let (purse, pass) = Purse::open(alloc, steps)?;
+    // All memory comes before the first read or write, so a refusal has no effect outside.
     let room = Session::new(alloc, workers)?;
     Ok(Prepared { purse, pass, room })
 }
 
-/// Serves one session on these devices, within a purse of so many steps, of which nobody else has a
-/// pass. Each batch runs on so many workers. What the session does is noted, where a watch is
-/// given.
+/// Serves one session on these devices, with a purse of `steps`, of which nobody else has a pass.
+/// Each batch runs on `workers`. If a watch is given, it observes what the session does.
 ///
 /// # Errors
 ///
-/// There was no memory for the purse or the room, and then nothing was read or written; a device
+/// There was no memory for the purse or the session, and then nothing was read or written; a device
 /// failed; or more than 4,294,967,296 reads were needed.
 pub fn run<I: Source, O: Sink, H: Threads + Wait + AllocGlobal>(
     rt: &H,

@@ -8,10 +8,10 @@ use listener::Cause;
 use std::io;
 use std::io::{ErrorKind, Read, Write};
 
-/// So many bytes fit into a pipe that is ready to be written to, and into a socket.
+/// So many bytes fit into a pipe, or a socket, that is ready to be written to.
 const PIECE: usize = 4096;
 
-/// For how long a call of a descriptor may wait.
+/// How long a call of a descriptor may wait.
 #[derive(Clone, Copy)]
 struct Patience {
     descriptor: i32,
@@ -30,7 +30,10 @@ impl Patience {
         let Some(seconds) = self.idle else {
             return Ok(());
         };
+        // `poll` takes an i32 of milliseconds. The longest wait is then 24 days.
         let thousandths = seconds.saturating_mul(1000).min(i32::MAX as u64) as i32;
+        // Without end, in effect. Written as a range because a loop without a bound needs the right
+        // to wait.
         for _ in 0..u64::MAX {
             let mut asked = [pollfd {
                 fd: self.descriptor,
@@ -38,11 +41,13 @@ impl Patience {
                 revents: 0,
             }];
             match poll(&mut asked, thousandths) {
+                // No descriptor became ready in time.
                 0 => return Err(Cause::Idle),
                 ready if ready > 0 => return Ok(()),
                 _ => {}
             }
             let code = os::errno();
+            // A signal interrupted the wait, which starts anew with its full time.
             if code != EINTR {
                 return Err(Cause::System(code));
             }
@@ -52,7 +57,7 @@ impl Patience {
 }
 
 /// A standard stream as a side of a session: a call waits for so many seconds at most, if a number
-/// is given, and the cause of the last one that failed is kept. Its bytes are those of its device.
+/// is given, and the cause of the last one that failed is noted. Its bytes are those of its device.
 #[derive(Drop)]
 pub struct Side<'c, D: Drop> {
     device: D,
@@ -65,6 +70,7 @@ impl<'c, D: Drop> Side<'c, D> {
     pub fn input(device: D, idle: Option<u64>, cause: &'c mut Option<Cause>) -> Self
         ensures { result.device ≡ device }
     {
+        // Standard input is descriptor 0.
         let patience = Patience {
             descriptor: 0,
             event: POLLIN,
@@ -81,6 +87,7 @@ impl<'c, D: Drop> Side<'c, D> {
     pub fn output(device: D, idle: Option<u64>, cause: &'c mut Option<Cause>) -> Self
         ensures { result.device ≡ device }
     {
+        // Standard output is descriptor 1.
         let patience = Patience {
             descriptor: 1,
             event: POLLOUT,
@@ -93,7 +100,7 @@ impl<'c, D: Drop> Side<'c, D> {
         }
     }
 
-    /// Waits until the stream is ready. Where it isn't in time, the cause is kept.
+    /// Waits until the stream is ready. If it isn't in time, the cause is noted.
     fn wait(&mut self) -> io::Result<()>
         ensures { self.new.device ≡ self.old.device }
     {
@@ -101,12 +108,13 @@ impl<'c, D: Drop> Side<'c, D> {
             Ok(()) => Ok(()),
             Err(cause) => {
                 *self.cause = Some(cause);
+                // The session sees a failed call. Why it failed, `explain` reads from the cause.
                 Err(io::Error::from(ErrorKind::TimedOut))
             }
         }
     }
 
-    /// Keeps the cause of a call that failed.
+    /// Notes the cause of a call that failed.
     fn note(&mut self, outcome: &io::Result<usize>)
         ensures { self.new.device ≡ self.old.device }
     {
@@ -132,6 +140,7 @@ impl<W: Write + Drop> Write for Side<'_, W> {
 
     fn write(&mut self, buf: &[u8]) -> io::Result<usize> {
         self.wait()?;
+        // With a time limit, no more than surely fits: a larger write could wait past it.
         let most = match self.patience.idle {
             Some(_) => PIECE.min(buf.len()),
             None => buf.len(),
@@ -142,6 +151,7 @@ impl<W: Write + Drop> Write for Side<'_, W> {
     }
 
     fn flush(&mut self) -> io::Result<()> {
+        // Nothing is buffered here.
         Ok(())
     }
 }

@@ -1,4 +1,5 @@
-//! What the calls of a wallet are. This function does nothing: it states a law of the definitions.
+//! What the calls of a wallet are. The function computes nothing: it states a law of the
+//! definitions.
 ghost use Rattle.std.specs.Prelude.{◌≡◌, ◌++◌, List};
 ghost use Rattle.step_budget.specs.Budget.{Deals};
 ghost use Rattle.step_budget.specs.Drawing.{Draws};

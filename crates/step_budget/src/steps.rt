@@ -1,4 +1,4 @@
-//! What a session asks of its budget.
+//! The calls that a session makes on its budget.
 ghost use Rattle.std.specs.Prelude.{◌≡◌, ◌≤◌, ◌+◌, ℕ};
 ghost use Rattle.step_purse.specs.declared.dealings.Dealing.{Dealing};
 ghost use Rattle.step_purse.specs.declared.dealings.Dealing.TheVariants.{Reserved, Settled, Told};
@@ -7,17 +7,17 @@ ghost use Rattle.step_purse.specs.Plain.{IsReplyTo};
 use std::sync::Wait;
 use step_purse::{Reply, Totals};
 
-/// A budget of steps, of which a caller reserves and settles.
+/// A budget of steps, which a caller reserves and settles.
 ///
 /// Others may draw on the same budget, and a call may wait for them.
 pub trait Steps {
-    // which calls, with which replies, lead from one value to another
+    // Which calls, with which replies, lead from one value to another.
     ghost leads: { Self → Dealing → Self → Type 0 };
 
-    // how many steps this caller has reserved and not settled
+    // How many steps this caller has reserved and not settled.
     ghost owes: { Self → ℕ };
 
-    /// Reserves an amount of the steps that are left, or nothing where fewer are left.
+    /// Reserves an amount of the steps that are left, or nothing if fewer are left.
     fn reserve<H: Wait>(&mut self, rt: &H, amount: u64) -> Reply
         ensures dealt { leads self.old (Reserved amount result) self.new }
         ensures reply { IsReplyTo amount result }

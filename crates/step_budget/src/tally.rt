@@ -27,7 +27,7 @@ impl Model for Tally {
 }
 
 impl Tally {
-    /// A budget of so many steps, none of them reserved or spent.
+    /// A budget of a number of steps, none of them reserved or spent.
     pub fn open(allowance: u64) -> Self
         ensures { result ≡ opened allowance }
     {
@@ -48,8 +48,10 @@ impl Steps for Tally {
 
     ghost owes = { λ t. t.reserved };
 
+    // Nobody else draws on it, so there is nothing to wait for.
     fn reserve<H: Wait>(&mut self, _rt: &H, amount: u64) -> Reply {
         let Totals { left, reserved, .. } = &mut self.totals;
+        // The reply names what is left, and nothing changes.
         if amount > *left {
             return Reply::NotEnough(*left);
         }
@@ -60,8 +62,10 @@ impl Steps for Tally {
 
     fn settle<H: Wait>(&mut self, _rt: &H, amount: u64, spent: u64) {
         let totals = &mut self.totals;
+        // The contract bounds the amount by what is owed, so this can't underflow.
         totals.reserved -= amount;
         totals.spent += spent;
+        // What wasn't spent is free again.
         totals.left += amount - spent;
     }
 

@@ -10,7 +10,9 @@ use step_purse::{Pass, Purse, Reply, Totals};
 /// A budget that others draw on too: a purse, and a pass of it. A contract sees its pass.
 #[derive(Drop)]
 pub struct Wallet<'p> {
+    // Borrowed: every session has a wallet over the one purse.
     purse: &'p Purse,
+    // Owned, as a pass serves one caller at a time.
     pass: Pass,
 }
 

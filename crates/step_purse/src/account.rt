@@ -26,6 +26,7 @@ use std::sync::Wait;
 #[derive(Drop)]
 pub struct Account {
     cell: PurseCell,
+    // Stored, as the cell's rule can't name it: see `open`.
     allowance: u64,
     ghost small: { allowance ≤ 2 ^ 62 },
 }
@@ -51,32 +52,39 @@ impl Account {
         ensures own { IfOk result (λ r. IsSeatOf r.0 r.1) }
         ensures view { IfOk result (λ r. cell_view r.1 ≡ idle allowance [] whole) }
     {
-        // The rule of a cell can't name a number that is known at run time only, so every cell begins with the same words,
-        // those of the greatest allowance. A smaller purse withholds the difference for ever, and its first word counts it
-        // (`read` and `words` below).
+        // The rule of a cell can't name a number that is known only at run time, so every cell
+        // begins with the words of the greatest allowance. A smaller purse withholds the difference
+        // permanently, and its first word includes it (`read` and `words` below).
         let (cell, mut first) = PurseCell::ruled(alloc, [GREATEST_ALLOWANCE, 0, 0])?;
         let seat = begin::<Brand>(&cell, &mut first, allowance);
         Ok((Account { cell, allowance }, seat))
     }
 
-    /// Moves the amount from left to reserved, or changes nothing where less is left.
+    /// Moves the amount from left to reserved, or changes nothing if less is left.
     pub fn reserve<R: Wait>(&self, rt: &R, seat: &mut Seat, amount: u64) -> Reply
         requires { IsSeatOf self.now seat.old }
         ensures made { CallsAt self.now seat.old (Reserved amount result) seat.new }
         ensures amount { IsReplyTo amount result }
     {
+        // No bound on the tries: other calls may always come between.
         for _ in rt.forever() {
+            // The load itself records a refusal, so that no exchange is needed to refuse.
             let now = self.ask::<Brand, R>(rt, seat, amount);
+            // On a copy: the cell changes only if the exchange succeeds.
             let mut next = PlainPurse::at(now);
             let reply = next.reserve(amount);
+            // `ask` has made the call already.
             let Reply::Took(_) = reply else {
                 return reply;
             };
             let call = Dealing::Reserved(amount, reply);
+            // It fails if another call changed the words since they were read. Then all is computed
+            // anew.
             if self.exchange::<Brand, R>(rt, seat, now, next.totals(), call) {
                 return reply;
             }
         }
+        // `forever` doesn't end.
         unreachable!()
     }
 
@@ -88,6 +96,7 @@ impl Account {
         ensures made { CallsAt self.now seat.old (Settled amount spent) seat.new }
     {
         for _ in rt.forever() {
+            // A plain look: what a caller owes is reserved, so `settle` is never refused.
             let now = self.look(rt, seat);
             let mut next = PlainPurse::at(now);
             next.settle(amount, spent);
@@ -99,10 +108,11 @@ impl Account {
         unreachable!()
     }
 
-    /// What a purse of this allowance never gives out.
+    /// The part of the greatest allowance that this purse never gives out.
     fn withheld(&self) -> u64
         ensures { result ≡ withheld self.now.allowance }
     {
+        // The allowance is at most 2^62, so this can't underflow.
         GREATEST_ALLOWANCE - self.allowance
     }
 
@@ -112,6 +122,7 @@ impl Account {
         ensures { result ≡ totals_in self.now.allowance words }
     {
         Totals {
+            // The first word includes what is withheld.
             left: words[0] - self.withheld(),
             reserved: words[1],
             spent: words[2],
@@ -123,10 +134,11 @@ impl Account {
         requires { total totals ≡ self.now.allowance }
         ensures { result ≡ words_of self.now.allowance totals }
     {
+        // The inverse of `read`.
         [totals.left + self.withheld(), totals.reserved, totals.spent]
     }
 
-    /// Refuses the amount where less is left, and else looks.
+    /// Refuses the amount if less is left, and otherwise looks.
     fn ask<S: Asking, R: Wait>(&self, rt: &R, seat: &mut Seat, amount: u64) -> Totals
         requires pick { S.amount ≡ amount }
         requires seat { IsSeatOf self.now seat.old }
@@ -136,6 +148,7 @@ impl Account {
             MatchBool (nat_le amount result.left) (w ≡ v)
             (Makes self.now.allowance v (Reserved amount (NotEnough result.left)) w)) }
     {
+        // What this load means depends on what it finds: `Asks` says which step it is.
         let words = self.cell.load_as::<Asks<S>, R>(rt, seat);
         self.read(words)
     }
@@ -147,6 +160,7 @@ impl Account {
         ensures adds_up { total result ≡ self.now.allowance }
         ensures reserved { (cell_view seat.old).known.owes ≤ result.reserved }
     {
+        // Unlike `count`, it isn't a call: nothing is recorded.
         let words = self.cell.load_as::<Peeks, R>(rt, seat);
         self.read(words)
     }
@@ -180,6 +194,7 @@ impl Account {
             let w = (cell_view seat.new).known in
             MatchBool result (Makes self.now.allowance v call w) (w ≡ v)) }
     {
+        // All three words at once, so that a change of any of them is noticed.
         let expected = self.words(now);
         let written = self.words(next);
         self.cell
@@ -194,6 +209,7 @@ impl Account {
         ensures views { (let v = cell_view seat.old in (cell_view seat.new ≡ giving v) ×
             (cell_view result ≡ idle self.now.allowance v.known.seen (half v.known.share))) }
     {
+        // A split leaves the words as they are, so nothing has to be tried again.
         self.cell.split_pass::<Tells>(seat)
     }
 
@@ -205,8 +221,10 @@ impl Account {
     {
         let mut first = first;
         let mut second = second;
+        // Only a seat that hasn't stepped can be joined, so the second's view moves to a new one.
         let moved = self.cell.split_pass::<Moves>(&mut second);
         self.cell.join_pass::<Both>(&mut first, moved);
+        // Either seat may have seen more. This load shows a history that begins with both.
         self.cell.load_as::<Learns, R>(rt, &mut first);
         first
     }

@@ -1,4 +1,4 @@
-//! What is asked of a purse of steps, and what it replies.
+//! The calls of a purse of steps, and its replies.
 
 /// What `reserve` replies.
 #[derive(Clone, Copy, PartialEq, Eq, Debug)]

@@ -1,5 +1,5 @@
-//! The purse of one thread. The shared purse computes each call with it, and its contracts are told
-//! by it.
+//! The purse of one thread. The shared purse computes each call with it, and its contracts are
+//! stated in terms of it.
 ghost use Rattle.std.specs.Prelude.{◌≡◌, ◌^◌, ◌≤◌};
 ghost use Rattle.step_purse.specs.Plain.{opened, total, reply_to, after, IsReplyTo};
 ghost use Rattle.step_purse.specs.declared.dealings.Dealing.TheVariants.{Reserved, Settled};
@@ -8,7 +8,7 @@ ghost use Rattle.step_purse.specs.declared.dealings.Totals.{Totals};
 use crate::dealings::{Reply, Totals};
 use std::marker::Model;
 
-/// The greatest allowance of a purse. No sum of its steps goes past it.
+/// The greatest allowance of a purse. No sum of its steps exceeds it.
 pub const GREATEST_ALLOWANCE: u64 = 1 << 62;
 
 /// A purse that one thread has for itself. A contract sees its totals.
@@ -40,7 +40,7 @@ impl PlainPurse {
         }
     }
 
-    /// A purse whose steps are at these places.
+    /// A purse with these totals.
     pub fn at(totals: Totals) -> PlainPurse
         requires { total totals ≤ 2 ^ 62 }
         ensures { result ≡ totals }
@@ -57,16 +57,18 @@ impl PlainPurse {
         }
     }
 
-    /// Moves the amount from left to reserved, or changes nothing where less is left.
+    /// Moves the amount from left to reserved, or changes nothing if less is left.
     pub fn reserve(&mut self, amount: u64) -> Reply
         ensures amount { IsReplyTo amount result }
         ensures reply { result ≡ reply_to self.old amount }
         ensures leaves { self.new ≡ after self.old (Reserved amount result) }
     {
+        // Before any change: a refusal leaves the purse as it was.
         if amount > self.left {
             return Reply::NotEnough(self.left);
         }
         self.left -= amount;
+        // The three words add up to the allowance, so no sum can overflow.
         self.reserved += amount;
         Reply::Took(amount)
     }
@@ -79,10 +81,11 @@ impl PlainPurse {
     {
         self.reserved -= amount;
         self.spent += spent;
+        // What wasn't spent is free again.
         self.left += amount - spent;
     }
 
-    /// Where the steps are.
+    /// The totals.
     pub fn totals(&self) -> Totals
         ensures now { result ≡ self.now }
         ensures bounded { total result ≤ 2 ^ 62 }

@@ -19,6 +19,7 @@ use std::sync::Wait;
 #[derive(Drop)]
 pub struct Pass {
     seat: Seat,
+    // What a pass knows exists in contracts alone, so this number is stored too.
     owed: u64,
 }
 
@@ -91,6 +92,7 @@ impl Purse {
             Pass { seat, owed },
             Pass {
                 seat: given,
+                // The new pass has made no call, so it owes nothing.
                 owed: 0,
             },
         )
@@ -112,26 +114,28 @@ impl Purse {
         let seat = self.account.gather(rt, seat, other);
         Pass {
             seat,
+            // What all passes owe is at most the allowance, so the sum fits.
             owed: owed + more,
         }
     }
 
-    /// Moves the amount from left to reserved, or changes nothing where less is left. Where another
-    /// call came between, it tries again.
+    /// Moves the amount from left to reserved, or changes nothing if less is left. If another call
+    /// came between, it tries again.
     pub fn reserve<R: Wait>(&self, rt: &R, pass: &mut Pass, amount: u64) -> Reply
         requires { IsPassOf self.now pass.old }
         ensures made { Calls self.now pass.old (Reserved amount result) pass.new }
         ensures amount { IsReplyTo amount result }
     {
         let reply = self.account.reserve(rt, &mut pass.seat, amount);
+        // A refusal is a call, too, but nothing is owed for it.
         if let Reply::Took(taken) = reply {
             pass.owed += taken;
         }
         reply
     }
 
-    /// Takes the amount from reserved, adds `spent` to spent and the rest to left. Where another
-    /// call came between, it tries again.
+    /// Takes the amount from reserved, adds `spent` to spent and the rest to left. If another call
+    /// came between, it tries again.
     pub fn settle<R: Wait>(&self, rt: &R, pass: &mut Pass, amount: u64, spent: u64)
         requires own { IsPassOf self.now pass.old }
         requires spent { spent ≤ amount }
@@ -142,7 +146,8 @@ impl Purse {
         pass.owed -= amount;
     }
 
-    /// What is left, reserved and spent. Who has the whole share is told as reserved what it owes.
+    /// What is left, reserved and spent. To a pass with the whole share, what is reserved is what
+    /// it owes.
     pub fn totals<R: Wait>(&self, rt: &R, pass: &mut Pass) -> Totals
         requires { IsPassOf self.now pass.old }
         ensures made { Calls self.now pass.old (Told result) pass.new }

@@ -1,4 +1,4 @@
-//! The cell of a purse, its rule, and what each kind of step tells.
+//! The cell of a purse, its rule, and what each kind of step means.
 ghost use Rattle.std.specs.Prelude.{[]};
 ghost use Rattle.step_purse.specs.Shares.{whole, half};
 ghost use Rattle.step_purse.specs.Rule.{blank, idle};
@@ -34,6 +34,7 @@ pub trait Allowed {
 }
 
 impl Allowed for Brand {
+    // A placeholder: each call picks its own (`pick` in its contract).
     ghost allowance = { 0 };
 }
 
@@ -45,6 +46,7 @@ pub trait Asking {
 }
 
 impl Asking for Brand {
+    // A placeholder, as above.
     ghost amount = { 0 };
 }
 
@@ -62,6 +64,7 @@ impl Calling for Brand {
     ghost use Rattle.std.specs.Prelude.{[]};
     ghost use Rattle.step_purse.specs.declared.dealings.Dealing.TheVariants.{Settled};
 
+    // Placeholders, as above.
     ghost expected = { [] };
 
     ghost call = { Settled 0 0 };
@@ -81,14 +84,14 @@ impl<S: Calling> Outcome<[u64; 3], View> for Exchanges<S> {
     ghost then = { exchanged S.expected S.call };
 }
 
-/// Read: a load that tells the totals.
+/// Read: a load that returns the totals.
 pub struct Counts;
 
 impl Outcome<[u64; 3], View> for Counts {
     ghost then = { counted };
 }
 
-/// Look: a load before a further try.
+/// Look: a load before another try.
 pub struct Peeks;
 
 impl Outcome<[u64; 3], View> for Peeks {

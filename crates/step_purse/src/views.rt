@@ -1,8 +1,8 @@
-//! What passes know. These types have no values: contracts and proofs alone speak of them.
+//! What passes know. These types have no values: only contracts and proofs use them.
 use crate::dealings::Dealing;
 use std::collections::LinkedList;
 
-/// A pass's share in its purse: some parts, each of them the whole halved so many times.
+/// A pass's share in its purse: a number of parts, each of them the whole halved a number of times.
 pub struct Share {
     pub parts: u64,
     pub halvings: u64,
@@ -12,7 +12,7 @@ pub struct Share {
 pub struct Books {
     /// The history as the pass last saw it.
     pub seen: LinkedList<Dealing>,
-    /// The calls that were made by this pass, each with its place in the history.
+    /// The calls that were made by this pass, each with its index in the history.
     pub calls: LinkedList<(u64, Dealing)>,
     /// What was reserved by these calls and is not yet settled.
     pub owes: u64,
@@ -22,7 +22,7 @@ pub struct Books {
 
 /// A pass as the rule sees it.
 pub struct View {
-    /// False of the one view with which every cell begins.
+    /// False in the one view with which every cell begins.
     pub opened: bool,
     /// What the purse was opened with.
     pub allowance: u64,
