@@ -35,7 +35,7 @@ pub record IsBroken (code : List ℕ) (slot : ℕ) (rule : CodeRule) : Type 0 wh
   pub at : slot_count before ≡ slot
   pub fault : IsBrokenAtFront rest rule
 
--- the length is bad, and the fault is at the last slot that could stand there
+-- the length is bad, and the fault is at the last slot that could be there
 pub record IsBadLength (code : List ℕ) (slot : ℕ) (rule : CodeRule) : Type 0 where
   pub bad : has_bad_length (length code) ≡ true
   pub at : slot ≡ min 4096 (length code / 8)

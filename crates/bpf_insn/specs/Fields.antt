@@ -1,4 +1,4 @@
--- Which fields of a slot each opcode uses, and what may stand in them: RFC 9669, sections 3.1 (a field that is not used is
+-- Which fields of a slot each opcode uses, and what they may contain: RFC 9669, sections 3.1 (a field that is not used is
 -- 0), 4.1, 4.2, 4.3 and 5.
 use Rattle.std.specs.Prelude.{ℕ, Bool, true, false, ◌==◌, ◌||◌}
 use Rattle.bpf_insn.specs.declared.insn.Width.TheVariants.{W32, W64}

@@ -7,7 +7,7 @@ use Rattle.bpf_insn.specs.Program.{slot_count}
 use Rattle.bpf_insn.specs.Machine.{State, slot_of, IsStep, IsStuckBy, is_at_insn}
 use Rattle.bpf_insn.specs.Machine as machine
 
--- any program may be stepped from here: its instruction begins where the machine stands
+-- any program may be stepped from here: an instruction of it begins at the machine's slot
 abbrev pub IsReady : State → Type 0
 IsReady s = (insns : List Insn) → 1 ≤ slot_count insns → is_at_insn insns s ≡ true
 

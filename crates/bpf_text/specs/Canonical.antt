@@ -36,11 +36,11 @@ canonical_line i = statement_text i ++ 10 ∷ []
 unfoldable pub canonical_text : List Insn → List ℕ
 canonical_text is = flat_map canonical_line is
 
--- The text of a program: the text stands for it, and for no other.
+-- The text of a program: the text denotes it, and no other.
 pub record IsOnlyTextOf (text : List ℕ) (is : List Insn) : Type 0 where
   pub stands : IsTextOf text is
   pub one_program : (other : List Insn) → IsTextOf text other → other ≡ is
 
--- what is written stands for the program, for every program: so assembling undoes disassembling
+-- what is written denotes the program, for every program: so assembling undoes disassembling
 abbrev pub CanonicalTextsStand : Type 0
 CanonicalTextsStand = (is : List Insn) → IsProgram is → IsOnlyTextOf (canonical_text is) is

@@ -1,4 +1,4 @@
--- The parts of a line of assembly text: its mnemonic, and the operands that stand behind it. This is this project's own grammar.
+-- The parts of a line of assembly text: its mnemonic, and the operands after it. This is this project's own grammar.
 use Rattle.std.specs.Prelude.{ℕ, ◌^◌, ◌==◌, ◌||◌, not, nat_lt, nat_le, Bool, if◌then◌else◌, List, [], ◌∷◌}
 use Rattle.std.specs.Prelude.{map, Option, Some, None, pos, neg_ℤ}
 use Rattle.std.specs.List.{before_first, after_first, list_all, slice_split}
@@ -25,7 +25,7 @@ code_part line = before_first is_comment_mark line
 abbrev pub is_blank_text : List ℕ → Bool
 is_blank_text text = list_all is_blank text
 
--- the first word of a text, and what follows the blank behind it
+-- the first word of a text, and what follows the blank after it
 abbrev pub first_word : List ℕ → List ℕ
 first_word text = before_first is_blank (unindented text)
 
@@ -39,14 +39,14 @@ is_statement line = not (is_blank_text (code_part line))
 abbrev pub mnemonic_in : List ℕ → List ℕ
 mnemonic_in line = first_word (code_part line)
 
--- what stands behind the mnemonic, cut at its commas
+-- what follows the mnemonic, split at its commas
 abbrev pub operand_texts_of : List ℕ → List (List ℕ)
 operand_texts_of text = if is_blank_text text then [] else slice_split is_comma text
 
 abbrev pub operand_texts : List ℕ → List (List ℕ)
 operand_texts line = operand_texts_of (behind_word (code_part line))
 
--- a number behind no sign or `+`, and one behind `-`
+-- a number after no sign or `+`, and one after `-`
 abbrev pub positive : ℕ → Argument
 positive n = if nat_lt n (2 ^ 63) then Number (pos n) else HugeNumber
 
@@ -69,7 +69,7 @@ abbrev pub known_or : List ℕ → Option Argument → Option Argument
 known_or word (Some a) = Some a
 known_or word None = other_argument word
 
--- what a word in the place of an operand says, if it says anything
+-- what a word says as an operand, if it says anything
 abbrev pub argument_of : List ℕ → Option Argument
 argument_of word = known_or word (option_map Register (named register_name all_registers word))
 

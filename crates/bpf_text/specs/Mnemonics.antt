@@ -50,7 +50,7 @@ abbrev pub argument_of_operand : Operand → Argument
 argument_of_operand (operands.Imm n) = Number n
 argument_of_operand (operands.Register r) = Register r
 
--- the operands of an instruction, in the order in which they are written; the base of a load or a store stands before its offset
+-- the operands of an instruction, in the order in which they are written; the base of a load or a store comes before its offset
 abbrev pub operands_of : Insn → List Argument
 operands_of (insns.Alu w op d s) = Register d ∷ argument_of_operand s ∷ []
 operands_of (insns.Neg w d) = Register d ∷ []

@@ -1,4 +1,4 @@
--- The names of the parts of which mnemonics are made, and of registers. The parts are those of RFC 9669; the names are this
+-- The names of the parts of mnemonics, and of registers. The parts are those of RFC 9669; the names are this
 -- project's own, after the standard's.
 use Rattle.std.specs.Prelude.{ℕ, List, codes}
 use Rattle.bpf_insn.specs.declared.insn.Width.{Width}

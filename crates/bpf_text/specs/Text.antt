@@ -1,4 +1,4 @@
--- Which program an assembly text stands for, and where a text is at fault. The text is this project's own; the instructions are
+-- Which program an assembly text denotes, and where a text is at fault. The text is this project's own; the instructions are
 -- those of RFC 9669.
 --
 -- Lines end at LF, a CR before it is dropped, and the last LF may be missing: std's `lines`.
@@ -28,12 +28,12 @@ pub record Names (word : List ℕ) (operands : List (Option Argument)) (i : Insn
   pub operands_are : map (λ a. Some a) (operands_of i) ≡ operands
   pub fits : Fits i
 
--- the line stands for the instruction
+-- the line denotes the instruction
 pub record StandsFor (line : List ℕ) (i : Insn) : Type 0 where
   pub statement : is_statement line ≡ true
   pub named : Names (mnemonic_in line) (arguments_in line) i
 
--- lines stand for instructions, one by one
+-- lines denote instructions, one by one
 abbrev pub StandFor : List (List ℕ) → List Insn → Type 0
 StandFor [] [] = Unit {0}
 StandFor (l ∷ ls) (i ∷ is) = StandsFor l i × StandFor ls is
@@ -44,13 +44,13 @@ StandFor (l ∷ ls) [] = ⊥
 abbrev pub IsShort : List ℕ → Type 0
 IsShort line = length line ≤ 1024
 
--- no line is too long, and those that are not skipped stand for the instructions, which have no more than 4,096 slots
+-- no line is too long, and those that are not skipped denote the instructions, which have no more than 4,096 slots
 pub record AreFaultless (ls : List (List ℕ)) (is : List Insn) : Type 0 where
   pub short : AllByRecursion IsShort ls
   pub stand : StandFor (filter is_statement ls) is
   pub few : slot_count is ≤ 4096
 
--- the text stands for the program
+-- the text denotes the program
 pub record IsTextOf (text : List ℕ) (is : List Insn) : Type 0 where
   pub program : IsProgram is
   pub faultless : AreFaultless (lines text) is
@@ -82,7 +82,7 @@ Misnames word operands NumberOutOfRange = (i : Insn) → Names word operands i �
 Misnames word operands LineTooLong = ⊥
 Misnames word operands BadLength = ⊥
 
--- a line behind lines that stand for instructions breaks the rule
+-- a line after lines that denote instructions breaks the rule
 abbrev pub Breaks : List Insn → List ℕ → AsmRule → Type 0
 Breaks before line LineTooLong = 1024 < length line
 Breaks before line BadLength = (i : Insn) × StandsFor line i × (4096 < slot_count before + slots_of i)
@@ -114,12 +114,12 @@ pub record HasNoInstruction (text : List ℕ) (f : AsmFault) : Type 0 where
 abbrev pub IsTextFault : List ℕ → AsmFault → Type 0
 IsTextFault text f = IsFaultyLine text f ⊎ HasNoInstruction text f
 
--- why a text is refused: its fault, or, where it stands for a program, want of memory
+-- why a text is refused: its fault, or, if it denotes a program, "out of memory"
 abbrev pub ExplainsRefusal : List ℕ → AsmError → Type 0
 ExplainsRefusal text (errors.Fault f) = IsTextFault text f
 ExplainsRefusal text errors.Memory = (is : List Insn) × IsTextOf text is
 
--- the text stands for one program at most, and then has no fault; else it has one fault at most
+-- the text denotes one program at most, and then has no fault; otherwise it has one fault at most
 pub record HasOneReading (text : List ℕ) : Type 0 where
   pub one_program : (a b : List Insn) → IsTextOf text a → IsTextOf text b → a ≡ b
   pub no_fault : (is : List Insn) (f : AsmFault) → IsTextOf text is → IsTextFault text f → ⊥

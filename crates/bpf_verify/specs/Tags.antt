@@ -50,7 +50,7 @@ any_tag sort ts rs = list_any (λ r. sort (tag ts r)) rs
 
 -- ---- the stack
 
--- so many bytes, at an offset from the place that the tag tells, are not inside the stack
+-- so many bytes, at an offset from the place that the tag has, are not inside the stack
 abbrev pub reaches_outside : Tag → ℤ → ℕ → Bool
 reaches_outside (Place o) off n = is_outside_stack (o +ℤ off) n
 reaches_outside _ off n = false

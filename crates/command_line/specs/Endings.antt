@@ -1,5 +1,5 @@
--- How the program tells the end of what it served: its exit status, and what it says on standard error: the words of a fault, alone
--- on their line, and on the next line its cause, where the system tells one (this project's own).
+-- How the program ends: its exit status, and what it says on standard error: the words of a fault, alone
+-- on their line, and on the next line its cause, if the system names one (this project's own).
 use Rattle.std.specs.Prelude.{ℕ, List, [], Option, None, Some, Result, Ok, Err, codes}
 use Rattle.std.specs.String.{string_bytes}
 use Rattle.session.specs.declared.end.End.TheVariants.{Quit, InputEnd, Refused}
@@ -26,7 +26,7 @@ code_of statuses.Failed = 1
 code_of statuses.WordsRefused = 2
 code_of statuses.SessionRefused = 3
 
--- All was served, or the version told, or the one session ended by `quit`, with its input, or by a refusal; the words were refused;
+-- All was served, the version printed, or the one session ended by `quit`, with its input, or by a refusal; the words were refused;
 -- or a stream, the network or the memory failed.
 abbrev pub status_of : Result Done Failure → Status
 status_of (Ok done.Sessions) = statuses.Ended
@@ -68,7 +68,7 @@ abbrev pub failed_by : Option Cause → Detail
 failed_by None = Nothing
 failed_by (Some cause) = Failed cause
 
--- what the second line tells
+-- what the second line says
 abbrev pub detail_of : Result Done Failure → Detail
 detail_of (Ok done) = Nothing
 detail_of (Err (fails.Settings fault)) = Nothing
@@ -85,7 +85,7 @@ said_by messages.Nothing = []
 said_by (messages.Fault fault) = fault.words.now
 said_by (messages.Words text) = string_bytes text
 
--- what a message tells behind its words
+-- what a message says after its words
 abbrev pub detail_in : Message → Detail
 detail_in messages.Nothing = Nothing
 detail_in (messages.Fault fault) = fault.detail

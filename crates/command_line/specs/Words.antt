@@ -85,7 +85,7 @@ program =
     let top = record app { top = required_command app.top } in
     with_subcommand (with_subcommand top run_command.top) serve_command.top
 
--- a number that a text writes in decimal digits, before which a plus may stand
+-- a number that a text writes in decimal digits, which a plus may precede
 abbrev pub IsNumberOf : Option Text → ℕ → Type 0
 IsNumberOf None n = ⊥
 IsNumberOf (Some text) n =

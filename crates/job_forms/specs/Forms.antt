@@ -1,5 +1,5 @@
 -- GrB_apply, GrB_select, GrB_eWiseAdd (union), GrB_eWiseMult (both) and GrB_reduce of a matrix by rows, of the GraphBLAS C API
--- Specification 2.0 ("Operations"), with operators of the user's own: what stands at each position of the result, and the calls
+-- Specification 2.0 ("Operations"), with operators of the user's own: the entry at each position of the result, and the calls
 -- that are made for it.
 use Rattle.std.specs.Prelude.{ℕ, if◌then◌else◌, nat_eq, List, [], ◌∷◌, map, Option, None, Some}
 use Rattle.std.specs.FinMap as fin

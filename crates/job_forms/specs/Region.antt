@@ -29,7 +29,7 @@ pub record IsMade (run : Run) (calls : List Call) (chunk : Chunk) : Type 0 where
   pub steps : OnOk chunk.result (chunk.steps ≡ steps_of calls)
   pub spent : OnErr chunk.result (Charges calls 0 chunk.steps)
 
--- the rows of a region of a result of so many columns, which is told position by position, as are the calls for it
+-- the rows of a region of a result of so many columns, which is defined position by position, as are the calls for it
 abbrev pub IsPartOf : ℕ → (Position → Option ℕ) → (Position → List Call) → Region → Chunk → Type 0
 IsPartOf columns values calls region chunk =
     let first = region.range.start in
@@ -44,11 +44,11 @@ pub record Adds (added : List Row) (calls : List Call) (old new : Making) (fille
   pub steps : OnOk filled (new.steps ≡ old.steps + steps_of calls)
   pub spent : OnErr filled (Charges calls old.steps new.steps)
 
--- nothing is made yet
+-- nothing is computed yet
 abbrev pub nothing_made : ℕ → ℕ → Making
 nothing_made first columns = record { rows = record { first = first; columns = columns; ended = []; opened = [] }; steps = 0 }
 
--- what was being made, told as a chunk, unless memory was refused
+-- the finished rows as a chunk, unless memory was refused
 abbrev pub finished : Making → Result (Unit {0}) AllocError → Chunk
 finished making (Ok x) = record { result = Ok making.rows; steps = making.steps }
 finished making (Err e) = record { result = Err e; steps = making.steps }

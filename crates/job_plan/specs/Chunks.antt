@@ -8,11 +8,11 @@ use Rattle.job_plan.specs.Meaning.{row_count, rows_in, calls_in}
 use Rattle.job_plan.specs.Price.{price_in, price_of, IsWithinPrice}
 use Rattle.job_plan.specs.Refusal.{IsPriced}
 
--- some rows of a job, which is told by its place among the jobs, and their price, which contracts alone know
+-- some rows of a job, which is named by its index among the jobs, and their price, which contracts alone know
 pub record Chunk : Type 0 where
   pub job : ℕ
   pub first : ℕ
-  -- the row behind the last
+  -- the row after the last
   pub last : ℕ
   pub price : ℕ
 
@@ -27,7 +27,7 @@ chunk_first c = 256 * c
 abbrev pub chunk_last : ℕ → ℕ → ℕ
 chunk_last rows c = min (256 * (c + 1)) rows
 
--- chunk c of a job, which has place k among the jobs
+-- chunk c of a job, which has index k among the jobs
 abbrev pub chunk_of : ℕ → Job → ℕ → Chunk
 chunk_of k job c = record {
   job = k;
@@ -39,7 +39,7 @@ chunk_of k job c = record {
 abbrev pub chunks_of : ℕ → Job → List Chunk
 chunks_of k job = along (λ c. chunk_of k job c ∷ []) 0 (chunk_count (row_count job))
 
--- the chunks of jobs, of which the first has place k
+-- the chunks of jobs, of which the first has index k
 abbrev pub chunks_from : ℕ → List Job → List Chunk
 chunks_from k [] = []
 chunks_from k (job ∷ jobs) = chunks_of k job ++ chunks_from (k + 1) jobs
@@ -71,7 +71,7 @@ pub record IsChunkOf (jobs : List Job) (c : Chunk) : Type 0 where
   pub within : c.last ≤ row_count job
   pub priced : c.price ≡ price_in job c.first (c.last - c.first)
 
--- chunk c of the jobs has these rows of the job at this place
+-- chunk c of the jobs has these rows of the job at this index
 pub record IsChunkAt (jobs : List Job) (c job first last : ℕ) : Type 0 where
   pub price : ℕ
   pub is : slice_get (plan_chunks jobs) c ≡ Some (record { job = job; first = first; last = last; price = price })

@@ -1,4 +1,4 @@
--- The six forms of jobs, whatever stands for their operators and matrices: in a line names, in a job what these stand for. This
+-- The six forms of jobs, generic over their operators and matrices: in a line names, in a job what these name. This
 -- project's own.
 use denote.Ref.{Bor}
 use Rattle.std.specs.Prelude.{◌≡◌, List, [], ◌∷◌, Option, None, Some}
@@ -65,7 +65,7 @@ all_some (Both f a b) = of_two Both f a b
 all_some (Product add mul a b) = of_product add mul a b
 all_some (Reduce f a) = of_one Reduce f a
 
--- the form of what stands for its operators and matrices, if something stands for each
+-- the form of what is found for its operators and matrices, if something is found for each
 abbrev pub found : {O P M N : Type 0} → (O → Option P) → (M → Option N) → Form O M → Option (Form P N)
 found op m form = all_some (mapped op m form)
 

@@ -1,5 +1,5 @@
 -- The six forms of jobs, in one table: GrB_apply, GrB_select, GrB_eWiseAdd (union), GrB_eWiseMult (both), GrB_mxm (product) and
--- GrB_reduce of a matrix by rows, of the GraphBLAS C API Specification 2.0 ("Operations"). What stands at each position, and which
+-- GrB_reduce of a matrix by rows, of the GraphBLAS C API Specification 2.0 ("Operations"). The entry at each position, and which
 -- calls are made for it, is said in `Forms` and `Product` of job_forms.
 use Rattle.std.specs.Prelude.{ℕ, Bool, true, false, ◌&&◌, nat_eq, List, Option, None, Some}
 use Rattle.bpf_insn.specs.declared.operands.Kind.{Kind}
@@ -38,7 +38,7 @@ pub record Operation : Type 0 where
   -- the operators are of the kinds that the form takes, and the operands have shapes that fit one another
   pub kinds : Bool
   pub shapes : Bool
-  -- the sizes of the result; what stands at each position, and the calls for it, where all positions pass
+  -- the sizes of the result; the entry at each position, and the calls for it, if all positions pass
   pub rows : ℕ
   pub columns : ℕ
   pub value_at : Position → Option ℕ

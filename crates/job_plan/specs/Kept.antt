@@ -1,4 +1,4 @@
--- How a job is kept: with operators and operands that have several owners, and what holds of any. This project's own.
+-- How a job is stored: with operators and operands that have several owners, and what holds of any. This project's own.
 use Rattle.std.specs.Prelude.{Option, None, Some}
 use Rattle.std.specs.Arc.{arc_value}
 use Rattle.std.specs.List.{AllByRecursion}

@@ -16,7 +16,7 @@ row_count job = (operation job.form).rows
 abbrev pub column_count : Job → ℕ
 column_count job = (operation job.form).columns
 
--- what stands at a position inside these sizes
+-- the entry at a position inside these sizes
 abbrev pub value_at : Job → Position → Option ℕ
 value_at job at = cut job.mask (operation job.form).value_at at
 

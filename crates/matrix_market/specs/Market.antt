@@ -35,7 +35,7 @@ abbrev pub is_skipped : List ℕ → Bool
 is_skipped line = is_comment (words line)
 
 -- ---- numbers
--- digits behind an optional +
+-- digits after an optional +
 abbrev pub number : List ℕ → Option ℕ
 number [] = None
 number (b ∷ bs) = if b == 43 then decimal_in bs else decimal_in (b ∷ bs)
@@ -55,7 +55,7 @@ value (b ∷ bs) = if b == 45 then signed true (decimal_in bs) else signed false
 abbrev pub is_word : Value → Bool
 is_word v = if v.0 then nat_le v.1 (2 ^ 63) else nat_lt v.1 (2 ^ 63)
 
--- the word of 64 bits that stands for it
+-- the word of 64 bits that represents it
 abbrev pub word_of : Value → ℕ
 word_of v = if v.0 && nat_lt 0 v.1 then 2 ^ 64 - v.1 else v.1
 
@@ -120,12 +120,12 @@ entry_words _ _ = None
 abbrev pub mirrored : Bool → Position → List Position
 mirrored symmetric p = if symmetric && not (p.0 == p.1) then p ∷ (p.1, p.0) ∷ [] else p ∷ []
 
--- the positions that an entry stands for
+-- the positions that an entry line sets
 abbrev pub places : Bool → WrittenEntry → List Position
 places symmetric e = mirrored symmetric (e.row - 1, e.column - 1)
 
 -- ---- lines in their roles
--- those of the lines behind the first that are not skipped
+-- those of the lines after the first that are not skipped
 abbrev pub content : List (List ℕ) → List (List ℕ)
 content ls = filter (λ l. not (is_skipped l)) ls
 
@@ -162,7 +162,7 @@ outside i n = (i == 0) || nat_lt n i
 abbrev pub is_place : Position → Position → Bool
 is_place p q = (p.0 == q.0) && (p.1 == q.1)
 
--- some place of the entry is a place of an earlier one
+-- some position of the entry is a position of an earlier one
 abbrev pub is_repeated : Bool → WrittenEntry → List WrittenEntry → Bool
 is_repeated symmetric e es = list_any (λ p. list_any (λ f. list_any (is_place p) (places symmetric f)) es) (places symmetric e)
 
@@ -189,7 +189,7 @@ pub data Role : Type 0 where
   PastEntries : Role  -- a line behind the last entry
   Anything : Role  -- a line behind one that breaks a rule
 
--- the role of the next line, behind a size line and entry lines
+-- the role of the next line, after a size line and entry lines
 abbrev pub role_sized : Banner → List (List ℕ) → Option Size → Role
 role_sized b ls None = Anything
 role_sized b ls (Some s) = if nat_lt (length (tail ls)) s.entries then EntryLine b s (entries_of b.pattern ls) else PastEntries
@@ -199,12 +199,12 @@ role_after None ls = Anything
 role_after (Some b) [] = SizeLine b
 role_after (Some b) (l ∷ ls) = role_sized b (l ∷ ls) (size_of (l ∷ ls))
 
--- the role of the line behind these lines
+-- the role of the line after these lines
 abbrev pub role_behind : List (List ℕ) → Role
 role_behind [] = BannerLine
 role_behind (first ∷ ls) = role_after (banner_of first) (content ls)
 
--- the rules that a line breaks in its role, the one that is told first
+-- the rules that a line breaks in its role, the one that is reported first
 abbrev pub rules_of : Role → List ℕ → List MarketRule
 rules_of BannerLine line = banner_rules line
 rules_of (SizeLine b) line = size_rules b.symmetric (size_words (words line))
@@ -212,7 +212,7 @@ rules_of (EntryLine b s before) line = entry_rules b s before (entry_words b.pat
 rules_of PastEntries line = LineAfterLastEntry ∷ []
 rules_of Anything line = []
 
--- the rules that a text breaks which ends where a line of this role would stand
+-- the rules that a text breaks which ends where a line of this role would be
 abbrev pub rules_of_end : Role → List MarketRule
 rules_of_end BannerLine = MalformedBanner ∷ []
 rules_of_end (SizeLine b) = MalformedSize ∷ []
@@ -230,7 +230,7 @@ rules_in role None = rules_of_end role
 rules_in role (Some line) =
     when (nat_lt 1024 (length line)) LineTooLong ++ (if is_free role line then [] else rules_of role line)
 
--- The rules that line n breaks, the one that is told first: lines count from 1, and the one behind the last stands for the end.
+-- The rules that line n breaks, the one that is reported first: lines count from 1, and the one after the last is the end.
 abbrev pub rules_at : List (List ℕ) → ℕ → List MarketRule
 rules_at ls n = rules_in (role_behind (take (n - 1) ls)) (slice_get ls (n - 1))
 
@@ -238,7 +238,7 @@ abbrev pub first_rule : List MarketRule → Option MarketRule
 first_rule [] = None
 first_rule (r ∷ rs) = Some r
 
--- line n is the first that breaks a rule, and this is the one that is told
+-- line n is the first that breaks a rule, and this is the one that is reported
 pub record IsFault (text : List ℕ) (n : ℕ) (rule : MarketRule) : Type 0 where
   pub line : (1 ≤ n) × (n ≤ length (lines text) + 1)
   pub fault : first_rule (rules_at (lines text) n) ≡ Some rule
@@ -252,7 +252,7 @@ abbrev pub at_most : Option ℕ → List ℕ
 at_most None = []
 at_most (Some v) = v ∷ []
 
--- The text is without fault and stands for the matrix.
+-- The text is without fault and denotes the matrix.
 pub record IsTextOf (text : List ℕ) (g : Grid) : Type 0 where
   pub faultless : (k : ℕ) → 1 ≤ k → k ≤ length (lines text) + 1 → rules_at (lines text) k ≡ []
   pub first : List ℕ

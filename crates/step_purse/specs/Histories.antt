@@ -12,7 +12,7 @@ use Rattle.step_purse.specs.Shares.{half, both_shares, IsWhole}
 abbrev pub Begins : List Dealing → List Dealing → Type 0
 Begins seen history = (rest : List Dealing) × (history ≡ seen ++ rest)
 
--- each of these calls stands in the history, at its place
+-- each of these calls is in the history, at its index
 abbrev pub Stand : List Dealing → List (ℕ × Dealing) → Type 0
 Stand history [] = Unit {0}
 Stand history (c ∷ cs) = (slice_get history c.0 ≡ Some c.1) × Stand history cs
@@ -22,11 +22,11 @@ abbrev pub total_of : {A : Type 0} → (A → ℕ) → List A → ℕ
 total_of f [] = 0
 total_of f (x ∷ xs) = f x + total_of f xs
 
--- how many of these calls stand at the place k
+-- how many of these calls have the index k
 abbrev pub times_at : ℕ → List (ℕ × Dealing) → ℕ
 times_at k calls = total_of (λ c. if c.0 == k then 1 else 0) calls
 
--- one who has seen this much, made no call and owes nothing
+-- a pass that has seen this much, made no call and owes nothing
 abbrev pub newcomer : List Dealing → Share → Books
 newcomer seen share = record { seen = seen; calls = []; owes = 0; share = share }
 
@@ -34,7 +34,7 @@ newcomer seen share = record { seen = seen; calls = []; owes = 0; share = share 
 abbrev pub gives_half : Books → Books
 gives_half k = record { seen = k.seen; calls = k.calls; owes = k.owes; share = half k.share }
 
--- What was seen is a legal history from the allowance. The own calls stand in it, each once. What is owed is reserved at its end
+-- What was seen is a legal history from the allowance, with the pass's own calls, each once. What is owed is reserved at its end
 pub record IsSound (allowance : ℕ) (k : Books) : Type 0 where
   pub legal : IsLegal (opened allowance) k.seen
   pub stand : Stand k.seen k.calls
@@ -73,6 +73,6 @@ Leads allowance before (d ∷ ds) now = (next : Books) × Makes allowance before
 abbrev pub totals_seen : ℕ → Books → Totals
 totals_seen allowance k = after_all (opened allowance) k.seen
 
--- the pass's own calls, without their places
+-- the pass's own calls, without their indices
 abbrev pub own_calls : Books → List Dealing
 own_calls k = map (λ (c : ℕ × Dealing). c.1) k.calls

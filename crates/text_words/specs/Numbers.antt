@@ -4,7 +4,7 @@ use Rattle.std.specs.Prelude.{Option, Some, None}
 use Rattle.std.specs.Char.{is_ascii_digit}
 use Rattle.std.specs.Option.{option_map}
 
--- the number that decimal digits write behind those of n
+-- the number that decimal digits write after those of n
 abbrev pub digits_after : ℕ → List ℕ → Option ℕ
 digits_after n [] = Some n
 digits_after n (b ∷ bs) = if is_ascii_digit b then digits_after (n * 10 + (b - 48)) bs else None
@@ -19,7 +19,7 @@ abbrev pub below : ℕ → Option ℕ → Option ℕ
 below limit None = None
 below limit (Some n) = if nat_lt n limit then Some n else None
 
--- a number, or the largest of 64 bits in the place of a larger one
+-- a number, or the largest of 64 bits instead of a larger one
 abbrev pub held : ℕ → ℕ
 held n = min n (2 ^ 64 - 1)
 

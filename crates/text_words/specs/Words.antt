@@ -10,7 +10,7 @@ abbrev pub is_some_text : List ℕ → Bool
 is_some_text [] = false
 is_some_text (b ∷ bs) = true
 
--- the words of a line: what stands between blanks
+-- the words of a line: the text between blanks
 abbrev pub words : List ℕ → List (List ℕ)
 words line = filter is_some_text (slice_split is_blank line)
 

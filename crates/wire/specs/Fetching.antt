@@ -23,7 +23,7 @@ failed_reads (Ok a) = 0
 failed_reads (Err Failed) = 1
 failed_reads (Err OutOfReads) = 0
 
--- The source gave some more bytes, and P holds of all bytes that were then held. The end is held exactly where the source told it.
+-- The source gave some more bytes, and P holds of all bytes that were then held. The end is held exactly if the source reported it.
 pub record Fetched (failed : ℕ) (old new : Stream) (P : List ℕ → Type 0) : Type 0 where
   pub got : List ℕ
   pub consumed : Consumes old.source.remaining new.source.remaining got
@@ -41,27 +41,27 @@ IsFilled (Ok done) old new bytes = new.bytes ≡ bytes
 IsFilled (Err Failed) old new bytes = (new.bytes ≡ bytes) × ((bytes ≡ old.bytes) × (new.ended ≡ old.ended))
 IsFilled (Err OutOfReads) old new bytes = (new ≡ old) × ((bytes ≡ old.bytes) × (new.reads_left ≡ 0))
 
--- After one more read the bytes are those that it put into a room, from a place on, and none are held; after a fault there are no
+-- After one more read the bytes are those that it put into a buffer, from an index on, and none are held; after a fault there are no
 -- more than before.
 abbrev pub IsReadBehind : Result ℕ ReadFault → (room : List ℕ) (at : ℕ) → InputState → InputState → List ℕ → Type 0
 IsReadBehind (Ok n) room at old new bytes = (bytes ≡ take n (drop at room)) × (new.bytes ≡ [])
 IsReadBehind (Err fault) room at old new bytes = IsFilled (Err fault) old new bytes
 
--- a read into a room, from a place on, keeps its length and its front, and goes no further than its end
+-- a read into a buffer, from an index on, keeps its length and its front, and goes no further than its end
 pub record IsPut {E : Type 0} (at : ℕ) (result : Result ℕ E) (old new : List ℕ) : Type 0 where
   pub len : length new ≡ length old
   pub bound : IfOk result (λ n. at + n ≤ length old)
   pub front : take at new ≡ take at old
 
--- there is room for another byte, and the stream is not known to have ended
+-- the buffer has space for another byte, and the stream is not known to have ended
 abbrev pub MayFill : InputState → Type 0
 MayFill held = (length held.bytes < 8192) × (held.ended ≡ false)
 
--- no more reads are left than before, and fewer where one was made
+-- no more reads are left than before, and fewer if one was made
 abbrev pub IsSpent : {A : Type 0} → Result A ReadFault → InputState → InputState → Type 0
 IsSpent result old new = (new.reads_left ≤ old.reads_left) × OnOk result (new.reads_left < old.reads_left)
 
--- what stands first in all the bytes: the line, with the bytes that are left behind it; or, after a fault, less than a line
+-- what all the bytes begin with: the line, with the bytes that are left after it; or, after a fault, less than a line
 abbrev pub IsLined : Result Lined ReadFault → List ℕ → InputState → List ℕ → Type 0
 IsLined (Ok Whole) line new bytes = lines.first new.ended bytes ≡ lines.Line line new.bytes
 IsLined (Ok Over) line new bytes = lines.first new.ended bytes ≡ lines.Over
@@ -69,7 +69,7 @@ IsLined (Ok Nothing) line new bytes = lines.first new.ended bytes ≡ lines.Noth
 IsLined (Err Failed) line new bytes = lines.first new.ended bytes ≡ lines.Partial
 IsLined (Err OutOfReads) line new bytes = (lines.first new.ended bytes ≡ lines.Partial) × (new.reads_left ≡ 0)
 
--- what all the bytes are: a body of so many bytes and what is left behind it; or less than a body
+-- what all the bytes are: a body of so many bytes and what is left after it; or less than a body
 abbrev pub IsBody : ℕ → Result Body ReadFault → InputState → List ℕ → Type 0
 IsBody len (Ok (bodies.Whole body)) new bytes = (bytes ≡ body.items ++ new.bytes) × (length body.items ≡ len)
 IsBody len (Ok bodies.Dropped) new bytes = (body : List ℕ) × (bytes ≡ body ++ new.bytes) × (length body ≡ len)

@@ -17,7 +17,7 @@ abbrev pub cut_line : List ℕ → Cut
 cut_line [] = Uncut
 cut_line (b ∷ bs) = if b == 10 then At [] bs else after_front (b ∷ []) (cut_line bs)
 
--- What stands first in the bytes of a stream:
+-- What the bytes of a stream begin with:
 pub data First : Type 0 where
   Partial : First  -- less than a line, and more may come
   Over : First  -- a line that is too long
@@ -43,6 +43,6 @@ abbrev pub first_of : Bool → List ℕ → Cut → First
 first_of ended bytes Uncut = unfinished ended bytes
 first_of ended bytes (At line rest) = measured (strip_carriage_return line) rest
 
--- what stands first, where the stream has ended or not
+-- what they begin with, whether the stream has ended or not
 abbrev pub first : Bool → List ℕ → First
 first ended bytes = first_of ended bytes (cut_line bytes)

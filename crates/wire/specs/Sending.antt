@@ -1,4 +1,4 @@
--- How text is sent to a sink: what is said waits in room of the caller's until it is written (this project's own).
+-- How text is sent to a sink: text waits in a buffer of the caller's until it is written (this project's own).
 use Rattle.std.specs.Prelude.{ℕ, ◌≡◌, ◌+◌, Bool, true, false, List, ◌++◌}
 use Rattle.std.specs.Io.KnownBytes.{Appends}
 use Rattle.wire.specs.Devices.{SinkState}

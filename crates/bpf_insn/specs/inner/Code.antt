@@ -1,4 +1,4 @@
--- What stands beside specs/Code.antt for this crate's own modules and proofs.
+-- Definitions beside specs/Code.antt for this crate's own modules and proofs.
 use Rattle.std.specs.Prelude.{ℕ, ◌≡◌, ◌≤◌, ◌*◌, false, List, ◌++◌, length, drop}
 use Rattle.bpf_insn.specs.declared.insn.Insn.{Insn}
 use Rattle.bpf_insn.specs.declared.opcode.Opcode.{Opcode}

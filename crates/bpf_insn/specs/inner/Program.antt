@@ -1,4 +1,4 @@
--- What stands beside specs/Program.antt for this crate's own modules and proofs.
+-- Definitions beside specs/Program.antt for this crate's own modules and proofs.
 use Rattle.std.specs.Prelude.{◌≡◌, List, [], ◌∷◌, Option, Some, None}
 use Rattle.std.specs.List.{flat_map}
 use Rattle.bpf_insn.specs.declared.insn.Insn.{Insn}

@@ -1,4 +1,4 @@
--- What stands beside specs/Names.antt for this crate's own modules and proofs.
+-- Definitions beside specs/Names.antt for this crate's own modules and proofs.
 use Rattle.std.specs.Prelude.{ℕ, List, codes}
 use Rattle.bpf_text.specs.declared.names.Stem.{Stem}
 use Rattle.bpf_text.specs.declared.names.Stem.TheVariants as stems

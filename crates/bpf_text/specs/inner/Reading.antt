@@ -12,7 +12,7 @@ use Rattle.bpf_text.specs.Lines.{is_statement}
 use Rattle.bpf_text.specs.Text.{StandsFor, IsShort, Misnames}
 use Rattle.std.specs.Prelude.{pos}
 
--- R0 in the place of a register, and 0 in that of a number
+-- R0 for a register, and 0 for a number
 abbrev pub cleared : Argument → Argument
 cleared (Register r) = Register R0
 cleared UnknownRegister = Register R0
@@ -24,7 +24,7 @@ pub record IsLowestMisnamed (word : List ℕ) (operands : List (Option Argument)
   pub broken : Misnames word operands rule
   pub lowest : (lower : AsmRule) → rule_number lower < rule_number rule → Misnames word operands lower → ⊥
 
--- the line stands for the instruction, if there is one, and else is skipped
+-- the line denotes the instruction, if there is one, and otherwise is skipped
 abbrev pub Gives : List ℕ → Option Insn → Type 0
 Gives line None = is_statement line ≡ false
 Gives line (Some i) = StandsFor line i
@@ -34,7 +34,7 @@ pub record Lists (l : Listing) (is : List Insn) : Type 0 where
   pub count : l.slots ≡ slot_count is
   pub kept : l.is_whole ≡ true → l.insns.items ≡ is
 
--- the line was read: it is without fault, and its instruction, if it has one, stands behind the others
+-- the line was read: it is without fault, and its instruction, if it has one, comes after the others
 pub record Reads (line : List ℕ) (before : List Insn) (new : Listing) : Type 0 where
   pub insn : Option Insn
   pub short : IsShort line

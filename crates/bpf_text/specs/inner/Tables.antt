@@ -74,7 +74,7 @@ all_stems =
     stems.Neg ∷ stems.Movs ∷ stems.Ja ∷ stems.Exit ∷ stems.Ldx
     ∷ stems.Ldsx ∷ stems.Stx ∷ stems.St ∷ stems.Wide ∷ []
 
--- how many bytes stand before the first digit
+-- how many bytes there are before the first digit
 abbrev pub count_of_letters : List ℕ → ℕ
 count_of_letters word = position_or_len is_ascii_digit word
 
@@ -106,6 +106,6 @@ mnemonic_of_operation_found None letters bits =
     mnemonic_of_condition_found (named condition_name all_conditions letters) letters bits
 mnemonic_of_operation_found (Some o) letters bits = option_map (λ w. Alu w o) (named width_name all_widths bits)
 
--- the form whose mnemonic is made of these letters and these numbers of bits
+-- the form whose mnemonic has these letters and these bit widths
 abbrev pub mnemonic_of_parts : List ℕ → List ℕ → Option Mnemonic
 mnemonic_of_parts letters bits = mnemonic_of_operation_found (named operation_name all_operations letters) letters bits

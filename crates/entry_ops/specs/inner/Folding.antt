@@ -140,7 +140,7 @@ abbrev pub region_calls : Accepted → Grid → Region → List Call
 region_calls f a region =
     all_listed_under (mask_of region.mask) 1 (reduce_calls_at f a) region.range.start (region.range.end - region.range.start)
 
--- the rows of a region may be reduced, of which nothing is made yet: the operator is binary, and the steps of the calls fit a word
+-- the rows of a region may be reduced, none of them computed yet: the operator is binary, and the steps of the calls fit a word
 pub record CanReduce (f : Accepted) (a : Grid) (region : Region) (making : Making) : Type 0 where
   pub kind : f.kind ≡ kinds.Binary
   pub region_is : IsRegion a.rows 1 region

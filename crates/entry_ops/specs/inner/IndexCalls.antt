@@ -1,4 +1,4 @@
--- The entries of rows that are called one after another, whichever rows they stand in. This project's own.
+-- The entries of rows that are called one after another, whichever rows they are in. This project's own.
 use Rattle.std.specs.Prelude.{◌≡◌, ℕ, ◌-◌, List, [], ◌++◌, Bool, false}
 use Rattle.bpf_insn.specs.declared.operands.Kind.{Kind}
 use Rattle.bpf_insn.specs.declared.operands.Operands.{Operands}
@@ -13,7 +13,7 @@ pub record NoneWaits (kind : Kind) (g : Gathered) : Type 0 where
   pub begun : g.kind ≡ kind
   pub none : g.operands ≡ []
 
--- what is called for the cells of row i and those behind it, n rows
+-- the calls for the cells of row i and those after it, n rows
 abbrev pub entries_along : Grid → ℕ → ℕ → ℕ → List Operands
 entries_along a thunk i n = along (λ k. entries_of k thunk (row_of a k)) i n
 

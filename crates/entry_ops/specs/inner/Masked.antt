@@ -14,7 +14,7 @@ pub record HasMaskedRows (masked : Masked) (start to : ℕ) : Type 0 where
   pub range : start ≤ to
   pub within : to ≤ masked.a.now.rows
 
--- the rows from one up to another of what is kept, and the calls for it
+-- the rows from one up to another of what is selected, and the calls for it
 abbrev pub rows_kept : ℕ → Accepted → Masked → ℕ → ℕ → List Row
 rows_kept thunk f masked start to = form_rows (Select thunk) f masked.a.now None (Some masked.mask.now) start (to - start)
 

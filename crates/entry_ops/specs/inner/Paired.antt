@@ -10,7 +10,7 @@ use Rattle.entry_ops.specs.declared.operand_rows.Sources.{Sources}
 abbrev pub columns_of : List Cell → List ℕ
 columns_of cells = map (λ (c : Cell). c.0) cells
 
--- what is called for cells, each with that in its place among others
+-- the calls for cells, each with the cell at the same index of others
 abbrev pub pairs_in : List Cell → List Cell → List Operands
 pairs_in [] ds = []
 pairs_in (c ∷ cs) [] = []

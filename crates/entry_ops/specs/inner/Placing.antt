@@ -1,4 +1,4 @@
--- Rows whose cells are added at once, each called one with a word for the time being, and whose values are put in place when the
+-- Rows whose cells are added at once, each called one with a word for the time being, and whose values are written when the
 -- gathered calls are made. This project's own.
 use Rattle.std.specs.Prelude.{◌≡◌, ◌<◌, ◌≤◌, ◌+◌, ◌^◌, ℕ, suc, List, [], ◌∷◌, ◌++◌, Result, OnOk, OnErr}
 use Rattle.std.specs.declared.alloc.AllocError.{AllocError}
@@ -14,19 +14,19 @@ pub record Emission : Type 0 where
   pub indices : List ℕ
   pub steps : ℕ
 
--- a run with each of some values at its place
+-- a run with each of some values at its index
 abbrev pub placed : List ℕ → List ℕ → Run → Run
 placed indices [] run = run
 placed [] (v ∷ values) run = run
 placed (p ∷ indices) (v ∷ values) run = placed indices values (with_value p v run)
 
--- there is a place for each value, and it is one of so many entries
+-- there is an index for each value, and it is one of so many entries
 abbrev pub HavePlaces : List ℕ → List ℕ → ℕ → Type 0
 HavePlaces indices [] entries = Unit {0}
 HavePlaces [] (v ∷ values) entries = ⊥
 HavePlaces (p ∷ indices) (v ∷ values) entries = (p < entries) × HavePlaces indices values entries
 
--- the places of values ascend, from one on
+-- the indices of values ascend, from one on
 abbrev pub Rise : ℕ → List ℕ → List ℕ → Type 0
 Rise from indices [] = Unit {0}
 Rise from [] (v ∷ values) = ⊥
@@ -36,7 +36,7 @@ Rise from (p ∷ indices) (v ∷ values) = (from ≤ p) × Rise (suc p) indices 
 abbrev pub final : Accepted → Emission → Gathered → Run
 final f e g = placed e.indices (values_on f g.operands) e.rows
 
--- the places and the gathered calls belong together
+-- the indices and the gathered calls belong together
 pub record Holds (f : Accepted) (e : Emission) (g : Gathered) : Type 0 where
   pub kind : g.kind ≡ f.kind
   pub indices : HavePlaces e.indices (values_on f g.operands) (entries_of e.rows)
@@ -57,7 +57,7 @@ pub record CanAdd (f : Accepted) (column : ℕ) (e : Emission) (g : Gathered) : 
   pub fits : CanPush column (final f e g)
   pub room : e.steps + steps_of (calls_on f g.operands) < 2 ^ 64
 
--- a row of so many columns is begun, and the steps of these calls fit in behind those of the calls that wait
+-- a row of so many columns is begun, and the steps of these calls fit in after those of the calls that wait
 pub record IsReady (f : Accepted) (columns : ℕ) (calls : List Call) (e : Emission) (g : Gathered) : Type 0 where
   pub holds : Holds f e g
   pub open_row : IsOpen columns (final f e g)

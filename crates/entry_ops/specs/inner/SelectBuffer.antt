@@ -26,7 +26,7 @@ Fits (End ∷ marks) values run = Fits marks values (with_end run)
 Fits (Kept column word ∷ marks) [] run = ⊥
 Fits (Kept column word ∷ marks) (v ∷ values) run = CanPush column run × Fits marks values (with_kept column word v run)
 
--- the rows so far, what is marked behind them, and the steps of the calls that were made
+-- the rows so far, the marks after them, and the steps of the calls that were made
 pub record SelectState : Type 0 where
   pub rows : Run
   pub marks : List Mark
@@ -56,7 +56,7 @@ pub record CanAdd (f : Accepted) (column : ℕ) (e : SelectState) (g : Gathered)
   pub fits : CanPush column (final f e g)
   pub room : e.steps + steps_of (calls_on f g.operands) < 2 ^ 64
 
--- a row of so many columns is begun, and the steps of these calls fit in behind those of the calls that wait
+-- a row of so many columns is begun, and the steps of these calls fit in after those of the calls that wait
 pub record IsReady (f : Accepted) (columns : ℕ) (calls : List Call) (e : SelectState) (g : Gathered) : Type 0 where
   pub holds : Holds f e g
   pub open_row : IsOpen columns (final f e g)

@@ -28,7 +28,7 @@ pub record IsOpen (columns : ℕ) (run : Run) : Type 0 where
 abbrev pub CanPush : ℕ → Run → Type 0
 CanPush column run = (column < run.columns) × AllByRecursion (λ (c : Cell). c.0 < column) run.opened
 
--- cells may be added: by ascending column, behind those of the open row
+-- cells may be added: by ascending column, after those of the open row
 pub record FollowIn (cells : Row) (run : Run) : Type 0 where
   pub low : ℕ
   pub above : AllByRecursion (λ (c : Cell). c.0 < low) run.opened

@@ -180,7 +180,7 @@ rows_from form f s start to = form_rows form f s.left.now (mask_of s.right) (mas
 abbrev pub calls_from : Form → Accepted → Sources → ℕ → ℕ → List Call
 calls_from form f s start to = form_all_calls form f s.left.now (mask_of s.right) (mask_of s.mask) start (to - start)
 
--- c is the first column at which either row has an entry; p and q stand there, and xs and ys are what is left
+-- c is the first column at which either row has an entry; p and q are there, and xs and ys are what is left
 pub record IsNext (n low : ℕ) (left right : List Cell) (c : ℕ) (p q : Option ℕ) (xs ys : List Cell) : Type 0 where
   pub from : low ≤ c
   pub inside : c < n

@@ -12,7 +12,7 @@ use Rattle.job_plan.specs.Copies.{factor_of, copy_words, cell_words, AreCopies}
 abbrev pub IsNew : List Grid → Grid → Type 0
 IsNew copies g = (k : ℕ) (d : Grid) → k < length copies → get_or copies k d ≢ g
 
--- the copy at a place is as good as one of this column
+-- the copy at an index is as good as one of this column
 pub record IsAt (copies : List Grid) (p : ℕ) (g : Grid) : Type 0 where
   pub copy : Grid
   pub there : slice_get copies p ≡ Some copy
@@ -29,7 +29,7 @@ abbrev pub FitsBehind : List Grid → Grid → Type 0
 FitsBehind [] g = copy_words g ≤ g.rows + 1 + cell_words g
 FitsBehind (c ∷ cs) g = copy_words g ≤ cell_words g
 
--- the copy at a place is for this job
+-- the copy at an index is for this job
 pub record IsFor (copies : List Grid) (p : ℕ) (job : Job) : Type 0 where
   pub factor : Grid
   pub by : factor_of job.form ≡ Some factor
@@ -41,7 +41,7 @@ pub record Adds (before after : List Grid) (job : Job) (nth : Option ℕ) : Type
   pub kept : (p : ℕ) (g : Grid) → slice_get before p ≡ Some g → slice_get after p ≡ Some g
   pub given : IfSome nth (λ p. IsFor after p job)
 
--- the copies of a batch, and for each job the place of its own, if it has one
+-- the copies of a batch, and for each job the index of its own, if it has one
 pub record AreFor (jobs : List Job) (copies : List Grid) (places : List (Option ℕ)) : Type 0 where
   pub copied : AreCopies jobs copies
   pub each : (k p : ℕ) → get_or places k None ≡ Some p → (job : Job) × (slice_get jobs k ≡ Some job) × IsFor copies p job

@@ -1,4 +1,4 @@
--- What stands beside specs/Refusal.antt for this crate's own modules and proofs.
+-- Definitions beside specs/Refusal.antt for this crate's own modules and proofs.
 use Rattle.std.specs.Prelude.{◌≡◌, ◌≤◌, true}
 use Rattle.csr_store.specs.Grid.{limit}
 use Rattle.job_plan.specs.Job.{Job}

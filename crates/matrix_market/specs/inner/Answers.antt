@@ -69,7 +69,7 @@ pub record Passes (text : List ℕ) (number : ℕ) (rest : List (List ℕ)) (at 
   pub counts : at ≡ number + length between
   pub idle : AllByRecursion IsIdle between
 
--- what comes behind the lines that are passed over
+-- what follows the lines that are skipped
 abbrev pub ContentOf : Content → Cursor → Type 0
 ContentOf (Line line behind) cursor =
     (before : ℕ) × Passes cursor.rest.now cursor.at (line.now ∷ lines behind.rest.now) before × (behind.at ≡ before + 1)

@@ -1,4 +1,4 @@
--- Where a reader stands in a text, and what it has read.
+-- Where a reader is in a text, and what it has read.
 use Rattle.std.specs.Prelude.{◌≡◌, ℕ, ◌≤◌, ◌+◌, List, [], ◌∷◌, ◌++◌, length, Some}
 use Rattle.std.specs.Str.Lines.{lines}
 use Rattle.std.specs.FinMap as fin
@@ -12,7 +12,7 @@ use Rattle.matrix_market.specs.Market.{content, banner_of, rules_at, size_words,
 abbrev pub Clean : List (List ℕ) → ℕ → Type 0
 Clean ls n = (k : ℕ) → 1 ≤ k → k ≤ n → rules_at ls k ≡ []
 
--- line n was read, these are the lines of content behind the first, and these lines follow
+-- line n was read, these are the lines of content after the first, and these lines follow
 pub record At (ls : List (List ℕ)) (b : Banner) (cs rest : List (List ℕ)) (n : ℕ) : Type 0 where
   pub first : List ℕ
   pub done : List (List ℕ)

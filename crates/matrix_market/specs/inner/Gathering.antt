@@ -35,7 +35,7 @@ with_word ps w = map (λ p. (p, w)) ps
 abbrev pub width : Bool → ℕ
 width symmetric = if symmetric then 2 else 1
 
--- a list has the sizes of a text, and room for the entries of so many lines more
+-- a list has the sizes of a text, and capacity for the entries of so many more lines
 pub record HasRoom (h : Header) (l : Listed) (more : ℕ) : Type 0 where
   pub rows_same : l.rows ≡ h.size.rows
   pub columns_same : l.columns ≡ h.size.columns
@@ -91,7 +91,7 @@ pub record IsRead (h : Header) (start : Cursor) (l : Listed) : Type 0 where
   pub last : ℕ
   pub adds : Adds h (nothing h) l start.rest.now start.at given end last
 
--- a text that goes on like this behind lines that break no rule has this fault, if an entry is to come
+-- a text that goes on like this after lines that break no rule has this fault, if an entry is to come
 abbrev pub IsFaultAt : Header → Cursor → MarketError → Type 0
 IsFaultAt h cursor e =
     (text : List ℕ) (g : Grid) (given : ℕ) → Filled text h.banner h.size g cursor.rest.now cursor.at given

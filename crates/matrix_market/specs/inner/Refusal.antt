@@ -1,4 +1,4 @@
--- What stands beside specs/Refusal.antt for this crate's own modules and proofs.
+-- Definitions beside specs/Refusal.antt for this crate's own modules and proofs.
 use Rattle.std.specs.Prelude.{ℕ, List}
 use Rattle.matrix_market.specs.Market.{IsFault}
 use Rattle.matrix_market.specs.declared.rule.MarketError.{MarketError}

@@ -15,19 +15,19 @@ pub record Scanned (ds : List ℕ) (n : ℕ) : Type 0 where
   pub below : whole < 10 ^ length ds
   pub held : n ≡ whole % 2 ^ 64
 
--- an index between two places
+-- an index between two positions
 pub record IsNumber (text : List ℕ) (from to n : ℕ) : Type 0 where
   pub some : from < to
   pub few : to ≤ from + 8
   pub small : n < 2 ^ 64
   pub is : digits_after 0 (slice_range text from to) ≡ Some n
 
--- an index between two places, with a space behind it
+-- an index between two positions, followed by a space
 pub record IsIndex (text : List ℕ) (from to n : ℕ) : Type 0 where
   pub number : IsNumber text from to n
   pub space : slice_index text to ≡ 32
 
--- a value between two places
+-- a value between two positions
 pub record IsValue (text : List ℕ) (from to n : ℕ) : Type 0 where
   pub ds : List ℕ
   pub m : ℕ
@@ -40,7 +40,7 @@ pub record IsValue (text : List ℕ) (from to n : ℕ) : Type 0 where
   pub fits : is_word (negative, m) ≡ true
   pub word : word_of (negative, m) ≡ n
 
--- a line ends at a place with LF, or with CR and LF, and the next starts behind that
+-- a line ends at a position with LF, or with CR and LF, and the next starts after that
 pub record IsLineEnd (text : List ℕ) (at next : ℕ) : Type 0 where
   pub returns : Bool
   pub here : slice_index text at ≡ (if returns then 13 else 10)

@@ -78,12 +78,12 @@ written sums [] vs = sums
 abbrev pub AreBelow : ℕ → List ℕ → Type 0
 AreBelow n ks = AllByRecursion (λ k. k < n) ks
 
--- gathered additions are made: what they come to is written at their columns, and the steps are those of the calls
+-- gathered additions are made: their sums are written at their columns, and the steps are those of the calls
 pub record AreAdded (add : Accepted) (g : Gathered) (old new : List (Option ℕ)) (s : ℕ) : Type 0 where
   pub sums : new ≡ written old g.columns (values_on add g.operands)
   pub steps : s ≡ steps_of (calls_on add g.operands)
 
--- terms that are put at the columns of cells, where the additions that are gathered are still to be made
+-- terms that are written at the columns of cells, where the additions that are gathered are still to be made
 pub record IsMet (add : Accepted) (first : List (Option ℕ)) (cs : List Cell) (ts : List ℕ) (sums : List (Option ℕ))
     (g : Gathered) : Type 0 where
   pub sums_are : written sums g.columns (values_on add g.operands) ≡ put_terms add first cs ts

@@ -5,7 +5,7 @@ use Rattle.std.specs.List.Sorted.{IsNonDecreasing}
 use Rattle.csr_store.specs.Run.{Run}
 use Rattle.row_product.specs.inner.Sums.{slot}
 
--- the open row is empty, of n columns, and there is a place for the sum of each
+-- the open row is empty, of n columns, and there is a word for the sum of each
 pub record MayEmit (n : ℕ) (sums : List (Option ℕ)) (rows : Run) : Type 0 where
   pub columns : rows.columns ≡ n
   pub wide : rows.columns ≤ length sums

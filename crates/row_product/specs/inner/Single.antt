@@ -24,7 +24,7 @@ with_words [] ws = []
 with_words (c ∷ cs) [] = []
 with_words (c ∷ cs) (w ∷ ws) = (c.0, w) ∷ with_words cs ws
 
--- cells of n columns that may be put behind those of a row
+-- cells of n columns that may be appended to those of a row
 pub record IsBehind (n : ℕ) (row cells : List Cell) : Type 0 where
   pub low : ℕ
   pub below : AllByRecursion (λ (c : Cell). c.0 < low) row
@@ -60,7 +60,7 @@ pub record MayPush (f : MaskedFactors) (k : ℕ) (making : Making) : Type 0 wher
   pub none_open : making.rows.opened ≡ []
   pub room : making.steps + 8192 * limit < 2 ^ 64
 
--- so it may as far as a mask's row stores its columns, and there is room for a part of it
+-- so it may as far as a mask's row stores its columns, and there is a buffer for a part of it
 pub record MayPushUnder (f : MaskedFactors) (k : ℕ) (stored : List Cell) (progress : Progress) (making : Making)
     : Type 0 where
   pub push : MayPush f k making

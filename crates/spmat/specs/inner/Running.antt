@@ -92,7 +92,7 @@ IsAnswer (Err fault) old new told = (new ≡ old) × IsRefused fault told
 
 -- ---- without the devices, whose counts no caller sees
 
--- `run` tells how its session ended, and nothing else
+-- `run` returns how its session ended, and nothing else
 abbrev pub IsOfSession : Result Done Failure → Type 0
 IsOfSession (Ok (done.Session end)) = Unit {0}
 IsOfSession (Ok done.Sessions) = ⊥
@@ -118,7 +118,7 @@ cause_of unread unwritten Write = unwritten
 cause_of unread unwritten Turns = None
 cause_of unread unwritten Memory = None
 
--- a session that broke off is told with the cause of the device that failed; all else as it is
+-- a session that broke off is reported with the cause of the device that failed; all else as it is
 abbrev pub explained : (unread unwritten : Option Cause) → Result Done Failure → Result Done Failure
 explained unread unwritten (Ok d) = Ok d
 explained unread unwritten (Err (failures.Session fault cause)) = Err (failures.Session fault (cause_of unread unwritten fault))

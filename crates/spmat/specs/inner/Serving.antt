@@ -28,7 +28,7 @@ IsServerOf (Serve port steps workers sessions idle session_seconds min_rate sess
     × (server.terms.idle ≡ idle) × (server.terms.session_seconds ≡ session_seconds) × (server.terms.min_rate ≡ min_rate)
     × (server.terms.limits ≡ record { steps = session_steps; reserve = session_reserve })
 
--- why there may be none: there was no memory, this port could not be bound, or the line that tells it could not be written
+-- why there may be none: there was no memory, this port could not be bound, or the line that reports it could not be written
 abbrev pub MayRefuse : (port : ℕ) → Failure → Type 0
 MayRefuse port (failures.Settings fault) = ⊥
 MayRefuse port failures.Memory = Unit {0}

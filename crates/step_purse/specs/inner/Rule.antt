@@ -1,4 +1,4 @@
--- The rule that a purse's cell is kept by: what its three words say, what each pass knows, and the seven kinds of step. This
+-- The rule of a purse's cell: what its three words say, what each pass knows, and the seven kinds of step. This
 -- project's own. The words are what is left, reserved and spent. The first counts what the purse withholds too: the greatest
 -- allowance less its own. So the three add up to 2^62 in every purse, and every cell begins with the same words.
 use Rattle.std.specs.Prelude.{◌≡◌, ◌⊎◌, ℕ, ◌+◌, ◌-◌, ◌*◌, ◌^◌, ◌≤◌, ◌<◌, nat_lt, nat_le, nat_eq, if◌then◌else◌}
@@ -36,7 +36,7 @@ pub record AddsUp (allowance : ℕ) (words : List ℕ) : Type 0 where
 abbrev pub once_below : ℕ → ℕ → ℕ
 once_below k n = if nat_lt k n then 1 else 0
 
--- each of these calls stands in one of two beginnings of the history
+-- each of these calls is in one of two beginnings of the history
 abbrev pub AreSeen : List Dealing → List Dealing → List (ℕ × Dealing) → Type 0
 AreSeen seen beside [] = Unit {0}
 AreSeen seen beside (c ∷ cs) = ((c.0 < length seen) ⊎ (c.0 < length beside)) × AreSeen seen beside cs
@@ -135,7 +135,7 @@ learned v x y w = SeesBoth v w
 abbrev pub giving : View → View
 giving v = record { opened = v.opened; allowance = v.allowance; known = gives_half v.known; beside = v.beside }
 
--- two views made one
+-- two views joined to one
 abbrev pub joined : View → View → View
 joined v u =
     record {

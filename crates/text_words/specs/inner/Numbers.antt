@@ -1,4 +1,4 @@
--- What stands beside specs/Numbers.antt for this crate's own modules and proofs.
+-- Definitions beside specs/Numbers.antt for this crate's own modules and proofs.
 use Rattle.std.specs.Prelude.{ℕ, ◌^◌, Option, Some}
 use Rattle.text_words.specs.Numbers.{below}
 

@@ -1,4 +1,4 @@
--- What stands beside specs/Words.antt for this crate's own modules and proofs.
+-- Definitions beside specs/Words.antt for this crate's own modules and proofs.
 use Rattle.std.specs.Prelude.{◌≡◌, ℕ, false, List, [], ◌∷◌}
 use Rattle.text_words.specs.Words.{is_blank}
 

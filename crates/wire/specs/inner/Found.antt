@@ -1,11 +1,11 @@
--- How the first line of the bytes that are held is told by two numbers (this project's own).
+-- How the first line of the bytes that are held is represented by two numbers (this project's own).
 use Rattle.std.specs.Prelude.{ℕ, ◌≡◌, ◌<◌, List, take, drop}
 use Rattle.wire.specs.Lines.{First, MayBeLine}
 use Rattle.wire.specs.Lines as lines
 use Rattle.wire.specs.declared.lines.Found.{Found}
 use Rattle.wire.specs.declared.lines.Found.TheVariants.{Partial, Over, Line, Nothing}
 
--- What was found says what stands first. A line is told by its length and by how many bytes it takes with its line end.
+-- What was found says what comes first. A line is represented by its length and by how many bytes it takes with its line end.
 abbrev pub Matches : List ℕ → Found → First → Type 0
 Matches bytes Partial is = is ≡ lines.Partial
 Matches bytes Over is = is ≡ lines.Over

@@ -1,16 +1,16 @@
--- What stands beside specs/InputState.antt for this crate's own modules and proofs.
+-- Definitions beside specs/InputState.antt for this crate's own modules and proofs.
 use Rattle.std.specs.Prelude.{ℕ, ◌≡◌, ◌+◌, ◌++◌, ◌&&◌, ◌||◌, not, Bool, true, List, [], ◌∷◌}
 use Rattle.std.specs.Prelude.{Result, Ok, Err}
 use Rattle.std.specs.Io.KnownBytes.{Consumes, Keeps, IsAtEnd}
 use Rattle.wire.specs.Devices.{failures_in}
 use Rattle.wire.specs.InputState.{Stream}
 
--- Whether a stream has ended after a read that got these bytes: a read that gets none tells the end.
+-- Whether a stream has ended after a read that got these bytes: a read that gets none means the end.
 abbrev pub ended_after : Bool → List ℕ → Bool
 ended_after ended [] = true
 ended_after ended (b ∷ bs) = ended
 
--- One read of an open stream: the bytes that it got are held behind the others, or it failed, and what is held stays.
+-- One read of an open stream: the bytes that it got are held after the others, or it failed, and what is held stays.
 abbrev pub IsGot : {E : Type 0} → Result (Unit {0}) E → Stream → Stream → Type 0
 IsGot (Ok done) old new =
     (got : List ℕ) × Consumes old.source.remaining new.source.remaining got × (new.held.bytes ≡ old.held.bytes ++ got)
