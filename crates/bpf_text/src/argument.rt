@@ -87,6 +87,7 @@ fn parse_operand(text: &[u8]) -> Option<Argument>
     ensures { result ≡ spec.argument_in text.now }
 {
     let (word, behind) = first_word(text);
+    // Two words without a comma are no operand.
     if !is_blank_text(behind) {
         return None;
     }

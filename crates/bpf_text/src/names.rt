@@ -35,6 +35,7 @@ macro_rules! all_operations {
     };
 }
 
+// From the table of bpf_insn, so that no operation can be missing here.
 const OPERATIONS: [AluOp; 14] = by_table!(all_operations,);
 
 macro_rules! all_conditions {

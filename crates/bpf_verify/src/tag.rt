@@ -73,6 +73,7 @@ impl Tag {
         match self {
             // Inside the stack by the contract, so the cast is exact.
             Tag::Place(place) => Tag::Place((i64::from(place) + i64::from(by)) as i16),
+            // A number stays a number. Unset and mixed registers were refused before.
             _ => self,
         }
     }

@@ -77,6 +77,7 @@ fn is_given(matches: &ArgMatches<'_>, name: &str) -> bool
     match matches.try_get_one::<u64>(name) {
         Ok(None) => false,
         Ok(Some(_)) => true,
+        // An error is about a value of another type, so there is a value.
         Err(_) => true,
     }
 }

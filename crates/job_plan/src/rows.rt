@@ -41,6 +41,7 @@ pub(crate) fn lesser_in(a: &Matrix, b: &Matrix, range: Range<u64>) -> u64
     ensures { result ≡ summed (λ i. min (count a.now i) (count b.now i)) range.start (range.end - range.start) }
 {
     a.recall();
+    // Two row starts of each matrix tell, before any row is visited.
     if a.is_blank(range.start..range.end) || b.is_blank(range.start..range.end) {
         return 0;
     }

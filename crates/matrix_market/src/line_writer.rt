@@ -12,6 +12,7 @@ use itoa::write_digits;
 pub const MOST_LINES: usize = 64;
 
 /// The buffer for these lines: 40 bytes hold any line, and a label is copied whole.
+// Two indices of eight digits, a value of twenty characters, two spaces and an LF are 39 bytes.
 pub const ROOM: usize = MOST_LINES * 40 + LABEL;
 
 /// The bytes of a label: a row has at most eight digits.

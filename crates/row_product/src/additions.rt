@@ -36,6 +36,7 @@ impl Additions {
         ensures { IfOk result (λ a. a ≡ none_gathered) }
     {
         let mut calls = Calls::new(alloc)?;
+        // Once for all: `make` leaves the kind as it is.
         calls.begin(Kind::Binary);
         Ok(Additions {
             calls,
@@ -65,6 +66,7 @@ impl Additions {
         let steps = self.calls.make(add);
         // After all calls. No two additions are to one column, so none needs the result of another.
         write(&self.columns, self.calls.values(), sums);
+        // The capacity stays, and `gather` relies on it.
         self.columns.clear();
         steps
     }
@@ -76,6 +78,7 @@ fn write(columns: &[u64], values: &[u64], sums: &mut Sums)
     requires within { AreBelow (length sums.old) columns.now }
     ensures { sums.new ≡ written sums.old columns.now values.now }
 {
+    // By index, since two lists are walked at once.
     for k in 0..columns.len() {
         sums.put(columns[k], values[k]);
     }

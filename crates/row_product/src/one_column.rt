@@ -43,6 +43,7 @@ pub(crate) fn lets_pass(mask: Option<&Matrix>, i: u64) -> bool
     ensures { result ≡ passes (mask_of mask.entry) (i, 0) }
 {
     match mask {
+        // Without its word, as a mask is structural.
         Some(mask) => mask.word_in_column(i).1,
         None => true,
     }

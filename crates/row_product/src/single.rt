@@ -122,6 +122,7 @@ pub(crate) fn fill_sole(
     match factors.mask {
         None => push_row(factors, cell.1, cell.0, &mut progress.sums, making),
         Some(mask) => {
+            // For the prover: the mask's row ascends.
             mask.recall();
             push_row_under(factors, cell, mask.row(i), progress, making)
         }

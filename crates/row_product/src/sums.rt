@@ -66,6 +66,7 @@ impl Sums {
         self.begin();
         // Until all memory is there: a refusal leaves an empty list, which is consistent.
         self.most = 0;
+        // None for fewer than 512 columns, whose bits are eight words at most.
         let most = (columns / COLUMNS_A_SUM) as usize;
         self.touched.reserve(most)?;
         self.dense.widen(columns)?;
@@ -116,6 +117,7 @@ impl Sums {
         ensures { self.new ≡ set self.old column (Some sum) }
     {
         match self.dense.get(column) {
+            // Listed when its sum began.
             Some(_) => self.dense.replace(column, sum),
             None => self.begin_sum(column, sum),
         }

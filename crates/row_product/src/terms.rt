@@ -31,6 +31,7 @@ fn add_terms<F: Function>(
     ensures { ArePut add.now cells.now terms.now sums.old sums.new result }
 {
     let mut steps = 0;
+    // By index, since two lists are walked at once.
     for k in 0..cells.len() {
         steps += sums.add::<F>(add, cells[k].0, terms[k]);
     }

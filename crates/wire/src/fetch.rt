@@ -74,6 +74,7 @@ pub fn next_line<R: Source>(
     ensures room { 1026 ≤ vec_capacity line.new }
     ensures less { result ≡ Ok Lined.Whole → reach input.new < reach input.old }
 {
+    // The label is the loop's name in its proof.
     'reading: loop {
         match find_first(input.bytes(), input.has_ended()) {
             // Only as much as one read gives: the line may end in it.

@@ -49,7 +49,7 @@ impl Frame {
         }
     }
 
-    /// Whether numbers stand where the instruction wants them.
+    /// Whether the registers from which the instruction takes numbers contain numbers.
     fn are_numbers(&self, insn: Insn) -> bool
         ensures { result ≡ are_numbers self.now.registers (number_reads insn) }
     {
@@ -74,6 +74,7 @@ pub fn fetch(program: &Program, slot: u64) -> Insn
     requires { begins program.now slot ≡ true }
     ensures { insn_at program.now slot ≡ Some result }
 {
+    // By `requires`, an instruction begins here.
     let Some(insn) = program.insn_at(slot) else {
         unreachable!();
     };
