@@ -8,7 +8,7 @@ use std::io;
 use std::process::{Abort, ExitCode};
 use std::test::Fail;
 
-/// The settings of a command line whose words stand between single blanks.
+/// The settings of a command line whose words are separated by single blanks.
 fn settings_from(alloc: Global, line: &str) -> Result<Settings, SettingsFault> {
     let words: Vec<&str> = line.split(' ').collect(alloc)?;
     settings(alloc, words.as_slice())
@@ -124,7 +124,7 @@ fn the_version_is_asked_for(rt: HostRuntime) {
     }
 }
 
-/// The words are refused with a text in which this stands.
+/// The words are refused, with a text that contains this.
 fn assert_refused<H: Abort>(rt: &H, alloc: Global, line: &str, said: &str) {
     let asked = settings_from(alloc, line);
     assert!(rt;
@@ -239,8 +239,7 @@ fn help_names_the_ranges(rt: HostRuntime) {
     }
 }
 
-/// A failure ends the program with status 1, and names itself by these words, with this behind
-/// them.
+/// A failure ends the program with status 1, and names itself by these words, followed by this.
 fn assert_named<H: Abort>(rt: &H, failure: Failure, words: &'static str, detail: Detail) {
     let failed = Ending {
         status: Status::Failed,
@@ -249,7 +248,7 @@ fn assert_named<H: Abort>(rt: &H, failure: Failure, words: &'static str, detail:
     assert_eq!(rt; ending_of(Err(failure)), failed);
 }
 
-/// The cause that the system tells by this number.
+/// The cause that the system reports by this number.
 fn cause(code: i32) -> Cause {
     Cause::of(&io::Error::from_raw_os_error(code))
 }
@@ -301,7 +300,7 @@ fn failures_are_named(rt: HostRuntime) {
     assert_named(&rt, failure, "spmat: no memory", Detail::Nothing);
 }
 
-/// A fault is told in these words.
+/// A fault is printed in these words.
 fn assert_told<H: Abort>(
     rt: &H,
     alloc: Global,

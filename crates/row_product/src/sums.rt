@@ -117,7 +117,7 @@ impl Sums {
         ensures { self.new ≡ set self.old column (Some sum) }
     {
         match self.dense.get(column) {
-            // Listed when its sum began.
+            // Its sum has begun, so the list stays as it is.
             Some(_) => self.dense.replace(column, sum),
             None => self.begin_sum(column, sum),
         }

@@ -128,7 +128,7 @@ fn a_line_and_a_body_come_in_pieces(rt: HostRuntime) -> Result<(), Fail> {
     Ok(())
 }
 
-/// Some bytes, and 300,000 more behind them.
+/// Some bytes, and 300,000 more after them.
 fn with_large_body(alloc: Global, front: &[u8]) -> Result<Vec<u8>, Fail> {
     let mut text = Vec::from_slice(alloc, front)?;
     for _ in 0..100_000 {
