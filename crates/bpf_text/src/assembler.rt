@@ -43,7 +43,7 @@ pub fn assemble(alloc: Global, text: &[u8]) -> Result<Program, AsmError>
         line += 1;
         return Err(AsmError::Fault(AsmFault { line, rule }));
     }
-    // Only now: a fault of any line comes before want of memory.
+    // Only now: a fault of any line comes before "out of memory".
     let Some(insns) = listing.insns() else {
         return Err(AsmError::Memory);
     };

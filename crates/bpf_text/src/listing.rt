@@ -39,7 +39,7 @@ impl Listing {
     pub fn is_empty(&self) -> bool
         ensures { (is : List Insn) → Lists self.now is → IsTrue result ↔ (is ≡ []) }
     {
-        // By slots, since the list may have lost instructions to want of memory.
+        // By slots, since the list lacks instructions if memory ran out.
         self.slots == 0
     }
 

@@ -69,7 +69,7 @@ fn gather_lines(
     let behind = behind_feeds(cursor.rest);
     let mut given = 0;
     while given < header.size.entries {
-        // Lines of the usual form first, many at a time. `?` is want of memory.
+        // Lines of the usual form first, many at a time. `?` is a refused allocation.
         let run = gather_run(
             list,
             header,
@@ -157,7 +157,7 @@ fn gather_line<'a>(
     ensures kept { IfOk result (λ r. OnErr r (list.new ≡ list.old)) }
     ensures fault { IfOk result (λ r. IfErr r (IsFaultAt header cursor.entry)) }
 {
-    // The outer error is want of memory, the inner one the text's fault.
+    // The outer error is a refused allocation, the inner one the text's fault.
     match next_content(cursor) {
         Content::End(line) => Ok(Err(MarketError::Fault {
             rule: MarketRule::TooFewEntries,

@@ -9,7 +9,7 @@
 //! reader first `reader`, over `kinds` (what a line of each kind says), `lines` and `words`; then
 //! `gather`, which reads entries in any order, up to the first line that breaks a rule, over
 //! `usual`, which is a fast reader of entry lines in their usual form; then `repeat`, which finds
-//! the line that gives a position again.
+//! the line that repeats a position.
 #![tactic(auto)]
 
 mod cursor;

@@ -108,7 +108,7 @@ fn read_entries(alloc: Global, header: Header, start: Cursor<'_>) -> Result<Matr
     }
 }
 
-/// The fault of the first line that gives a position again. A list was read from here on, in which
+/// The fault of the first line that repeats a position. A list was read from here on, in which
 /// these positions repeat.
 fn fault_of_repeat(header: Header, start: Cursor<'_>, repeats: RepeatedPositions) -> MarketError
     requires { IsRepeating header start repeats }

@@ -1,4 +1,4 @@
-//! The line that gives a position again.
+//! The line that repeats a position.
 ghost use Rattle.std.specs.Prelude.{◌≡◌, ◌<◌, ◌++◌, ◌&&◌, List, true, false, not, nat_eq, IfNone, IfSome};
 ghost use Rattle.csr_store.specs.Grid.{Entry};
 ghost use Rattle.csr_store.specs.Listed.{NoneTwice};
@@ -12,10 +12,10 @@ use crate::lines::{Content, next_content};
 use crate::usual::{behind_feeds, entry_line, feed_before};
 use csr_store::RepeatedPositions;
 
-/// The number of the first line that gives a position again. A list of entries was read from here
-/// on, in which these positions repeat.
+/// The number of the first line that repeats a position. A list of entries was read from here on,
+/// in which these positions repeat.
 ///
-/// Reads the lines once more, up to that one, and takes no memory.
+/// Reads the lines once more, up to that one, and allocates nothing.
 pub fn line_of_repeat(header: Header, start: Cursor<'_>, repeats: RepeatedPositions) -> u64
     requires { IsRepeating header start repeats }
     ensures { IsRepeatAt header start.entry result }

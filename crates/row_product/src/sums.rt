@@ -154,7 +154,7 @@ impl Sums {
     {
         if self.touched.len() < self.most {
             rows.reserve(self.touched.len())?;
-            // Unstable, as columns are listed once. It takes no memory.
+            // Unstable, as equal columns are alike. It allocates nothing.
             self.touched.sort_unstable();
             return emit_listed(columns, &self.touched, &self.dense, rows);
         }

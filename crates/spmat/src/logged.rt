@@ -55,7 +55,7 @@ pub fn note_end<R: Wait + Clock>(
     }
 }
 
-/// Why the process takes no other session.
+/// Why the process serves no further session.
 fn served(told: &Result<Done, Failure>) -> Result<(), ListenFault> {
     match told {
         // The one fault that a server would have as well: no session could be set up.

@@ -194,7 +194,7 @@ impl Input {
     }
 
     /// Copies the first line of the bytes, of so many bytes, and uses up the bytes that it takes
-    /// with its line end. The copy takes no memory.
+    /// with its line end. The copy allocates nothing.
     pub fn take_line(&mut self, length: usize, taken: usize, line: &mut Vec<u8>)
         requires line { MayBeLine length taken self.old.bytes }
         requires room { 1026 ≤ vec_capacity line.old }

@@ -8,7 +8,8 @@ use std::io::{Read, Write};
 use std::marker::Model;
 use std::sync::ledger::{Blank, Book, Ledger, Share};
 
-/// A count that only grows. It takes no memory and no time, and is seen by contracts alone.
+/// A count that only grows. It occupies no memory and takes no time, and is seen by contracts
+/// alone.
 #[derive(Drop)]
 pub struct Count<L: Ledger> {
     book: Book<L>,

@@ -89,7 +89,7 @@ impl Frame {
         load_signed(size, &self.stack, index)
     }
 
-    /// What an operation of two operands makes of them.
+    /// The result of an operation of two operands.
     fn alu_content(&self, width: Width, op: AluOp, dst: Reg, src: Operand) -> Content
         requires { leaves_stack self.now.registers (Insn.Alu width op dst src) ≡ false }
         ensures { result ≡ alu_content self.now.registers width op dst src }
