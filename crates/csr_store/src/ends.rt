@@ -123,18 +123,22 @@ fn are_all(starts: &[u64], start: u64) -> bool
     starts.is_empty() || (starts[0] == start && starts[starts.len() - 1] == start)
 }
 
-/// Whether starts begin with these ends, each increased by `base`.
+/// Whether starts begin with these ends, each increased by `base`. The last tells most runs that
+/// don't; where it is the same, all are compared, in a loop without a way out.
 fn are_ahead(ends: &[u64], starts: &[u64], base: u64) -> bool
     requires many { length ends.now ≤ length starts.now }
     requires fit { AllByRecursion (λ e. base + e < 2 ^ 64) ends.now }
     ensures { IsTrue result → take (length ends.now) starts.now ≡ map (λ e. base + e) ends.now }
 {
+    let many = ends.len();
+    if many > 0 && starts[many - 1] != base + ends[many - 1] {
+        return false;
+    }
+    let mut same = true;
     let mut next = 0;
     for end in ends {
-        if starts[next] != base + *end {
-            return false;
-        }
+        same &= starts[next] == base + *end;
         next += 1;
     }
-    true
+    same
 }
