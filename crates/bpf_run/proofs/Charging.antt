@@ -2,11 +2,11 @@
 use Rattle.std.proofs.Common.{◌≡◌, ◌≤◌, ◌+◌, ◌*◌, ℕ, List, length, [], ◌∷◌, ◌++◌, refl, sym, ap, subst, arith, inl, inr}
 use Rattle.bpf_insn.specs.declared.operands.Kind.TheVariants as kinds
 use Rattle.bpf_insn.specs.declared.operands.Operands.{Operands}
-use Rattle.bpf_insn.specs.declared.operands.Operands.TheVariants.{Binary}
+use Rattle.bpf_insn.specs.declared.operands.Operands.TheVariants.{Binary, Unary}
 use Rattle.bpf_insn.specs.Machine.{kind_of}
 use Rattle.bpf_verify.specs.Accepted.{Accepted, IsAccepted}
 use Rattle.bpf_run.specs.Meaning.{value_of, cost_of}
-use Rattle.bpf_run.specs.Calls.{Call, call_of, steps_of, Charges, calls_on, values_on, pairs_with}
+use Rattle.bpf_run.specs.Calls.{Call, call_of, steps_of, Charges, calls_on, values_on, pairs_with, words_of}
 use Rattle.bpf_run.proofs.Meaning.{has_value}
 use Rattle.bpf_run.proofs.Calling.{few_steps}
 
@@ -130,4 +130,11 @@ with_few f x [] a k = omega arith
 with_few f x (c ∷ cs) a k =
     let h = cost-few f (Binary x c.1) a (sym k) in
     let r = with_few f x cs a k in
+    omega (arith, h, r)
+
+pub words_few : (f : Accepted) (cs : List (ℕ × ℕ)) → IsAccepted f → f.kind ≡ kinds.Unary → steps_of (calls_on f (words_of cs)) ≤ 4096 * length cs
+words_few f [] a k = omega arith
+words_few f (c ∷ cs) a k =
+    let h = cost-few f (Unary c.1) a (sym k) in
+    let r = words_few f cs a k in
     omega (arith, h, r)

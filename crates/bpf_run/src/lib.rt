@@ -15,10 +15,11 @@
 //! argument of each call, so that one type serves all constants. A `Loop` over calls of one
 //! operator is generic over that type, and `native` runs it, compiled for what the operator
 //! computes: there is one for folds in `folding`, one for a word with each of some words in
-//! `products`, and crates above may write their own. Calls that are made together have one in
-//! `lanes::known`, for operators of each kind. All that loops of other crates may use is `Computes`
-//! of `specs/Known.antt`. The costs of a list of calls are defined in `specs/Calls.antt`, and folds
-//! in `specs/Fold.antt`.
+//! `products`, and crates above may write their own. Unary operators have one in `unary`, since
+//! they compute a function of the first of the two words alone. Calls that are made together have
+//! one in `lanes::known`, for operators of each kind. All that loops of other crates may use is
+//! `Computes` of `specs/Known.antt`. The costs of a list of calls are defined in
+//! `specs/Calls.antt`, and folds in `specs/Fold.antt`.
 #![tactic(auto)]
 
 mod calls;
@@ -28,6 +29,7 @@ mod lanes;
 mod native;
 mod products;
 mod single;
+mod unary;
 
 pub use bpf_flat::Outcome;
 pub use calls::{Calls, MOST_CALLS};

@@ -10,7 +10,7 @@ ghost use Rattle.entry_ops.specs.inner.Forms.{form_of};
 ghost use Rattle.entry_ops.specs.inner.Forms as forms;
 ghost use Rattle.job_forms.specs.Forms.{apply_kind};
 ghost use Rattle.entry_ops.specs.inner.IndexCalls.{NoneWaits};
-ghost use Rattle.entry_ops.specs.inner.Mapped.{range_operands, HasRoom, IsCopied, IsFurther};
+ghost use Rattle.entry_ops.specs.inner.Mapped.{range_operands, next_words, HasEntries, HasRoom, IsCopied, IsFurther};
 ghost use Rattle.entry_ops.specs.inner.PairCalls.{ArePairs};
 ghost use Rattle.entry_ops.specs.inner.Paired.{pairs_in};
 ghost use Rattle.entry_ops.specs.inner.Walking.{Joins, HaveRows, IsFormMade};
@@ -48,6 +48,19 @@ impl Mapping<'_> {
         self.rows.write_values(calls.values());
     }
 
+    /// Makes the calls on the words of the next `many` entries, and writes these with their values.
+    #[inline(always)]
+    fn make_on_words(&mut self, operator: &Operator, calls: &mut Calls, many: usize)
+        requires kind { operator.now.kind ≡ kinds.Unary }
+        requires few { (many ≤ 64) × HasEntries self.old many }
+        requires room { HasRoom operator.now (next_words self.old many) self.old }
+        ensures waits { NoneWaits kinds.Unary calls.new }
+        ensures further { IsFurther operator.now (next_words self.old many) self.old self.new }
+    {
+        self.steps += calls.make_on_words(operator, self.rows.next_cells(many));
+        self.rows.write_values(calls.values());
+    }
+
     /// Makes the calls on all words.
     fn add_words(&mut self, operator: &Operator, calls: &mut Calls)
         requires kind { operator.now.kind ≡ kinds.Unary }
@@ -59,9 +72,7 @@ impl Mapping<'_> {
         let entries = self.rows.entries();
         while self.rows.written() < entries {
             let many = (entries - self.rows.written()).min(MOST_CALLS);
-            // From the copy itself, so that the operand isn't read a second time.
-            calls.gather_words(self.rows.next_cells(many));
-            self.make(operator, calls);
+            self.make_on_words(operator, calls, many);
         }
     }
 

@@ -1,5 +1,5 @@
 -- Copied rows that get the values of calls, in the order of their entries. This project's own.
-use Rattle.std.specs.Prelude.{◌≡◌, ℕ, ◌+◌, ◌^◌, ◌<◌, ◌≤◌, List, Option, None, Some, length}
+use Rattle.std.specs.Prelude.{◌≡◌, ℕ, ◌+◌, ◌^◌, ◌<◌, ◌≤◌, List, Option, None, Some, length, slice_range}
 use Rattle.bpf_insn.specs.declared.operands.Operands.{Operands}
 use Rattle.bpf_verify.specs.Accepted.{Accepted}
 use Rattle.csr_store.specs.Grid.{Grid, Cell, row_of}
@@ -16,6 +16,10 @@ row_operands (Some thunk) i cells = entries_of i thunk cells
 -- and for the rows from `first` on, n of them
 abbrev pub range_operands : Option ℕ → Grid → ℕ → ℕ → List Operands
 range_operands thunk a first n = along (λ i. row_operands thunk i (row_of a i)) first n
+
+-- what is called for so many of the entries that come next
+abbrev pub next_words : Mapping → ℕ → List Operands
+next_words m many = words_of (slice_range (all_cells m.rows.run) m.rows.written (m.rows.written + many))
 
 -- there are so many entries more
 abbrev pub HasEntries : Mapping → ℕ → Type 0

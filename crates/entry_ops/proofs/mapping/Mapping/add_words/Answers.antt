@@ -1,8 +1,8 @@
-use Rattle.std.proofs.Common.{◌+◌, ◌++◌, drop, refl, ap, sym, ◌∙◌, subst, arith}
+use Rattle.std.proofs.Common.{◌+◌, drop, refl, ap, sym, ◌∙◌, subst, arith}
 use Rattle.std.proofs.lemmas.List.{drop_all}
 use Rattle.csr_store.specs.Valued.{all_cells}
 use Rattle.csr_store.proofs.Valuing.{entries_are, alike_entries}
-use Rattle.bpf_run.specs.Calls.{Gathered, words_of}
+use Rattle.bpf_run.specs.Calls.{words_of}
 use Rattle.entry_ops.proofs.Mapped.{
   mapping-start,
   mapping-end,
@@ -31,22 +31,23 @@ loop-self-init c =
       many = refl;
     }
 
-pub make-requires-clause-room : goal.make-requires-clause-room
-make-requires-clause-room c =
+pub make_on_words-requires-clause-few : goal.make_on_words-requires-clause-few
+make_on_words-requires-clause-few c =
     let s = c.loop-self.invariant.many in
     let m = c.min-many.ensures in let a = c.entries-entries.ensures in let w = c.written-in-loop-self.ensures in let u =
     c.written.ensures in let t = c.loop-self-test.true in
-    let gathered = ap (λ (g : Gathered). g.operands) c.gather_words.ensures ∙ ap (λ os. os ++ words_of c.next_cells.result.now)
-    c.loop-self.invariant.none in
+    (omega (arith, m), omega (arith, s, m, a, w, u, t))
+
+pub make_on_words-requires-clause-room : goal.make_on_words-requires-clause-room
+make_on_words-requires-clause-room c =
+    let s = c.loop-self.invariant.many in
+    let m = c.min-many.ensures in let a = c.entries-entries.ensures in let w = c.written-in-loop-self.ensures in let u =
+    c.written.ensures in let t = c.loop-self-test.true in
     record {
       entries = words-entries c.args.operator.now _ _ c.loop-self.self (c.loop-self.self.rows.written + c.min-many.result)
-          c.next_cells.result.now
-          c.gather_words.new.self.operands c.loop-self.invariant.mapping (omega arith) (omega (arith, s, m, a, w, u, t))
-          c.next_cells.ensures gathered;
+          _ _ c.loop-self.invariant.mapping (omega arith) (omega (arith, s, m, a, w, u, t)) refl refl;
       steps = words-room c.args.operator.now _ _ c.loop-self.self (c.loop-self.self.rows.written + c.min-many.result)
-          c.next_cells.result.now
-          c.gather_words.new.self.operands c.loop-self.invariant.mapping (omega arith) (omega (arith, s, m, a, w, u, t))
-          c.next_cells.ensures gathered;
+          _ _ c.loop-self.invariant.mapping (omega arith) (omega (arith, s, m, a, w, u, t)) refl refl;
     }
 
 pub loop-self-preserved : goal.loop-self-preserved
@@ -55,15 +56,12 @@ loop-self-preserved c =
     let m = c.min-many.ensures in let a = c.entries-entries.ensures in let w = c.written-in-loop-self.ensures in let u =
     c.written.ensures in let t = c.loop-self-test.true in
     record {
-      kind = c.make.ensures.waits.begun ∙ (ap (λ (g : Gathered). g.kind) c.gather_words.ensures ∙ c.loop-self.invariant.kind);
-      none = c.make.ensures.waits.none;
+      kind = c.make_on_words.ensures.waits.begun;
+      none = c.make_on_words.ensures.waits.none;
       mapping = words-made c.args.operator.now _ _ c.loop-self.self (c.loop-self.self.rows.written + c.min-many.result)
-          c.next_cells.result.now c.gather_words.new.self.operands
-          c.loop-self.invariant.mapping (omega arith) (omega (arith, s, m, a, w, u, t)) c.next_cells.ensures
-          (ap (λ (g : Gathered). g.operands) c.gather_words.ensures ∙ ap (λ os. os ++ words_of c.next_cells.result.now)
-          c.loop-self.invariant.none)
-          c.make.new.self c.make.ensures.further;
-      many = sym (alike_entries c.loop-self.self.rows.run c.make.new.self.rows.run c.make.ensures.further.alike) ∙ s;
+          _ _ c.loop-self.invariant.mapping (omega arith) (omega (arith, s, m, a, w, u, t)) refl refl
+          c.make_on_words.new.self c.make_on_words.ensures.further;
+      many = sym (alike_entries c.loop-self.self.rows.run c.make_on_words.new.self.rows.run c.make_on_words.ensures.further.alike) ∙ s;
     }
 
 pub loop-self-smaller : goal.loop-self-smaller
@@ -72,11 +70,8 @@ loop-self-smaller c =
     let m = c.min-many.ensures in let a = c.entries-entries.ensures in let w = c.written-in-loop-self.ensures in let u =
     c.written.ensures in let t = c.loop-self-test.true in
     let n = words-count c.args.operator.now _ _ c.loop-self.self (c.loop-self.self.rows.written + c.min-many.result)
-    c.next_cells.result.now c.gather_words.new.self.operands
-    c.loop-self.invariant.mapping (omega arith) (omega (arith, s, m, a, w, u, t)) c.next_cells.ensures
-    (ap (λ (g : Gathered). g.operands) c.gather_words.ensures ∙ ap (λ os. os ++ words_of c.next_cells.result.now)
-    c.loop-self.invariant.none) in
-    let d = c.make.ensures.further.number in
+    _ _ c.loop-self.invariant.mapping (omega arith) (omega (arith, s, m, a, w, u, t)) refl refl in
+    let d = c.make_on_words.ensures.further.number in
     omega (arith, n, d, m, w, u, t, a, s)
 
 pub returns : goal.returns
