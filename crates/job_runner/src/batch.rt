@@ -29,7 +29,7 @@ use std::thread::Threads;
 ///
 /// There is no memory; or, with more than one worker, a thread could not be started, which takes
 /// precedence if a worker also ran out of memory. The workers that had started run to their ends;
-/// the steps are those of all their calls, each made once.
+/// the steps are those of all their calls, each counted once.
 pub fn run_batch<H: Threads + Wait, G: Gate + Sync>(
     rt: &H,
     alloc: Global,
@@ -46,12 +46,12 @@ pub fn run_batch<H: Threads + Wait, G: Gate + Sync>(
     ensures thread { IfErr result (λ f. f.cause ≡ Cause.Thread → 1 < workers) }
     ensures told { MaySay workers plan.now (said_of result) }
 {
-    let mut kept = SpareScratch::new();
-    run_batch_with(rt, alloc, plan, workers, gate, &mut kept)
+    let mut spare = SpareScratch::new();
+    run_batch_with(rt, alloc, plan, workers, gate, &mut spare)
 }
 
-/// As `run_batch`, with what is kept from batch to batch for a worker on the calling thread that is
-/// the only one: then no memory is taken for the worker, and no thread is started.
+/// As `run_batch`, with the buffers that the worker on the calling thread had in earlier batches. If
+/// it is the only worker, it takes no memory for itself, and no thread is started.
 ///
 /// # Errors
 ///
@@ -62,7 +62,7 @@ pub fn run_batch_with<H: Threads + Wait, G: Gate + Sync>(
     plan: &Plan,
     workers: u64,
     gate: &G,
-    kept: &mut SpareScratch,
+    spare: &mut SpareScratch,
 ) -> Result<BatchAnswer, BatchFault>
     requires some { 1 ≤ workers }
     requires few { workers ≤ 64 }
@@ -71,14 +71,14 @@ pub fn run_batch_with<H: Threads + Wait, G: Gate + Sync>(
     plan.recall();
     let count = crew_size(plan, workers);
     let mut spent = 0;
-    let outcome = results(
+    let outcome = compute_results(
         BatchContext { rt, alloc, gate },
         plan,
         count,
-        kept,
+        spare,
         &mut spent,
     );
-    kept.trim(plan);
+    spare.trim(plan);
     match outcome {
         Ok(results) => Ok(BatchAnswer { results }),
         Err(cause) => Err(BatchFault { cause, spent }),
@@ -95,13 +95,13 @@ impl From<AllocError> for Cause {
     }
 }
 
-/// What each job gives that so many workers compute. The steps of all calls are told, also where
-/// the batch is refused.
-fn results<H: Threads + Wait, G: Gate + Sync>(
+/// Computes the result of each job with so many workers. `spent` becomes the steps of all calls,
+/// also where the batch is refused.
+fn compute_results<H: Threads + Wait, G: Gate + Sync>(
     context: BatchContext<'_, H, G>,
     plan: &Plan,
     count: u64,
-    kept: &mut SpareScratch,
+    spare: &mut SpareScratch,
     spent: &mut u64,
 ) -> Result<Vec<JobResult>, Cause>
     requires { (1 ≤ count) × (count ≤ 64) }
@@ -119,13 +119,14 @@ fn results<H: Threads + Wait, G: Gate + Sync>(
         plan,
         board: &board,
     };
-    let (outputs, refused) = work_all(context, task, seats, outputs, kept);
+    let (outputs, refused) = work_all(context, task, seats, outputs, spare);
     let WorkerOutputs {
         seats,
         completed_pieces,
         failed,
     } = outputs;
     *spent = board.close(seats).spent;
+    // A refused thread is named even if a worker ran out of memory as well.
     if let Some(cause) = refused {
         return Err(cause);
     }

@@ -16,8 +16,8 @@ use row_product::{Factors, product_region};
 use std::alloc::{AllocError, Global};
 use std::ops::Range;
 
-/// What a worker keeps from chunk to chunk, so that no call of an operator takes memory: its lanes,
-/// and a product's row.
+/// A worker's buffers, which serve for all its chunks, so that no call of an operator takes memory:
+/// its lanes, and a product's row.
 #[derive(Drop)]
 pub struct Scratch {
     calls: Calls,
@@ -34,12 +34,12 @@ impl Scratch {
     }
 }
 
-/// A product of more columns leaves no room behind for the next batch, so that a session keeps some
+/// The row of a product of more columns is freed after its batch, so that an idle session holds some
 /// megabytes at most.
-const KEPT_COLUMNS: u64 = 262_144;
+const SPARE_COLUMNS: u64 = 262_144;
 
-/// What the worker of a batch on one thread works with, kept for the next batch. It is made by the
-/// first one.
+/// The buffers of the worker on the calling thread, for the next batch. The first batch allocates
+/// them.
 #[derive(Drop)]
 pub struct SpareScratch {
     scratch: Option<Scratch>,
@@ -51,7 +51,7 @@ impl SpareScratch {
         SpareScratch { scratch: None }
     }
 
-    /// What is kept, which is made where there is nothing.
+    /// The buffers of the last batch, or new ones.
     pub(crate) fn take(&mut self, alloc: Global) -> Result<Scratch, AllocError> {
         match self.scratch.take() {
             Some(scratch) => Ok(scratch),
@@ -59,12 +59,12 @@ impl SpareScratch {
         }
     }
 
-    /// Keeps what a worker has ended with.
+    /// Stores a worker's buffers for the next batch.
     pub(crate) fn put(&mut self, scratch: Scratch) {
         self.scratch = Some(scratch);
     }
 
-    /// Gives back the room of products, where a plan has one of more columns than are kept.
+    /// Frees the row of products, if the plan has a product of more than `SPARE_COLUMNS` columns.
     pub(crate) fn trim(&mut self, plan: &Plan) {
         if let Some(scratch) = &mut self.scratch {
             if is_wide(plan) {
@@ -74,11 +74,11 @@ impl SpareScratch {
     }
 }
 
-/// Whether a plan has a product of more columns than are kept.
+/// Whether a plan has a product of more than `SPARE_COLUMNS` columns.
 fn is_wide(plan: &Plan) -> bool {
     for priced in plan.jobs() {
         if let Form::Product { right, .. } = priced.job().form() {
-            if right.columns() > KEPT_COLUMNS {
+            if right.columns() > SPARE_COLUMNS {
                 return true;
             }
         }
@@ -86,8 +86,8 @@ fn is_wide(plan: &Plan) -> bool {
     false
 }
 
-/// The rows of a chunk of a plan, with the steps of the calls that were made for them. Where memory
-/// is wanted, the steps are those of some of these calls.
+/// The rows of a chunk of a plan, with the steps of the calls for them. If memory is refused, the
+/// steps are those of some of these calls.
 pub fn compute(alloc: Global, scratch: &mut Scratch, plan: &Plan, chunk: u64) -> Chunk
     requires { chunk < length (plan_chunks plan.now) }
     ensures { IsMade (run_of plan.now chunk) (calls_of plan.now chunk) result }

@@ -1,4 +1,4 @@
-//! Pieces of a batch, each at the place of its chunk's number.
+//! Pieces of a batch, each in the slot of its chunk's number.
 ghost use Rattle.std.specs.Prelude.{◌<◌, ◌⊎◌, ℕ, IfOk};
 ghost use Rattle.std.specs.List.{AllByRecursion};
 ghost use Rattle.race_board.specs.Chunks.{times_in};
@@ -9,7 +9,7 @@ use crate::piece::Piece;
 use job_plan::Plan;
 use std::alloc::{AllocError, Global};
 
-/// A place for each chunk, and no piece at any.
+/// A slot for each chunk, all of them empty.
 pub(crate) fn no_pieces(alloc: Global, plan: &Plan) -> Result<Vec<Option<Piece>>, AllocError>
     ensures { IfOk result (λ v. AreCompletedPieces plan.now v.items) }
 {
@@ -21,7 +21,7 @@ pub(crate) fn no_pieces(alloc: Global, plan: &Plan) -> Result<Vec<Option<Piece>>
     Ok(completed_pieces)
 }
 
-/// Puts pieces at the places of their chunks.
+/// Moves pieces into the slots of their chunks.
 pub(crate) fn put(plan: &Plan, completed_pieces: &mut Vec<Option<Piece>>, pieces: Vec<Piece>)
     requires completed_pieces { AreCompletedPieces plan.now completed_pieces.old.items }
     requires right { AllByRecursion (IsPieceOf plan.now) pieces.items }

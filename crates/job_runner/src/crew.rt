@@ -10,7 +10,7 @@ use crate::answer::Cause;
 use crate::chunk::SpareScratch;
 use crate::gate::Gate;
 use crate::task::Task;
-use crate::worker::work_by;
+use crate::worker::work_with_spare;
 use crate::worker_outputs::{Ended, WorkerOutputs};
 use race_board::BoardSeat;
 use std::alloc::Global;
@@ -36,9 +36,9 @@ pub(crate) struct BatchContext<'a, H, G> {
 pub type Handle<'a> = PromisedHandle<Ended, Task<'a>>;
 
 /// A worker from a fresh seat to its end.
-fn work_at<G: Gate>(
+fn work_to_end<G: Gate>(
     alloc: Global,
-    kept: &mut SpareScratch,
+    spare: &mut SpareScratch,
     task: Task<'_>,
     seat: BoardSeat,
     gate: &G,
@@ -49,19 +49,19 @@ fn work_at<G: Gate>(
     ensures { IsEnded task.entry.board.now task.entry.plan.now result }
 {
     let mut seat = seat;
-    let worked = work_by(alloc, kept, task, &mut seat, gate);
+    let worked = work_with_spare(alloc, spare, task, &mut seat, gate);
     Ended { seat, worked }
 }
 
-/// As `work_at`, of a worker that keeps nothing.
-fn work_once<G: Gate>(alloc: Global, task: Task<'_>, seat: BoardSeat, gate: &G) -> Ended
+/// As `work_to_end`, in a thread of its own. The thread's buffers go when it ends.
+fn work_in_thread<G: Gate>(alloc: Global, task: Task<'_>, seat: BoardSeat, gate: &G) -> Ended
     requires ready { MayDrawAt task.board.now seat }
     requires fresh { seat.worker.done ≡ [] }
     requires prices { task.board.now.prices ≡ prices_of task.plan.now }
     ensures { IsEnded task.entry.board.now task.entry.plan.now result }
 {
-    let mut kept = SpareScratch::new();
-    work_at(alloc, &mut kept, task, seat, gate)
+    let mut spare = SpareScratch::new();
+    work_to_end(alloc, &mut spare, task, seat, gate)
 }
 
 /// Starts a thread for each of these seats, and answers whether the start of one was refused, whose
@@ -84,11 +84,12 @@ fn start<'s, 'a, H, G: Gate + Sync>(
     let mut refused = false;
     while let Some(seat) = seats.pop() {
         match scope.spawn_with(task, move || {
-            work_once(alloc, Task { plan, board }, seat, gate)
+            work_in_thread(alloc, Task { plan, board }, seat, gate)
         }) {
             Ok(handle) => {
                 handles.push(handle).unwrap();
             }
+            // The seat has gone into the closure, and is lost with it.
             Err(_) => {
                 refused = true;
             }
@@ -116,17 +117,17 @@ fn join_all<H: Threads>(
     }
 }
 
-/// A worker at each of these seats: the last on the calling thread, with what is kept, the others
-/// in threads of their own. Returns what they did, and what was refused: the start of a thread, or
-/// memory for the threads' handles. Then the workers that had started went on to their ends, and
-/// the calling thread's did nothing.
-fn work_beside<'s, 'a, H: Threads, G: Gate + Sync>(
+/// A worker at each of these seats: the last on the calling thread, with the spare buffers, the
+/// others in threads of their own. Returns what they did, and what was refused: the start of a
+/// thread, or memory for the threads' handles. Then the workers that had started went on to their
+/// ends, and the calling thread's did nothing.
+fn work_in_scope<'s, 'a, H: Threads, G: Gate + Sync>(
     context: BatchContext<'a, H, G>,
     scope: &Scope<'s, &'a ()>,
     task: Task<'a>,
     seats: Vec<BoardSeat>,
     outputs: WorkerOutputs,
-    kept: &mut SpareScratch,
+    spare: &mut SpareScratch,
 ) -> (WorkerOutputs, Option<Cause>)
     requires fresh { AreFresh task.board.now task.plan.now seats.items }
     requires room { IsRoomFor task.board.now task.plan.now (vec_len seats) outputs }
@@ -138,6 +139,7 @@ fn work_beside<'s, 'a, H: Threads, G: Gate + Sync>(
     let Some(own) = seats.pop() else {
         return (outputs, None);
     };
+    // Before the first thread starts: a handle that finds no memory would be a thread nobody joins.
     let Ok(mut handles) = Vec::with_capacity(alloc, seats.len()) else {
         return (outputs, Some(Cause::Memory));
     };
@@ -152,20 +154,20 @@ fn work_beside<'s, 'a, H: Threads, G: Gate + Sync>(
         join_all(rt, task, handles, &mut outputs);
         return (outputs, Some(Cause::Thread));
     }
-    outputs.add(task, work_at(alloc, kept, task, own, gate));
+    outputs.add(task, work_to_end(alloc, spare, task, own, gate));
     join_all(rt, task, handles, &mut outputs);
     (outputs, None)
 }
 
 /// A worker at each of these seats: the last on the calling thread, the others in threads of their
-/// own. Returns what they did, and what was refused, as `work_beside` does. One worker starts no
+/// own. Returns what they did, and what was refused, as `work_in_scope` does. One worker starts no
 /// thread.
 pub(crate) fn work_all<H: Threads + Wait, G: Gate + Sync>(
     context: BatchContext<'_, H, G>,
     task: Task<'_>,
     seats: Vec<BoardSeat>,
     outputs: WorkerOutputs,
-    kept: &mut SpareScratch,
+    spare: &mut SpareScratch,
 ) -> (WorkerOutputs, Option<Cause>)
     requires fresh { AreFresh task.board.now task.plan.now seats.items }
     requires room { IsRoomFor task.board.now task.plan.now (vec_len seats) outputs }
@@ -184,7 +186,7 @@ pub(crate) fn work_all<H: Threads + Wait, G: Gate + Sync>(
             {
                 let context = BatchContext { rt, alloc, gate };
                 let task = Task { plan, board };
-                work_beside(context, scope, task, seats, outputs, kept)
+                work_in_scope(context, scope, task, seats, outputs, spare)
             },
         );
     }
@@ -193,6 +195,6 @@ pub(crate) fn work_all<H: Threads + Wait, G: Gate + Sync>(
         return (outputs, None);
     };
     let mut outputs = outputs;
-    outputs.add(task, work_at(alloc, kept, task, own, gate));
+    outputs.add(task, work_to_end(alloc, spare, task, own, gate));
     (outputs, None)
 }

@@ -1,6 +1,6 @@
 //! What a worker calls around the work on a chunk.
 
-/// A place to hold workers, or to count what they do.
+/// Lets a caller hold workers, or count what they do.
 pub trait Gate {
     /// Called after a chunk was drawn.
     fn enter(&self, chunk: u64);

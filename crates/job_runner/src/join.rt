@@ -17,8 +17,8 @@ use std::alloc::{AllocError, Global};
 use std::sync::Arc;
 use std::vec::IntoIter;
 
-/// What each job of a plan gives, from the pieces of all chunks, each at the place of its number.
-/// The cells stay where the pieces have them.
+/// The result of each job of a plan, from the pieces of all chunks in order of their numbers. The
+/// cells stay where the pieces have them.
 pub(crate) fn join_jobs(
     alloc: Global,
     plan: &Plan,
@@ -37,7 +37,7 @@ pub(crate) fn join_jobs(
     Ok(results)
 }
 
-/// What a job gives, from the pieces at the next places.
+/// The result of a job, from the pieces of its chunks, which are next.
 fn join_job(
     alloc: Global,
     plan: &Plan,
@@ -60,7 +60,7 @@ fn join_job(
     Ok(JobResult { version, steps })
 }
 
-/// The rows of the pieces at the next places, so many of them, and their steps added up.
+/// The rows of the next `count` pieces, and the sum of their steps.
 fn gather(
     alloc: Global,
     job: &Job,

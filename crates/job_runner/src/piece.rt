@@ -2,7 +2,7 @@
 
 use csr_store::Rows;
 
-/// A chunk's rows, and how many steps the calls took that were made for them.
+/// A chunk's rows, and how many steps the calls for them took.
 #[derive(Drop)]
 pub struct Piece {
     /// The chunk's number.

@@ -37,14 +37,14 @@ pub fn work<G: Gate>(
     requires prices { board.now.prices ≡ prices_of plan.now }
     ensures { HasWorked board.now plan.now seat.old seat.new result }
 {
-    let mut kept = SpareScratch::new();
-    work_by(alloc, &mut kept, Task { plan, board }, seat, gate)
+    let mut spare = SpareScratch::new();
+    work_with_spare(alloc, &mut spare, Task { plan, board }, seat, gate)
 }
 
-/// The same, with what is kept from batch to batch.
-pub(crate) fn work_by<G: Gate>(
+/// As `work`, with the buffers of an earlier batch, where there are any.
+pub(crate) fn work_with_spare<G: Gate>(
     alloc: Global,
-    kept: &mut SpareScratch,
+    spare: &mut SpareScratch,
     task: Task<'_>,
     seat: &mut BoardSeat,
     gate: &G,
@@ -53,18 +53,18 @@ pub(crate) fn work_by<G: Gate>(
     requires prices { task.board.now.prices ≡ prices_of task.plan.now }
     ensures { HasWorked task.entry.board.now task.entry.plan.now seat.old seat.new result }
 {
-    match kept.take(alloc) {
+    match spare.take(alloc) {
         Ok(mut scratch) => {
-            let worked = work_with(alloc, &mut scratch, task, seat, gate);
-            kept.put(scratch);
+            let worked = draw_chunks(alloc, &mut scratch, task, seat, gate);
+            spare.put(scratch);
             worked
         }
         Err(AllocError) => fail_first(alloc, task, seat, gate),
     }
 }
 
-/// The same, with what is kept from chunk to chunk.
-fn work_with<G: Gate>(
+/// Draws chunks, computes and completes them, all with the same buffers.
+fn draw_chunks<G: Gate>(
     alloc: Global,
     scratch: &mut Scratch,
     task: Task<'_>,
@@ -81,8 +81,8 @@ fn work_with<G: Gate>(
     let mut for_proof_next = 0;
     while let Some(chunk) = task.board.draw(seat) {
         gate.enter(chunk);
-        let made = compute(alloc, scratch, task.plan, chunk);
-        match record_chunk(task, seat, chunk, made, &mut pieces) {
+        let computed = compute(alloc, scratch, task.plan, chunk);
+        match record_chunk(task, seat, chunk, computed, &mut pieces) {
             ChunkEnd::Completed(steps) => spent += steps,
             ChunkEnd::Failed(steps) => {
                 return Worked {
@@ -102,7 +102,7 @@ fn work_with<G: Gate>(
     }
 }
 
-/// Fails the next chunk before any call is made, if there is one.
+/// Fails the next chunk before the first call of an operator, if there is a chunk.
 fn fail_first<G: Gate>(alloc: Global, task: Task<'_>, seat: &mut BoardSeat, gate: &G) -> Worked
     requires ready { MayDrawAt task.board.now seat.old }
     requires prices { task.board.now.prices ≡ prices_of task.plan.now }
@@ -124,31 +124,31 @@ fn fail_first<G: Gate>(alloc: Global, task: Task<'_>, seat: &mut BoardSeat, gate
     }
 }
 
-/// How the work on a chunk ended, with the steps of its calls; where there is no memory, of those
-/// that were made.
+/// How the work on a chunk ended, with the steps of its calls. A chunk fails for want of memory;
+/// then the steps are those of the calls before.
 #[derive(Clone, Copy)]
 pub(crate) enum ChunkEnd {
     Completed(u64),
     Failed(u64),
 }
 
-/// Records the chunk that the seat holds, for which this was made: as complete, with its piece
-/// behind the others, or as failed.
+/// Records the chunk that the seat holds: as complete, with its piece after the others, or, where
+/// memory was refused, as failed.
 fn record_chunk(
     task: Task<'_>,
     seat: &mut BoardSeat,
     chunk: u64,
-    made: Chunk,
+    computed: Chunk,
     pieces: &mut Vec<Piece>,
 ) -> ChunkEnd
     requires holds { IsHolding task.board.now chunk seat.old }
-    requires made { IsMadeFor task.plan.now chunk made }
+    requires made { IsMadeFor task.plan.now chunk computed }
     requires prices { task.board.now.prices ≡ prices_of task.plan.now }
     ensures { IsRecorded task.entry.board.now task.entry.plan.now chunk result seat.old seat.new pieces.old.items pieces.new.items }
 {
     task.plan.recall();
-    let steps = made.steps;
-    match add(chunk, made, pieces) {
+    let steps = computed.steps;
+    match add_piece(chunk, computed, pieces) {
         Ok(()) => {
             task.board.complete(seat, chunk, steps);
             ChunkEnd::Completed(steps)
@@ -160,13 +160,17 @@ fn record_chunk(
     }
 }
 
-/// Puts what was made for a chunk behind other pieces, where there is memory for it.
-fn add(chunk: u64, made: Chunk, pieces: &mut Vec<Piece>) -> Result<(), AllocError>
-    ensures put { OnOk result ((rows : Run) × (made.result ≡ Ok rows) × (pieces.new.items ≡ pieces.old.items ++
-        record { chunk = chunk; rows = rows; steps = made.steps } ∷ [])) }
+/// Appends the rows of a chunk to other pieces.
+///
+/// # Errors
+///
+/// Memory was refused, here or for the rows.
+fn add_piece(chunk: u64, computed: Chunk, pieces: &mut Vec<Piece>) -> Result<(), AllocError>
+    ensures put { OnOk result ((rows : Run) × (computed.result ≡ Ok rows) × (pieces.new.items ≡ pieces.old.items ++
+        record { chunk = chunk; rows = rows; steps = computed.steps } ∷ [])) }
     ensures kept { OnErr result (pieces.new.items ≡ pieces.old.items) }
 {
-    let Chunk { result, steps } = made;
+    let Chunk { result, steps } = computed;
     let rows = result?;
     pieces.push(Piece { chunk, rows, steps })?;
     Ok(())

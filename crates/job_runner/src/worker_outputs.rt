@@ -18,8 +18,8 @@ pub struct Ended {
     pub worked: Worked,
 }
 
-/// The seats of workers that have ended, the pieces of all chunks that they completed, each at the
-/// place of its number, and whether one of them failed.
+/// The seats of workers that have ended, the pieces of all chunks that they completed, each in the
+/// slot of its number, and whether one of them failed.
 #[derive(Drop)]
 pub struct WorkerOutputs {
     pub seats: Vec<BoardSeat>,
@@ -28,7 +28,7 @@ pub struct WorkerOutputs {
 }
 
 impl WorkerOutputs {
-    /// Room for so many workers, of whom none has ended.
+    /// For so many workers, of whom none has ended.
     pub fn new(alloc: Global, plan: &Plan, workers: u64) -> Result<WorkerOutputs, AllocError>
         ensures outputs { IfOk result (λ g. (board : BoardState) → AreWorkerOutputs board plan.now g) }
         ensures room { IfOk result (λ g. (vec_len g.seats ≡ 0) × (vec_capacity g.seats ≡ workers)) }

@@ -1,11 +1,12 @@
 //! A board on which workers in threads draw chunks, over two atomic words.
-ghost use Rattle.std.specs.Prelude.{◌≡◌, List, ℕ, ◌+◌, ◌^◌, ◌<◌, ◌≤◌, [], length, sum, slice_get, slice_index, All, Some, IfOk, IfSome, IfNone, vec_len};
+ghost use Rattle.std.specs.Prelude.{◌≡◌, ℕ, ◌+◌, ◌^◌, ◌<◌, ◌≤◌, [], length, sum, slice_get, slice_index, All, Some, IfOk, IfSome, IfNone, vec_len};
 ghost use Rattle.race_board.specs.declared.worker_state.WorkerState.TheVariants.{Free, Holds};
 ghost use Rattle.race_board.specs.Race.{Worker, SeatState, IsSeatOf, MayDrawAt, IsClosing, IsAboveDraws, fresh_worker, fresh_workers, holding, drained, completed, failed, total_of, draws_of, steps_of, workers_of};
 ghost use Rattle.race_board.specs.Naming.{name_of};
 ghost use Rattle.race_board.specs.inner.Crews.{IsClosedWith, IsClosed};
 
 use crate::crew::Crew;
+use crate::priced_chunks::PricedChunks;
 use crate::race_key::{Prices, RaceKey};
 use crate::rule::{COUNT, SPENT, SplitStep, TableSeat, Words};
 use crate::seat::BoardSeat;
@@ -39,42 +40,25 @@ impl Model for Board {
 }
 
 impl Board {
-    /// A board for a chunk of each of these prices, and a seat for each of so many workers, in the
-    /// order of their numbers. The prices may add up to 2^62.
-    pub fn open(
+    /// A board for the chunks of these prices, and a seat for each of so many workers, in the order
+    /// of their numbers. The prices may add up to 2^62. They are a list, or another value that
+    /// contracts read them from.
+    pub fn open<P: PricedChunks>(
         alloc: Global,
-        prices: &[u64],
+        prices: P,
         workers: u64,
     ) -> Result<(Board, Vec<BoardSeat>), AllocError>
         requires workers { (0 < workers) × (workers ≤ 64) }
-        requires prices { sum prices.now ≤ 2 ^ 62 }
-        ensures board { IfOk result (λ r. (r.0.prices ≡ prices.now) × (r.0.workers ≡ workers)) }
+        requires prices { sum (P.prices prices) ≤ 2 ^ 62 }
+        ensures board { IfOk result (λ r. (r.0.prices ≡ P.prices prices) × (r.0.workers ≡ workers)) }
         ensures seats { IfOk result (λ r. vec_len r.1 ≡ workers) }
         ensures ready { IfOk result (λ r. All (MayDrawAt r.0) r.1.items) }
         ensures fresh { IfOk result (λ r. (k : ℕ) (s : SeatState) → slice_get r.1.items k ≡ Some s →
             s.worker ≡ fresh_worker k) }
     {
-        open_for(alloc, prices, workers)
-    }
-
-    /// As `open`, for so many chunks. The caller's proof names their prices, which no code has.
-    pub fn with_chunks(
-        alloc: Global,
-        chunks: u64,
-        workers: u64,
-    ) -> Result<(Board, Vec<BoardSeat>), AllocError>
-        ghost prices: { List ℕ }
-        requires workers { (0 < workers) × (workers ≤ 64) }
-        requires chunks { (chunks ≡ length prices) × (chunks < 2 ^ 63) }
-        requires prices { sum prices ≤ 2 ^ 62 }
-        ensures board { IfOk result (λ r. (r.0.prices ≡ prices) × (r.0.workers ≡ workers)) }
-        ensures seats { IfOk result (λ r. vec_len r.1 ≡ workers) }
-        ensures ready { IfOk result (λ r. All (MayDrawAt r.0) r.1.items) }
-        ensures fresh { IfOk result (λ r. (k : ℕ) (s : SeatState) → slice_get r.1.items k ≡ Some s →
-            s.worker ≡ fresh_worker k) }
-    {
+        let chunks = prices.count();
         let race_key = RaceKey {
-            prices: Prices::for_proof(),
+            prices: Prices::of(prices),
             workers,
         };
         let (table, table_seat) = Words::of_words(alloc, &[0, 0], &race_key)?;
@@ -143,26 +127,8 @@ impl Board {
     }
 }
 
-// As `Board::open`, where the caller's proof names the prices.
-fn open_for(
-    alloc: Global,
-    prices: &[u64],
-    workers: u64,
-) -> Result<(Board, Vec<BoardSeat>), AllocError>
-    ghost named: { List ℕ }
-    requires named { named ≡ prices.now }
-    requires workers { (0 < workers) × (workers ≤ 64) }
-    requires prices { sum prices.now ≤ 2 ^ 62 }
-    ensures board { IfOk result (λ r. (r.0.prices ≡ named) × (r.0.workers ≡ workers)) }
-    ensures seats { IfOk result (λ r. vec_len r.1 ≡ workers) }
-    ensures ready { IfOk result (λ r. All (MayDrawAt r.0) r.1.items) }
-    ensures fresh { IfOk result (λ r. (k : ℕ) (s : SeatState) → slice_get r.1.items k ≡ Some s →
-        s.worker ≡ fresh_worker k) }
-{
-    Board::with_chunks(alloc, prices.len() as u64, workers)
-}
-
-// A seat for each worker: the place in hand has those that are not yet split off.
+// A seat for each worker. `table_seat` has the workers that aren't split off yet, and becomes the
+// last one's seat.
 fn deal(
     table: &Words,
     alloc: Global,

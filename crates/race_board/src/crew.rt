@@ -49,6 +49,8 @@ impl Crew {
         ensures drew { IsAnswer table.now.shared.key.prices.each self.old.table_seat.me.0 result
             self.new.table_seat.me.0 }
     {
+        // Once the chunks are drawn, each worker adds 1 a last time and draws no more. So the word
+        // doesn't wrap.
         let found = draw_at::<Brand>(table, &mut self.table_seat);
         if found < chunks {
             self.draws += 1;
@@ -107,6 +109,7 @@ impl Crew {
             spent: more_spent,
         } = other;
         table.shared.join_seat::<JoinStep>(&mut table_seat, others);
+        // Only the proof needs this load: by it the seat learns that its sums fit into a word.
         table.shared.load::<JoinedLook>(&mut table_seat, COUNT);
         Crew {
             table_seat,

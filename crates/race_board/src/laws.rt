@@ -9,7 +9,7 @@ ghost use Rattle.race_board.specs.Chunks.{AreEachOnce, AreOnceAtMost, StandsOnce
 ghost use Rattle.race_board.specs.declared.totals.Totals.{Totals};
 
 /// What `Board`'s calls make of a worker's record is what an event makes of it, in any race in
-/// which the worker stands at the place of its number; a draw finds the count. Each event changes
+/// which each worker stands at the index of its number; a draw finds the count. Each event changes
 /// that record and no other.
 pub fn calls_are_events()
     ensures draw { (r : RaceState) (w : Worker) → slice_get r.workers w.number ≡ Some w → w.state ≡ Free
@@ -40,7 +40,7 @@ pub fn closed_lists()
     ensures told { (workers : List Worker) → All IsDrained workers → recorded_by workers ≡ completed_by workers }
 {}
 
-/// Each chunk that is there once stands at one place.
+/// Each chunk that is there once stands at one index.
 pub fn each_chunk_at_one_place()
     ensures { (n : ℕ) (chunks : List (ℕ × ℕ)) → AreEachOnce n chunks → (c : ℕ) → c < n → StandsOnce c chunks }
 {}

@@ -17,6 +17,7 @@ mod board;
 mod crew;
 mod event;
 pub mod laws;
+mod priced_chunks;
 mod race;
 mod race_key;
 mod rule;
@@ -27,6 +28,7 @@ mod worker_state;
 
 pub use board::Board;
 pub use event::RaceEvent;
+pub use priced_chunks::PricedChunks;
 pub use race::{Race, replay};
 pub use seat::BoardSeat;
 pub use totals::Totals;

@@ -16,8 +16,16 @@ impl Model for Prices {
 }
 
 impl Prices {
+    /// The prices that the caller's proof reads in a value.
+    pub fn of<T: Copy>(_source: T) -> Prices
+        ghost prices: { List ℕ }
+        ensures { result.each ≡ prices }
+    {
+        Prices::for_proof()
+    }
+
     /// The prices that the caller's proof names.
-    pub fn for_proof() -> Prices
+    fn for_proof() -> Prices
         ghost prices: { List ℕ }
         ensures { result.each ≡ prices }
     {
@@ -25,7 +33,8 @@ impl Prices {
     }
 }
 
-/// The prices of the chunks, and how many workers there are. A board is made about these.
+/// The prices of the chunks, and how many workers there are: what the rule of a board's words is
+/// about.
 #[derive(Drop)]
 pub struct RaceKey {
     pub prices: Prices,

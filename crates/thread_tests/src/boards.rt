@@ -30,7 +30,7 @@ fn open(
     ensures ready { IfOk result (λ r. All (MayDrawAt r.0) r.1.items) }
     ensures fresh { IfOk result (λ r. (k : ℕ) (s : SeatState) → slice_get r.1.items k ≡ Some s → s.worker ≡ fresh_worker k) }
 {
-    Board::open(alloc, prices, workers)
+    Board::open(alloc, prices.as_slice(), workers)
 }
 
 #[test]

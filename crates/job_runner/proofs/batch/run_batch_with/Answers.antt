@@ -13,4 +13,4 @@ returns-in-Ok g c =
 
 pub returns-in-Err : goal.returns-in-Err
 returns-in-Err g c =
-    batch_broke c.args.workers c.crew_size-count.result c.args.plan.now _ c.crew_size-count.ensures.few c.results-outcome.ensures.spent c.in-Err.ensures.thread
+    batch_broke c.args.workers c.crew_size-count.result c.args.plan.now _ c.crew_size-count.ensures.few c.compute_results-outcome.ensures.spent c.in-Err.ensures.thread

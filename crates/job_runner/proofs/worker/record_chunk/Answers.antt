@@ -9,19 +9,19 @@ pub complete-requires-clause-price : goal.complete-requires-clause-price
 complete-requires-clause-price c =
     let jobs = c.args.task.plan.now in
     let chunk = c.args.chunk in
-    let steps = c.args.made.steps in
+    let steps = c.args.computed.steps in
     let made = c.requires.made.1 in
     price_there jobs chunk steps c.args.task.board.now.prices c.requires.prices c.recall.ensures.within c.requires.made.0
-    (chunk_at_most jobs chunk steps c.args.made.result made.steps made.spent)
+    (chunk_at_most jobs chunk steps c.args.computed.result made.steps made.spent)
 
 pub fail-requires-clause-price : goal.fail-requires-clause-price
 fail-requires-clause-price c =
     let jobs = c.args.task.plan.now in
     let chunk = c.args.chunk in
-    let steps = c.args.made.steps in
+    let steps = c.args.computed.steps in
     let made = c.requires.made.1 in
     price_there jobs chunk steps c.args.task.board.now.prices c.requires.prices c.recall.ensures.within c.requires.made.0
-    (chunk_at_most jobs chunk steps c.args.made.result made.steps made.spent)
+    (chunk_at_most jobs chunk steps c.args.computed.result made.steps made.spent)
 
 pub returns-in-Ok : goal.returns-in-Ok
 returns-in-Ok c =
@@ -36,7 +36,7 @@ returns-in-Ok c =
       own = c.complete.ensures.own;
       recorded = c.complete.ensures.completed;
       put = record {
-        piece = record { chunk = chunk; rows = put.0; steps = c.args.made.steps };
+        piece = record { chunk = chunk; rows = put.0; steps = c.args.computed.steps };
         right = record { there = chunk_there jobs chunk c.requires.made.0; rows = rows; steps = just };
         chunk_is = refl;
         steps_is = refl;
@@ -54,5 +54,5 @@ returns-in-Err c =
       own = c.fail.ensures.own;
       recorded = c.fail.ensures.failed;
       kept = c.in-Err.ensures.kept;
-      charged = charged_chunk (calls_of jobs chunk) c.args.made.steps c.args.made.result made.steps made.spent;
+      charged = charged_chunk (calls_of jobs chunk) c.args.computed.steps c.args.computed.result made.steps made.spent;
     }

@@ -1,4 +1,4 @@
 use Rattle.race_board.proofs.board.Board.open.Given as goal
 
-abbrev pub ghost-open_for : goal.ghost-open_for
-ghost-open_for a = a.prices.now
+abbrev pub ghost-of : goal.ghost-of
+ghost-of g a = g.P.PricedChunks.prices a._source

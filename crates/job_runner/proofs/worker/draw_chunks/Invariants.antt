@@ -5,7 +5,7 @@ use Rattle.race_board.specs.declared.worker_state.WorkerState.TheVariants.{Free}
 use Rattle.race_board.specs.Race.{IsSeatOf, times_drawn, steps_of}
 use Rattle.job_runner.specs.Chunk.{chunk_steps}
 use Rattle.job_runner.specs.Worked.{recorded, IsPieceOf}
-use Rattle.job_runner.proofs.worker.work_with.Given as goal
+use Rattle.job_runner.proofs.worker.draw_chunks.Given as goal
 
 abbrev pub invariant-loop-chunk : goal.invariant-loop-chunk
 invariant-loop-chunk g l = record {

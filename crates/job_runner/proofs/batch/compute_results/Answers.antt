@@ -7,8 +7,8 @@ use Rattle.job_runner.specs.Batch.{all_calls, result_of}
 use Rattle.job_runner.proofs.Gathering.{gathered_spent, gathered_full}
 use Rattle.job_runner.proofs.Placing.{all_given}
 use Rattle.job_runner.proofs.Racing.{gathered_whole, one_race, whole_rows, whole_spent}
-use Rattle.job_runner.proofs.batch.results.Given as given
-use Rattle.job_runner.proofs.batch.results.Goals as goal
+use Rattle.job_runner.proofs.batch.compute_results.Given as given
+use Rattle.job_runner.proofs.batch.compute_results.Goals as goal
 
 pub work_all-outputs-requires-clause-room : goal.work_all-outputs-requires-clause-room
 work_all-outputs-requires-clause-room g c κs within =

@@ -7,7 +7,7 @@ use Rattle.job_runner.proofs.Costs.{chunk_listed, chunk_there, room_of}
 use Rattle.job_runner.proofs.Joined.{charged-chunk}
 use Rattle.job_runner.proofs.Working.{spent_room, above_next, turn_steps, fail_steps, turn_drawn, right_more}
 use Rattle.job_runner.proofs.Working.{gained_more}
-use Rattle.job_runner.proofs.worker.work_with.Goals as goal
+use Rattle.job_runner.proofs.worker.draw_chunks.Goals as goal
 
 pub loop-chunk-preserved : goal.loop-chunk-preserved
 loop-chunk-preserved g c =
