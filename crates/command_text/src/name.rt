@@ -44,6 +44,7 @@ pub fn as_name(word: &[u8]) -> Option<&str>
     }
     match str::from_utf8(word) {
         Ok(name) => Some(name),
+        // The bytes of a name are ASCII.
         Err(_) => unreachable!(),
     }
 }

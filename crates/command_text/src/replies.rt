@@ -8,7 +8,7 @@ ghost use Rattle.command_text.specs.Replies.{run_line, show_text, list_text, bud
 use crate::refusal::Refusal;
 use crate::reply::Reply;
 
-/// Begins a reply with these words, in place of the one before it.
+/// Begins a reply with these words, and drops the one before it.
 fn begin(reply: &mut Reply, words: &[u8])
     requires { length words.now ≤ 8192 }
     ensures { reply.new ≡ record { line = words.now; text = [] } }

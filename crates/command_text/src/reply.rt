@@ -1,4 +1,4 @@
-//! The reply to a command, for whose lines the room is made at the start.
+//! The reply to a command. The memory of its lines is allocated when the session starts.
 ghost use Rattle.std.specs.Prelude.{◌≡◌, ◌≤◌, ◌+◌, ◌++◌, ℕ, List, [], length, IfOk, decimal};
 ghost use Rattle.command_text.specs.ReplyText.{ReplyText};
 
@@ -29,11 +29,11 @@ impl Model for Reply {
 }
 
 impl Reply {
-    /// An empty reply, with room for its lines.
+    /// An empty reply, with the memory for its lines.
     ///
     /// # Errors
     ///
-    /// There is no memory for that room.
+    /// There is no memory for them.
     pub fn new(alloc: Global) -> Result<Self, AllocError>
         ensures { IfOk result (λ r. r ≡ record { line = []; text = [] }) }
     {
@@ -58,8 +58,7 @@ impl Reply {
         &self.text
     }
 
-    /// Makes the reply empty. It keeps the room for its lines, and gives back the memory of the
-    /// text that followed them.
+    /// Makes the reply empty. The memory of its lines stays, that of the text after them is freed.
     pub fn clear(&mut self)
         ensures { self.new ≡ record { line = []; text = [] } }
     {

@@ -43,7 +43,8 @@ impl Command<'_> {
     }
 }
 
-/// A command whose body follows its line.
+/// A command whose body follows its line. Its name and its kind are words that nobody has judged
+/// yet: a body is read to its end before either is refused, so that the next line is found.
 #[derive(Clone, Copy)]
 pub enum Header<'a> {
     /// `matrix NAME LEN`

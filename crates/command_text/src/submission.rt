@@ -195,6 +195,7 @@ fn read_words<'a>(verb: Verb, words: &[Word<'a>]) -> Option<JobWords<'a>>
     ensures { option_map words_of_job result ≡ words_of_verb verb (map lent words.now) }
 {
     match verb {
+        // The two differ in their number of words, so at most one of them reads the line.
         Verb::Apply => match apply_words(words) {
             Some(job) => Some(job),
             None => thunk_words(words),

@@ -107,7 +107,7 @@ fn converse<R: Source, W: Sink, T: Steps, H: Threads + Wait>(
     }
 }
 
-/// One session, with its memory, made before it begins, so that a server can know that it has it. A
+/// One session, with its memory, allocated before it begins, so that a server knows that it has it. A
 /// contract sees how many reads the session may make, and how many workers each of its batches may
 /// have.
 #[derive(Drop)]
@@ -165,7 +165,7 @@ impl Session {
     ///
     /// # Errors
     ///
-    /// As those of `serve`, but `Memory`: the room is there.
+    /// As those of `serve`, but `Memory`: the session has its memory.
     pub fn serve<R: Source, W: Sink, T: Steps, H: Threads + Wait>(
         self,
         rt: &H,
@@ -240,7 +240,7 @@ pub fn serve_turns<R: Source, W: Sink, T: Steps, H: Threads + Wait>(
 ///
 /// # Errors
 ///
-/// A device failed, more than 4,294,967,296 reads were needed, or the room that a session needs
+/// A device failed, more than 4,294,967,296 reads were needed, or the memory that a session needs
 /// from its start was refused. On each end and each fault every reservation that is still held is
 /// settled with 0.
 pub fn serve<R: Source, W: Sink, T: Steps, H: Threads + Wait>(

@@ -1,4 +1,4 @@
-//! What a session works at, for which the room is made at its start.
+//! What a session works at. Its memory is allocated when the session starts.
 ghost use Rattle.std.specs.Prelude.{◌≡◌, ◌≤◌, [], false, vec_capacity, IfOk};
 ghost use Rattle.workspace.specs.State.{empty};
 ghost use Rattle.workspace.specs.Workspace.{state_of};
@@ -8,7 +8,7 @@ use std::alloc::{AllocError, Global};
 use wire::{Input, Output};
 use workspace::Workspace;
 
-/// Room for a line, with its line end.
+/// The bytes of the longest line, with its line end.
 const LINE_ROOM: usize = 1026;
 
 /// What commands are answered at: what the session holds, the reply to the last command, and the

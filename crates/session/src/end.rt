@@ -22,6 +22,6 @@ pub enum ServeFault {
     Write,
     /// More reads were needed than a session may make.
     Turns,
-    /// The room that a session needs from its start was refused. Nothing was read or written.
+    /// The memory that a session needs from its start was refused. Nothing was read or written.
     Memory,
 }

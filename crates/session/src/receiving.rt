@@ -26,7 +26,7 @@ pub enum Received<'a> {
     Plain(Command<'a>),
     /// A command with its body.
     Whole { header: Header<'a>, body: Vec<u8> },
-    /// A command for whose body there was no room.
+    /// A command for whose body there was no memory.
     Dropped { header: Header<'a> },
 }
 
@@ -121,6 +121,7 @@ pub fn receive<'a, R: Source, W: Sink>(
     match request {
         Request::Fatal(rule) => Ok(Received::Stopped(rule)),
         Request::Plain(command) => {
+            // Else the replies before a long command would wait until it is done.
             let long = takes_long(&bench.workspace, &command);
             match flush_where(long, &mut bench.output, writer) {
                 Ok(()) => Ok(Received::Plain(command)),

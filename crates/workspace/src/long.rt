@@ -1,14 +1,14 @@
-//! Which commands may take long. What was said before them is to be written first, so that no reply
-//! waits for another's work. No contract speaks of it.
+//! Which commands may take long. The replies before them are written first, so that none waits for
+//! another command's work. No contract speaks of it.
 
 use crate::workspace::Workspace;
 use command_text::Command;
 use job_plan::{Form, Priced, price};
 
-/// A batch of so many steps, rows and copied entries is as soon run as a reply is written.
+/// To run a batch of so many steps, rows and copied entries takes as long as to write a reply.
 const SHORT_WORK: u64 = 10_000;
 
-/// The text of so many entries is as soon made.
+/// So does writing the text of so many entries.
 const SHORT_ENTRIES: u64 = 200;
 
 /// Whether the answer to a command may take longer than to write what was said before.

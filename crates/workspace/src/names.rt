@@ -64,6 +64,7 @@ impl<V: Drop> Names<V> {
         ensures kept { (other : List ℕ) → IsTrue (is_declared self.old.declared other) →
             IsTrue (is_declared self.new.declared other) }
     {
+        // A declared name is always there.
         if let Some(value_now) = self.declared.get_mut(name) {
             *value_now = Some(value);
         }

@@ -1,8 +1,8 @@
 //! The command `run`.
 //!
-//! Before the first job runs, a place is made for each output. So once all jobs have results
-//! nothing can fail any more: the prices are settled, the reply is written and the outputs are
-//! bound, with no further memory. A batch that breaks off binds no name.
+//! Before the first job runs, each output's name is declared. So once all jobs have results nothing
+//! can fail any more: the prices are settled, the reply is written and the outputs are bound, with
+//! no further memory. A batch that breaks off binds no name.
 ghost use Rattle.std.specs.Prelude.{◌≡◌, ◌≤◌, ◌+◌, ◌++◌, List, ℕ, map, length, vec_len, []};
 ghost use Rattle.std.specs.Prelude.{IfOk, OnOk, OnErr};
 ghost use Rattle.workspace.specs.Names.{value_at};
@@ -35,7 +35,7 @@ use step_budget::Steps;
 ///
 /// # Errors
 ///
-/// There is no memory for it. Some declared are then made. No value is changed.
+/// There is no memory for it. Some names are then declared. No value is changed.
 fn declare_outputs(matrices: &mut Names<Version>, jobs: &[Priced]) -> Result<(), AllocError>
     ensures made { IfOk result (λ _. AreDeclared matrices.new.declared jobs.now) }
     ensures same { (name : List ℕ) → value_at matrices.new.declared name ≡ value_at matrices.old.declared name }

@@ -21,9 +21,9 @@ use std::sync::Wait;
 use std::thread::Threads;
 use step_budget::Steps;
 
-/// Returns a command with its body. The command makes its turn; and that there is no memory is told
-/// only where no refusal stands that goes before: of KIND, of NAME, of `matrix` those of the lines
-/// up to the sizes, and of `asm` those of all lines.
+/// Answers a command with its body. The command makes its turn. Its reply is `no memory` only if no
+/// earlier refusal holds: of KIND, of NAME, of `matrix` those of the lines up to the sizes, and of
+/// `asm` those of all lines.
 pub fn answer_with_body(
     alloc: Global,
     workspace: &mut Workspace,
@@ -44,7 +44,7 @@ pub fn answer_with_body(
     }
 }
 
-/// Returns a command without a body. What the caller owes its budget grows and shrinks with the
+/// Answers a command without a body. What the caller owes its budget grows and shrinks with the
 /// prices of the jobs that wait.
 pub fn answer<T: Steps, H: Threads + Wait>(
     rt: &H,

@@ -16,8 +16,8 @@ use job_runner::SpareScratch;
 use std::alloc::{AllocError, Global};
 use std::sync::Arc;
 
-/// Matrices and operators by their names, the jobs that wait, for which there is room from the
-/// start, and what runs them: so many workers, and what is kept for them from batch to batch.
+/// Matrices and operators by their names, the queue of jobs, whose memory is allocated at the start,
+/// and what runs them: so many workers, and buffers that serve from batch to batch.
 #[derive(Drop)]
 pub struct Workspace {
     pub matrices: Names<Version>,
@@ -38,7 +38,7 @@ impl Workspace {
     ///
     /// # Errors
     ///
-    /// There is no memory for the room of the jobs.
+    /// There is no memory for the queue.
     pub fn new(alloc: Global, workers: u64) -> Result<Self, AllocError>
         requires some { 1 ≤ workers }
         requires few { workers ≤ 64 }
@@ -67,7 +67,7 @@ impl Workspace {
         self.operators.find(name.as_str())
     }
 
-    /// Binds a name to a matrix, in place of any that stood there.
+    /// Binds a name to a matrix, which replaces the one that it had.
     ///
     /// # Errors
     ///
@@ -89,7 +89,7 @@ impl Workspace {
         Ok(())
     }
 
-    /// Binds a name to an operator, in place of any that stood there.
+    /// Binds a name to an operator, which replaces the one that it had.
     ///
     /// # Errors
     ///
