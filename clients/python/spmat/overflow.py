@@ -131,13 +131,15 @@ def of_applied(matrix: Any, sent: 'Applied') -> Optional[Span]:
     """What values `apply` gives; None where the operator tells nothing of them. ValueError where
     one would be beyond 64 bits."""
     term, backend = TERMS.get(NAMED.get(sent.by, '')), matrix.session.backend
-    if term is None or backend.takes_others:
+    if term is None:
         return None
     of_two, beside = term, ANY if sent.thunk is None else Span(sent.thunk, sent.thunk)
 
     def span(x: Span) -> Span:
         return of_two(beside, x) if sent.is_left else of_two(x, beside)
     found = span(matrix.kept.get(KEY, ANY))
+    if _is_open(backend, found):
+        return None
     if not found.fits:
         found = span(_find_span(matrix))
     if not found.fits and not backend.is_estimate:
@@ -150,8 +152,6 @@ def of_applied(matrix: Any, sent: 'Applied') -> Optional[Span]:
 def of_job(backend: 'Backend', job: 'Job', operands: Sequence[Any]) -> Optional[Span]:
     """What values the result of another job can have; None where that isn't known. It warns where
     some can be beyond 64 bits."""
-    if backend.takes_others:
-        return None
     known: List[Span] = [operand.kept.get(KEY, ANY) for operand in operands]
     if job.form == 'select':
         return known[0]._replace(exact=False)
@@ -159,6 +159,8 @@ def of_job(backend: 'Backend', job: 'Job', operands: Sequence[Any]) -> Optional[
     if len(names) < len(job.operators):
         return None
     found = _span(job.form, names, known, operands[0].ncols)
+    if _is_open(backend, found):
+        return None
     if not found.fits:
         wanted = WANTED.get(names[-1], (0, 1)) if job.form != 'union' else (0, 1)
         known = [_find_span(operand) if at in wanted else span
@@ -170,6 +172,15 @@ def of_job(backend: 'Backend', job: 'Job', operands: Sequence[Any]) -> Optional[
     if not found.fits and not backend.is_estimate:
         _warn(names, operands, found)
     return found if found.fits else None
+
+
+def _is_open(backend: 'Backend', found: Span) -> bool:
+    """Whether only entries tell that values fit, and a step of a loop asks, which has none: its
+    round is made by itself, with entries."""
+    if found.fits or not backend.takes_others:
+        return False
+    backend.may_wrap = True
+    return True
 
 
 def _span(form: str, names: Sequence[str], known: Sequence[Span], many: int) -> Span:

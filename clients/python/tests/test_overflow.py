@@ -235,6 +235,65 @@ class Means(Case):
                                      float(Fraction(sum(stored), 15) / unit))
 
 
+class Loops(Case):
+    """Rounds of a loop warn, and are refused, as the same jobs are without one."""
+
+    def by_hand(self, step, x, rounds):
+        for k in range(1, rounds + 1):
+            x = step(spmat.loops.rounds.State(x=x), k)['x']
+        return x
+
+    def test_sums_that_wrap(self):
+        A = made(self.s, [1, 0, 2, 1], shape=(2, 2))
+        for step, stored in ((lambda s: {'x': s.x.ewise_add(s.x)}, [10 ** 12, -3]),
+                             (lambda s: {'x': s.x.ewise_add(s.x.apply('ainv'), 'minus')}, [MOST // 3, -5]),
+                             (lambda s: {'x': A.mxm(s.x, 'plus_second')}, [2 ** 55, 2 ** 54])):
+            x = made(self.s, stored)
+            said, want = self.warned(lambda: self.by_hand(lambda s, _: step(s), x, 40))
+            loop = spmat.loop(step, {'x': x})
+            found = self.warned(lambda: loop.advance(40))[0]
+            self.assertGreater(len(said), 0)
+            self.assertEqual((found, loop.state.x.to_list()), (said, want.to_list()))
+
+    def test_the_round_that_wraps_is_refused(self):
+        loop = spmat.loop(lambda s: {'x': s.x.apply('times', right=2)},
+                          {'x': made(self.s, [10 ** 12, -3])})
+        with self.assertRaisesRegex(ValueError, '167772160000000000.0 would be beyond 64 bits'):
+            loop.advance(40)
+        self.assertEqual((loop.number, loop.state.x.to_list()),
+                         (23, [10 ** 12 << 23, -3 << 23]))
+        with warnings.catch_warnings():
+            warnings.simplefilter('error', OverflowWarning)
+            loop = spmat.loop(lambda s: {'x': s.x.ewise_add(s.x)}, {'x': made(self.s, [MOST // 3])})
+            with self.assertRaises(OverflowWarning):
+                loop.advance(3)
+            self.assertEqual((loop.number, loop.state.x.to_list()), (1, [MOST // 3 * 2]))
+
+    def test_what_fits_goes_by_trips(self):
+        """Bounds of lengths grow by an edge in a round; where bounds outgrow the values, a round
+        now and then is made with its entries."""
+        A = self.s.from_coo(range(9), range(1, 10), [Fraction(7, 2)] * 9, 10, 10, scale=2)
+        start = self.s.from_coo([0], [0], [0], 1, 10, scale=2)
+        ways = spmat.loop(lambda s: {'d': s.d.ewise_add(s.d.mxm(A, 'min_plus'), 'min')},
+                          {'d': start})
+        jobs = self.s.jobs
+        self.fits(lambda: ways.advance(60))
+        self.assertEqual((self.s.jobs - jobs, ways.state.d.to_dict()[0, 9]), (120, 63))
+        halved = spmat.loop(lambda s: {'x': s.x.ewise_add(s.x).apply('floordiv', right=2)},
+                            {'x': made(self.s, [10 ** 12, -3])})
+        jobs = self.s.jobs
+        self.fits(lambda: halved.advance(200))
+        self.assertEqual(halved.state.x.to_list(), [10 ** 12, -3])
+        self.assertLess(self.s.jobs - jobs, 450)
+
+    def test_names_that_come_between(self):
+        """What is known of values isn't taken for that of another round."""
+        loop = spmat.loop(lambda s: {'x': s.x.ewise_add(s.x)}, {'x': made(self.s, [10 ** 12])})
+        loop.advance(20)
+        loop.state.x.nodes = ['a']
+        self.assertEqual(len(self.warned(lambda: loop.advance(4))[0]), 1)
+
+
 class Algorithms(Case):
     def test_no_algorithm_asks(self):
         """Algorithms work on stored numbers, and have bounds of their own."""

@@ -200,6 +200,7 @@ class Backend(abc.ABC):
     session: Any
     # whether it looks itself at handles that another backend gave
     takes_others = False
+    may_wrap = False                               # of a traced step: whether values may not fit
     in_one_place = True                            # whether one session has each matrix whole
     is_estimate = False                            # whether it only foresees what jobs come to
     # whether it makes a product `is_by_parts` itself by halves of the rows

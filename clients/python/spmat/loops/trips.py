@@ -289,7 +289,8 @@ class Trips:
         if asked is None:
             self.rounds.check(number)
         assert asked is not None
-        got = make_round(self.session, asked, state)
+        got = (self.rounds.make_with_entries(number, state) if asked.may_wrap
+               else make_round(self.session, asked, state))
         for matrix in got.values():
             matrix.wait()
         return got
