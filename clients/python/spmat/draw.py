@@ -19,6 +19,7 @@ import numpy
 from .display import count_in_groups, graph_pictures, pictures
 from .display.pictures import INK, WARM, Path, Target
 from .extras import import_extra
+from .io import coo
 from .matrix import Matrix
 from .metadata import VERTICES, joined
 
@@ -81,8 +82,10 @@ def raster(A: Matrix, rows: int = RASTER, columns: int = RASTER) -> Matrix:
     2 jobs in 2 runs: two products, of as many multiplications as A has entries. In the GraphBLAS
     this is P A Q over plus, with P and Q that gather rows and columns.
     """
-    return count_in_groups(A, *(numpy.arange(side) * min(cells, side) // max(1, side)
-                                for side, cells in zip(A.shape, (rows, columns))))
+    cells = [coo.whole(many, what) for many, what in ((rows, 'number of rows'),
+                                                      (columns, 'number of columns'))]
+    return count_in_groups(A, *(numpy.arange(side) * min(many, side) // max(1, side)
+                                for side, many in zip(A.shape, cells)))
 
 
 def spy(A: Matrix, path: Optional[Path] = None, size: int = RASTER, first: int = 0, *,
@@ -113,6 +116,7 @@ def spy(A: Matrix, path: Optional[Path] = None, size: int = RASTER, first: int =
     -----
     1 run, or 2 for a raster. In matplotlib `spy`.
     """
+    size, first = coo.whole(size, 'size'), coo.word(first, 'first number')
     ax = pictures.open_axes(Target(ax, path), 6, 6)
     is_small = max(A.shape) <= size
     shown = A.apply('one') if is_small else raster(A, size, size)

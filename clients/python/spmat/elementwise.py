@@ -7,6 +7,7 @@ from typing import TYPE_CHECKING, Any, Dict, Optional, TypeVar, cast
 from . import overflow, result_metadata, units
 from .backends.placeholders import reading
 from .backends.protocol import Job
+from .io.coo import real
 from .job_operators import Number, applied, of_form, of_index
 from .matrix_base import MatrixBase
 from .matrix_jobs import Jobs, MaskLike
@@ -342,6 +343,7 @@ class Elementwise(Jobs):
         """
         if not isinstance(other, MatrixBase):
             raise not_a_matrix(other)
+        rel_tol, abs_tol = real(rel_tol, 'rel_tol='), real(abs_tol, 'abs_tol=')
         if rel_tol < 0 or abs_tol < 0:
             raise ValueError('tolerances are 0 or more, not %r and %r' % (rel_tol, abs_tol))
         if self.shape != other.shape:

@@ -16,7 +16,7 @@ from typing import Any, Callable, Dict, NamedTuple, Tuple, Union
 
 import numpy
 
-from .io.coo import LEAST, MOST
+from .io.coo import LEAST, MOST, shown
 from .io.values import UNITS, nanoseconds
 from .operators import READY, Operator
 
@@ -146,16 +146,18 @@ def compared(op: Operator, number: Any, unit: Union[int, Fraction],
 def exact_number(number: Any) -> Fraction:
     """A number of Python or numpy, a float as it is written in decimals (0.29 is 29/100). TypeError
     for what is no number, ValueError for what isn't finite."""
-    if hasattr(number, '__index__'):
+    if hasattr(number, '__index__') and not hasattr(number, '__len__'):
         return Fraction(number.__index__())
     if isinstance(number, (str, bytes)) or not (hasattr(number, '__float__')
                                                 or isinstance(number, Fraction)):
-        raise TypeError('expected a number, not %r' % (number,))
+        raise TypeError('expected a number, not %s' % shown(number))
     try:
         return Fraction(number if isinstance(number, (Fraction, decimal.Decimal))
                         else repr(float(number)))
     except (OverflowError, ValueError):
-        raise ValueError('expected a finite number, not %r' % (number,)) from None
+        raise ValueError('expected a finite number, not %s' % shown(number)) from None
+    except TypeError:                              # of arrays, and of numpy's NaT
+        raise TypeError('expected a number, not %s' % shown(number)) from None
 
 
 def exact_in(number: Any, unit: Union[int, Fraction]) -> Fraction:

@@ -10,6 +10,7 @@ import sys
 from collections.abc import Iterator, KeysView, Set, ValuesView
 from typing import TYPE_CHECKING, Any, Hashable, List, NamedTuple, NoReturn, Optional
 
+from .io.coo import shown
 from .io.matrix_text import is_array
 from .mask import Mask
 from .matrix_base import MatrixBase
@@ -109,8 +110,8 @@ def locate(matrix: 'Matrix', index: Any, axis: int) -> int:
                                                          '__index__') and not _is_name(
                                                              names, index) and index < 0:
         raise ValueError(
-            'no vertex %d: they are 0 to %d; negative numbers count from the end in slices '
-            'alone, G[-2:, :]' % (index, matrix.shape[axis] - 1))
+            'no vertex %s: they are 0 to %d; negative numbers count from the end in slices '
+            'alone, G[-2:, :]' % (shown(index), matrix.shape[axis] - 1))
     return matrix.index(index, axis)
 
 
@@ -177,6 +178,8 @@ def _of_slice(matrix: 'Matrix', index: slice, axis: int) -> Chosen:
     for end in (start, stop):
         if _is_truth(end) or isinstance(end, float):
             _refuse_kind(end, axis, type(end) if isinstance(end, float) else bool)
+    if step is not None and (not hasattr(step, '__index__') or not step):
+        raise TypeError('the step of a slice is a whole number but 0, not %s' % shown(step))
     backward = step is not None and step < 0
     if start is not None and _names_vertex(start):
         start = matrix.index(start, axis)

@@ -2,7 +2,6 @@
 from __future__ import annotations
 
 import datetime
-import math
 from decimal import Decimal
 from fractions import Fraction
 from typing import Any, Dict, NamedTuple, NoReturn, Optional, Tuple, Union
@@ -10,7 +9,7 @@ from typing import Any, Dict, NamedTuple, NoReturn, Optional, Tuple, Union
 import numpy
 
 from .errors import UnitsDiffer, refusal
-from .exact_numbers import TimeUnit, compared, exact_number, is_time
+from .exact_numbers import TimeUnit, compared, exact_number
 from .io import coo
 from .operators import READY, Op, Operator, Semiring, find, find_semiring
 from .units import (COMPARE, FIRST, KEEP, MEET, OVER, SECOND, SHIFT, TIMES, UNDER, Unit, is_whole,
@@ -170,16 +169,17 @@ def _whole(number: Any, what: str, verb: str) -> int:
     try:
         return coo.word(number, 'number')
     except (TypeError, ValueError) as fault:
-        raise type(fault)('%s %s a whole number of 64 bits, not %r'
-                          % (what, verb, number)) from None
+        raise type(fault)('%s %s a whole number of 64 bits, not %s'
+                          % (what, verb, coo.shown(number))) from None
 
 
 def _check_factor(op: Operator, number: Any, is_left: bool, unit: Unit) -> None:
     """ValueError for a factor, or a divisor, that isn't whole: it says how to take it all the
     same."""
-    if is_time(number) or isinstance(number, str) or not math.isfinite(number):
+    try:
+        over, under = exact_number(number).as_integer_ratio()
+    except (TypeError, ValueError):
         return                                     # `_whole` says so
-    over, under = exact_number(number).as_integer_ratio()
     if under == 1:
         return
     side, name = 'left' if is_left else 'right', name_of(op)

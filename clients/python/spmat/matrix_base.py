@@ -7,6 +7,7 @@ from typing import (TYPE_CHECKING, Any, Callable, Iterable, Iterator, List, Opti
                     Tuple, TypeVar)
 
 from .errors import refusal
+from .io.coo import shown
 from .metadata import (COLUMNS, NOTHING, ROWS, Metadata, Nodes, axes_of, given_axis, list_of_names,
                        vertices_of)
 from .units import Unit, are_decimals, as_unit, is_whole, rescaled, to_decimals
@@ -210,17 +211,19 @@ class MatrixBase:
         ValueError
             Where there is no such vertex.
         """
-        names, count = self.notes.names(axis), self.shape[axis]
+        if axis not in (0, 1):
+            raise ValueError('axis is 0 for a row or 1 for a column, not %s' % shown(axis))
+        names, count = self.notes.names(axis), self.shape[int(axis)]
         if names is not None:
             try:
                 return names.at(node)
             except KeyError:
                 if names.numbered or not hasattr(node, '__index__'):
                     words = suggest_names(node, names) or 'they are ' + abbreviate_names(names)
-                    raise ValueError('no vertex %r: %s' % (node, words)) from None
+                    raise ValueError('no vertex %s: %s' % (shown(node), words)) from None
         if isinstance(node, bool) or not hasattr(node, '__index__') or not 0 <= node < count:
-            raise ValueError('no vertex %r: they are 0 to %d' % (node, count - 1) if count
-                             else 'there is no vertex')
+            raise ValueError('no vertex %s: %s' % (shown(node), 'they are 0 to %d' % (count - 1)
+                                                   if count else 'there is no vertex'))
         return int(node)
 
     # -- what it holds

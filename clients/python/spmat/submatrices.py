@@ -222,12 +222,12 @@ def _find_bounds(count: int, sizes: Optional[Sizes], axis: int) -> List[Tuple[in
     if hasattr(sizes, '__index__'):
         size = coo.whole(sizes, 'size')
         if size < 1:
-            raise ValueError('a part has 1 %s or more, not %d' % (WHAT[axis], size))
+            raise ValueError('a part has 1 %s or more, not %s' % (WHAT[axis], coo.shown(size)))
         return [(first, min(first + size, count)) for first in range(0, count, size)] or [(0, 0)]
     many = coo.whole_list(sizes, 'size')
     if any(size < 0 for size in many) or sum(many) != count:
-        raise ValueError('parts of %s %ss are %d together, and there are %d'
-                         % (' and '.join(map(str, many)), WHAT[axis], sum(many), count))
+        raise ValueError('parts of %s %ss are %s together, and there are %d' % (
+            ' and '.join(map(coo.shown, many)), WHAT[axis], coo.shown(sum(many)), count))
     return [(sum(many[:at]), sum(many[:at + 1])) for at in range(len(many))]
 
 
@@ -276,6 +276,7 @@ def reshape(matrix: 'Matrix', nrows: int, ncols: int, order: str, name: Optional
 
 def _fill_size(matrix: 'Matrix', size: int, other: int) -> int:
     """A size, which may be -1 for what is left beside the other, as in numpy."""
+    size, other = coo.whole(size, 'size'), coo.whole(other, 'size')
     return matrix.nrows * matrix.ncols // max(other, 1) if size == -1 else coo.side(size, 0, 'size')
 
 

@@ -53,7 +53,8 @@ _KINDS: Dict[str, Dict[str, str]] = {
 
 def describe_unit(unit: Unit) -> str:
     """A unit as errors name it."""
-    return 'times in %s' % unit if isinstance(unit, TimeUnit) else 'parts of 1/%s' % unit
+    return 'times in %s' % unit if isinstance(unit, TimeUnit) else 'parts of 1/%s' % (
+        coo.shown(unit) if isinstance(unit, int) else unit)
 
 
 def as_unit(number: Any) -> Unit:
@@ -94,7 +95,7 @@ def to_stored(number: Any, unit: Unit, what: str) -> int:
             what, number, parts or ', as the values of this matrix are',
             _finer_time(exact, unit) or simplify_unit(Fraction(mend))))
     if not coo.LEAST <= exact <= coo.MOST:
-        raise ValueError('%s%s is not in -2^63 to 2^63 - 1%s' % (what, number, parts))
+        raise ValueError('%s%s is not in -2^63 to 2^63 - 1%s' % (what, coo.shown(number), parts))
     return exact.numerator
 
 

@@ -5,6 +5,7 @@ from typing import List, NamedTuple, Optional, Tuple, Union
 
 import numpy
 
+from ..io.coo import shown
 from ..matrix import Matrix
 from ..metadata import without_names
 from ..operators import Semiring, asm, binary
@@ -161,7 +162,8 @@ def betweenness(G: Matrix, sources: Optional[Vertices] = None, tolerance: float 
     """
     at, count = find_sources(G, sources), G.nrows
     if not 1 <= scale <= 1 << 30 or not 0 < tolerance < 1:
-        raise ValueError('a scale is 1 to 2^30, and a tolerance lies between 0 and 1')
+        raise ValueError('a scale is 1 to 2^30, and a tolerance lies between 0 and 1: not %s and %s'
+                         % (shown(scale), shown(tolerance)))
     if count * len(at) * scale >= 1 << 62:
         raise ValueError('%d sources of %d vertices are too many for a scale of %d'
                          % (len(at), count, scale))

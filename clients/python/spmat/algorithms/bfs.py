@@ -5,6 +5,7 @@ from typing import Dict, List, NamedTuple, Optional, Tuple
 
 import numpy
 
+from ..io.coo import shown
 from ..loops import Loop, State, empty
 from ..matrix import Matrix
 from ..operators import Semiring, binary
@@ -289,7 +290,7 @@ def k_hop(G: Matrix, k: int, sources: Optional[Vertices] = None,
     """
     at = find_sources(G, sources)
     if k < 0:
-        raise ValueError('a number of edges is 0 or more, not %d' % k)
+        raise ValueError('a number of edges is 0 or more, not %s' % shown(k))
     warn_of_repeated(G, at)
     return name_rows(G, _find_hops(G, k, at, progress), at)
 

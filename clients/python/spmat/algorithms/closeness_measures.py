@@ -7,6 +7,7 @@ from typing import NamedTuple, Optional
 import numpy
 
 from .. import units
+from ..io.coo import shown
 from ..matrix import Matrix
 from . import path_bounds
 from .all_pairs_lengths import lengths_from, reach_of
@@ -81,7 +82,7 @@ def closeness(G: Matrix, GT: Optional[Matrix] = None, scale: int = CLOSENESS_SCA
     """
     count = order(G, GT)
     if not 1 <= scale <= 1 << 52:
-        raise ValueError('a scale is 1 to 2^52')
+        raise ValueError('a scale is 1 to 2^52, not %s' % shown(scale))
     unit = unit_of(G, GT) if weighted else Fraction(1)
     stored = units.with_unit(G, 1)
     G, GT = stored, stored if GT is G else None if GT is None else units.with_unit(GT, 1)

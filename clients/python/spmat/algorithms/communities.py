@@ -6,7 +6,7 @@ from typing import Any, Dict, Hashable, Iterable, List, Mapping, Tuple, Union
 
 import numpy
 
-from ..io.coo import whole
+from ..io.coo import shown, whole
 from ..io.matrix_text import Triples
 from ..matrix import Matrix
 from ..metadata import VERTICES, joined
@@ -76,7 +76,7 @@ def label_propagation(G: Matrix, rounds: int = ROUNDS, progress: Progress = None
     """
     count, rounds = order(G), whole(rounds, 'number of rounds')
     if rounds < 1:
-        raise ValueError('expected 1 round or more')
+        raise ValueError('expected 1 round or more, not %s' % shown(rounds))
     check_undirected(G, check, loops=True)
     graph, own = G.select('offdiag', 0), numpy.arange(count)
     # how many have a label, and of those with as many the least label, in one number
@@ -226,7 +226,7 @@ def _listed(given: Any) -> Iterable[Any]:
     """Some vertices, or some sets of them. TypeError for what is neither."""
     if isinstance(given, (str, bytes)) or not hasattr(given, '__iter__'):
         raise TypeError('communities are a column as louvain gives it, {vertex: community}, or a '
-                        'list of sets of vertices: %r is no such set' % (given,))
+                        'list of sets of vertices: %s is no such set' % shown(given))
     return given  # type: ignore[no-any-return]
 
 

@@ -5,7 +5,7 @@ from typing import Any, Dict, List, Optional, Set
 
 import numpy
 
-from ..io.coo import whole
+from ..io.coo import shown, whole
 from ..loops import Loop, State, empty
 from ..loops.trips import Round
 from ..matrix import Matrix
@@ -144,7 +144,7 @@ def k_core(G: Matrix, k: int, progress: Progress = None, *, check: bool = True) 
     order(G)
     k = whole(k, 'number of neighbours')
     if k < 0:
-        raise ValueError('a k-core has k of 0 or above')
+        raise ValueError('a k-core has k of 0 or above, not %s' % shown(k))
     check_undirected(G, check)
     peeling = Peeling(G, progress)
     if k == 0:

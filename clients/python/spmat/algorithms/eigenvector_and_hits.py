@@ -7,7 +7,7 @@ from typing import Any, Callable, Dict, NamedTuple, Optional, Tuple
 
 import numpy
 
-from ..io.coo import whole
+from ..io.coo import shown, whole
 from ..matrix import Matrix
 from ..operators import asm
 from . import step_bounds
@@ -119,7 +119,8 @@ def greatest_of(numbers: Array) -> int:
 def check_options(scale: int, rounds: int) -> None:
     """ValueError where a scale, or a number of rounds, is out of range."""
     if not 1 <= scale <= 1 << 52 or whole(rounds, 'number of rounds') < 1:
-        raise ValueError('a scale is 1 to 2^52, and rounds are 1 or more')
+        raise ValueError('a scale is 1 to 2^52, and rounds are 1 or more: not %s and %s'
+                         % (shown(scale), shown(rounds)))
 
 
 def _scale(numbers: Array, bits: int) -> Array:

@@ -6,6 +6,7 @@ from typing import Any, List, Mapping, NamedTuple, Optional
 
 import numpy
 
+from ..io.coo import shown
 from ..matrix import Matrix
 from ..operators import Semiring, binary
 from . import step_bounds
@@ -184,7 +185,8 @@ def pagerank(G: Matrix, GT: Optional[Matrix] = None, damping: float = 0.85,
     count = order(G, GT)
     if not (tolerance is None or 0 < tolerance < 1) or not (
             scale is None or 1 <= scale <= 1 << MOST_SCALE):
-        raise ValueError('damping and tolerance lie between 0 and 1, and scale is 1 to 2^52')
+        raise ValueError('damping and tolerance lie between 0 and 1, and scale is 1 to 2^52: not '
+                         '%s, %s and %s' % tuple(map(shown, (damping, tolerance, scale))))
     parts = damping_of(damping)
     if count == 0:
         return as_centrality(put_column(G, vector_of([], [])), scale or ONE, 0.0,

@@ -5,16 +5,20 @@ names the argument, what it is and what came."""
 from __future__ import annotations
 
 import datetime
+import decimal
 import enum
 import inspect
+import math
 import numbers
 import re
+from fractions import Fraction
 from typing import (Any, Callable, Dict, Iterator, List, Mapping, NamedTuple, Optional, Sequence,
                     Tuple, TypeVar, Union)
 
 import numpy
 
 from ..backends.placeholders import Placeholder
+from ..io.coo import real, shown, whole
 from ..pricing.call_price import Bound
 from ..pricing.call_sizes import CallSizes
 
@@ -144,8 +148,11 @@ def required(function: Callable[..., Any]) -> Tuple[str, ...]:
 
 # -- what callers hand in
 
-Check = Callable[[Tuple[Any, ...], Mapping[str, Any]], None]
-Holds = Callable[[Any], bool]
+Arguments = Tuple[Tuple[Any, ...], Dict[str, Any]]
+Check = Callable[[Tuple[Any, ...], Mapping[str, Any]], Arguments]
+Read = Callable[[Any], Any]
+"""Gives what is worked with, such as a number of Python for one of numpy. TypeError or ValueError
+where it is of another kind."""
 # What counts values where an algorithm doesn't, and what takes two vertices in place of a matrix.
 LENGTHS = ('all_pairs(W).reduce_rowwise("max") has the greatest length from each vertex by values, '
            'and reduce_scalar("max") of it that of all')
@@ -175,28 +182,36 @@ def _is_number(one: Any) -> bool:
     return isinstance(one, numbers.Number) and not isinstance(one, complex)
 
 
-def _is_length(one: Any) -> bool:
-    """Whether it may bound lengths, which are times where the values of edges are."""
-    return _is_number(one) or isinstance(one, (datetime.timedelta, numpy.timedelta64))
+def _finite(one: Any) -> Any:
+    """A finite number: a decimal as a fraction, which goes with floats."""
+    real(one, 'it')
+    return Fraction(one) if isinstance(one, decimal.Decimal) else one
 
 
-def _is_finite(one: Any) -> bool:
-    return _is_number(one) and abs(one) != float('inf')
+def _length(one: Any) -> Any:
+    """What bounds lengths, which are times where the values of edges are."""
+    if isinstance(one, (datetime.timedelta, numpy.timedelta64)) or one in (math.inf, -math.inf):
+        return one
+    return one if isinstance(one, int) else _finite(one)
 
 
-def _is_whole(one: Any) -> bool:
-    return hasattr(one, '__index__') or (
-        isinstance(one, numbers.Real) and _is_finite(one) and one == one // 1)
+def _such(holds: Callable[[Any], bool]) -> Read:
+    """What reads things of a kind."""
+    def read(one: Any) -> Any:
+        if not holds(one):
+            raise TypeError
+        return one
+    return read
 
 
-KINDS: Dict[str, Tuple[str, Holds]] = {
-    'Matrix': ('a matrix', _is_matrix),
-    'int': ('a whole number', _is_whole),
-    'float': ('a finite number', _is_finite),
-    'bool': ('True or False', lambda one: isinstance(one, (int, numpy.bool_))),
-    'Weights': ('a dict of numbers by vertex', lambda one: isinstance(one, Mapping)),
-    'Progress': ('a function of (what, done, of)', callable),
-    'cutoff': ('a number, or a time of a matrix of times', _is_length)}
+KINDS: Dict[str, Tuple[str, Read]] = {
+    'Matrix': ('a matrix', _such(_is_matrix)),
+    'int': ('a whole number', whole),
+    'float': ('a finite number', _finite),
+    'bool': ('True or False', _such(lambda one: isinstance(one, (int, numpy.bool_)))),
+    'Weights': ('a dict of numbers by vertex', _such(lambda one: isinstance(one, Mapping))),
+    'Progress': ('a function of (what, done, of)', _such(callable)),
+    'cutoff': ('a number, or a time of a matrix of times', _length)}
 
 
 def checks_arguments(function: Callable[..., Any]) -> Check:
@@ -210,12 +225,13 @@ def checks_arguments(function: Callable[..., Any]) -> Check:
     Returns
     -------
     callable
-        A function of the positional and the named arguments. It raises TypeError where one is of
-        another kind, or there is no such argument, and ValueError for another number.
+        A function of the positional and the named arguments, which gives these as the algorithm
+        takes them. It raises TypeError where one is of another kind, or there is no such argument,
+        and ValueError for another number.
     """
     signature = inspect.signature(function)
     name = function.__name__
-    kinds: Dict[str, Tuple[str, Holds]] = {}
+    kinds: Dict[str, Tuple[str, Read]] = {}
     for called, parameter in list(signature.parameters.items())[1:]:
         annotation = str(parameter.annotation).replace('Optional[', '').rstrip(']')
         found = KINDS.get(called, KINDS.get(annotation))
@@ -224,25 +240,33 @@ def checks_arguments(function: Callable[..., Any]) -> Check:
     optional = {called for called, parameter in signature.parameters.items()
                 if parameter.default is None}
 
-    def check(args: Tuple[Any, ...], named: Mapping[str, Any]) -> None:
+    def check(args: Tuple[Any, ...], named: Mapping[str, Any]) -> Arguments:
         try:
             given = signature.bind(*args, **named).arguments
         except TypeError as fault:
             raise TypeError(_unknown(name, signature, str(fault), named)) from None
         for called, one in given.items():
-            what, holds = kinds.get(called, ('', callable))
-            is_left_out = isinstance(one, Placeholder) or (one is None and called in optional)
-            if what and not is_left_out and not holds(one):
-                kind = ValueError if _is_number(one) and what.endswith('number') else TypeError
+            if (called not in kinds or isinstance(one, Placeholder)
+                or (one is None and called in optional)):
+                continue
+            what, read = kinds[called]
+            try:
+                given[called] = read(one)
+            except (TypeError, ValueError):
+                kind = ValueError if _is_number(one) and 'number' in what else TypeError
                 raise kind('%s= of %s is %s, not %s: %s' % (
-                    called, name, what, _shorten_repr(one), _advice(name, called, signature)))
+                    called, name, what, _shorten_repr(one),
+                    _advice(name, called, signature))) from None
+        return (tuple(given.get(called, one) for called, one in zip(signature.parameters, args)),
+                {called: given.get(called, one) for called, one in named.items()})
     return check
 
 
 def _shorten_repr(one: Any) -> str:
     """What came, in a few words."""
-    words = repr(one)
-    return words if len(words) <= LONGEST and '\n' not in words else 'of type ' + type(one).__name__
+    words = shown(one)
+    return ('of type ' + type(one).__name__ if '\n' in words or (len(words) > LONGEST
+                                                                 and not _is_number(one)) else words)
 
 
 def _unknown(name: str, signature: inspect.Signature, said: str,

@@ -17,10 +17,12 @@ from ..backends.protocol import Budget, JobResult, Run
 from ..errors import BudgetExceeded, Closed, SpmatError
 from ..foreign_names import SESSION, missing_attribute
 from ..io import coo
-from ..limits import MOST_STEPS, MOST_WORKERS
+from ..limits import MOST_STEPS
 from ..operators import Op, Operator, diagnostics, find
 from ..session import Session
+from ..wire.connection import checked_settings
 from ..wire.server_program import Program
+from ..wire.transport import checked_seconds
 from . import worker_tasks
 from .backend import BlockHandle, BlocksBackend
 from .errors import AtBlock, VersionMismatch, add_spent, name_block
@@ -87,7 +89,8 @@ class Sessions(Inputs):
                  workers: int = 1, program: Optional[Program] = None, blocks: Optional[int] = None,
                  folder: Optional[str] = None, associative: Iterable[Op] = (), texts: bool = False,
                  progress: Progress = None, patience: Optional[float] = 10) -> None:
-        _check_settings(steps, workers, patience)
+        steps, workers = checked_settings(steps, workers)
+        patience = checked_seconds(patience, 'patience')
         self.engine = engine if isinstance(engine, Engine) else _open_threads(engine)
         self.blocks = (self.engine.places if blocks is None
                        else coo.whole(blocks, 'number of blocks'))
@@ -102,8 +105,8 @@ class Sessions(Inputs):
         self.turns = itertools.count()             # which place is the next to join a whole
         self.cut: Optional[Cut] = None
         self._backend = BlocksBackend(self)
-        self.ledger = Ledger(int(steps))
-        settings = Settings(int(steps), workers, program, texts, patience)
+        self.ledger = Ledger(steps)
+        settings = Settings(steps, workers, program, texts, patience)
         self.settings = dataclasses.replace(settings, version=self._version(settings))
 
     def _version(self, settings: Settings) -> Tuple[str, str]:
@@ -361,12 +364,4 @@ def _open_threads(count: Any) -> Threads:
     except TypeError:
         raise TypeError(
             'sessions are a number of them on this machine, or an engine: Sessions(4), '
-            'Sessions(Threads(4)) or Sessions(Dask(client)), not %r' % (count,)) from None
-
-
-def _check_settings(steps: int, workers: int, patience: Optional[float]) -> None:
-    """A ValueError here where each session would raise one."""
-    if not 0 <= steps <= MOST_STEPS or not 1 <= workers <= MOST_WORKERS:
-        raise ValueError('steps are 0 to %d (2^62), workers 1 to %d' % (MOST_STEPS, MOST_WORKERS))
-    if patience is not None and not 0 < patience:
-        raise ValueError('patience is a number of seconds above 0, or None, not %r' % (patience,))
+            'Sessions(Threads(4)) or Sessions(Dask(client)), not %s' % coo.shown(count)) from None

@@ -8,6 +8,7 @@ import weakref
 from typing import Any, Callable, Dict, Iterator, List, Sequence, Tuple
 
 from ..errors import Closed
+from ..io.coo import shown, whole
 from . import worker_tasks
 from .errors import AtBlock
 from .executor import Engine, Progress, Version
@@ -68,8 +69,9 @@ class Threads(Engine):
     whose program ends so three times in one task ends as BlockFailed."""
 
     def __init__(self, count: int = 2) -> None:
+        count = whole(count, 'number of sessions')
         if not 1 <= count <= 64:
-            raise ValueError('1 to 64 sessions, not %r' % (count,))
+            raise ValueError('1 to 64 sessions, not %s' % shown(count))
         self._pools = [concurrent.futures.ThreadPoolExecutor(1, 'spmat-%d' % place)
                        for place in range(count)]
         self._stores: Dict[Tuple[str, int], Store] = {}

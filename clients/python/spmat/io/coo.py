@@ -2,6 +2,7 @@
 compressed rows or columns, dicts, scipy.sparse. And back."""
 from __future__ import annotations
 
+import decimal
 import math
 import numbers
 import operator
@@ -17,6 +18,7 @@ from .matrix_text import Triples
 
 LEAST, MOST = -1 << 63, (1 << 63) - 1
 ORDERS = {'rowwise': True, 'columnwise': False}
+LONGEST = 60                                       # characters of a value that an error shows
 Columns = Tuple[Any, Any, Any]
 DUP_OP = 'dup_op= folds the values of a position that repeats'
 
@@ -101,12 +103,35 @@ def whole(number: Any, what: str = 'value') -> int:
     except TypeError:
         pass
     if not isinstance(number, numbers.Real):
-        raise TypeError('a %s is a whole number, not %r' % (what, number))
-    if math.isnan(number):
+        raise TypeError('a %s is a whole number, not %s' % (what, shown(number)))
+    if number != number:                           # pylint: disable=comparison-with-itself
         raise ValueError('a %s is missing: it is nan' % what)
-    if not math.isfinite(number) or number != int(number):
-        raise ValueError('a %s is a whole number, not %r%s' % (what, number, _mend(what)))
+    if number in (math.inf, -math.inf) or number != int(number):
+        raise ValueError('a %s is a whole number, not %s%s' % (what, shown(number), _mend(what)))
     return int(number)
+
+
+def real(number: Any, what: str) -> float:
+    """A number as a float, also one of numpy, a fraction or a decimal. TypeError for what is no
+    number, ValueError for NaN, infinity and what is beyond floats."""
+    if isinstance(number, (numbers.Real, decimal.Decimal)):
+        try:
+            found = float(number)
+        except (OverflowError, ValueError):        # of Decimal's signaling NaN
+            found = math.inf
+        if math.isfinite(found):
+            return found
+        raise ValueError('%s is a finite number, not %s' % (what, shown(number)))
+    raise TypeError('%s is a finite number, not %s' % (what, shown(number)))
+
+
+def shown(number: Any) -> str:
+    """What came, in a few words: Python itself writes no number of more than 4300 digits."""
+    try:
+        words = repr(number)
+    except ValueError:
+        return 'a number of more than 4300 digits'
+    return words if len(words) <= LONGEST else '%s.. (%d characters)' % (words[:20], len(words))
 
 
 def whole_of_word(word: str) -> int:
@@ -125,7 +150,7 @@ def word(number: Any, what: str) -> int:
     """A whole number within 64 bits."""
     got = whole(number, what)
     if not LEAST <= got <= MOST:
-        raise ValueError('%s %d is not in -2^63 to 2^63 - 1' % (what, got))
+        raise ValueError('%s %s is not in -2^63 to 2^63 - 1' % (what, shown(got)))
     return got
 
 
@@ -153,7 +178,7 @@ def _word_at(number: Any, what: str, at: int) -> int:
     """A whole number within 64 bits; errors name its place."""
     got = _whole_at(number, what, at)
     if not LEAST <= got <= MOST:
-        raise ValueError('%s %d is not in -2^63 to 2^63 - 1 (entry %d)' % (what, got, at))
+        raise ValueError('%s %s is not in -2^63 to 2^63 - 1 (entry %d)' % (what, shown(got), at))
     return got
 
 
@@ -161,9 +186,9 @@ def side(given: Optional[int], least: int, what: str) -> int:
     """A matrix's size: the given one, or the least that fits. TooLarge above the server's limit."""
     size = least if given is None else whole(given, what)
     if size < 0:
-        raise ValueError('%s is %d' % (what, size))
+        raise ValueError('%s is 0 or more, not %s' % (what, shown(size)))
     if size > MOST_SIDE:
-        raise refusal('M4', detail='%s is %d' % (what, size))
+        raise refusal('M4', detail='%s is %s' % (what, shown(size)))
     return size
 
 
@@ -351,8 +376,9 @@ def side_of(indptr: Any, given: Optional[int], what: str) -> int:
     """The number of rows (or columns) that have beginnings. ValueError where another one is
     given."""
     count = len(indptr) - 1
-    if given is not None and given != count:
-        raise ValueError('%d %ss are given, and the beginnings are of %d' % (given, what, count))
+    if given is not None and whole(given, 'number of ' + what) != count:
+        raise ValueError('%s %ss are given, and the beginnings are of %d'
+                         % (shown(given), what, count))
     return count
 
 

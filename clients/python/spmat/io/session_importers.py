@@ -270,6 +270,7 @@ class SessionSources(Sources[Matrix]):
         1,048,576, and gives another matrix of them each time.
         """
         with self._backend.lock():
+            ncols = coo.side(ncols, 0, 'ncols')
             row = self._ones.pop(ncols, None)
             row = self.full(1, ncols) if row is None else row
             if ncols <= LONG and row.handle.backend is self._backend:

@@ -15,7 +15,7 @@ from typing import Any, Callable, List, Optional, Sequence, Tuple
 import numpy
 
 from .arrays import is_gap
-from .coo import LEAST, MOST, whole, word
+from .coo import LEAST, MOST, shown, whole, word
 
 # Floats below it are the whole numbers that were written, or none: pandas reads the last bits of
 # long decimals wrong, so that 7358111619511751.0 ends in 0.
@@ -55,8 +55,8 @@ def check_missing(missing: Optional[str]) -> None:
     """ValueError for what says nothing of missing values."""
     if missing not in (RAISE, SKIP, None):
         raise ValueError(
-            'missing is "raise", "skip" or None, which takes nothing for missing; not %r'
-            % (missing,))
+            'missing is "raise", "skip" or None, which takes nothing for missing; not %s'
+            % shown(missing))
 
 
 def is_missing(field: str) -> bool:
@@ -79,9 +79,13 @@ def check_scale(scale: Optional[float]) -> Optional[decimal.Decimal]:
     """A scale as a number. ValueError where it is none above 0."""
     if scale is None:
         return None
-    found = decimal.Decimal(str(scale))
+    try:
+        found = decimal.Decimal('' if isinstance(scale, str) else str(scale))
+    except (decimal.InvalidOperation, ValueError):
+        found = decimal.Decimal(0)
     if not found.is_finite() or found <= 0:
-        raise ValueError('a scale is a number above 0, not %r' % (scale,))
+        raise ValueError('a scale is a number above 0, such as 1000 for thousandths, not %s'
+                         % shown(scale))
     return found
 
 
@@ -161,7 +165,8 @@ def whole_of(exact: decimal.Decimal, field: str, scale: Optional[decimal.Decimal
             raise wrong('%s is %s: %s' % (field, NOT_WHOLE, SCALE))
         is_out = not LEAST <= rounded <= MOST
     if is_out:
-        raise wrong('%s is beyond 64 bits: values lie in -2^63 to 2^63 - 1' % field)
+        raise wrong('%s%s is beyond 64 bits: values lie in -2^63 to 2^63 - 1' % (
+            field, '' if scale is None else ' times %g' % scale))
     if rounding is not None:
         rounding.note(1, bool(apart), float(apart))
     return int(rounded)
@@ -216,7 +221,8 @@ def scaled_one(value: Any, scale: Optional[decimal.Decimal], rounding: Rounding,
         raise ValueError('%s is missing: it is %r' % (what, value))
     if not isinstance(value, (numbers.Real, decimal.Decimal)) and not hasattr(value, '__index__'):
         raise TypeError('a %s is a number, not %r' % (what, value))
-    return whole_of(_decimal_of(value), str(value), scale,
+    field = shown(value) if isinstance(value, int) else str(value)
+    return whole_of(_decimal_of(value), field, scale,
                     lambda words: ValueError('%s: %s' % (what, words)), rounding)
 
 
@@ -227,8 +233,9 @@ def _decimal_of(value: Any) -> decimal.Decimal:
         with decimal.localcontext() as context:
             context.prec = 60
             return decimal.Decimal(value.numerator) / value.denominator
-    return decimal.Decimal(str(float(value) if isinstance(value, numbers.Real)
-                               and not hasattr(value, '__index__') else value))
+    if hasattr(value, '__index__'):
+        return decimal.Decimal(value.__index__())
+    return decimal.Decimal(str(float(value) if isinstance(value, numbers.Real) else value))
 
 
 def scaled_array(values: Any, rounding: Rounding) -> Any:
@@ -257,8 +264,8 @@ class Clock:
 
     def __init__(self, unit: str, date_format: Optional[str] = None) -> None:
         if unit not in UNITS:
-            raise ValueError('a unit of times is %s, not %r'
-                             % (', '.join(map('"%s"'.__mod__, UNITS)), unit))
+            raise ValueError('a unit of times is %s, not %s'
+                             % (', '.join(map('"%s"'.__mod__, UNITS)), shown(unit)))
         self.unit, self._format, self._size = unit, date_format, UNITS[unit]
         self.count = self.cut = 0
 

@@ -307,13 +307,14 @@ def needed_by(call: Callable[[], Any]) -> int:
 
 # -- algorithms on a small budget
 
-def guarded(function: F, check: Callable[[Tuple[Any, ...], Dict[str, Any]], None]) -> F:
-    """An algorithm whose arguments are looked at by `check`. It raises BudgetExceeded before its
+def guarded(function: F, check: Callable[[Tuple[Any, ...], Dict[str, Any]],
+                                         Tuple[Tuple[Any, ...], Dict[str, Any]]]) -> F:
+    """An algorithm whose arguments are those that `check` gives of what callers hand in. It raises BudgetExceeded before its
     first job where the budget is known to have too little left for it, and warns where it may
     have."""
     @functools.wraps(function)
     def call(*args: Any, **named: Any) -> Any:
-        check(args, named)
+        args, named = check(args, named)
         priced = current_price()
         if priced is not None:
             return _with_vectors(priced.call(function.__name__, *_listed(args, named)))

@@ -23,7 +23,7 @@ import weakref
 from typing import Callable, Deque, Iterable, Iterator, List, Mapping, Optional, Tuple, Union
 
 from ..errors import Closed, Refused, SpmatError
-from ..io.coo import whole
+from ..io.coo import shown, whole
 from ..limits import MOST_STEPS, MOST_WORKERS
 from ..refusal_rules import OF_GATEWAY
 from .commands import PIECE, Command, CommandBatch, Incoming, Near, Reply, read_refusal
@@ -47,9 +47,9 @@ def checked_settings(steps: float, workers: float) -> Tuple[int, int]:
     refuse its words."""
     many, threads = whole(steps, 'number of steps'), whole(workers, 'number of workers')
     if not 0 <= many <= MOST_STEPS:
-        raise ValueError('steps are 0 to %d (2^62)' % MOST_STEPS)
+        raise ValueError('steps are 0 to %d (2^62), not %s' % (MOST_STEPS, shown(many)))
     if not 1 <= threads <= MOST_WORKERS:
-        raise ValueError('workers are 1 to %d' % MOST_WORKERS)
+        raise ValueError('workers are 1 to %d, not %s' % (MOST_WORKERS, shown(threads)))
     return many, threads
 
 

@@ -13,6 +13,7 @@ import time
 import urllib.parse
 from typing import TYPE_CHECKING, NamedTuple, Optional, Sequence, Union
 
+from ..io.coo import real, shown, whole
 from .commands import PIECE
 
 if TYPE_CHECKING:
@@ -25,6 +26,8 @@ GATEWAY_PORT = 7173
 # Waits until its input ends, which is when nobody holds the other end any more, and then ends a
 # process.
 WATCHER = 'read -r _; kill -9 "$0"'
+
+MOST_SECONDS = ((1 << 31) - 1) // 1000             # poll counts milliseconds in 32 bits
 
 
 def _poll_of(file: int) -> 'select.poll':
@@ -42,17 +45,27 @@ class Timeouts(NamedTuple):
     run: Optional[float] = None
 
 
+def checked_seconds(seconds: Optional[float], what: str = 'timeout') -> Optional[float]:
+    """A number of seconds as a float, or None. TypeError or ValueError where it isn't above 0, or
+    is more than a system waits for."""
+    found = None if seconds is None else real(seconds, what)
+    if found is not None and not 0 < found <= MOST_SECONDS:
+        raise ValueError('%s is a number of seconds above 0, up to %d, or None for no end, not %s'
+                         % (what, MOST_SECONDS, shown(seconds)))
+    return found
+
+
 class Deadline:
     """When what is sent or awaited has to be done."""
 
     def __init__(self, timeouts: Timeouts) -> None:
-        self._timeouts = timeouts
+        self.timeouts = Timeouts(*map(checked_seconds, timeouts))
         self._until: Optional[float] = None        # by the monotonic clock
 
     def begin(self, runs: bool) -> None:
         """A command begins, or its reply is awaited; `runs` where the server may take as long as
         its jobs do."""
-        seconds = self._timeouts.run if runs else self._timeouts.command
+        seconds = self.timeouts.run if runs else self.timeouts.command
         self._until = None if seconds is None else time.monotonic() + seconds
 
     def left(self) -> Optional[float]:
@@ -219,8 +232,8 @@ class Address(NamedTuple):
         lets nobody in."""
         if self.is_file() and self.tls is not None:
             raise ValueError('tls= is for a host and a port, and %s is a socket file' % self.host)
-        if not self.is_file() and not 1 <= self.port <= 65535:
-            raise ValueError('a port is 1 to 65535, not %d' % self.port)
+        if not self.is_file() and not 1 <= whole(self.port, 'port') <= 65535:
+            raise ValueError('a port is 1 to 65535, not %s' % shown(self.port))
         opened: Optional[socket.socket] = None
         what = ''
         try:
@@ -250,7 +263,7 @@ class Socket:
     def __init__(self, address: Address, timeouts: Timeouts) -> None:
         self.deadline = Deadline(timeouts)
         self._has_tls = address.tls is not None
-        self._socket = address.connected(timeouts.command)
+        self._socket = address.connected(self.deadline.timeouts.command)
         self._poll = _poll_of(self._socket.fileno())
         if address.login:
             self._socket.sendall(address.login)
