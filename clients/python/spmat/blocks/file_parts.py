@@ -20,7 +20,7 @@ import numpy
 
 from .. import overflow
 from ..errors import ReadError, TextRefused
-from ..io import edge_list_reader, files, graph_formats, matrix_market, matrix_text, parse_integers
+from ..io import edge_list_reader, files, formats, matrix_market, matrix_text, parse_integers
 from ..io.columns import Layout
 from ..io.coo import LEAST, MOST
 from ..io.edge_list_layout import Form
@@ -205,7 +205,7 @@ class ListRange(NamedTuple):
 class WholeFile(NamedTuple):
     """A file that one worker reads: a list, also packed, or of parquet."""
     path: str
-    layout: Layout
+    request: formats.Request
 
     @property
     def label(self) -> str:
@@ -214,9 +214,14 @@ class WholeFile(NamedTuple):
 
     def read(self, bipartite: bool) -> EdgePart:
         """Its edges. ReadError, with file and line, where it can't be read."""
-        text = files.load(self.path)
-        read = graph_formats.read_table if text.startswith(b'PAR1') else edge_list_reader.read
-        edges = read(self.path, text, self.layout)
+        text = files.load(self.path, self.request.max_bytes)
+        request = (self.request._replace(format='parquet') if text.startswith(b'PAR1')
+                   else self.request)
+        format = formats.check_format(self.path, text, request.format)
+        if format not in formats.OF_LISTS:
+            raise ReadError(self.path, None, 'the files of a folder are lists of edges or parquet, '
+                            'and this is one of the format %s: read it by itself' % format)
+        edges, _ = formats.edges_of(self.path, text, request)
         return _number_edges(edges.sources, edges.targets, edges.values, bipartite)._replace(
             summary=edges.summary, left_out=edges.left_out)
 

@@ -121,7 +121,8 @@ class Inputs(Sources[BlockMatrix]):
                     self, path, matrix_market.Values(layout.values, layout.scale), None, name))
         if made is not None:
             check_layout(name_of(path), 'mtx', request)
-        if made is None and request.format in (None, 'edges', 'csv', 'tsv', 'parquet'):
+            return self._as_asked(name_of(path), made, request, dup_op, name)
+        if request.format in (None, 'edges', 'csv', 'tsv', 'parquet'):
             made = parallel_read.read_list(self, path, request, dup_op, name)
         return super()._read(path, request, dup_op, name) if made is None else made
 

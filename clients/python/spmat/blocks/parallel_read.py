@@ -191,7 +191,7 @@ def read_list(sessions: 'Inputs', path: Any, request: Request, dup_op: DupOp,
         return None
     try:
         table = _find_table(file.path, request)
-        if table is None:
+        if table is None or (table.question and request.directed is None):
             return None
         start = start_of_line(table.text, table.skipped + 1)
         sources = [ListRange(part, table.form) for part in file.cut(start, sessions.engine.places)]
@@ -220,8 +220,7 @@ def _find_table(path: str, request: Request) -> Optional[edge_list_layout.Table]
     if check_format(path, head, request.format) not in ('edges', 'csv', 'tsv'):
         return None
     table = edge_list_layout.lay_out(path, head, _part_fields(request))
-    is_of_networkx = (request.layout.columns is None
-                      and has_dictionaries(head, request.layout.comments))
+    is_of_networkx = has_dictionaries(head, request.layout)
     return table if table.form.is_by_byte and not is_of_networkx else None
 
 
@@ -232,7 +231,7 @@ def _list_folder(folder: str, request: Request) -> List[WholeFile]:
         raise ValueError('nodelist is of a single file, not of a folder')
     paths = [os.path.abspath(os.path.join(folder, name)) for name in sorted(os.listdir(folder))
              if not name.startswith(('.', '_'))]
-    found = [WholeFile(path, _part_fields(request)) for path in paths if os.path.isfile(path)]
+    found = [WholeFile(path, request) for path in paths if os.path.isfile(path)]
     if not found:
         raise ReadError(folder, None, 'a folder without a file')
     return found

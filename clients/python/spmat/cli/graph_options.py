@@ -11,7 +11,7 @@ from ..errors import ReadError
 from ..io import matrix_market
 from ..io.files import Loaded
 from ..io.columns import Layout
-from ..io.formats import FORMATS, GRAPH_FORMATS, READABLE, Request, format_of
+from ..io.formats import FORMATS, READABLE, Request, format_of
 from ..io.values import UNITS
 from ..matrix import Matrix
 from ..metadata import Nodes
@@ -147,9 +147,8 @@ def request_of(options: argparse.Namespace, text: bytes, needs: Needs) -> Reques
     values = (not options.pattern
               and (plain or (needs.values and not options.undirected) or options.scale is not None
                    or options.unit is not None))
-    two = options.bipartite if format_of(text) not in ('mtx', *GRAPH_FORMATS) else False
-    layout = Layout(options.delimiter, options.header, columns, values, options.scale, two, True
-                    if options.comments is None else options.comments, None
+    layout = Layout(options.delimiter, options.header, columns, values, options.scale,
+                    options.bipartite, True if options.comments is None else options.comments, None
                     if options.missing == 'keep' else options.missing, None, options.unit,
                     options.date_format)
     directed = False if options.both_ways and options.dup_op is not None else None

@@ -332,8 +332,8 @@ class ArraySources(abc.ABC, Generic[Made]):
             The graph. Entry (i, j) is the edge from node i to node j; an undirected edge stands
             both ways.
         weight : str, optional
-            The edges' attribute that has their values; an edge without it has 1, and with None
-            each has.
+            The edges' attribute that has their values. An edge without it has 1, as in networkx,
+            also with a scale, and `notes.source` counts these; with None each has 1.
         nodelist : sequence, optional
             The nodes, in order; all of the graph's unless given. They are the matrix' `nodes`.
         scale : number, optional

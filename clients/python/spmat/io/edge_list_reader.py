@@ -276,8 +276,8 @@ def _read_lines(table: Table, layout: Layout) -> Edges:
     if table.form.value is not None:
         values = (clock.read(fields.values, value_fault) if clock is not None
                   else numpy.array(whole_values(fields.values, value_fault, rounding), numpy.int64))
-    return Edges(*_convert_names(fields, layout.nodetype, fault), values, fault,
-                 _summarize(table, clock or rounding), left_out)
+    return Edges(*convert_names(fields.sources, fields.targets, layout.nodetype, fault), values,
+                 fault, _summarize(table, clock or rounding), left_out)
 
 
 def _complete_fields(table: Table, layout: Layout) -> Tuple[_Fields, LeftOut]:
@@ -355,11 +355,11 @@ def _describe_width(table: Table, fields: List[str]) -> str:
     return words
 
 
-def _convert_names(fields: _Fields, wanted: Optional[type],
-                   fault: Any) -> Tuple[List[Any], List[Any]]:
+def convert_names(sources: List[str], targets: List[str], wanted: Optional[type],
+                  fault: Any) -> Tuple[List[Any], List[Any]]:
     """Names as whole numbers where all are, as they would be written, unless text is wanted.
     ReadError where one isn't, and numbers are."""
-    columns = fields.sources, fields.targets
+    columns = sources, targets
     if wanted is int:
         odd = next((at for at, names in enumerate(zip(*columns))
                     if not all(map(WHOLE.fullmatch, names))), None)
@@ -371,4 +371,4 @@ def _convert_names(fields: _Fields, wanted: Optional[type],
         numbers = []
     if numbers and all(list(map(str, many)) == column for many, column in zip(numbers, columns)):
         return numbers[0], numbers[1]
-    return list(map(str, fields.sources)), list(map(str, fields.targets))
+    return list(map(str, sources)), list(map(str, targets))

@@ -12,6 +12,8 @@ from .edges import Edges, Graph, How, LeftOut, code_names, graph_of
 from .values import (SKIP, SKIPS, TAKES, Rounding, check_missing, clock_of, is_time,
                      whole_numbers)
 
+ABSENT = object()                                  # the value of an edge that has none
+
 
 def graph_of_list(edges: Iterable[Any], how: How, layout: Layout) -> Graph:
     """The matrix of (from, to), (from, to, value) or (from, to, {'weight': value}), as networkx
@@ -32,13 +34,32 @@ def graph_of_list(edges: Iterable[Any], how: How, layout: Layout) -> Graph:
     def wrong(at: int, why: Exception) -> Exception:
         return type(why)('edge %d: %s' % (places[at], why))
     values, done = (None, '') if len(columns) < 3 else convert_values(columns[2], layout, wrong)
-    return graph_of(Edges(columns[0], columns[1], values, fault, done, left_out), how)
+    found = Edges(columns[0], columns[1], values, fault, done, left_out)
+    check_times(layout, found)
+    return graph_of(found, how)
+
+
+def check_times(layout: Layout, edges: Edges) -> None:
+    """ValueError where values are said to be times, and no edge has a value: each would be 1."""
+    if layout.unit is not None and layout.values and edges.values is None and len(edges.sources):
+        raise ValueError('unit=%r says in what values are counted, and no edge has one: name the '
+                         'column that has them, or leave unit= out' % layout.unit)
 
 
 def convert_values(values: Any, layout: Layout,
                    wrong: Callable[[int, Exception], Exception]) -> Tuple[Any, str]:
     """Numbers or times as an array of whole numbers, and what was done to them; `wrong` makes the
-    error of one, of its place and of an error that doesn't name it."""
+    error of one, of its place and of an error that doesn't name it. What is ABSENT of a list is 1,
+    as networkx has it, but for times, of which 1 is none."""
+    absent = ([at for at, value in enumerate(values) if value is ABSENT]
+              if isinstance(values, list) else [])
+    if absent and layout.unit is not None:
+        raise wrong(absent[0], ValueError('it has no time, and values are times: give each edge '
+                                          'one, or leave unit= out'))
+    if absent:
+        found, done = convert_values([1 if value is ABSENT else value for value in values], layout,
+                                     wrong)
+        return found, '; '.join(filter(None, (done, describe_absent(len(absent), len(values)))))
     clock = clock_of(layout.unit, layout.date_format, layout.scale)
     if clock is not None:
         found = clock.read(values, lambda at, words: wrong(at, ValueError(words)))
@@ -51,6 +72,11 @@ def convert_values(values: Any, layout: Layout,
         return wrong(at, why)
     rounding = Rounding(layout.scale)
     return whole_numbers(values, rounding, wrong_or_time), str(rounding)
+
+
+def describe_absent(count: int, of: int, what: str = 'value') -> str:
+    """How many edges count as 1 for want of a value, in words; nothing of none."""
+    return '%d of %d edges have no %s and count as 1' % (count, of, what) if count else ''
 
 
 def _complete_edges(columns: Sequence[List[Any]],
@@ -84,8 +110,8 @@ def _absent_from(many: Sequence[Any]) -> List[int]:
 
 
 def _value_of(edge: Sequence[Any]) -> Any:
-    value = edge[2] if len(edge) == 3 else 1
-    return value.get('weight', 1) if isinstance(value, dict) else value
+    value = edge[2] if len(edge) == 3 else ABSENT
+    return value.get('weight', ABSENT) if isinstance(value, dict) else value
 
 
 # -- edges from tables of pandas
@@ -154,7 +180,9 @@ def edges_of_frame(frame: Any, ends: Tuple[Any, Any], attribute: Any, layout: La
     if attribute is not None:
         values, done = convert_values(_list_values(frame[attribute], layout), layout, wrong)
     sources, targets = _names_of_columns([frame[column] for column in ends])
-    return Edges(sources, targets, values, fault, done, left_out)
+    found = Edges(sources, targets, values, fault, done, left_out)
+    check_times(layout, found)
+    return found
 
 
 def _list_values(column: Any, layout: Layout) -> Any:

@@ -102,7 +102,11 @@ class Graph(NamedTuple):
 # -- edges as a matrix
 
 def check_direction(how: How) -> None:
-    """ValueError for edges between vertices of two kinds that are to lead both ways."""
+    """ValueError for edges between vertices of two kinds that are to lead both ways, or whose
+    vertices are given as if they were of one kind."""
+    if how.bipartite and how.nodelist is not None:
+        raise ValueError('nodelist= has vertices of one kind, and bipartite=True takes two: '
+                         'B[row_names, column_names] takes some of each')
     if how.bipartite and not how.directed:
         raise ValueError(
             'a bipartite matrix has rows and columns of two kinds, so an edge has no second '

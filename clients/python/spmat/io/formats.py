@@ -9,6 +9,7 @@ from typing import Callable, Dict, NamedTuple, Optional, Sequence, Tuple
 from ..errors import ReadError
 from . import dimacs, edge_list_reader, graph_formats
 from .columns import Layout
+from .edge_sources import check_times
 from .edges import Edges, Graph, How, graph_of
 from .matrix_text import line_at
 
@@ -164,19 +165,32 @@ def check_format(file: str, text: bytes, format: Optional[str]) -> str:
     return found if format is None else format
 
 
+# What is said of columns of text, and where it has no meaning: there it is refused, since the words
+# would do nothing.
+OF_TEXT = ('delimiter', 'header', 'comments', 'nodetype')
+OF_COLUMNS = (*OF_TEXT, 'columns', 'missing')
+DICTIONARIES = "networkx' edge list"
+NOT_OF: Dict[str, Sequence[str]] = {
+    'mtx': (*OF_COLUMNS, 'unit', 'date_format', 'nodelist'),
+    'dimacs': (*OF_COLUMNS, 'unit', 'date_format'),
+    **dict.fromkeys(graph_formats.CALLED, OF_COLUMNS),
+    'parquet': OF_TEXT, DICTIONARIES: ('header', 'missing')}
+
+
 def check_layout(file: str, format: str, request: Request) -> None:
-    """ReadError where a caller says how a list is written, of a file that is none: the words would
-    do nothing."""
-    named = ['nodelist'] if format == 'mtx' and request.nodelist is not None else []
-    named += [name for name in ('delimiter', 'header', 'columns', 'nodetype',
-                                *(('unit', 'date_format') if format == 'mtx' else ()))
-              if getattr(request.layout, name) is not None]
+    """ReadError where a caller says of a file what has no meaning for its format. None, and that
+    nothing is a comment, is true of each."""
+    asked = {**request.layout._asdict(), 'nodelist': request.nodelist}
+    named = [name for name in NOT_OF.get(format, ()) if asked[name] is not None
+             and asked[name] not in (Layout._field_defaults.get(name), [])]
     if named:
-        mend = ('; G.unit = %r says of the matrix that it has times' % request.layout.unit
-                if named[0] == 'unit' else '')
+        mends = {'unit': 'G.unit = %r says of the matrix that it has times' % request.layout.unit,
+                 'nodelist': 'G[nodelist, nodelist] takes these of the matrix'}
         raise ReadError(file, None,
-                        named[0] + '= is for a list of edges, and this is a file of the format %s%s'
-                        % (format, mend))
+                        '%s= is for a list of edges%s, and this is a file of the format %s; %s' % (
+                            named[0], '' if format in ('mtx', *GRAPH_FORMATS)
+                            else ' in columns of text', format,
+                            mends.get(named[0], 'leave it out')))
 
 
 # -- reading it
@@ -186,7 +200,7 @@ def read(file: str, text: bytes, request: Request, tell: Optional[Progress] = No
     triangle alone. `tell` is told of the phases: 'reading' of the bytes, 'names' of the edges."""
     tell = tell if tell is not None else lambda what, done, of: None
     tell('reading', 0, len(text))
-    edges, how = _edges_of(file, text, request)
+    edges, how = edges_of(file, text, request)
     tell('reading', len(text), len(text))
     count = len(edges.sources)
     tell('names', 0, count)
@@ -195,9 +209,24 @@ def read(file: str, text: bytes, request: Request, tell: Optional[Progress] = No
     return graph
 
 
-def _edges_of(file: str, text: bytes, request: Request) -> Tuple[Edges, How]:
-    """The edges of a file, and what becomes of them."""
+def edges_of(file: str, text: bytes, request: Request) -> Tuple[Edges, How]:
+    """The edges of a file, and what becomes of them. ReadError where the caller asks for what the
+    file doesn't have."""
     format, layout = check_format(file, text, request.format), request.layout
+    if format in ('edges', 'csv', 'tsv') and graph_formats.has_dictionaries(text, layout):
+        format = DICTIONARIES
+    check_layout(file, format, request)
+    edges, how = _read_edges(file, text, format, request)
+    try:
+        check_times(layout, edges)
+    except ValueError as fault:
+        raise ReadError(file, None, str(fault)) from None
+    return edges, how
+
+
+def _read_edges(file: str, text: bytes, format: str, request: Request) -> Tuple[Edges, How]:
+    """The edges of a file of a format, and what becomes of them."""
+    layout = request.layout
     how = How(request.directed is not False, request.nodelist, request.bipartite)
     if format in GRAPH_FORMATS:
         if how.bipartite:
@@ -209,7 +238,7 @@ def _edges_of(file: str, text: bytes, request: Request) -> Tuple[Edges, How]:
                                    else how.nodelist)
     if format == 'parquet':
         return graph_formats.read_table(file, text, layout), how
-    if layout.columns is None and graph_formats.has_dictionaries(text, layout.comments):
+    if format == DICTIONARIES:
         return graph_formats.read_dictionaries(file, text, layout), how
     delimiter = layout.delimiter if layout.delimiter is not None else PARTED.get(format)
     edges = edge_list_reader.read(file, text, layout._replace(delimiter=delimiter))

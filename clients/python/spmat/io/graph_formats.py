@@ -9,15 +9,15 @@ from typing import Any, Callable, List, NamedTuple, Optional, Sequence, Tuple
 
 from ..errors import ReadError
 from ..extras import describe_missing, import_extra
-from .columns import Comments, Head, Layout, choose_columns
+from .columns import Head, Layout, choose_columns
 from .edge_list_layout import SAMPLE, blank_comments
-from .edge_sources import convert_values, edges_of_frame
-from .edges import WHOLE, Edges
+from .edge_list_reader import convert_names
+from .edge_sources import ABSENT, convert_values, edges_of_frame
+from .edges import Edges
 from .matrix_text import line_at
 
 CALLED = {'graphml': 'GraphML', 'gexf': 'GEXF', 'gml': 'GML'}
 VALUES = ('weight', 'value')                       # attributes of edges, the first that one has
-DICTIONARY = re.compile(r'([^\s,]+)[\s,]+([^\s,]+)[\s,]+(\{.*\})\s*')
 
 
 class GraphFile(NamedTuple):
@@ -63,12 +63,12 @@ def _find_attribute(held: List[Any], layout: Layout) -> Optional[str]:
 
 def _values_of(held: List[Any], attribute: Optional[str], layout: Layout,
                fault_of: Callable[[int, str], ReadError]) -> Tuple[Any, str]:
-    """The values of edges by their attributes, 1 where one has none, and what rounding did to them.
-    ReadError names the edge."""
+    """The values of edges by their attributes, and what was done to them. ReadError names the
+    edge."""
     if attribute is None:
         return None, ''
     found, done = convert_values(
-        [data.get(attribute, 1) for data in held], layout,
+        [data.get(attribute, ABSENT) for data in held], layout,
         lambda at, why: fault_of(at, 'the attribute %r: %s' % (attribute, why)))
     return found, '; ' + done if done else ''
 
@@ -107,24 +107,34 @@ def read_table(file: str, text: bytes, layout: Layout) -> Edges:
                               '%s, row %d' % (file, at), None, words))
 
 
-def has_dictionaries(text: bytes, comments: Comments) -> bool:
+def _line_of(delimiter: Optional[str]) -> 're.Pattern[str]':
+    """A line with a dictionary: what parts its fields, or blanks or commas."""
+    name, part = ('([^\\s,]+)', '[\\s,]+') if delimiter is None else ('(.+?)', re.escape(delimiter))
+    return re.compile(name + part + name + part + r'(\{.*\})\s*')
+
+
+def has_dictionaries(text: bytes, layout: Layout) -> bool:
     """Whether the first edge of a list has a dictionary behind it, as networkx' `write_edgelist`
     writes it."""
-    for line in blank_comments(text[:1 << 16], comments)[0].split(b'\n'):
+    if layout.columns is not None:
+        return False
+    for line in blank_comments(text[:1 << 16], layout.comments)[0].split(b'\n'):
         if line.strip():
-            return DICTIONARY.fullmatch(line.decode('utf-8', 'replace')) is not None
+            words = line.decode('utf-8', 'replace')
+            return _line_of(layout.delimiter).fullmatch(words) is not None
     return False
 
 
 def read_dictionaries(file: str, text: bytes, layout: Layout) -> Edges:
     """The edges of a list as networkx writes it. ReadError names the line."""
     plain, left_out = blank_comments(text, layout.comments)
+    form = _line_of(layout.delimiter)
     numbers: List[int] = []
     ends: List[Tuple[str, str]] = []
     held: List[Any] = []
     for number, line in enumerate(plain.split(b'\n'), 1):
         if line.strip():
-            source, target, data = _split_line(file, number, line)
+            source, target, data = _split_line(file, number, line, form)
             numbers.append(number)
             ends.append((source, target))
             held.append(data)
@@ -135,20 +145,20 @@ def read_dictionaries(file: str, text: bytes, layout: Layout) -> Edges:
     values, done = _values_of(held, attribute, layout, fault_of)
     summary = "%s: networkx' edge list; source=column 0, target=column 1, %s%s" % (
         file, 'no values' if values is None else 'values=weight', done)
-    columns: List[Any] = [[names[at] for names in ends] for at in (0, 1)]
-    if all(WHOLE.fullmatch(name) and len(name) < 4000 for column in columns for name in column):
-        columns = [list(map(int, column)) for column in columns]
-    return Edges(columns[0], columns[1], values, fault_of, summary, left_out)
+    columns = convert_names([source for source, _ in ends], [target for _, target in ends],
+                            layout.nodetype, fault_of)
+    return Edges(*columns, values, fault_of, summary, left_out)
 
 
-def _split_line(file: str, number: int, line: bytes) -> Tuple[str, str, Any]:
+def _split_line(file: str, number: int, line: bytes,
+                form: 're.Pattern[str]') -> Tuple[str, str, Any]:
     """The names and the dictionary of a line."""
     try:
         words = line.decode('utf-8')
     except UnicodeDecodeError:
         raise ReadError(file, number,
                         'no UTF-8: convert it, as iconv -f latin1 -t utf-8 does') from None
-    parts = DICTIONARY.fullmatch(words)
+    parts = form.fullmatch(words)
     try:
         data = ast.literal_eval(parts.group(3)) if parts else None
     except (ValueError, SyntaxError, RecursionError, MemoryError):     # of deep nests, too

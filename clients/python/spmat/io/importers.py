@@ -12,9 +12,9 @@ from .array_importers import ArraySources, DupOp, Made
 from .column_names import check_kinds
 from .columns import Column, Comments, Layout
 from .edge_sources import edges_of_frame, graph_of_list
-from .edges import Graph, How, graph_of
+from .edges import Graph, How, check_direction, graph_of
 from .files import name_of
-from .formats import OF_LISTS, Request, check_format, check_layout, read
+from .formats import Request, check_format, check_layout, read
 from .matrix_text import Triples
 
 if TYPE_CHECKING:
@@ -40,6 +40,7 @@ class Sources(ArraySources[Made], ArchiveSources[Made]):
         ----------
         edges : iterable
             (from, to), (from, to, value), or (from, to, {'weight': value}); or a table of pandas.
+            Beside edges with values one without counts as 1, and `notes.source` says how many do.
         directed : bool, default True
             False makes each edge lead both ways.
         nodelist : sequence, optional
@@ -261,18 +262,20 @@ class Sources(ArraySources[Made], ArchiveSources[Made]):
             Values are multiplied by it and rounded, as for `read_edgelist`.
         directed : bool, optional
             Without it the file tells: a DIMACS graph of edges `e` is undirected, the edges of a
-            list lead one way.
+            list lead one way. False makes each edge lead both ways. With True an edge stands as it
+            is written; of a symmetric Matrix Market file that is both ways.
         bipartite : bool, optional
-            Whether rows and columns are two kinds of vertices, as for `read_edgelist`.
+            Whether rows and columns are two kinds of vertices, as for `read_edgelist`, also of a
+            square Matrix Market file. DIMACS, GraphML, GEXF and GML have one kind.
         dup_op : operator, optional
             Folds the values of an edge that is given several times.
         name : str, optional
             A name for the matrix.
         **layout
             `delimiter`, `header`, `columns`, `comments`, `missing`, `nodetype`, `unit`,
-            `date_format`, `nodelist` and `max_bytes` of `read_edgelist`. A packed Matrix Market
-            file has at most 268,435,456 bytes once it is unpacked, unless `max_bytes` says
-            otherwise.
+            `date_format`, `nodelist` and `max_bytes` of `read_edgelist`, where they have a meaning
+            for the format. A packed Matrix Market file has at most 268,435,456 bytes once it is
+            unpacked, unless `max_bytes` says otherwise.
 
         Returns
         -------
@@ -282,8 +285,8 @@ class Sources(ArraySources[Made], ArchiveSources[Made]):
         Raises
         ------
         ReadError
-            Where the file is of no such format, or damaged: it names the file and the line. It is a
-            ValueError.
+            Where the file is of no such format, or damaged, or an argument has no meaning for its
+            format: it names the file and the line, or the argument. It is a ValueError.
         TextRefused
             Where a Matrix Market file breaks a rule of these.
 
@@ -292,6 +295,8 @@ class Sources(ArraySources[Made], ArchiveSources[Made]):
         With `dup_op` 1 job and 1 run, where any edge is given twice; else no job.
         """
         nodelist, max_bytes = layout.pop('nodelist', None), layout.pop('max_bytes', None)
+        for word in layout.keys() - set(Layout._fields):
+            raise TypeError('read_graph has no argument %s=: `help(s.read_graph)` lists them' % word)
         known = Layout(values=values, scale=scale, bipartite=bipartite, **layout)
         return self._read(path, Request(format, known, directed, nodelist, max_bytes), dup_op, name)
 
@@ -323,14 +328,26 @@ class Sources(ArraySources[Made], ArchiveSources[Made]):
 
     def _read(self, path: Any, request: Request, dup_op: DupOp, name: Optional[str]) -> Made:
         file, text = name_of(path), matrix_market.load(path, request.max_bytes)
-        format = check_format(file, text, request.format)
-        if format not in OF_LISTS:
-            check_layout(file, format, request)
-        if format == 'mtx':
-            made = self._market(file, text, request, dup_op, name)
-            return (self._both_ways_of(file, made, dup_op, name) if request.directed is False
-                    and made.directed is not False else made)
+        if check_format(file, text, request.format) == 'mtx':
+            check_layout(file, 'mtx', request)
+            return self._as_asked(file, self._market(file, text, request, dup_op, name), request,
+                                  dup_op, name)
         return self._graph(read(file, text, request, self._tell), request.layout, dup_op, name)
+
+    def _as_asked(self, file: str, matrix: Made, request: Request, dup_op: DupOp,
+                  name: Optional[str]) -> Made:
+        """A matrix of a Matrix Market file, whose rows and columns are of one kind or of two, and
+        whose entries lead one way or both, as the caller says."""
+        check_direction(How(request.directed is not False, None, request.bipartite))
+        if request.layout.bipartite is False and matrix.nrows != matrix.ncols:
+            raise ReadError(file, None,
+                            'bipartite=False is of a square matrix, and this one is %dx%d: leave '
+                            'it out' % matrix.shape)
+        if request.directed is False and matrix.directed is not False:
+            return self._both_ways_of(file, matrix, dup_op, name)
+        if request.bipartite or request.directed:
+            matrix.notes = matrix.notes._replace(directed=True, sides=int(request.bipartite))
+        return matrix
 
     def _both_ways_of(self, file: str, matrix: Made, dup_op: DupOp, name: Optional[str]) -> Made:
         """A matrix whose entries lead both ways, though its file is `general`. ReadError where an

@@ -10,6 +10,7 @@ import numpy
 from ..errors import refusal
 from ..limits import MOST_SIDE
 from ..metadata import Metadata, Nodes
+from .edge_sources import describe_absent
 from .matrix_text import Triples
 from .values import Rounding, whole_numbers
 
@@ -64,7 +65,17 @@ def triples_of(graph: Any, weight: Optional[str], nodelist: Optional[Sequence[An
     triples = Triples(row_numbers(counts), numpy.fromiter(columns, numpy.int64, len(ends)), values,
                       len(nodes), len(nodes))
     weighted = weight is not None and any(weight in data for data in held)
-    return triples, Metadata(nodes, nodes, bool(graph.is_directed()), weighted, str(rounding))
+    return triples, Metadata(nodes, nodes, bool(graph.is_directed()), weighted,
+                             '; '.join(filter(None, (str(rounding) if weight is not None else '',
+                                                     _describe_absent(held, weight)))))
+
+
+def _describe_absent(held: List[Any], weight: Optional[str]) -> str:
+    """How many edges count as 1, as networkx has it, since they lack the attribute that was asked
+    for. An edge that stands both ways has one dictionary."""
+    absent = {id(data) for data in held if weight not in data} if weight is not None else set()
+    return describe_absent(len(absent), len(set(map(id, held))) if absent else 0,
+                           'attribute %r' % weight)
 
 
 def _check_nodes(nodes: Nodes, near: Dict[Any, Neighbours]) -> None:

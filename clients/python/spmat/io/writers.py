@@ -26,7 +26,8 @@ from .columns import Layout
 from .edges import WHOLE
 from .formats import describe_other, format_of
 from .graph_formats import has_dictionaries
-from .values import is_missing
+from .coo import real
+from .values import check_scale, is_missing
 
 EDGE = ('source', 'target', 'weight')
 NODE = ('node', 'value')
@@ -75,6 +76,8 @@ class FileExports(MatrixBase):
         if raw and scale is not None:
             raise TypeError(
                 'raw=True writes the stored whole numbers, and scale= divides them: one of both')
+        if check_scale(scale) is not None:
+            real(scale, 'scale=')                  # by which arrays are divided
         return scale if scale is not None else 1 if raw else self.notes.unit
 
     def _vertices(self, scale: Optional[float], raw: bool) -> Optional[Sequence[Any]]:
@@ -289,7 +292,7 @@ def _check_reading(sep: str, lines: Sequence[str], header: bool, width: int) -> 
         return
     format = format_of(text)
     taken = 'a file of the format ' + format if format != 'edges' else describe_other(text)
-    taken = taken or ('a dictionary of attributes' if has_dictionaries(text, True) else None)
+    taken = taken or ('a dictionary of attributes' if has_dictionaries(text, Layout()) else None)
     parted = edge_list_layout.find_delimiter(text)
     if taken is None and (parted or ' ') != sep:
         taken = 'fields parted by %s' % edge_list_layout.CALLED[parted]

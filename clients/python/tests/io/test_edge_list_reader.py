@@ -297,10 +297,10 @@ class Both(Case):
 
     def pair(self, text, **layout):
         got = []
-        with mock.patch.object(tables, 'PIECE', 24):
+        with mock.patch.object(edge_list_reader, 'PIECE', 24):
             # so that these texts are looked at by pieces
             got.append(self.outcome(text, layout))
-        with mock.patch.object(tables, '_read_in_bulk', lambda *_: None), \
+        with mock.patch.object(edge_list_reader, '_read_in_bulk', lambda *_: None), \
                 mock.patch.object(dimacs, '_quickly', lambda *_: None):
             got.append(self.outcome(text, layout))
         self.assertEqual(got[0], got[1], text)

@@ -109,6 +109,19 @@ class Lists(Case):
         self.assertIn('0.5', self.said(b"1 2 {'weight': 0.5}\n", ValueError))
 
 
+    def test_edges_without_a_value(self):
+        """They count as 1, which the matrix tells, but 1 is no time."""
+        said = '1 of 2 edges have no value and count as 1'
+        text = b"1 2 {'weight': 5}\n2 3 {}\n"
+        for G in (self.read(text), self.s.from_edgelist([(1, 2, 5), (2, 3)]),
+                  self.s.from_edgelist([(1, 2, {'weight': 5}), (2, 3, {})])):
+            self.assertEqual(G.to_edgelist(), [(1, 2, 5), (2, 3, 1)])
+            self.assertTrue(G.notes.source.endswith(said))
+        self.assertIn('line 2: the attribute \'weight\': it has no time',
+                      self.said(text, unit='s'))
+        with self.assertRaisesRegex(ValueError, 'edge 1: it has no time'):
+            self.s.from_edgelist([(1, 2, 5), (2, 3)], unit='s')
+
     def test_phases(self):
         """Progress says which phase it is."""
         seen = []

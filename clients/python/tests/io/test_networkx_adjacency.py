@@ -39,6 +39,21 @@ class Networkx(InSession):
         with self.assertRaises(ValueError):
             self.s.from_networkx(G)
 
+    def test_edges_without_the_attribute(self):
+        """They have 1, as in networkx, also in parts of a unit, and are counted."""
+        import networkx
+        for kind, edges in ((networkx.Graph, 3), (networkx.DiGraph, 3), (networkx.MultiGraph, 3)):
+            G = kind([(0, 1, {'weight': 2.5}), (1, 2), (2, 2)])
+            A = self.s.from_networkx(G, scale=10)
+            self.assertEqual((A[0, 1], A[1, 2], A[2, 2]), (2.5, 1, 1))
+            self.assertEqual(A.notes.source, 'values times 10, all whole then; 2 of 3 edges have '
+                             "no attribute 'weight' and count as 1")
+            A = self.s.from_networkx(G, 'wieght')
+            self.assertEqual((set(A.to_dict().values()), A.notes.weighted, A.notes.source),
+                             ({1}, False, "3 of 3 edges have no attribute 'wieght' and count as 1"))
+            self.assertEqual(self.s.from_networkx(G, None, scale=10).notes.source, '')
+        self.assertEqual(self.s.from_networkx(networkx.empty_graph(3)).notes.source, '')
+
     def test_nodelist(self):
         import networkx
         G = networkx.path_graph(4)
