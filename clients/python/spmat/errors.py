@@ -203,7 +203,13 @@ class Refused(SpmatError):
         return self.message()
 
     def message(self) -> str:
-        """What is said of it, as `str` gives it."""
+        """What is said of it, as `str` gives it.
+
+        Returns
+        -------
+        str
+            The rule and its sentence, where it was broken, and what mends it.
+        """
         text = '%s: %s' % (self.rule, self.said or self.sentence)
         if self.rule in ('memory', 'thread') and self.numbers:
             text = text.replace('so many steps', '%d steps' % self.numbers[0])
@@ -223,16 +229,54 @@ class Refused(SpmatError):
         return out
 
     def of_file(self, file: str = '', said: str = '') -> 'Refused':
-        """This refusal, of a line of a file, with other words for its sentence if they are
-        given."""
+        """This refusal, of a line of a file.
+
+        Parameters
+        ----------
+        file : str, optional
+            The file's name.
+        said : str, optional
+            Other words for its sentence.
+
+        Returns
+        -------
+        Refused
+            A copy.
+        """
         return self._replace(file=file or self.file, said=said or self.said)
 
     def on_line(self, number: Optional[int], detail: str = '') -> 'Refused':
-        """This refusal of a slot, with the line of the text that it comes from, and a hint."""
+        """This refusal of a slot, with the line of the text that it comes from.
+
+        Parameters
+        ----------
+        number : int or None
+            The line.
+        detail : str, optional
+            A hint.
+
+        Returns
+        -------
+        Refused
+            A copy.
+        """
         return self._replace(text_line=number, detail=detail or self.detail)
 
     def hinting(self, rule: str, hint: str) -> 'Refused':
-        """This refusal, with a hint if it is by this rule and has none yet."""
+        """This refusal, with a hint if it is by this rule and has none yet.
+
+        Parameters
+        ----------
+        rule : str
+            The rule.
+        hint : str
+            What to do.
+
+        Returns
+        -------
+        Refused
+            A copy, or itself.
+        """
         return self if self.rule != rule or self.detail else self._replace(detail=hint)
 
 
@@ -284,7 +328,13 @@ class _Spent(Refused):
 
     @property
     def spent(self) -> Optional[int]:
-        """The steps that a refused run took, or None where another command was refused."""
+        """The steps that a refused run took.
+
+        Returns
+        -------
+        int or None
+            None where another command was refused.
+        """
         return self.numbers[0] if self.numbers else None
 
 
@@ -340,43 +390,93 @@ class BudgetExceeded(Refused):
         super().__init__(rule, numbers, command, line, detail)
 
     def with_advice(self) -> 'BudgetExceeded':
-        """This refusal of a job, with what can be done."""
+        """This refusal of a job, with what can be done.
+
+        Returns
+        -------
+        BudgetExceeded
+            A copy.
+        """
         return self._replace(
             detail='the price is %d, and %d are left: %s%s' % (self.price, self.left, MORE_STEPS,
                                                                PRICE_TELLS))
 
     def name_algorithm(self, name: str) -> None:
-        """Note which algorithm wanted the job."""
+        """Note which algorithm wanted the job.
+
+        Parameters
+        ----------
+        name : str
+            The function of `spmat.algorithms`.
+        """
         wanted = '%s wants a job of up to %s steps' % (name, format(self.price, ','))
         self.algorithm, self.detail = name, self.detail.replace('the price is %d' % self.price,
                                                                 wanted, 1)
 
     def of_call(self, name: str) -> 'BudgetExceeded':
-        """This refusal, of a whole call of an algorithm before any of its jobs, with what can be
-        done."""
+        """This refusal, of a whole call of an algorithm before any of its jobs.
+
+        Parameters
+        ----------
+        name : str
+            The function of `spmat.algorithms`.
+
+        Returns
+        -------
+        BudgetExceeded
+            A copy, with what can be done.
+        """
         return self._replace(
             algorithm=name, said='fewer steps are left than the call needs',
             detail='%s needs at least %s steps, and %s are left; none of its jobs was sent: %s'
             % (name, format(self.needed, ','), format(self.left, ','), MORE_STEPS))
 
     def by(self, way: str) -> 'BudgetExceeded':
-        """This refusal, with another way to more steps, for callers who have no session."""
+        """This refusal, with another way to more steps, for callers who have no session.
+
+        Parameters
+        ----------
+        way : str
+            The way, in words.
+
+        Returns
+        -------
+        BudgetExceeded
+            A copy.
+        """
         return self._replace(detail=self.detail.replace(PRICE_TELLS, '').replace(MORE_STEPS, way))
 
     @property
     def price(self) -> int:
-        """The most steps that the job can take; of a call that was refused before its first job,
-        those that it takes at the least."""
+        """The most steps that the job can take.
+
+        Returns
+        -------
+        int
+            Of a call that was refused before its first job, those that it takes at the least.
+        """
         return self.numbers[0]
 
     @property
     def needed(self) -> int:
-        """The steps that have to be left, at the least: `price`."""
+        """The steps that have to be left.
+
+        Returns
+        -------
+        int
+            The least: `price`.
+        """
         return self.numbers[0]
 
     @property
     def left(self) -> int:
-        """The steps that were left."""
+        """The steps that were left.
+
+        Returns
+        -------
+        int
+            Those when the job was refused.
+        """
         return self.numbers[1]
 
 

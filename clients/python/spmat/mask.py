@@ -3,7 +3,7 @@ from __future__ import annotations
 
 import sys
 import warnings
-from typing import Any, NamedTuple, Optional, Type, Union
+from typing import Any, NamedTuple, NoReturn, Optional, Type, Union
 
 from .display import html
 from .errors import MaskWarning, refusal
@@ -45,9 +45,28 @@ class Mask(NamedTuple):
     complement: bool = False
 
     def __invert__(self) -> 'Mask':
+        """Everywhere else.
+
+        Returns
+        -------
+        Mask
+            The complement.
+        """
         return Mask(self.matrix, self.value, not self.complement)
 
     def __and__(self, other: Any) -> 'Mask':
+        """Where both masks are.
+
+        Parameters
+        ----------
+        other : Mask
+            A mask of the same shape and session.
+
+        Returns
+        -------
+        Mask
+            The mask of both.
+        """
         _check_shapes(self, other)
         if self.complement and other.complement:
             return Mask((~self | ~other).matrix, complement=True)
@@ -57,6 +76,18 @@ class Mask(NamedTuple):
         return Mask(structure(self).ewise_mult(structure(other), 'pair'))
 
     def __or__(self, other: Any) -> 'Mask':
+        """Where either mask is.
+
+        Parameters
+        ----------
+        other : Mask
+            A mask of the same shape and session.
+
+        Returns
+        -------
+        Mask
+            The mask of both.
+        """
         _check_shapes(self, other)
         if self.complement or other.complement:
             both = ~self & ~other
@@ -64,20 +95,75 @@ class Mask(NamedTuple):
         return Mask(structure(self).ewise_add(structure(other), 'pair'))
 
     def __sub__(self, other: Any) -> 'Mask':
+        """Where this mask is and the other is not.
+
+        Parameters
+        ----------
+        other : Mask
+            A mask of the same shape and session.
+
+        Returns
+        -------
+        Mask
+            The mask of both.
+        """
         return Mask.__and__(self, ~_as_operand(other))
 
     def __xor__(self, other: Any) -> 'Mask':
+        """Where one of both masks is alone.
+
+        Parameters
+        ----------
+        other : Mask
+            A mask of the same shape and session.
+
+        Returns
+        -------
+        Mask
+            The mask of both.
+        """
         return Mask.__sub__(self | other, self & other)
 
-    def __bool__(self) -> bool:
+    def __bool__(self) -> NoReturn:
+        """A mask is neither true nor false.
+
+        Raises
+        ------
+        TypeError
+            Always.
+        """
         raise TypeError(
             'a mask is neither true nor false: write A.S & B.S, A.S | B.S or ~A.S in place of '
             'and, or, not')
 
     def __eq__(self, other: object) -> bool:
+        """Whether this is the same mask of the same matrix.
+
+        Parameters
+        ----------
+        other : Mask
+            A mask of the same matrix.
+
+        Returns
+        -------
+        bool
+            Whether both go by the same entries.
+        """
         return _is_same(self, other)
 
     def __ne__(self, other: object) -> bool:
+        """Whether this is another mask of the same matrix.
+
+        Parameters
+        ----------
+        other : Mask
+            A mask of the same matrix.
+
+        Returns
+        -------
+        bool
+            Whether both go by other entries.
+        """
         return not _is_same(self, other)
 
     def __hash__(self) -> int:

@@ -43,9 +43,20 @@ class Matrix(Elementwise, Products, Reductions, Updates, Structure, ArrayExports
     """A matrix that the session holds, or the result of a job that waits. Sessions make them;
     nothing changes one.
 
-    `nrows`, `ncols`, `shape`; `name`, and the names of its vertices, `nodes`, which results carry
-    on; of a job's result `price`, the most steps that the job could take, and `steps`, those that
-    it took (None until it ran). Vectors are matrices of one column.
+    Attributes
+    ----------
+    nrows, ncols : int
+        The sizes, together `shape`.
+    name : str
+        Its name.
+    session : Session
+        The session that holds it.
+    notes : Metadata
+        What is known beside its entries: names of vertices, the unit, what it was read from.
+
+    Notes
+    -----
+    Vectors are matrices of one column.
 
     Each method that takes an operator queues one job, unless it says otherwise, and answers at once
     with the matrix that it will be; it costs no run. Where an operand or the mask is itself a job's

@@ -24,25 +24,39 @@ CODE_RULES = ('V1', 'V2', 'V3', 'V4', 'V5', 'V6')   # of code that stands for no
 
 
 class Session(SessionSources):
-    """One session of the server: `Session()` starts a process `spmat run` of its own,
-    `Session.connect(host, port)` is one of `spmat serve`, `Session.connect(path)` one at a socket
-    file. Use it in a `with`, or close it.
+    """One session of the server, which is used in a `with`, or closed.
 
-    `steps` is the budget, 0 to 2^62 (also 1e9), `workers` 1 to 64 threads, `program` the words that
-    start the program (without them the variable SPMAT, then the program that the package carries,
-    then `spmat` on the PATH). `progress(what, done, of)` is called in long work: what is 'reading'
-    (bytes of a file), 'names' (its edges), 'sent' or 'received' (bytes of one matrix text) or
-    'jobs' (0 of n as a run begins, n of n as it ends); what it raises amid a command ends the
-    session.
+    `Session()` starts a process `spmat run` of its own, `Session.connect(host, port)` is one of
+    `spmat serve`, `Session.connect(path)` one at a socket file.
 
+    Parameters
+    ----------
+    steps : number, default 2^62
+        The budget, 0 to 2^62 (also 1e9).
+    workers : int, default 1
+        1 to 64 threads.
+    program : str or sequence of str, optional
+        The words that start the program. Without them the variable SPMAT says it, then the program
+        that the package carries is taken, then `spmat` on the PATH.
+    progress : callable, optional
+        `progress(what, done, of)` is called in long work: what is 'reading' (bytes of a file),
+        'names' (its edges), 'sent' or 'received' (bytes of one matrix text) or 'jobs' (0 of n as a
+        run begins, n of n as it ends). What it raises amid a command ends the session.
+
+    Attributes
+    ----------
+    runs, jobs, connection.commands : int
+        How many of each were sent.
+
+    Notes
+    -----
     Methods of matrices queue jobs; what needs a result runs the queue first. Threads take turns:
     while one thread waits for a reply, others wait for it. Ctrl-C while a reply is awaited leaves
     the session as it is: the command goes on, and what comes next waits for its end; `close` ends
     it at once, with the process that was started. Where a command isn't sent whole yet, Ctrl-C
     comes when it is, and a second one ends the session, with all that it held (`connection.ended`
     says so). A session belongs to the process that opened it, and can't be pickled; operators can.
-
-    `runs`, `jobs` and `connection.commands` count what was sent."""
+    """
 
     _backend_type: Type[ServerBackend] = ServerBackend
 
@@ -124,6 +138,13 @@ class Session(SessionSources):
         self.budget()                              # says at once where there is no session
 
     def __enter__(self) -> Session:
+        """Open a `with`, at whose end the session is closed.
+
+        Returns
+        -------
+        Session
+            Itself.
+        """
         return self
 
     def __exit__(self, *_: Any) -> None:
@@ -142,17 +163,28 @@ class Session(SessionSources):
 
     @property
     def backend(self) -> ServerBackend:
-        """What takes the jobs of its matrices: its own backend, or while a call is priced one that
-        foresees them."""
+        """What takes the jobs of its matrices.
+
+        Returns
+        -------
+        ServerBackend
+            Its own backend, or while a call is priced one that foresees them.
+        """
         if not all_priced:
             return self._backend
         return backend_now(self._backend)  # type: ignore[no-any-return]
 
     @property
     def workers(self) -> Optional[int]:
-        """How many threads a batch has at most; None of a session of `spmat serve`, which doesn't
-        say. Who knows it may set it there: algorithms go by it where many workers want another way
-        than one. No answer depends on it."""
+        """How many threads a batch has at most.
+
+        Returns
+        -------
+        int or None
+            None of a session of `spmat serve`, which doesn't say. Who knows it may set it there:
+            algorithms go by it where many workers want another way than one. No answer depends on
+            it.
+        """
         return self._workers
 
     @workers.setter
@@ -164,12 +196,24 @@ class Session(SessionSources):
 
     @property
     def runs(self) -> int:
-        """How many runs were asked for."""
+        """How many runs were asked for.
+
+        Returns
+        -------
+        int
+            Their number since the session began.
+        """
         return self.backend.queue.runs
 
     @property
     def jobs(self) -> int:
-        """How many jobs were asked for."""
+        """How many jobs were asked for.
+
+        Returns
+        -------
+        int
+            Their number since the session began.
+        """
         return self.backend.jobs
 
     def close(self) -> None:

@@ -5,15 +5,22 @@ from __future__ import annotations
 # the signs raise, so none gives what Python wants of it
 # pylint: disable=invalid-length-returned,non-iterator-returned,abstract-method
 
-from typing import TYPE_CHECKING, Any, Callable
+from typing import TYPE_CHECKING, Any, Callable, NoReturn
 
 from .foreign_names import MATRIX, missing_attribute
 from .matrix_base import MatrixBase
 from .operators import other_names
 
 
+RAISES = """Raises
+------
+TypeError
+    Write %s."""
+
+
 def refusing(sign: str, instead: str, owner: str = 'matrix') -> Callable[..., Any]:
-    """Make a method that raises TypeError, with what to write in place of a sign.
+    """Make a method that raises TypeError, with what to write in place of a sign, as its docstring
+    says, too.
 
     Parameters
     ----------
@@ -29,8 +36,9 @@ def refusing(sign: str, instead: str, owner: str = 'matrix') -> Callable[..., An
     callable
         The method.
     """
-    def method(*_: Any, **__: Any) -> Any:
+    def method(*_: Any, **__: Any) -> NoReturn:
         raise TypeError('a %s has no %s: write %s' % (owner, sign, instead))
+    method.__doc__ = 'A %s has no %s.\n\n%s' % (owner, sign, RAISES % instead)
     return method
 
 
@@ -46,9 +54,38 @@ class Signs(MatrixBase):
     # -- between matrices, or a matrix and a number
 
     def __eq__(self, other: object) -> Any:
+        """Whether this is the same matrix object.
+
+        Parameters
+        ----------
+        other : object
+            The matrix itself.
+
+        Returns
+        -------
+        bool
+            True.
+
+        Raises
+        ------
+        TypeError
+            Beside anything else: `isequal` compares entries.
+        """
         return other is self or _is_equal(self)    # weak references ask whether it is itself
 
     def __ne__(self, other: object) -> Any:
+        """Whether this is another matrix object, as `==` has it.
+
+        Parameters
+        ----------
+        other : object
+            The matrix itself.
+
+        Returns
+        -------
+        bool
+            False.
+        """
         return other is not self and _is_unequal(self)
 
     # a matrix is itself in sets, dicts and weak references
@@ -110,9 +147,23 @@ class Signs(MatrixBase):
                            'A.without(B) or A.select("!=", 3)')
 
     def __int__(self) -> int:
+        """The stored value of a matrix of one entry.
+
+        Returns
+        -------
+        int
+            The value. TypeError unless the matrix is 1x1, ValueError where it has no entry.
+        """
         return self._single('int')
 
     def __float__(self) -> float:
+        """The stored value of a matrix of one entry.
+
+        Returns
+        -------
+        float
+            As `int` has it.
+        """
         return float(self._single('float'))
 
     def _single(self, kind: str) -> int:
@@ -135,7 +186,19 @@ class Signs(MatrixBase):
 
     __array__ = refusing('array of its own', 'A.to_dense(), A.to_coo() or A.to_scipy_sparse()')
 
-    def __array_ufunc__(self, ufunc: Any, *_: Any, **__: Any) -> Any:
+    def __array_ufunc__(self, ufunc: Any, *_: Any, **__: Any) -> NoReturn:
+        """A matrix is no operand of a function of numpy.
+
+        Parameters
+        ----------
+        ufunc : numpy.ufunc
+            The function.
+
+        Raises
+        ------
+        TypeError
+            With the method that does the same.
+        """
         name = other_names.UFUNCS['unary' if ufunc.nin == 1 else 'binary'].get(ufunc.__name__)
         if name is None:
             instead = 'A.apply(f) or A.ewise_mult(B, f) with a function f of your own; %s' % (

@@ -101,6 +101,18 @@ class Vector(Matrix):
                            'and values', 'vector')
 
     def __contains__(self, node: Any) -> bool:
+        """Whether there is an entry.
+
+        Parameters
+        ----------
+        node : Any
+            A name, or an index from 0.
+
+        Returns
+        -------
+        bool
+            Whether this place has a value, also 0.
+        """
         return self.get(node) is not None
 
     @reading

@@ -4,7 +4,8 @@ import inspect
 import re
 import unittest
 
-from spmat import algorithms
+import spmat
+from spmat import algorithms, blocks, draw
 from spmat.algorithms.registry import ALGORITHMS
 from support import InSession, needs
 
@@ -51,6 +52,80 @@ class Docstrings(InSession):
             long = [line for line in (one.function.__doc__ or '').split('\n') if len(line) > 100]
             with self.subTest(algorithm=name):
                 self.assertEqual(long, [])
+
+
+# What help() shows of every object, with Python's own words.
+OF_OBJECTS = re.compile('__(init|new|repr|str|reduce|hash|eq|ne|getnewargs|getattr|setattr|delattr'
+                        '|exit)__')
+
+
+def public_names():
+    """All that a user calls, by its name, and what of each class is this package's: methods,
+    properties and signs, inherited ones, too."""
+    found = {}
+    for module in (spmat, algorithms, draw):
+        for name in module.__all__:
+            found['%s.%s' % (module.__name__, name)] = getattr(module, name)
+    found = {name: one for name, one in found.items() if inspect.isroutine(one)
+             or inspect.isclass(one)}
+    # whose own names are those of one session and its matrices
+    for here, there in ((blocks.Sessions, spmat.Session), (blocks.BlockMatrix, spmat.Matrix)):
+        found.update(('blocks.%s.%s' % (here.__name__, name), one)
+                     for name, one in members(here) if hasattr(there, name))
+    for name, one in list(found.items()):
+        if inspect.isclass(one):
+            found.update(('%s.%s' % (name, called), member) for called, member in members(one))
+    return found
+
+
+def members(kind):
+    """The names and functions of a class, where they are written in this package."""
+    for name in dir(kind):
+        one = inspect.getattr_static(kind, name)
+        one = getattr(one, '__func__', one)
+        function = one.fget if isinstance(one, property) else one
+        if (inspect.isfunction(function) and function.__module__.startswith('spmat')
+                and (name[0] != '_' or name[:2] == '__') and not OF_OBJECTS.fullmatch(name)):
+            yield name, one
+
+
+def wanted_sections(one):
+    """The sections that a docstring has to have, each by any of some names."""
+    if inspect.isclass(one):
+        own = vars(one).get('__init__') or vars(one).get('__new__')
+        is_made = own is not None and not issubclass(one, BaseException)
+        return [('Parameters', 'Attributes')] if is_made else []
+    function = one.fget if isinstance(one, property) else one
+    signature = inspect.signature(function)
+    parameters = [name for name, parameter in signature.parameters.items()
+                  if name not in ('self', 'cls') and not (
+                      name.startswith('_') and parameter.kind in (parameter.VAR_POSITIONAL,
+                                                                  parameter.VAR_KEYWORD))]
+    returns = {'NoReturn': ('Raises',), 'None': ()}.get(
+        str(signature.return_annotation), ('Returns', 'Yields'))
+    return ([('Parameters',)] if parameters else []) + ([returns] if returns else [])
+
+
+class Sections(unittest.TestCase):
+    def test_each_public_name(self):
+        """Whatever takes arguments says which, and whatever gives something says what."""
+        found = public_names()
+        self.assertLessEqual({'spmat.Matrix.to_csv', 'spmat.Matrix.__add__', 'spmat.Vector.mxm',
+                              'spmat.Session.read_graph', 'spmat.algorithms.PathTree.path',
+                              'blocks.Sessions.mmread'}, set(found))
+        for name, one in found.items():
+            lines = (inspect.getdoc(one) or '').split('\n')
+            heads = {line for line, below in zip(lines, lines[1:])
+                     if line and below == '-' * len(line)}
+            for names in wanted_sections(one):
+                with self.subTest(name=name):
+                    self.assertTrue(heads.intersection(names),
+                                    'no section %s' % ' or '.join(names))
+
+    def test_signs_say_what_to_write(self):
+        self.assertEqual(inspect.getdoc(spmat.Matrix.__abs__),
+                         'A matrix has no abs().\n\nRaises\n------\nTypeError\n'
+                         '    Write A.apply("abs").')
 
 
 if __name__ == '__main__':

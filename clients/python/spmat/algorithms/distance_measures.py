@@ -63,7 +63,13 @@ Visit = Callable[[int, Matrix], None]
 
 
 class Bounds(NamedTuple):
-    """What a number is at least and at most."""
+    """What a number is at least and at most.
+
+    Attributes
+    ----------
+    least, most : int
+        The bounds.
+    """
     least: int
     most: int
 

@@ -265,8 +265,8 @@ def checks_arguments(function: Callable[..., Any]) -> Check:
 def _shorten_repr(one: Any) -> str:
     """What came, in a few words."""
     words = shown(one)
-    return ('of type ' + type(one).__name__ if '\n' in words or (len(words) > LONGEST
-                                                                 and not _is_number(one)) else words)
+    is_long = '\n' in words or (len(words) > LONGEST and not _is_number(one))
+    return 'of type ' + type(one).__name__ if is_long else words
 
 
 def _unknown(name: str, signature: inspect.Signature, said: str,

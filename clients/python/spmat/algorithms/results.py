@@ -33,11 +33,20 @@ class Centrality(Result):
     """A number for each vertex: a column in units of 1/`unit`, so that `by_node`, `top` and
     `to_pandas` give fractions. It is a matrix.
 
-    `error` is what `measure` says. With 'error at most' no number is farther from the true one.
-    With 'residual' it is how far the numbers are from solving their equation, and with 'last
-    change' how far they still moved in the last round: the function says by which measure, and how
-    far the true numbers are isn't known. `tolerance` is the one that was kept, and `rounds` how
-    many it took; None where there are none. `values` is this column and `scale` its unit."""
+    Attributes
+    ----------
+    error : float
+        What `measure` says.
+    measure : str
+        With 'error at most' no number is farther from the true one. With 'residual' the error is
+        how far the numbers are from solving their equation, and with 'last change' how far they
+        still moved in the last round: the function says by which measure, and how far the true
+        numbers are isn't known.
+    tolerance : float or None
+        The one that was kept.
+    rounds : int or None
+        How many it took; None where there are none.
+    """
 
     error: float
     measure: str
@@ -46,12 +55,24 @@ class Centrality(Result):
 
     @property
     def values(self) -> 'Centrality':
-        """This column."""
+        """This column.
+
+        Returns
+        -------
+        Centrality
+            Itself.
+        """
         return self
 
     @property
     def scale(self) -> Any:
-        """What the stored numbers are in units of: 1/scale."""
+        """What the stored numbers are in units of: 1/scale.
+
+        Returns
+        -------
+        number
+            The unit.
+        """
         return self.unit
 
     def __repr__(self) -> str:
@@ -62,16 +83,28 @@ class Centrality(Result):
 
 class Communities(Result):
     """The community of each vertex: a column with the least vertex of it. It is a matrix: `sets()`
-    has the vertices of each community, and `by_node()` one of it for each vertex. `modularity` is
-    that of these communities, and `levels` are those in which they were found. `labels` is this
-    column."""
+    has the vertices of each community, and `by_node()` one of it for each vertex.
+
+    Attributes
+    ----------
+    modularity : float
+        That of these communities.
+    levels : int
+        In how many levels they were found.
+    """
 
     modularity: float
     levels: int
 
     @property
     def labels(self) -> 'Communities':
-        """This column."""
+        """This column.
+
+        Returns
+        -------
+        Communities
+            Itself.
+        """
         return self
 
     def __repr__(self) -> str:

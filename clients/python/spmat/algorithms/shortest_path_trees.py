@@ -31,33 +31,64 @@ class NoPath(ValueError):
 
 
 class Path(List[Any]):
-    """The vertices of a path in order, by their names where the graph has any. `lengths` has how
-    far along the path each of them is: the values of the edges up to there added, or their number;
-    floats where the values have a unit."""
+    """The vertices of a path in order, by their names where the graph has any.
+
+    Attributes
+    ----------
+    lengths : list
+        How far along the path each vertex is: the values of the edges up to there added, or their
+        number; floats where the values have a unit.
+    """
 
     def __init__(self, vertices: Iterable[Any], lengths: Iterable[int]) -> None:
         super().__init__(vertices)
         self.lengths: List[Any] = list(lengths)
 
     def set_unit(self, unit: Unit) -> None:
-        """Makes the stored lengths what they stand for."""
+        """Make the stored lengths what they stand for.
+
+        Parameters
+        ----------
+        unit : number
+            What they are parts of.
+        """
         self.lengths = to_decimals(self.lengths, unit)
 
     @property
     def length(self) -> Any:
-        """The length of the whole path."""
+        """The length of the whole path.
+
+        Returns
+        -------
+        number
+            That of its last vertex.
+        """
         return self.lengths[-1]
 
     @property
     def edges(self) -> List[Tuple[Any, Any]]:
-        """The edges of the path in order, as pairs of vertices."""
+        """The edges of the path.
+
+        Returns
+        -------
+        list of tuple
+            Pairs of vertices, in order.
+        """
         return list(zip(self, self[1:]))
 
 
 class PathTree:
-    """A shortest path from one vertex, `source`, to each that it reaches. `lengths` is a column
-    with the length of each, and `predecessors` one with the vertex before each on its path: at the
-    source itself."""
+    """A shortest path from one vertex to each that it reaches.
+
+    Attributes
+    ----------
+    source : Any
+        The vertex.
+    lengths : Vector
+        A column with the length of each path.
+    predecessors : Vector
+        A column with the vertex before each on its path: at the source itself.
+    """
 
     def __init__(self, graph: Matrix, source: Place, lengths: Vector, parents: Array) -> None:
         self._graph, self._from, self._parents = graph, source, parents
@@ -70,14 +101,50 @@ class PathTree:
         return '<PathTree from %r to %d vertices>' % (self.source, len(self._far))
 
     def __contains__(self, target: Vertex) -> bool:
+        """Whether a path leads to a vertex.
+
+        Parameters
+        ----------
+        target : vertex
+            The vertex.
+
+        Returns
+        -------
+        bool
+            Whether the source reaches it. ValueError where there is no such vertex.
+        """
         return find_place(self._graph, target) in self._far
 
     def __len__(self) -> int:
+        """How many vertices the source reaches.
+
+        Returns
+        -------
+        int
+            Their number, with the source.
+        """
         return len(self._far)
 
     def path(self, target: Vertex) -> Path:
-        """The path to a vertex. Raises NoPath where none leads there, and ValueError where there is
-        no such vertex. It asks nothing of the server."""
+        """The path to a vertex, of which nothing is asked of the server.
+
+        Parameters
+        ----------
+        target : vertex
+            The vertex.
+
+        Returns
+        -------
+        Path
+            The vertices from the source to it.
+
+        Raises
+        ------
+        NoPath
+            Where no path leads there.
+        ValueError
+            Where there is no such vertex.
+        """
         at = find_place(self._graph, target)
         if at not in self._far:
             raise NoPath('no path leads from %r to %r' % (self.source, target))
@@ -86,7 +153,13 @@ class PathTree:
         return found
 
     def set_unit(self, unit: Unit) -> None:
-        """Says what the lengths are parts of."""
+        """Say what the lengths are parts of.
+
+        Parameters
+        ----------
+        unit : number
+            The unit of the graph's values.
+        """
         self.lengths.unit = unit
 
 

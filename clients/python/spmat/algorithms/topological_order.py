@@ -37,8 +37,14 @@ SHOWN = 20                                         # vertices of a cycle in the 
 
 
 class CycleError(ValueError):
-    """A directed graph has a cycle: `cycle` has its vertices in their order, by their names where
-    the graph has any, each with an edge to the next, and the last to the first."""
+    """A directed graph has a cycle.
+
+    Attributes
+    ----------
+    cycle : list
+        Its vertices in their order, by their names where the graph has any, each with an edge to
+        the next, and the last to the first.
+    """
 
     def __init__(self, cycle: List[Any]) -> None:
         is_short = len(cycle) <= SHOWN

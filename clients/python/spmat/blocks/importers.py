@@ -53,18 +53,57 @@ class Inputs(Sources[BlockMatrix]):
     def from_edges(self, edges: Iterable[Any], nrows: int, ncols: int, *,
                    cut: Optional[Sequence[int]] = None, dup_op: DupOp = None,
                    name: Optional[str] = None) -> BlockMatrix:
-        """A matrix from a generator of (row, column, value), or of chunks of them: arrays of numpy
-        with these as columns. They come in any order, and lie in files while they come: no more
-        than a block of them is held. Where a position repeats it is a TextRefused (M8), or with
-        `dup_op` its values are folded by that operator in the order in which they came."""
+        """A matrix from a generator of entries, of which no more than a block is held.
+
+        Parameters
+        ----------
+        edges : iterable
+            (row, column, value) in any order, or chunks of them: arrays of numpy with these as
+            columns. They lie in files while they come.
+        nrows, ncols : int
+            The sizes.
+        cut : sequence of int, optional
+            Where the rows are cut, as for `BlockMatrix.recut`.
+        dup_op : operator, optional
+            Folds the values of a position that repeats, in the order in which they came.
+        name : str, optional
+            A name for the matrix.
+
+        Returns
+        -------
+        BlockMatrix
+            The matrix.
+
+        Raises
+        ------
+        TextRefused
+            Where a position repeats (M8), and no `dup_op` folds it.
+        """
         with chunked_input.Spool(coo.side(nrows, 0, 'nrows'), coo.side(ncols, 0, 'ncols')) as spool:
             spool.take(edges)
             spool.notes = BY_POSITIONS
             return self._load_spool(spool, cut, name, dup_op)
 
     def from_text(self, text: Union[bytes, str], name: Optional[str] = None) -> BlockMatrix:
-        """A matrix from a Matrix Market text as a session reads it; see `Session.from_text`.
-        TextRefused names the line."""
+        """A matrix from a Matrix Market text as a session reads it.
+
+        Parameters
+        ----------
+        text : bytes or str
+            The text; see `Session.from_text`.
+        name : str, optional
+            A name for the matrix.
+
+        Returns
+        -------
+        BlockMatrix
+            The matrix.
+
+        Raises
+        ------
+        TextRefused
+            Where the text breaks a rule: it names the line.
+        """
         text = text.encode() if isinstance(text, str) else bytes(text)
         if len(text) > limits.MOST_TEXT:
             raise refusal('S7', detail='the text has %d bytes' % len(text))
@@ -81,12 +120,42 @@ class Inputs(Sources[BlockMatrix]):
     def mmread(self, source: Any, *, values: bool = True, scale: Optional[float] = None,
                max_bytes: Optional[int] = None, dup_op: DupOp = None,
                cut: Optional[Sequence[int]] = None, name: Optional[str] = None) -> BlockMatrix:
-        """A matrix from a Matrix Market file: a path (also .gz and .bz2), or a file opened in
-        binary. It is read by pieces, and no more than a block is held; it may be larger than one
-        session takes. `array` files, which are small, are read at once. `values`, `scale` and
-        `dup_op` are as for `Session.mmread`; `max_bytes` bounds the file, which may be packed. What
-        is refused names the file and the line. `progress('read', done, of)` is called after each
-        piece, with bytes. In python-graphblas `io.mmread`."""
+        """Read a Matrix Market file, which may be larger than one session takes.
+
+        It is read by pieces, and no more than a block is held. `array` files, which are small, are
+        read at once. `progress('read', done, of)` is called after each piece, with bytes.
+
+        Parameters
+        ----------
+        source : path or file
+            A path (also .gz and .bz2), or a file opened in binary.
+        values : bool, default True
+            False reads no values, as for `Session.mmread`.
+        scale : number, optional
+            Values are multiplied by it and rounded, as for `Session.mmread`.
+        max_bytes : int, optional
+            The most bytes that the file may have, once it is unpacked.
+        dup_op : operator, optional
+            Folds the values of a position that repeats.
+        cut : sequence of int, optional
+            Where the rows are cut, as for `BlockMatrix.recut`.
+        name : str, optional
+            A name for the matrix.
+
+        Returns
+        -------
+        BlockMatrix
+            The matrix.
+
+        Raises
+        ------
+        TextRefused
+            Where the file breaks a rule: it names the file and the line.
+
+        Notes
+        -----
+        In python-graphblas `io.mmread`.
+        """
         units.of_read(scale, dup_op)
         files.check_length(source, max_bytes)
         made = (None if dup_op is not None
@@ -131,11 +200,31 @@ class Inputs(Sources[BlockMatrix]):
                             bipartite: Optional[bool] = None, missing: Optional[str] = 'raise',
                             unit: Optional[str] = None, date_format: Optional[str] = None,
                             dup_op: DupOp = None, name: Optional[str] = None) -> BlockMatrix:
-        """The adjacency matrix of a `dask.dataframe`, as `from_pandas_edgelist` has it of a table
-        of pandas: each worker takes its partitions, and the caller's process gets the names alone.
-        By `Dask` the partitions are computed by the same cluster. ValueError where edges with
-        values repeat, unless `dup_op` folds them, and where names of some partitions are whole
-        numbers and of others aren't."""
+        """The adjacency matrix of a `dask.dataframe`.
+
+        Each worker takes its partitions, and the caller's process gets the names alone. By `Dask`
+        the partitions are computed by the same cluster.
+
+        Parameters
+        ----------
+        frame : dask.dataframe.DataFrame
+            The table, a row for each edge.
+        source, target, edge_attr, directed, bipartite, missing, unit, date_format, dup_op : Any
+            As for `from_pandas_edgelist`.
+        name : str, optional
+            A name for the matrix.
+
+        Returns
+        -------
+        BlockMatrix
+            The matrix, as `from_pandas_edgelist` has it.
+
+        Raises
+        ------
+        ValueError
+            Where edges with values repeat, unless `dup_op` folds them, and where names of some
+            partitions are whole numbers and of others aren't.
+        """
         question = ask_two_kinds(str(source), str(target)) if bipartite is None else None
         if question is not None:
             raise ValueError(question)
@@ -171,7 +260,22 @@ class Inputs(Sources[BlockMatrix]):
 
     def full(self, nrows: int, ncols: int, value: int = 1, *,
              name: Optional[str] = None) -> BlockMatrix:
-        """A matrix with one value everywhere, made at the workers."""
+        """A matrix with one value everywhere, made at the workers.
+
+        Parameters
+        ----------
+        nrows, ncols : int
+            The sizes.
+        value : int, default 1
+            The value of each entry, a whole number of 64 bits.
+        name : str, optional
+            A name for the matrix.
+
+        Returns
+        -------
+        BlockMatrix
+            The matrix.
+        """
         shape = coo.side(nrows, 0, 'nrows'), coo.side(ncols, 0, 'ncols')
         cut, value = self.find_cut(shape[0], None), coo.word(value, 'value')
         return as_constant(
@@ -179,7 +283,18 @@ class Inputs(Sources[BlockMatrix]):
                             lambda first, end: (worker_tasks.full, first, end, shape, value)))
 
     def ones(self, ncols: int) -> BlockMatrix:
-        """A row of ones, which folds columns. It is made at a worker where a job wants it."""
+        """A row of ones, which folds columns.
+
+        Parameters
+        ----------
+        ncols : int
+            How many there are.
+
+        Returns
+        -------
+        BlockMatrix
+            The row, which is made at a worker where a job wants it.
+        """
         cut = self.find_cut(1, None)
         futures = functools.partial(self._submit_each, cut,
                                     lambda first, end: (
@@ -189,7 +304,22 @@ class Inputs(Sources[BlockMatrix]):
         return BlockMatrix(self, handle)
 
     def identity(self, n: int, value: int = 1, *, name: Optional[str] = None) -> BlockMatrix:
-        """A square matrix with one value on its diagonal, made at the workers."""
+        """A square matrix with one value on its diagonal, made at the workers.
+
+        Parameters
+        ----------
+        n : int
+            The number of rows and columns.
+        value : int, default 1
+            The value of each entry, a whole number of 64 bits.
+        name : str, optional
+            A name for the matrix.
+
+        Returns
+        -------
+        BlockMatrix
+            The matrix.
+        """
         n, value = coo.side(n, 0, 'n'), coo.word(value, 'value')
         return as_constant(
             self._make_each(self.find_cut(n, None), n, name,

@@ -70,21 +70,45 @@ class BlockMatrix(Matrix):
     @property
     def blocks(self) -> 'BlockMatrix':
         """This matrix, by what only matrices in blocks have: `cut`, `sessions`, `counts`, `recut`
-        and `checkpoint`."""
+        and `checkpoint`.
+
+        Returns
+        -------
+        BlockMatrix
+            Itself.
+        """
         return self
 
     @property
     def cut(self) -> Cut:
-        """Where the rows are cut."""
+        """Where the rows are cut.
+
+        Returns
+        -------
+        Cut
+            The bounds of the blocks.
+        """
         return self.handle.cut
 
     @property
     def sessions(self) -> 'Sessions':
-        """The sessions that hold the blocks."""
+        """The sessions that hold the blocks.
+
+        Returns
+        -------
+        Sessions
+            All of them.
+        """
         return self.handle.backend.sessions
 
     def counts(self) -> List[Counts]:
-        """The sizes, entries, price and steps of each block, once all are made."""
+        """The sizes, entries, price and steps of each block.
+
+        Returns
+        -------
+        list of Counts
+            One for each block, once all are made.
+        """
         return self.handle.counts()
 
     def recut(self, cut: Union[Cut, Sequence[int]]) -> 'BlockMatrix':

@@ -118,6 +118,13 @@ class Sessions(Inputs):
         return version
 
     def __enter__(self) -> 'Sessions':
+        """Open a `with`, at whose end the sessions are closed.
+
+        Returns
+        -------
+        Sessions
+            Itself.
+        """
         return self
 
     def __exit__(self, *_: Any) -> None:
@@ -143,7 +150,13 @@ class Sessions(Inputs):
 
     @property
     def backend(self) -> Any:
-        """What takes the jobs of matrices, or while a call is priced what foresees them."""
+        """What takes the jobs of matrices.
+
+        Returns
+        -------
+        BlocksBackend
+            Its own, or while a call is priced one that foresees them.
+        """
         return backend_now(self._backend)
 
     def __getattr__(self, name: str) -> Any:
@@ -180,21 +193,38 @@ class Sessions(Inputs):
 
     @property
     def workers(self) -> int:
-        """How many threads a batch of one session has at most."""
+        """How many threads a batch of one session has at most.
+
+        Returns
+        -------
+        int
+            The `workers` of these sessions.
+        """
         return self.settings.workers
 
     def budgets(self) -> Dict[str, Budget]:
-        """What each session has reserved and spent, by the name of its worker, and what all
-        sessions have left; of workers in one process, which share a session, the first."""
+        """What each session has reserved and spent, and what all have left.
+
+        Returns
+        -------
+        dict
+            A Budget by the name of each worker; of workers in one process, which share a session,
+            the first.
+        """
         workers = self._ask_budgets()
         left = self.ledger.budget.left
         return {worker: Budget(left, budget.reserved, budget.spent)
                 for worker, (_, budget) in workers.items()}
 
     def budget(self) -> Budget:
-        """What all sessions together have left, reserved and spent, as one budget. What a worker
-        spent that was lost since is in it as far as it was told: by the last time that was
-        asked."""
+        """What all sessions together have left, reserved and spent, as one budget.
+
+        Returns
+        -------
+        Budget
+            What a worker spent that was lost since is in it as far as it was told: by the last time
+            that was asked.
+        """
         self._ask_budgets()
         return self.ledger.budget
 
@@ -213,20 +243,58 @@ class Sessions(Inputs):
 
     @property
     def again(self) -> int:
-        """How many tasks were done again, because a worker or its program was lost."""
+        """How many tasks were done again, because a worker or its program was lost.
+
+        Returns
+        -------
+        int
+            Their number.
+        """
         return self.engine.again(self.settings)
 
     def check(self, op: Operator) -> diagnostics.Check:
-        """What the verifier says of an operator; see `Session.check`. One of the sessions is
-        asked."""
+        """What the verifier says of an operator.
+
+        Parameters
+        ----------
+        op : Operator
+            The operator. One of the sessions is asked.
+
+        Returns
+        -------
+        Check
+            As `Session.check` gives it.
+        """
         return self._ask_session(Session.check, op)  # type: ignore[no-any-return]
 
     def dis(self, op: Operator) -> str:
-        """An operator as assembly text; see `Session.dis`."""
+        """An operator as assembly text.
+
+        Parameters
+        ----------
+        op : Operator
+            The operator. One of the sessions is asked.
+
+        Returns
+        -------
+        str
+            As `Session.dis` gives it.
+        """
         return str(self._ask_session(Session.dis, op))
 
     def types(self, op: Operator) -> List[str]:
-        """What the verifier knows before each instruction; see `Session.types`."""
+        """What the verifier knows before each instruction.
+
+        Parameters
+        ----------
+        op : Operator
+            The operator. One of the sessions is asked.
+
+        Returns
+        -------
+        list of str
+            As `Session.types` gives it.
+        """
         return list(self._ask_session(Session.types, op))
 
     def _ask_session(self, method: Callable[[Session, Operator], Any], op: Operator) -> Any:
@@ -236,9 +304,14 @@ class Sessions(Inputs):
     # -- tasks
 
     def run(self) -> Run:
-        """Waits for all jobs that were asked for, which run as soon as they are: each with its
-        price and steps at all blocks together. Of a result that nobody holds any more nothing is
-        told."""
+        """Wait for all jobs that were asked for, which run as soon as they are.
+
+        Returns
+        -------
+        list of JobResult
+            Each job with its price and steps at all blocks together. Of a result that nobody holds
+            any more nothing is told.
+        """
         waiting, self._waiting[:] = list(self._waiting), []
         held = [handle for handle in (one() for one in waiting) if handle is not None]
         for handle in held:

@@ -87,14 +87,47 @@ class FileExports(MatrixBase):
     def to_csv(self, target: Any = None, fields: Optional[Sequence[str]] = None, *, sep: str = ',',
                header: bool = True, scale: Optional[float] = None,
                raw: bool = False) -> Optional[str]:
-        """Writes a line an entry to a path, or a file open in text, or gives the text: source,
-        target, weight; of a column or a row node, value. `fields` calls them otherwise,
-        `header=False` leaves them out. `read_graph` reads the same edges again, with `scale=` where
-        the matrix has a unit: names are quoted where they need it. ValueError, before anything is
-        written, for names that no list has, such as one with an end of line; a warning for names
-        that come back as others, such as tuples, or '1', which `nodetype=str` reads as text, and
-        for vertices without an edge, which a list of edges doesn't name: `save` keeps them, and
-        `read_graph(.., nodelist=G.nodes)` has them again. In pandas `to_csv`."""
+        """Write a line for each entry.
+
+        `read_graph` reads the same edges again, with `scale=` where the matrix has a unit.
+
+        Parameters
+        ----------
+        target : path or file, optional
+            A path, or a file open in text. Without it the text is returned.
+        fields : sequence of str, optional
+            What the header calls the fields: source, target and weight, or of a column or a row
+            node and value, unless given.
+        sep : str, default ','
+            What parts the fields; names are quoted where they need it.
+        header : bool, default True
+            Whether the first line names the fields.
+        scale : number, optional
+            Stored values are divided by it, in place of the matrix' unit.
+        raw : bool, default False
+            Whether the stored whole numbers are written.
+
+        Returns
+        -------
+        str or None
+            The text, where there is no target.
+
+        Raises
+        ------
+        ValueError
+            Before anything is written, for names that no list has, such as one with an end of line.
+
+        Warns
+        -----
+        UserWarning
+            Of names that come back as others, such as tuples, or '1', which `nodetype=str` reads as
+            text; and of vertices without an edge, which a list doesn't name: `save` keeps them, and
+            `read_graph(.., nodelist=G.nodes)` has them again.
+
+        Notes
+        -----
+        In pandas `to_csv`.
+        """
         known = NODE if self._is_vector() else EDGE
         fields = known if fields is None else fields
         if len(fields) != len(known):
@@ -130,19 +163,61 @@ class FileExports(MatrixBase):
 
     def write_edgelist(self, target: Any, delimiter: str = ' ', *, values: bool = True,
                        scale: Optional[float] = None, raw: bool = False) -> None:
-        """Writes an edge a line, names and value parted by a blank, to a path or a file open in
-        text; `values=False` leaves them out. With another delimiter names are quoted where they
-        need it. ValueError and a warning, before anything is written, are as `to_csv` has them; a
-        list parted by blanks can't quote, so it has fewer names. In networkx
-        `write_weighted_edgelist`."""
+        """Write a line for each edge: two names and a value.
+
+        Parameters
+        ----------
+        target : path or file
+            A path, or a file open in text.
+        delimiter : str, default ' '
+            What parts the fields. Names are quoted where they need it, but not beside blanks.
+        values : bool, default True
+            Whether values are written.
+        scale : number, optional
+            Stored values are divided by it, in place of the matrix' unit.
+        raw : bool, default False
+            Whether the stored whole numbers are written.
+
+        Raises
+        ------
+        ValueError
+            As `to_csv` has it. A list parted by blanks can't quote, so it has fewer names.
+
+        Warns
+        -----
+        UserWarning
+            As `to_csv` does.
+
+        Notes
+        -----
+        In networkx `write_weighted_edgelist`.
+        """
         columns = self._columns(scale, raw, to_text)
         lines = self._lines(columns if values else columns[:-1], delimiter, None)
         with _opened(target) as file:
             file.writelines(lines)
 
     def to_pandas(self, *, scale: Optional[float] = None, raw: bool = False) -> Any:
-        """Of a column or a row a Series of pandas by name; of another matrix a table as
-        `to_pandas_edgelist` has it."""
+        """The entries as a Series or a table of pandas.
+
+        Parameters
+        ----------
+        scale : number, optional
+            Stored values are divided by it, in place of the matrix' unit.
+        raw : bool, default False
+            Whether the values are the stored whole numbers.
+
+        Returns
+        -------
+        pandas.Series or pandas.DataFrame
+            Of a column or a row its values by name; of another matrix a table as
+            `to_pandas_edgelist` has it.
+
+        Raises
+        ------
+        ImportError
+            Where pandas is missing (extra `files`).
+        """
         pandas = import_extra('pandas', 'to_pandas')
         if not self._is_vector():
             return self.to_pandas_edgelist(scale=scale, raw=raw)
@@ -156,9 +231,33 @@ class FileExports(MatrixBase):
     def to_pandas_edgelist(self, source: str = 'source', target: str = 'target',
                            edge_attr: Optional[str] = 'weight', *, scale: Optional[float] = None,
                            raw: bool = False) -> Any:
-        """A table of pandas with a row an entry: the names of its row and its column, and its value
-        as `edge_attr`, unless that is None. `from_pandas_edgelist` takes it again. In networkx the
-        same name."""
+        """The entries as a table of pandas, which `from_pandas_edgelist` takes again.
+
+        Parameters
+        ----------
+        source, target : str, default 'source' and 'target'
+            What the columns are called that have the names of rows and columns.
+        edge_attr : str, optional
+            What the column of values is called; with None there is none.
+        scale : number, optional
+            Stored values are divided by it, in place of the matrix' unit.
+        raw : bool, default False
+            Whether the values are the stored whole numbers.
+
+        Returns
+        -------
+        pandas.DataFrame
+            A row for each entry.
+
+        Raises
+        ------
+        ImportError
+            Where pandas is missing (extra `files`).
+
+        Notes
+        -----
+        In networkx the same name.
+        """
         pandas = import_extra('pandas', 'to_pandas_edgelist')
 
         def take(names: Optional[Sequence[Any]], at: Any) -> Any:
@@ -175,8 +274,31 @@ class FileExports(MatrixBase):
         return pandas.DataFrame(table)
 
     def to_parquet(self, path: Any, *, scale: Optional[float] = None, raw: bool = False) -> None:
-        """Writes what `to_pandas` gives as a parquet file, by pandas with pyarrow or fastparquet.
-        It warns of vertices without an edge as `to_csv` does. In pandas the same name."""
+        """Write what `to_pandas` gives as a parquet file.
+
+        Parameters
+        ----------
+        path : path
+            The file to write.
+        scale : number, optional
+            Stored values are divided by it, in place of the matrix' unit.
+        raw : bool, default False
+            Whether the stored whole numbers are written.
+
+        Raises
+        ------
+        ImportError
+            Where pandas, or pyarrow and fastparquet, are missing (extra `parquet`).
+
+        Warns
+        -----
+        UserWarning
+            Of vertices without an edge, as `to_csv` does.
+
+        Notes
+        -----
+        In pandas the same name.
+        """
         if not any(importlib.util.find_spec(engine) for engine in ('pyarrow', 'fastparquet')):
             import_extra('pyarrow', 'to_parquet')
         table = self.to_pandas(scale=scale, raw=raw)

@@ -63,7 +63,13 @@ def empty(name: str) -> Until:
     Parameters
     ----------
     name : str
-        A result of the step."""
+        A result of the step.
+
+    Returns
+    -------
+    Until
+        What `Loop.run` takes.
+    """
     return Until((name,), lambda counts, _: counts[name] == 0, True)
 
 
@@ -74,7 +80,13 @@ def steady(name: str) -> Until:
     Parameters
     ----------
     name : str
-        A result of the step."""
+        A result of the step.
+
+    Returns
+    -------
+    Until
+        What `Loop.run` takes.
+    """
     return Until((name,), lambda counts, before: counts[name] == before.get(name))
 
 
