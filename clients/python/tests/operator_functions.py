@@ -32,6 +32,13 @@ def grade(x):
     return 0
 
 
+def fee(x, y):
+    r = 2 * x if x > 100 else x
+    r += 7 if y > 0 else 0
+    r += y * y if x > 50 else 0
+    return r
+
+
 def score(x, y):
     s = 0
     if x > 10:

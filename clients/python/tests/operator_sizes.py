@@ -42,6 +42,9 @@ TABLE = [
     ('grade: 3 `elif`', 'unary', F.grade,
      'mov64 r0, 5; jsge64 r1, 90, 5; mov64 r0, 4; jsge64 r1, 75, 3; mov64 r0, 3; jsge64 r1, 60, '
      '1; mov64 r0, 0; exit'),
+    ('fee: 3 `if`, 2 of one operand', 'binary', F.fee,
+     'mov64 r0, r1; jsle64 r1, 100, 1; add64 r0, r1; jsle64 r2, 0, 1; add64 r0, 7; jsle64 r1, '
+     '50, 2; mul64 r2, r2; add64 r0, r2; exit'),
     ('score: 4 `if` behind one another', 'binary', F.score,
      'mov64 r0, 0; jsle64 r1, 10, 1; add64 r0, 3; jsle64 r2, 20, 1; add64 r0, 5; mov64 r3, r1; '
      'and64 r3, 1; mul64 r3, 7; add64 r0, r3; jsle64 r1, r2, 1; add64 r0, 11; exit'),

@@ -4,6 +4,7 @@ on registers, and text. Before its first use the code is compared with the funct
 from __future__ import annotations
 
 import collections
+import contextlib
 import functools
 import inspect
 import random
@@ -16,7 +17,7 @@ from ...errors import CompileError
 from ..assembly import MEANINGS, wrap
 from ..integer_functions import whole
 from .emission import Emission
-from .exploration import (Explored, Impure, Line, Path, Ranges, call, describe_line, explore,
+from .exploration import (Exploration, Impure, Line, Path, Ranges, call, describe_line, explore,
                           is_users)
 from .expressions import Graph, LEAST, MOST, Node, below
 from .registers import Instruction, Machine, Reg, allocate, ins, resolve, size_of, text_of, tidy
@@ -66,9 +67,14 @@ def compile_function(kind: str, function: Function, name: Optional[str] = None,
     called = name or name_of(function)
     try:
         names = parameters(kind, function)
-        root, tree, shared = _explore_ways(kind, function, names)
-        forms = [root, *other_forms(shared.graph, tree)]
-        compiled = min(map(_write_code, forms), key=lambda code: len(code.instructions))
+        operands = [*names, *NAMES[kind][len(names):]]
+        run = functools.partial(_take_way, function, len(names))
+        root, tree, shared = explore(operands, run)
+        compiled = _write_shortest(root, tree, shared)
+        if shared.pruned:                          # else ways may have more in common
+            with contextlib.suppress(CompileError):
+                compiled = min(compiled, _write_shortest(*explore(operands, run, by_range=False)),
+                               key=lambda code: len(code.instructions))
         if check:
             _compare(kind, function, names, Machine(compiled.instructions),
                      _find_numbers(function, root))
@@ -90,15 +96,10 @@ def _warn_of_line(text: str, line: Optional[Line]) -> None:
         warnings.warn_explicit(text, RuntimeWarning, *line)
 
 
-def _explore_ways(kind: str, function: Function,
-              names: Sequence[str]) -> Explored:
-    """All ways through a function as one expression."""
-    operands = [*names, *NAMES[kind][len(names):]]
-    run = functools.partial(_take_way, function, len(names))
-    try:
-        return explore(operands, run)
-    except CompileError:                           # on a way that ranges may rule out
-        return explore(operands, run, by_range=True)
+def _write_shortest(root: Node, tree: Node, shared: Exploration) -> Compiled:
+    """The shortest code of what was explored."""
+    return min(map(_write_code, [root, *other_forms(shared.graph, tree)]),
+               key=lambda code: len(code.instructions))
 
 
 def _write_code(root: Node) -> Compiled:

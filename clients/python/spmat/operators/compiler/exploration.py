@@ -155,12 +155,12 @@ def _of_bits(op: str, one: Range, other: Range) -> Sequence[int]:
 
 class Exploration:
     """What all ways through a function share. `operands` are numbers where these are known.
-    `by_range` says whether ranges answer all questions. `caught` says of points of all ways whether
+    `by_range` says whether ranges answer questions, `pruned` whether they did. `caught` says of points of all ways whether
     the function catches an error that is raised there."""
 
     def __init__(self, names: Sequence[str], operands: Optional[Sequence[int]] = None,
-                 by_range: bool = False) -> None:
-        self.graph, self.names, self.by_range = Graph(), names, by_range
+                 by_range: bool = True) -> None:
+        self.graph, self.names, self.by_range, self.pruned = Graph(), names, by_range, False
         self.operands = ([self.graph.leaf('arg', at) for at in range(len(names))]
                          if operands is None else list(map(self.graph.const, operands)))
         self.caught: Dict[Point, bool] = {}
@@ -220,10 +220,11 @@ class Path:
         """Whether a condition holds, where this way knows it."""
         if c in self.facts:
             return self.facts[c]
-        # ranges answer what is asked of one word, so that loops end; other questions stay, so that
-        # ways have more in common
-        if c.args[1].op != 'const' and not self.shared.by_range:
-            return None
+        answer = self._truth_by_ranges(c) if self.shared.by_range else None
+        self.shared.pruned |= answer is not None
+        return answer
+
+    def _truth_by_ranges(self, c: Node) -> Optional[bool]:
         (low, high), (other_low, other_high) = map(self.ranges.of, c.args)
         if c.op == 'slt' or c.op == 'ult' and min(low, other_low) >= 0:
             return True if high < other_low else False if low >= other_high else None
@@ -322,7 +323,7 @@ class Explored(NamedTuple):
 
 
 def explore(names: Sequence[str], run: Callable[[Path], Node],
-            operands: Optional[Sequence[int]] = None, by_range: bool = False) -> Explored:
+            operands: Optional[Sequence[int]] = None, by_range: bool = True) -> Explored:
     """All ways through a function as one expression; `run` takes one."""
     shared = Exploration(names, operands, by_range)
     graph = shared.graph
