@@ -57,8 +57,10 @@ class InAndOut(Matrices):
         self.assertEqual((G.shape, G.to_dict()), ((4, 4), dict.fromkeys(pairs, 1)))
         self.assertEqual(s.from_triples([(0, 1), (1, 0, 7)]).to_dict(), {(0, 1): 1, (1, 0): 7})
         self.assertEqual(s.from_coo([5], [2], square=True).shape, (6, 6))
-        # sizes that are given stay
-        self.assertEqual(s.from_coo([1], [2], 1, 2, 9, square=True).shape, (2, 9))
+        # a size that is given is both
+        self.assertEqual(s.from_coo([1], [2], 1, 9, square=True).shape, (9, 9))
+        with self.assertRaisesRegex(ValueError, 'not of 2 rows and 9 columns'):
+            s.from_coo([1], [2], 1, 2, 9, square=True)
         with self.assertRaises(ValueError) as said:
             s.from_triples([(0, 1), (1, 2, 3, 4)])
         self.assertIn('(1, 2, 3, 4) (entry 1)', str(said.exception))

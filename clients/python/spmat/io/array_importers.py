@@ -49,7 +49,7 @@ class ArraySources(abc.ABC, Generic[Made]):
         nrows, ncols : int, optional
             The sizes; without them the least that fit, or the numbers of `nodes`.
         square : bool
-            Sizes that aren't given are the least for both.
+            One size that is given is both; without any, both are the least that fit.
         symmetric : bool
             Each entry (i, j) stands at (j, i), too, and the matrix is square: an undirected graph
             of which each edge is given once, in either direction. It is loaded in less time.
@@ -87,19 +87,21 @@ class ArraySources(abc.ABC, Generic[Made]):
         nrows, ncols = sizes_of(nodes, nrows, ncols)
         whole, rounding = scaled(arrays.plain_column(values, 'value') if arrays.is_many(values)
                                  else values, scale)
-        unit = units.of_read(scale, dup_op)
+        unit, is_square = units.of_read(scale, dup_op), square or symmetric
+        if is_square:                              # where one size is given it is both
+            nrows, ncols = (ncols if nrows is None else nrows), (nrows if ncols is None else ncols)
         triples = coo.checked(rows, columns, whole, nrows, ncols)
-        if (square or symmetric) and nrows is None and ncols is None:
+        if is_square and nrows is None:
             triples = triples._replace(nrows=max(triples.nrows, triples.ncols),
                                        ncols=max(triples.nrows, triples.ncols))
+        if is_square and triples.nrows != triples.ncols:
+            raise ValueError('%s=True is of a square matrix, not of %d rows and %d columns' % (
+                'symmetric' if symmetric else 'square', triples.nrows, triples.ncols))
         axes = axes_of(nodes, (triples.nrows, triples.ncols))
         triples = overflow.folded(self._folded, triples, dup_op, unit)
         if not symmetric:
             made = self._from(triples, name=name)
             return _note_values(made, rounding, unit, axes, triples.values)
-        if triples.nrows != triples.ncols:
-            raise ValueError('symmetric=True is of a square matrix, not of %d rows and %d columns'
-                             % (triples.nrows, triples.ncols))
         made = _note_values(self._both_ways(triples, name), rounding, unit, axes, triples.values)
         made.notes = made.notes._replace(directed=False)
         return made
@@ -118,7 +120,7 @@ class ArraySources(abc.ABC, Generic[Made]):
         nrows, ncols : int, optional
             The sizes, as for `from_coo`.
         square : bool, default False
-            Sizes that aren't given are the least for both.
+            One size that is given is both; without any, both are the least that fit.
         scale : number, optional
             Values are multiplied by it and rounded, as for `from_coo`.
         dup_op : operator, optional

@@ -122,6 +122,17 @@ class MatrixMarket(InSession):
                 s.read_graph(path, delimiter=',')
 
 
+class Indexes(InSession):
+    def test_one_size_of_a_square(self):
+        """A size that is given is both; two that differ are refused."""
+        for kind in ('square', 'symmetric'):
+            for sizes in ({'nrows': 5}, {'ncols': 5}, {'nodes': list('abcde')}):
+                self.assertEqual(self.s.from_coo([0], [1], 1, **sizes, **{kind: True}).shape, (5, 5))
+            with self.assertRaisesRegex(ValueError, kind + '=True .* not of 3 rows and 4 columns'):
+                self.s.from_coo([0], [1], 1, 3, 4, **{kind: True})
+        self.assertEqual(self.s.from_triples([(0, 1, 2)], 5, square=True).shape, (5, 5))
+
+
 class Lists(InSession):
     def test_two_kinds_have_no_common_list(self):
         with self.assertRaisesRegex(ValueError, 'nodelist= has vertices of one kind'):
