@@ -48,8 +48,8 @@ def read(file: str, text: bytes, values: bool = True,
          scale: Optional[float] = None) -> Tuple[Edges, Problem]:
     """The edges, and what the line `p` says. ReadError names the line."""
     problem = problem_of(file, text)
-    edges = (_quickly(file, text, problem, values, scale)
-             or _slowly(file, text, problem, values, scale))
+    wanted = Values(values, scale, Rounding(scale))
+    edges = _quickly(file, text, problem, wanted) or _slowly(file, text, problem, wanted)
     if len(edges.sources) != problem.edges:
         raise _fault(file, text, problem.number, '%d edges stand there, and this line says %d'
                      % (len(edges.sources), problem.edges))
@@ -75,23 +75,22 @@ def problem_of(file: str, text: bytes) -> Problem:
     raise ReadError(file, None, 'no graph of DIMACS: it has no line `p KIND VERTICES EDGES`')
 
 
-def _quickly(file: str, text: bytes, problem: Problem, values: bool,
-             scale: Optional[float]) -> Optional[Edges]:
+def _quickly(file: str, text: bytes, problem: Problem, wanted: Values) -> Optional[Edges]:
     """All lines at once, as those of Matrix Market, where nothing but edges stands behind the line
     `p`."""
     body = text[start_of_line(text, problem.number + 1):].rstrip() + b'\n'
     plain, lines = re.subn(rb'(?m)^%s[ \t]+' % ARCS[problem.kind], b'', body)
-    kind = Kind(False, 'real' if problem.directed else 'pattern', 'general', Values(values, scale))
+    kind = Kind(False, 'real' if problem.directed else 'pattern', 'general', wanted)
     found = (read_quickly(kind, plain, lines, problem.vertices, problem.vertices)
              if lines == body.count(b'\n') else None)
     if found is None:
         return None
     return Edges(found.rows + 1, found.columns + 1, None if kind.is_bare else found.values,
-                 lambda at, words: _fault(file, text, problem.number + 1 + at, words))
+                 lambda at, words: _fault(file, text, problem.number + 1 + at, words),
+                 '' if kind.is_bare else str(wanted.rounding))
 
 
-def _slowly(file: str, text: bytes, problem: Problem, values: bool,
-            scale: Optional[float]) -> Edges:
+def _slowly(file: str, text: bytes, problem: Problem, wanted: Values) -> Edges:
     """Line by line, so that whatever is wrong is named."""
     letter = ARCS[problem.kind]
     numbers: List[int] = []
@@ -114,11 +113,11 @@ def _slowly(file: str, text: bytes, problem: Problem, values: bool,
 
     def fault(at: int, words: str) -> ReadError:
         return _fault(file, text, numbers[at], words)
-    weights: Any = None
-    if problem.directed and values:
-        weights = numpy.array(whole_values(fields, fault, Rounding(scale)), numpy.int64)
+    weights, rounding = None, Rounding(wanted.scale)   # type: Any, Rounding
+    if problem.directed and wanted.read:
+        weights = numpy.array(whole_values(fields, fault, rounding), numpy.int64)
     sources, targets = (numpy.array(end, numpy.int64) for end in ends)
-    return Edges(sources, targets, weights, fault)
+    return Edges(sources, targets, weights, fault, '' if weights is None else str(rounding))
 
 
 def _fault(file: str, text: bytes, number: int, words: str) -> ReadError:

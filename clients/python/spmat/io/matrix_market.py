@@ -36,9 +36,10 @@ COMMAND = 'mmread'                                 # what refusals of a file nam
 
 class Values(NamedTuple):
     """What is read of values: nothing, so that each entry is 1; or whole numbers, multiplied by a
-    scale and rounded where there is one."""
+    scale and rounded where there is one, which `rounding` counts."""
     read: bool = True
     scale: Optional[float] = None
+    rounding: Optional[Rounding] = None
 
 
 class Line(NamedTuple):
@@ -86,6 +87,8 @@ class Kind(NamedTuple):
         scale = None if self.is_bare else self.values.scale
         return BY_POSITIONS._replace(directed=False if self.symmetry == 'symmetric' else None,
                                      weighted=not self.is_bare,
+                                     source=('' if scale is None
+                                             else str(self.values.rounding or '')),
                                      unit=1 if scale is None else as_unit(scale))
 
 
@@ -296,7 +299,7 @@ def _value_of(line: Line, fields: List[bytes], kind: Kind) -> int:
     if kind.symmetry == 'skew-symmetric' and exact == LEAST:
         raise line.refused('M7')
     return whole_of(exact, word, check_scale(kind.values.scale), lambda words: line.refused(
-        'M5' if NOT_WHOLE in words else 'M7').of_file(said=words))
+        'M5' if NOT_WHOLE in words else 'M7').of_file(said=words), kind.values.rounding)
 
 
 def _entry_of(line: Line, kind: Kind, nrows: int, ncols: int) -> Tuple[int, int, int]:
@@ -318,7 +321,7 @@ def read_quickly(kind: Kind, body: bytes, count: int, nrows: int, ncols: int) ->
     i, j = (_grid(kind.symmetry, nrows, ncols) if kind.array
             else (columns[0] - 1, columns[1] - 1))
     values = (numpy.ones(count, numpy.int64) if kind.is_bare
-              else _whole_values(columns[0 if kind.array else 2], kind.values.scale))
+              else _whole_values(columns[0 if kind.array else 2], kind.values))
     outside = (i < 0) | (i >= nrows) | (j < 0) | (j >= ncols)
     if values is None or outside.any():
         return None
@@ -359,7 +362,8 @@ def _is_number(word: bytes) -> bool:
     return True
 
 
-def _whole_values(found: Any, scale: Optional[float]) -> Any:
+def _whole_values(found: Any, wanted: Values) -> Any:
     """The values of entries as whole numbers; None where they have to be looked at one by one."""
-    return (found if found.dtype.kind == 'i' and scale is None
-            else scaled_array(found.astype(numpy.float64), Rounding(scale)))
+    return (found if found.dtype.kind == 'i' and wanted.scale is None
+            else scaled_array(found.astype(numpy.float64),
+                              wanted.rounding or Rounding(wanted.scale)))

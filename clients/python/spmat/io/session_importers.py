@@ -17,6 +17,7 @@ from .files import name_of
 from .formats import Request
 from .importers import DupOp, Sources
 from .matrix_text import Triples
+from .values import Rounding
 
 if TYPE_CHECKING:
     from ..session import Session
@@ -146,7 +147,9 @@ class SessionSources(Sources[Matrix]):
 
     def _market(self, file: str, text: bytes, request: Request, dup_op: DupOp,
                 name: Optional[str]) -> Matrix:
-        values = matrix_market.Values(request.layout.values, request.layout.scale)
+        scale = request.layout.scale
+        values = matrix_market.Values(request.layout.values, scale,
+                                      None if scale is None else Rounding(scale))
         try:
             made, kind = self._of_market(text, values, dup_op, name)
         except TextRefused as refused:

@@ -17,7 +17,7 @@ import numpy
 import support
 import spmat
 from spmat import blocks
-from spmat.io import dimacs, edges, formats, edge_list_layout, edge_list_reader
+from spmat.io import dimacs, edges, formats, edge_list_layout, edge_list_reader, matrix_market
 from spmat.io.columns import Layout
 
 DATA = os.path.join(os.path.dirname(os.path.dirname(os.path.abspath(__file__))), 'data')
@@ -429,7 +429,8 @@ class Both(Case):
             table = edge_list_layout.lay_out('f', text, Layout())
             self.assertIsNotNone(edge_list_reader._read_in_bulk(table, 10), text)
         text = b'c\np sp 3 2\na 1 2 5\na 2 3 6\n'
-        self.assertIsNotNone(dimacs._quickly('f', text, dimacs.problem_of('f', text), True, None))
+        self.assertIsNotNone(dimacs._quickly('f', text, dimacs.problem_of('f', text),
+                                             matrix_market.Values()))
 
 
 

@@ -122,6 +122,22 @@ class MatrixMarket(InSession):
                 s.read_graph(path, delimiter=',')
 
 
+class Scales(InSession):
+    def test_rounding_is_told(self):
+        """By each format that has values."""
+        for text in ('%%MatrixMarket matrix coordinate real general\n2 2 2\n1 2 .25\n2 1 3\n',
+                     '%%MatrixMarket matrix coordinate real general\n2 2 2\n1 2 1D-2\n2 1 3\n',
+                     'p sp 2 2\na 1 2 .25\na 2 1 3\n', 'p sp 2 2\na 1 2 .25\nc\na 2 1 3\n',
+                     'a b .25\nb a 3\n', "a b {'weight': .25}\nb a {'weight': 3}\n"):
+            G = self.s.read_graph(io.BytesIO(text.encode()), scale=10)
+            self.assertRegex(G.notes.source, r'values times 10, 1 of 2 rounded, by at most 0\.05'
+                             if '.25' in text else r'values times 10, 1 of 2 rounded')
+            self.assertEqual(self.s.read_graph(io.BytesIO(text.encode()), scale=10,
+                                               values=False).notes.unit, 1)
+            self.assertNotIn('times', self.s.read_graph(io.BytesIO(text.encode()), scale=10,
+                                                        values=False).notes.source)
+
+
 class Indexes(InSession):
     def test_one_size_of_a_square(self):
         """A size that is given is both; two that differ are refused."""
