@@ -12,6 +12,7 @@ from .matrix_base import MatrixBase
 from .operators import other_names
 
 
+REFUSED = 'a %s has no %s: write %s'
 RAISES = """Raises
 ------
 TypeError
@@ -37,7 +38,7 @@ def refusing(sign: str, instead: str, owner: str = 'matrix') -> Callable[..., An
         The method.
     """
     def method(*_: Any, **__: Any) -> NoReturn:
-        raise TypeError('a %s has no %s: write %s' % (owner, sign, instead))
+        raise TypeError(REFUSED % (owner, sign, instead))
     method.__doc__ = 'A %s has no %s.\n\n%s' % (owner, sign, RAISES % instead)
     return method
 
@@ -208,4 +209,4 @@ class Signs(MatrixBase):
         else:
             instead = ('A.ewise_mult(B, "{0}"), A.ewise_add(B, "{0}"), or A.apply("{0}", right=3) '
                        'for a number'.format(name))
-        refusing('np.%s()' % ufunc.__name__, instead)(self)
+        raise TypeError(REFUSED % ('matrix', 'np.%s()' % ufunc.__name__, instead))

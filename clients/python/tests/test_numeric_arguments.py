@@ -1,5 +1,5 @@
 """Numbers that don't fit, in each place of a public call that takes a number: what is refused is
-refused by this package, in words on what came. Which places there are is read off the signatures."""
+refused by this package, in words on what came. Signatures say which places there are."""
 import inspect
 import itertools
 import linecache

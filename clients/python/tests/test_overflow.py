@@ -246,7 +246,8 @@ class Loops(Case):
     def test_sums_that_wrap(self):
         A = made(self.s, [1, 0, 2, 1], shape=(2, 2))
         for step, stored in ((lambda s: {'x': s.x.ewise_add(s.x)}, [10 ** 12, -3]),
-                             (lambda s: {'x': s.x.ewise_add(s.x.apply('ainv'), 'minus')}, [MOST // 3, -5]),
+                             (lambda s: {'x': s.x.ewise_add(s.x.apply('ainv'), 'minus')},
+                              [MOST // 3, -5]),
                              (lambda s: {'x': A.mxm(s.x, 'plus_second')}, [2 ** 55, 2 ** 54])):
             x = made(self.s, stored)
             said, want = self.warned(lambda: self.by_hand(lambda s, _: step(s), x, 40))

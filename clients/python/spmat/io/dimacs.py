@@ -113,7 +113,8 @@ def _slowly(file: str, text: bytes, problem: Problem, wanted: Values) -> Edges:
 
     def fault(at: int, words: str) -> ReadError:
         return _fault(file, text, numbers[at], words)
-    weights, rounding = None, Rounding(wanted.scale)   # type: Any, Rounding
+    weights: Any = None
+    rounding = Rounding(wanted.scale)
     if problem.directed and wanted.read:
         weights = numpy.array(whole_values(fields, fault, rounding), numpy.int64)
     sources, targets = (numpy.array(end, numpy.int64) for end in ends)

@@ -182,7 +182,7 @@ def check_layout(file: str, format: str, request: Request) -> None:
     nothing is a comment, is true of each."""
     asked = {**request.layout._asdict(), 'nodelist': request.nodelist}
     named = [name for name in NOT_OF.get(format, ()) if asked[name] is not None
-             and asked[name] not in (Layout._field_defaults.get(name), [])]
+             and asked[name] not in (getattr(Layout(), name, None), [])]
     if named:
         mends = {'unit': 'G.unit = %r says of the matrix that it has times' % request.layout.unit,
                  'nodelist': 'G[nodelist, nodelist] takes these of the matrix'}
@@ -230,8 +230,8 @@ def _read_edges(file: str, text: bytes, format: str, request: Request) -> Tuple[
     how = How(request.directed is not False, request.nodelist, request.bipartite)
     if format in GRAPH_FORMATS:
         if how.bipartite:
-            raise ReadError(file, None, '%s has one kind of vertices: bipartite=True is for lists'
-                            % format)
+            raise ReadError(file, None, '%s has one kind of vertices: bipartite=True is for lists '
+                            'and Matrix Market; leave it out' % format)
         edges, nodes, directed = GRAPH_FORMATS[format].read(file, text, layout)
         return edges, how._replace(directed=directed if request.directed is None
                                    else request.directed, nodelist=nodes if how.nodelist is None

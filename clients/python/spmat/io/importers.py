@@ -51,8 +51,9 @@ class Sources(ArraySources[Made], ArchiveSources[Made]):
         scale : number, optional
             Values are multiplied by it and rounded to the nearest, as for `from_coo`.
         bipartite : bool, optional
-            True makes rows and columns two kinds of vertices, each with its names. It has to be
-            said where the columns of a table are called by two kinds, such as user and item.
+            True makes rows and columns two kinds of vertices, each with its names; not beside
+            `nodelist`. It has to be said where the columns of a table are called by two kinds, such
+            as user and item.
         missing : str, optional
             None and NaN are missing names and values. "raise", the default, refuses them. "skip"
             leaves their edges out, and counts them in `notes.source`. With None, None is a name as

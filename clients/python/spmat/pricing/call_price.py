@@ -309,9 +309,9 @@ def needed_by(call: Callable[[], Any]) -> int:
 
 def guarded(function: F, check: Callable[[Tuple[Any, ...], Dict[str, Any]],
                                          Tuple[Tuple[Any, ...], Dict[str, Any]]]) -> F:
-    """An algorithm whose arguments are those that `check` gives of what callers hand in. It raises BudgetExceeded before its
-    first job where the budget is known to have too little left for it, and warns where it may
-    have."""
+    """An algorithm whose arguments are those that `check` gives of what callers hand in. It raises
+    BudgetExceeded before its first job where the budget is known to have too little left for it,
+    and warns where it may have."""
     @functools.wraps(function)
     def call(*args: Any, **named: Any) -> Any:
         args, named = check(args, named)

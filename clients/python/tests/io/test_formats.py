@@ -143,7 +143,8 @@ class Indexes(InSession):
         """A size that is given is both; two that differ are refused."""
         for kind in ('square', 'symmetric'):
             for sizes in ({'nrows': 5}, {'ncols': 5}, {'nodes': list('abcde')}):
-                self.assertEqual(self.s.from_coo([0], [1], 1, **sizes, **{kind: True}).shape, (5, 5))
+                A = self.s.from_coo([0], [1], 1, **sizes, **{kind: True})
+                self.assertEqual(A.shape, (5, 5))
             with self.assertRaisesRegex(ValueError, kind + '=True .* not of 3 rows and 4 columns'):
                 self.s.from_coo([0], [1], 1, 3, 4, **{kind: True})
         self.assertEqual(self.s.from_triples([(0, 1, 2)], 5, square=True).shape, (5, 5))

@@ -155,8 +155,8 @@ def _of_bits(op: str, one: Range, other: Range) -> Sequence[int]:
 
 class Exploration:
     """What all ways through a function share. `operands` are numbers where these are known.
-    `by_range` says whether ranges answer questions, `pruned` whether they did. `caught` says of points of all ways whether
-    the function catches an error that is raised there."""
+    `by_range` says whether ranges answer questions, `pruned` whether they did. `caught` says of
+    points of all ways whether the function catches an error that is raised there."""
 
     def __init__(self, names: Sequence[str], operands: Optional[Sequence[int]] = None,
                  by_range: bool = True) -> None:
