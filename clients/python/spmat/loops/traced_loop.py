@@ -386,7 +386,9 @@ def loop(step: Callable[..., Mapping[str, Any]], state: Mapping[str, Any],
     `reduce_scalar`). Matrices from outside the step are constants, which are made before the loop.
 
     Jobs are those that the step asks for; runs as few as they need. In blocks, on a budget that may
-    not do for a trip of rounds, and where something is refused, rounds are made one by one. A
-    refusal is raised as without a loop, with `.round`; the state is that before this round. Ctrl-C
-    leaves the loop as it is: `run` goes on. Threads take turns between trips."""
+    not do for a trip of rounds, and where something is refused, rounds are made one by one. So is
+    a round of decimals whose results may pass 64 bits: its step is called again, with matrices that
+    have entries, and warns or raises as without a loop. A refusal is raised as without a loop, with
+    `.round`; the state is that before this round. Ctrl-C leaves the loop as it is: `run` goes on.
+    Threads take turns between trips."""
     return Loop(step, state, show)
