@@ -62,8 +62,9 @@ class CommandLine(unittest.TestCase):
         return done.stdout
 
     def faults(self, done):
-        """Standard error, less the word on which columns of a list were read."""
-        return ''.join(line for line in done.stderr.splitlines(True) if ': header: ' not in line)
+        """Standard error, less the words on which columns of a list were read and on rounding."""
+        return ''.join(line for line in done.stderr.splitlines(True)
+                       if ': header: ' not in line and not line.startswith('values times '))
 
     def refused(self, *words, text=None, status=Status.FILE):
         done = self.run_words(*words, text=text)

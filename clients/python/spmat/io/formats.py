@@ -187,10 +187,10 @@ def check_layout(file: str, format: str, request: Request) -> None:
         mends = {'unit': 'G.unit = %r says of the matrix that it has times' % request.layout.unit,
                  'nodelist': 'G[nodelist, nodelist] takes these of the matrix'}
         raise ReadError(file, None,
-                        '%s= is for a list of edges%s, and this is a file of the format %s; %s' % (
-                            named[0], '' if format in ('mtx', *GRAPH_FORMATS)
-                            else ' in columns of text', format,
-                            mends.get(named[0], 'leave it out')))
+                        named[0] + '= is for a list of edges%s, and this is a file of the format '
+                        '%s; %s' % ('' if format in ('mtx', *GRAPH_FORMATS)
+                                    else ' in columns of text', format,
+                                    mends.get(named[0], 'leave it out')))
 
 
 # -- reading it

@@ -297,7 +297,7 @@ class Sources(ArraySources[Made], ArchiveSources[Made]):
         """
         nodelist, max_bytes = layout.pop('nodelist', None), layout.pop('max_bytes', None)
         for word in layout.keys() - set(Layout._fields):
-            raise TypeError('read_graph has no argument %s=: help(s.read_graph) lists them' % word)
+            raise TypeError('read_graph has no argument %r: help(s.read_graph) lists them' % word)
         known = Layout(values=values, scale=scale, bipartite=bipartite, **layout)
         return self._read(path, Request(format, known, directed, nodelist, max_bytes), dup_op, name)
 

@@ -84,7 +84,7 @@ class EachKeyword(InSession):
                         self.assertNotEqual(found, plain)
 
     def test_what_is_no_argument(self):
-        with self.assertRaisesRegex(TypeError, 'read_graph has no argument weight='):
+        with self.assertRaisesRegex(TypeError, "read_graph has no argument 'weight'"):
             self.s.read_graph(io.BytesIO(TEXTS['csv']), weight='x')
 
 
