@@ -27,131 +27,23 @@ sentence, in the words of docs/protocol.md and docs/bpf.md.
 from __future__ import annotations
 
 import copy
-import re
-from typing import Any, Dict, Optional, Sequence, Tuple, Type, TypeVar
+from typing import Any, Dict, Optional, Sequence, Type, TypeVar
 
+from .base_errors import (ARGUMENTS, BudgetWarning, Closed, CompileError, MaskWarning, NamesDiffer,
+                          NotMade, NotSettled, OverflowWarning, ProtocolError, ReadError,
+                          ResultLost, SpmatError, UnitsDiffer, arguments_in)
 from .refusal_rules import MENDS, find_sentence, is_placed
+
+__all__ = ['ARGUMENTS', 'BudgetExceeded', 'BudgetWarning', 'Busy', 'Closed', 'CompileError',
+           'DimensionMismatch', 'DomainMismatch', 'MORE_STEPS', 'MaskWarning', 'NamesDiffer',
+           'NoThread', 'NotMade', 'NotSettled', 'OperatorRefused', 'OutOfMemory',
+           'OverflowWarning', 'PRICE_TELLS', 'ProtocolError', 'ReadError', 'Refused', 'ResultLost',
+           'SpmatError', 'TextRefused', 'ThreadUnavailable', 'TooLarge', 'UnitsDiffer',
+           'arguments_in', 'class_of', 'refusal']
 
 MORE_STEPS = 'open a session with more steps, and other.adopt(G) takes a matrix there'
 PRICE_TELLS = '; spmat.price(lambda: ..) tells beforehand what a call takes'
-# arguments of calls that errors of files and sessions are about; words write them as `columns=`
-ARGUMENTS = ('bipartite', 'columns', 'comments', 'date_format', 'delimiter', 'directed', 'dup_op',
-             'format', 'header', 'missing', 'name', 'program', 'scale', 'steps', 'tls', 'token',
-             'unit', 'values', 'workers')
 AnyRefused = TypeVar('AnyRefused', bound='Refused')
-_ARGUMENT = re.compile(r'(?<![\w"\'.-])(%s)=' % '|'.join(ARGUMENTS))
-
-
-def arguments_in(words: str) -> Tuple[str, ...]:
-    """List the arguments of a call that a message writes as ``columns=``, each once."""
-    return tuple(dict.fromkeys(_ARGUMENT.findall(words)))
-
-
-class SpmatError(Exception):
-    """Everything that this package raises of its own.
-
-    It is the base of the errors. `NotSettled`, a RuntimeError, and the warnings stand apart. The
-    list at the top of `spmat.errors` says what to do about each."""
-
-
-class Closed(SpmatError):
-    """The session has ended.
-
-    It ends by `close`, by a refusal, or as the program or the connection is gone. The words have
-    what the program said. Each call that needs the session raises this from then on. Open another
-    session, and make the matrices there anew."""
-
-
-class ProtocolError(Closed):
-    """What came is no reply to the command that was sent.
-
-    The other side is no server of spmat, or something between drops, repeats or swaps replies. The
-    session is ended, as commands and replies are out of step. Look whether the address is a
-    server's, and what lies between; then open another session."""
-
-
-class MaskWarning(UserWarning):
-    """A matrix was given as a mask.
-
-    It means its structure, `A.S`, where the C API of the GraphBLAS means its values, `A.V`. Write
-    `mask=A.S` or `mask=A.V`, which give no warning."""
-
-
-class OverflowWarning(UserWarning):
-    """Results of a job on values with a unit, such as decimals, may be beyond 64 bits.
-
-    They wrap there, and stand for other numbers. The words say what leaves room: often a coarser
-    unit, by `A.rescale(unit, exact=False)`, which rounds."""
-
-
-class ReadError(SpmatError, ValueError):
-    """A file isn't what was to be read.
-
-    Calls that read a file raise it. Mend the line, or give the arguments that the words name. It is
-    a ValueError, too.
-
-    Attributes
-    ----------
-    file : str
-        Its name.
-    at : int or None
-        The line, from 1, or None.
-    words : str
-        What is wrong.
-    line : str
-        What stands there, or empty.
-    arguments : tuple of str
-        The names of the arguments of a call that the words are about, such as ``columns``.
-    """
-
-    def __init__(self, file: str, at: Optional[int], words: str, line: str = '') -> None:
-        self.file, self.at, self.words, self.line = file, at, words, line
-        self.arguments = arguments_in(words)
-        place = file if at is None else '%s, line %d' % (file, at)
-        super().__init__('%s: %s%s' % (place, words, ': %r' % line if line else ''))
-
-    def __reduce__(self) -> Tuple[Any, ...]:
-        return type(self), (self.file, self.at, self.words, self.line)
-
-
-class NamesDiffer(SpmatError, ValueError):
-    """Two matrices that a job would combine have different names for their rows or columns.
-
-    By position the values of different vertices would meet. `spmat.align` brings matrices to the
-    same names, and `nodelist=` reads one with the names of another. It is a ValueError, too. In
-    pandas such tables are aligned; python-graphblas knows no names."""
-
-
-class NotMade(SpmatError):
-    """The result of a job whose run was refused, so that it never came to be.
-
-    A call that wants such a matrix raises it. The refusal is the cause, `__cause__`: do about it
-    what its class says, and ask for the job again. `ResultLost` is the same class."""
-
-
-ResultLost = NotMade
-
-
-class UnitsDiffer(SpmatError, ValueError):
-    """Numbers of two units would meet, or a result would have two units.
-
-    Such units are hundredths and thousandths. The words say what to write; `A.rescale(unit)` gives
-    one matrix the other's. It is a ValueError, too."""
-
-
-class CompileError(SpmatError):
-    """A function of Python or C that can't be an operator, or that clang refused.
-
-    It is raised where the operator is made, or before it is first used; no server was asked. The
-    words say what to do."""
-
-
-class NotSettled(RuntimeError):
-    """More rounds than there can be, or than were allowed.
-
-    `Loop.run`, `fixpoint` and algorithms that go by rounds raise it. Allow more rounds, by `most=`
-    of the first two, or look whether the rounds come to an end at all. The state of a `Loop` is
-    that behind the rounds that were made. It is a RuntimeError, and no `SpmatError`."""
 
 
 class Refused(SpmatError):
@@ -311,13 +203,6 @@ class DomainMismatch(Refused, TypeError):
 
     Give an operator of the kind that the method names: unary, binary or index. It is a TypeError,
     too. In python-graphblas the same name."""
-
-
-class BudgetWarning(UserWarning):
-    """A call may take more steps than are left, so that it may be refused amid its work.
-
-    It is told before its first job. `spmat.price` tells what the call takes; a session with more
-    steps may do, and `other.adopt(G)` takes a matrix there."""
 
 
 class _Spent(Refused):

@@ -3,9 +3,7 @@ from __future__ import annotations
 
 import functools
 import io
-import os
-import uuid
-from typing import Any, Callable, Iterable, Iterator, List, Optional, Sequence, Tuple, Union
+from typing import Any, Callable, Iterable, List, Optional, Sequence, Tuple, Union
 
 import numpy
 
@@ -27,10 +25,7 @@ from .backend import BlockHandle, BlocksBackend
 from .matrix import BlockMatrix
 from .row_partition import Cut
 from .shared_budget import Work
-from .worker_store import Piece, Settings
-
-# bytes of a text that goes with its task, where another would lie in a file
-SMALL = 1 << 16
+from .worker_store import Settings
 
 
 class Inputs(Sources[BlockMatrix]):
@@ -39,16 +34,15 @@ class Inputs(Sources[BlockMatrix]):
     blocks: int
     cut: Optional[Cut]
     files: List[str]
-    folder: Optional[str]
     progress: Progress
     submit: Callable[..., Any]
     submit_batch: Callable[[Sequence[Work]], List[Any]]
     results: Callable[..., List[Any]]
     spool: Callable[[], Optional[str]]
+    new_file: Callable[[], str]
     _backend: 'BlocksBackend'
     engine: Engine
     settings: Settings
-    turns: Iterator[int]
 
     def from_edges(self, edges: Iterable[Any], nrows: int, ncols: int, *,
                    cut: Optional[Sequence[int]] = None, dup_op: DupOp = None,
@@ -364,13 +358,6 @@ class Inputs(Sources[BlockMatrix]):
                 raise (errors.refuse_triples(folded, fault) if fault.rule == 'M8'
                        else fault) from None
 
-    def share(self, piece: Piece) -> Any:
-        """A piece that has its text, as tasks of all places take it: by Dask from one worker, which
-        the others get it from."""
-        if not self.engine.forgets or len(piece.text()) < SMALL:
-            return piece
-        return self.submit(next(self.turns), 'a vector', worker_tasks.hand_on, piece)
-
     def _fold(self, many: Triples, op: Operator) -> Any:
         label = 'values that share a position'
         folds = self.results(
@@ -385,19 +372,3 @@ class Inputs(Sources[BlockMatrix]):
         made = BlockMatrix(self, self._backend.load_spool(spool, cut, fold), name)
         made.notes = spool.notes
         return made
-
-    def put(self, block: int, label: str, text: bytes) -> Any:
-        """The future of a block that is made of its text."""
-        if (len(text) < SMALL and self.folder is None) or self.spool() is None:
-            return self.submit(block, label, worker_tasks.source, text)
-        path = self.new_file()
-        return self.submit(block, label, worker_tasks.read, path,
-                           chunked_input.write_text(path, text))
-
-    def new_file(self) -> str:
-        """The path of a file in `spool()` that isn't there yet, and that `close` removes."""
-        folder = self.spool()
-        assert folder is not None
-        path = os.path.join(folder, uuid.uuid4().hex + '.mtx')
-        self.files.append(path)
-        return path

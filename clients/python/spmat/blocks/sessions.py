@@ -1,4 +1,4 @@
-"""Several sessions as one: matrices in, and the budgets."""
+"""Several sessions as one: their life, their budgets, and what one of them says of operators."""
 from __future__ import annotations
 
 import contextlib
@@ -10,11 +10,10 @@ import os
 import tempfile
 import threading
 import weakref
-from typing import Any, Callable, Dict, Iterable, List, Optional, Sequence, Tuple, Union
+from typing import Any, Callable, Dict, Iterable, List, Optional, Tuple, Union
 
-from ..backends.placeholders import Unforeseen, backend_now, current_price
-from ..backends.protocol import Budget, JobResult, Run
-from ..errors import BudgetExceeded, Closed, SpmatError
+from ..backends.placeholders import backend_now
+from ..backends.protocol import Budget
 from ..foreign_names import SESSION, missing_attribute
 from ..io import coo
 from ..limits import MOST_STEPS
@@ -25,16 +24,15 @@ from ..wire.server_program import Program
 from ..wire.transport import checked_seconds
 from . import worker_tasks
 from .backend import BlockHandle, BlocksBackend
-from .errors import AtBlock, VersionMismatch, add_spent, name_block
+from .errors import AtBlock, VersionMismatch, name_block
 from .executor import Engine, Progress
 from .importers import Inputs
 from .row_partition import Cut
-from .shared_budget import Ledger, Work
+from .shared_budget import Ledger
+from .task_runner import TaskRunner
 from .threads import Threads
 from .worker_store import Settings, agree
 
-# results that are noted until those are passed over that are there
-MOST_WAITING = 1024
 # What one session has and blocks don't: why, and what to do instead.
 OF_ONE_SESSION: Dict[str, str] = {
     'connect': ('the workers of blocks start their own programs: Sessions(Threads(n)) on this '
@@ -46,7 +44,7 @@ OF_ONE_SESSION: Dict[str, str] = {
 }
 
 
-class Sessions(Inputs):
+class Sessions(TaskRunner, Inputs):
     """Several sessions that hold matrices in row blocks. Use it in a `with`, or close it.
 
     Parameters
@@ -144,10 +142,6 @@ class Sessions(Inputs):
         if self._spool is not None:
             self._spool.cleanup()
 
-    def _check_open(self) -> None:
-        if self._closed.is_set():
-            raise Closed('the sessions have ended: they were closed')
-
     @property
     def backend(self) -> Any:
         """What takes the jobs of matrices.
@@ -165,14 +159,6 @@ class Sessions(Inputs):
             raise AttributeError('%s has no attribute %r, as one session has: %s'
                                  % (owner, name, OF_ONE_SESSION[name]))
         raise missing_attribute(owner, name, SESSION)
-
-    def spool(self) -> Optional[str]:
-        """Where texts of blocks lie that come from here: in `folder`, or where all sessions are on
-        this machine in one that `close` removes; None where the engine keeps them."""
-        if self.folder is None and self._spool is None and isinstance(self.engine, Threads):
-            # pylint: disable-next=consider-using-with
-            self._spool = tempfile.TemporaryDirectory(prefix='spmat-')
-        return self.folder if self._spool is None else self._spool.name
 
     def cut_as(self, cut: Cut) -> 'Sessions':
         """The same sessions, which cut new matrices of as many rows at these rows."""
@@ -300,132 +286,6 @@ class Sessions(Inputs):
     def _ask_session(self, method: Callable[[Session, Operator], Any], op: Operator) -> Any:
         """What one of the sessions says of an operator, whichever."""
         return self.results([self.submit(0, '', worker_tasks.ask_session, method, op)], [''])[0]
-
-    # -- tasks
-
-    def run(self) -> Run:
-        """Wait for all jobs that were asked for, which run as soon as they are.
-
-        Returns
-        -------
-        list of JobResult
-            Each job with its price and steps at all blocks together. Of a result that nobody holds
-            any more nothing is told.
-        """
-        waiting, self._waiting[:] = list(self._waiting), []
-        held = [handle for handle in (one() for one in waiting) if handle is not None]
-        for handle in held:
-            handle.counts()
-        return Run(
-            [JobResult(next(iter(handle.matrices()), None), handle.form, handle.price or 0,
-                       handle.steps or 0) for handle in held])
-
-    def note_result(self, handle: BlockHandle) -> None:
-        """Notes the result of a job, for `run`."""
-        if len(self._waiting) > MOST_WAITING:
-            self._waiting[:] = [one for one in self._waiting if (held := one()) is not None
-                                and held.waits]
-        self._waiting.append(weakref.ref(handle))
-
-    def forget(self, handle: BlockHandle) -> None:
-        """Takes a result from those that `run` waits for."""
-        self._waiting[:] = [one for one in self._waiting if one() not in (None, handle)]
-
-    def submit_batch(self, works: Sequence[Work]) -> List[Any]:
-        """The futures of tasks, each of which makes one job at its block. Where the budget is
-        small, BudgetExceeded with the price of all of them before any is charged, and else they are
-        done."""
-        check_queued()
-        if not self.is_metered:
-            self.ledger.grant(len(works))
-            return [self.submit(*work[:3], *work.args) for work in works]
-        labels = [work.label for work in works]
-        price = self._price(works, False)
-        if price > self.ledger.budget.left:
-            price = self._price(works, True)
-        self._check(price)
-        futures = [self.submit(*work[:3], *work.args) for work in works]
-        try:
-            self.results(
-                [self.submit(work.block, work.label, worker_tasks.done, future)
-                 for work, future in zip(works, futures)], labels)
-        finally:
-            with contextlib.suppress(SpmatError):  # what came first is raised
-                self.budget()
-        return futures
-
-    def ask(self, works: Sequence[Work]) -> List[Any]:
-        """What tasks give whose first argument is a piece and whose others are short, as
-        `submit_batch` and `results` have it, and by a shorter way where there is one: nothing of it
-        stays at the workers."""
-        check_queued()
-        self._check_open()
-        labels = [work.label for work in works]
-        if works and not self.is_metered:
-            try:
-                found = self.engine.ask(self.settings, works)
-            except AtBlock as at:
-                raise name_block(at.label, at.fault) from None
-            if found is not None:
-                self.ledger.grant(len(works))
-                return found
-        return self.results(self.submit_batch(works), labels)
-
-    def _check(self, price: int) -> None:
-        """BudgetExceeded where jobs of this price together are above what is left, with what the
-        algorithm wanted that asks for them."""
-        try:
-            self.ledger.check(price)
-        except BudgetExceeded as refused:
-            fault = refused.with_advice()
-            fault.block = ''  # type: ignore[attr-defined]
-            fault.spent_in_all = self.ledger.budget.spent  # type: ignore[attr-defined]
-            raise fault from None
-
-    @property
-    def is_metered(self) -> bool:
-        """Whether so little is left that each job is looked at."""
-        if not self.ledger.is_ample:
-            if self.ledger.is_granted:
-                self.budget()
-            return not self.ledger.is_ample
-        return False
-
-    def _price(self, works: Sequence[Work], exact: bool) -> int:
-        """The price of jobs together, or a bound of it."""
-        return sum(
-            self.results(
-                [self.submit(work.block, work.label, worker_tasks.price_job, work.function,
-                             list(work.args), exact) for work in works],
-                [work.label for work in works]))
-
-    def submit(self, block: int, label: str, function: Callable[..., Any], *args: Any) -> Any:
-        """The future of a task at a block's place."""
-        self._check_open()
-        return self.engine.submit(self.settings, block % self.engine.places, label, function, *args)
-
-    def results(self, futures: Sequence[Any], labels: Sequence[str]) -> List[Any]:
-        """What futures give. What failed in one of them is raised with its block's name; a lack of
-        steps also with what was spent in all."""
-        self._check_open()
-        try:
-            return self.engine.results(self.settings, futures, labels, self.progress)
-        except AtBlock as at:
-            fault, cause = name_block(at.label, at.fault), at.fault
-        if isinstance(fault, BudgetExceeded):
-            with contextlib.suppress(Exception):   # a worker that is lost meanwhile can't be asked
-                fault = add_spent(fault, self.budget().spent)
-        try:
-            raise fault from (cause if cause is not fault else None)
-        finally:
-            # no circle of exception and frame, which would keep futures
-            del fault, cause
-
-
-def check_queued() -> None:
-    """Raises Unforeseen where a call is priced whose jobs aren't told to the price."""
-    if current_price() is not None:
-        raise Unforeseen()
 
 
 def _open_threads(count: Any) -> Threads:

@@ -19,7 +19,7 @@ import os
 import sys
 from typing import (Any, Callable, Iterable, Iterator, List, NamedTuple, Optional, Sequence, Tuple)
 
-from ..io.writers import csv_line
+from ..io.edge_list_writer import csv_line
 from ..matrix import Matrix
 from ..progress import Bar
 from .exit_status import Ended, Status

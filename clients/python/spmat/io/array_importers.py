@@ -9,7 +9,7 @@ from .. import overflow, units
 from ..matrix_base import MatrixBase
 from ..metadata import NOTHING, Axes, axes_of, sizes_of
 from ..operators import Op
-from . import arrays, coo, matrix_market, networkx_adjacency
+from . import arrays, compressed, coo, matrix_market, networkx_adjacency
 from .matrix_text import Triples
 from .values import Rounding, scaled
 
@@ -216,9 +216,9 @@ class ArraySources(abc.ABC, Generic[Made]):
         -----
         In python-graphblas `Matrix.from_csr`.
         """
-        rows = coo.expand(arrays.plain_column(indptr, 'beginning'),
+        rows = compressed.expand(arrays.plain_column(indptr, 'beginning'),
                                  arrays.plain_column(columns, 'column'), 'row')
-        return self.from_coo(rows, columns, values, coo.side_of(indptr, nrows, 'row'), ncols,
+        return self.from_coo(rows, columns, values, compressed.side_of(indptr, nrows, 'row'), ncols,
                              scale=scale, dup_op=dup_op, name=name)
 
     def from_csc(self, indptr: Any, rows: Any, values: Any = 1, nrows: Optional[int] = None,
@@ -257,10 +257,10 @@ class ArraySources(abc.ABC, Generic[Made]):
         -----
         In python-graphblas `Matrix.from_csc`.
         """
-        columns = coo.expand(arrays.plain_column(indptr, 'beginning'),
+        columns = compressed.expand(arrays.plain_column(indptr, 'beginning'),
                                     arrays.plain_column(rows, 'row'), 'column')
         return self.from_coo(rows, columns, values, nrows,
-                             coo.side_of(indptr, ncols, 'column'), scale=scale,
+                             compressed.side_of(indptr, ncols, 'column'), scale=scale,
                              dup_op=dup_op, name=name)
 
     def from_dicts(self, nested: Any, nrows: Optional[int] = None, ncols: Optional[int] = None, *,
@@ -291,7 +291,8 @@ class ArraySources(abc.ABC, Generic[Made]):
         -----
         In python-graphblas `Matrix.from_dicts`.
         """
-        return self.from_coo(*coo.from_dicts(nested, order), nrows, ncols, scale=scale, name=name)
+        rows, columns, values = compressed.from_dicts(nested, order)
+        return self.from_coo(rows, columns, values, nrows, ncols, scale=scale, name=name)
 
     def from_scipy_sparse(self, matrix: Any, *, scale: Optional[float] = None,
                           name: Optional[str] = None) -> Made:

@@ -341,9 +341,8 @@ class Sources(ArraySources[Made], ArchiveSources[Made]):
         whose entries lead one way or both, as the caller says."""
         check_direction(How(request.directed is not False, None, request.bipartite))
         if request.layout.bipartite is False and matrix.nrows != matrix.ncols:
-            raise ReadError(file, None,
-                            'bipartite=False is of a square matrix, and this one is %dx%d: leave '
-                            'it out' % matrix.shape)
+            raise ReadError(file, None, 'bipartite=False is of a square matrix, and this one is '
+                            '%dx%d: leave it out' % matrix.shape)
         if request.directed is False and matrix.directed is not False:
             return self._both_ways_of(file, matrix, dup_op, name)
         if request.bipartite or request.directed:
@@ -354,9 +353,8 @@ class Sources(ArraySources[Made], ArchiveSources[Made]):
         """A matrix whose entries lead both ways, though its file is `general`. ReadError where an
         edge has two values and nothing folds them."""
         if matrix.nrows != matrix.ncols:
-            raise ReadError(file, None,
-                            'directed=False is of a square matrix, and this one is %dx%d'
-                            % matrix.shape)
+            raise ReadError(file, None, 'directed=False is of a square matrix, and this one is '
+                            '%dx%d' % matrix.shape)
         lower = matrix_market.lowered(Triples(*matrix.entries(), *matrix.shape), 'symmetric')
         try:
             made = self._both_ways(self._folded(lower, dup_op), name)
