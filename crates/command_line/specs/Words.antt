@@ -11,8 +11,8 @@ use Rattle.clap.specs.declared.builder.action.ArgAction.TheVariants.{SetTrue}
 use Rattle.clap.specs.declared.error.kind.ErrorKind.TheVariants.{DisplayVersion}
 use Rattle.clap.specs.declared.builder.value_parser.ValueParser.{ValueParser}
 use Rattle.clap.specs.declared.builder.value_parser.ValueParser.TheVariants.{Unsigned, String as TextParser}
-use Rattle.listener.specs.declared.journal.LogFormat.{LogFormat}
-use Rattle.listener.specs.declared.journal.LogFormat.TheVariants as formats
+use Rattle.session_log.specs.declared.journal.LogFormat.{LogFormat}
+use Rattle.session_log.specs.declared.journal.LogFormat.TheVariants as formats
 use Rattle.command_line.specs.declared.asked.Settings.{Settings}
 use Rattle.command_line.specs.declared.asked.Settings.TheVariants.{Run, Serve}
 

@@ -2,7 +2,7 @@
 ghost use Rattle.std.specs.Prelude.{◌≡◌};
 ghost use Rattle.command_line.specs.declared.asked.SettingsFault.TheVariants.{Memory};
 
-use listener::LogFormat;
+use session_log::LogFormat;
 use std::alloc::{AllocError, AllocFailed};
 use thiserror::Error;
 

@@ -5,7 +5,9 @@ ghost use Rattle.command_line.specs.Endings.{code_of, status_of, said_by, sessio
 ghost use Rattle.command_line.specs.declared.ending.Failure.TheVariants as failures;
 
 use crate::asked::SettingsFault;
-use listener::{Cause, End, ListenFault, ServeFault};
+use listener::ListenFault;
+use session::{End, ServeFault};
+use session_log::Cause;
 use std::fmt;
 use std::process::ExitCode;
 

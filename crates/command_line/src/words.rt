@@ -4,7 +4,7 @@ ghost use Rattle.std.specs.Prelude.{IfOk, IfSome, MatchResult};
 ghost use Rattle.clap.specs.Words.{first_of, found_of, kind_of, one_of, rows_of, takes};
 ghost use Rattle.command_line.specs.Words as line;
 ghost use Rattle.command_line.specs.Words.{AsksVersion, IsAsked, IsAskedIn, IsNumberOf, IsFormatIfAny, IsNumberIfAny, MayAskVersion};
-ghost use Rattle.listener.specs.declared.journal.LogFormat.{LogFormat};
+ghost use Rattle.session_log.specs.declared.journal.LogFormat.{LogFormat};
 ghost use Rattle.command_line.specs.InRange.{IsInRange, IsWithin};
 
 use crate::asked::{Settings, SettingsFault};
@@ -13,7 +13,7 @@ use crate::grammar::{
 };
 use clap::ArgMatches;
 use clap::error::ErrorKind;
-use listener::LogFormat;
+use session_log::LogFormat;
 use std::alloc::Global;
 use std::convert::AsStr;
 

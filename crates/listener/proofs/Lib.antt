@@ -1,3 +1,1 @@
-pub mod Metering
-pub mod Serving
 pub mod Speaking

@@ -7,10 +7,10 @@ use Rattle.session.specs.Sessions.{SessionState}
 use Rattle.session.specs.Talk.{Outcome, Outside}
 use Rattle.session.specs.declared.end.End.{End}
 use Rattle.session.specs.declared.end.ServeFault.{ServeFault}
-use Rattle.listener.specs.Limits.{Metered, Meters}
-use Rattle.listener.specs.Metering.{told_steps, spent_by}
-use Rattle.listener.proofs.Metering.{gained, counted}
-use Rattle.listener.proofs.Serving.{calls_in}
+use Rattle.metered_session.specs.Limits.{Metered, Meters}
+use Rattle.metered_session.specs.Metering.{told_steps, spent_by}
+use Rattle.metered_session.proofs.Metering.{gained, counted}
+use Rattle.metered_session.proofs.Serving.{calls_in}
 
 -- a session that had spent nothing made calls of its pass, and what they spent is told
 pub called : (room : SessionState) (old new : Outside Metered) (result : Result End ServeFault) → old.budget.spent ≡ 0

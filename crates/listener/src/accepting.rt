@@ -8,11 +8,11 @@ ghost use Rattle.listener.specs.inner.Starting.{IsReady};
 use crate::acceptor::{AcceptFailed, Acceptor, FromListener};
 use crate::connection::admit;
 use crate::fault::ListenFault;
-use crate::journal::Journal;
-use crate::limits::Limits;
 use crate::seats::SEATS;
 use crate::server::{ServerState, ServerTerms};
+use metered_session::Limits;
 use session::Session;
+use session_log::Journal;
 use std::alloc::Global;
 use std::marker::Brand;
 use std::net::{OpenListener, TcpStream};
@@ -37,7 +37,7 @@ struct Ready {
 /// # Errors
 ///
 /// No connection could be accepted.
-#[tactic(auto, using(crate::proofs::Metering::begins_within))]
+#[tactic(auto, using(metered_session::proofs::Metering::begins_within))]
 fn start_next<
     's,
     'a,
@@ -151,13 +151,13 @@ fn start<'s, 'a, E: Acceptor + Drop, R: Threads + Wait + Clock + Sync, L: Ledger
     }
 }
 
-/// Serves what comes in by an entrance, and hands it back: up to sixteen sessions at once, each in
-/// a thread of its own, with a pass of the house's purse. A connection for which there is no seat,
-/// no room or no thread is told so and doesn't count. It ends once all sessions have ended.
+/// Serves the connections of an acceptor, and hands it back: up to sixteen sessions at once, each
+/// in a thread of its own, with a pass of the server's purse. A connection for which there is no
+/// seat, no room or no thread is told so and doesn't count. It ends once all sessions have ended.
 ///
 /// # Errors
 ///
-/// As those of `serve_listener`, beside the entrance.
+/// As those of `serve_listener`, beside the acceptor.
 pub fn serve_acceptor<
     'a,
     E: Acceptor + Drop,
@@ -224,7 +224,7 @@ fn serve_counted<
     let (seats, accepted, failures) = blanks;
     let server = ServerState::<L>::new(alloc, purse, terms, journal, seats);
     let acceptor = FromListener::<N, C, F>::new(listener, accepted, failures);
-    let (_entrance, ended) = serve_acceptor(rt, &server, acceptor, pass);
+    let (_acceptor, ended) = serve_acceptor(rt, &server, acceptor, pass);
     ended
 }
 

@@ -3,7 +3,7 @@ ghost use Rattle.std.specs.Prelude.{◌≡◌};
 ghost use Rattle.wire.specs.Devices.{IsNewCount};
 ghost use Rattle.listener.specs.Acceptors.{AcceptorState, after_accept};
 
-use crate::fault::Cause;
+use session_log::Cause;
 use std::net::{OpenListener, SocketAddr, TcpStream};
 use std::sync::ledger::{Blank, Ledger};
 use thiserror::Error;

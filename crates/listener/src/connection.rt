@@ -4,23 +4,17 @@ ghost use Rattle.wire.specs.Devices.{IsNewCount};
 ghost use Rattle.step_purse.specs.Passes.{IsPassOf};
 ghost use Rattle.session.specs.Sessions.{full_session};
 ghost use Rattle.session.specs.Talk.{Outcome};
-ghost use Rattle.listener.specs.Limits.{IsWithin, Meters};
+ghost use Rattle.metered_session.specs.Limits.{IsWithin, Meters};
 ghost use Rattle.listener.specs.inner.Speaking.{IsServedBy, beginning};
 
 use crate::acceptor::Caller;
-use crate::entry::Ending;
-use crate::journal::Journal;
-use crate::notice::{Notice, Noticing};
-use crate::origin::Origin;
-use crate::patience::Cut;
 use crate::retrying::{LastCall, Retrying, set_idle};
-use crate::roster::Watch;
 use crate::seats::{Seat, take_seat};
 use crate::server::ServerState;
-use crate::streams::{Given, Served, serve_within};
 use crate::timed::{Timed, Timer, Timing};
-use crate::watching::Watching;
-use session::{End, FromRead, ServeFault, Session, Sink, Source, ToWrite};
+use metered_session::{Given, Served, serve_within};
+use session::{End, ServeFault, Session};
+use session_log::{Cut, Ending, Notice, Noticing, Origin, Watching, watch_in};
 use std::io::{Read, Write};
 use std::marker::Brand;
 use std::net::{Shutdown, TcpStream};
@@ -28,7 +22,8 @@ use std::sync::Wait;
 use std::sync::ledger::{Blank, Ledger};
 use std::thread::{Scope, Threads};
 use std::time::Clock;
-use step_purse::{Pass, Purse};
+use step_purse::Pass;
+use wire::{FromRead, Sink, Source, ToWrite};
 
 /// How many reads of what a client has still sent are made before its connection is closed.
 const LAST_READS: u64 = 64;
@@ -162,18 +157,6 @@ fn ending_of(outcome: Result<End, ServeFault>, is_idle: bool, cut: Cut) -> Endin
         Ok(end) => Ending::Ended(end),
         Err(ServeFault::Read | ServeFault::Write) if is_idle => Ending::Cut(cut),
         Err(fault) => Ending::BrokenOff(fault),
-    }
-}
-
-/// Where it is noted what a session does that starts now, if there is a log. This has a line then.
-pub fn watch_in<'j, R: Wait + Clock>(
-    rt: &R,
-    journal: Option<&'j Journal>,
-    client: Origin,
-) -> Option<Watch<'j>> {
-    match journal {
-        Some(journal) => Some(journal.note_start(rt, client)),
-        None => None,
     }
 }
 

@@ -2,16 +2,7 @@
 ghost use Rattle.std.specs.Prelude.{◌≡◌, ◌<◌, ◌+◌, ◌-◌, ◌^◌, min};
 ghost use Rattle.listener.specs.inner.Patience.{age_bound, call_bound, grace_by, rate_bound, read_bound, sooner, write_bound};
 
-/// Why a session is ended that waits for its client.
-#[derive(Clone, Copy, Debug, PartialEq, Eq)]
-pub enum Cut {
-    /// The client sent nothing, or took nothing, for as long as `--idle` says.
-    Idle,
-    /// The session has lasted for as long as `--session-seconds` says.
-    Seconds,
-    /// A command arrived more slowly than `--min-rate` says.
-    Slow,
-}
+use session_log::Cut;
 
 /// For how long a session may still wait, in thousandths of a second, and why it is ended then.
 #[derive(Clone, Copy, Debug, PartialEq, Eq)]

@@ -2,11 +2,11 @@
 ghost use Rattle.std.specs.Prelude.{◌≡◌, ◌≤◌, IfSome};
 ghost use Rattle.session.specs.Sessions.{full_session};
 
-use crate::journal::Journal;
-use crate::limits::Limits;
 use crate::patience::Patience;
 use crate::seats::Seats;
+use metered_session::Limits;
 use session::Session;
+use session_log::{Journal, LoggedTerms};
 use std::alloc::Global;
 use std::sync::Mutex;
 use std::sync::ledger::{Blank, Ledger};
@@ -43,6 +43,25 @@ impl ServerTerms {
             idle: self.idle,
             seconds: self.session_seconds,
             rate: self.min_rate,
+        }
+    }
+
+    /// The terms as a log names them.
+    pub fn logged(&self) -> LoggedTerms
+        ensures workers { result.workers ≡ self.now.workers }
+        ensures sessions { result.sessions ≡ self.now.sessions }
+        ensures patience { (result.idle ≡ self.now.idle) × (result.session_seconds ≡ self.now.session_seconds)
+            × (result.min_rate ≡ self.now.min_rate) }
+        ensures limits { (result.session_steps ≡ self.now.limits.steps) × (result.session_reserve ≡ self.now.limits.reserve) }
+    {
+        LoggedTerms {
+            workers: self.workers,
+            sessions: self.sessions,
+            idle: self.idle,
+            session_seconds: self.session_seconds,
+            min_rate: self.min_rate,
+            session_steps: self.limits.steps,
+            session_reserve: self.limits.reserve,
         }
     }
 }

@@ -1,7 +1,8 @@
 //! A side of a connection whose session lasts for a time, and whose client has to send at a rate.
 ghost use Rattle.std.specs.Prelude.{◌≡◌};
 
-use crate::patience::{Arrival, Bound, Cut, Patience};
+use crate::patience::{Arrival, Bound, Patience};
+use session_log::Cut;
 use std::io;
 use std::io::{ErrorKind, Read, Write};
 use std::net::TcpStream;

@@ -4,7 +4,8 @@ ghost use Rattle.std.specs.Prelude.{◌≡◌, ◌<◌};
 ghost use Rattle.step_purse.specs.Passes.{IsPassOf};
 
 use crate::talk::{PRODUCT, SET_UP, SETUP};
-use listener::{End, FatalRule, FromRead, ServeFault, Served, Session, ToWrite, serve_pass};
+use metered_session::{Served, serve_pass};
+use session::{End, FatalRule, ServeFault, Session};
 use std::alloc::Global;
 use std::io;
 use std::io::{ErrorKind, Read, Write};
@@ -15,6 +16,7 @@ use std::sync::ledger::{Blank, Ledger};
 use std::test::Fail;
 use std::thread::Threads;
 use step_purse::{Pass, Purse, Totals};
+use wire::{FromRead, ToWrite};
 
 /// A reader that gives bytes, and then ends or fails.
 #[derive(Drop)]

@@ -10,7 +10,7 @@ use Rattle.session.specs.Talk.{Outcome}
 use Rattle.session.specs.declared.end.End.{End}
 use Rattle.session.specs.declared.end.ServeFault.{ServeFault}
 use Rattle.session.specs.declared.end.ServeFault.TheVariants.{Read, Write, Turns, Memory}
-use Rattle.listener.specs.declared.fault.Cause.{Cause}
+use Rattle.session_log.specs.declared.cause.Cause.{Cause}
 use Rattle.command_line.specs.declared.asked.Settings.{Settings}
 use Rattle.command_line.specs.declared.asked.Settings.TheVariants.{Run, Serve}
 use Rattle.command_line.specs.declared.asked.SettingsFault.{SettingsFault}

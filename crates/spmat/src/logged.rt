@@ -6,8 +6,8 @@ ghost use Rattle.spmat.specs.inner.Running.{IsOfSession};
 use crate::respond_on;
 use crate::serving::Log;
 use command_line::{Done, Failure, Settings, VERSION};
-use listener::{Cause, Cut, Ending, Journal, Limits, ListenFault, Origin, ServerTerms, Watch};
 use session::ServeFault;
+use session_log::{Cause, CloseReason, Cut, Ending, Journal, LoggedTerms, Origin, Watch};
 use std::net::{Net, TcpListener, TcpStream};
 use std::sync::Wait;
 use std::thread::{Threads, join};
@@ -56,7 +56,7 @@ pub fn note_end<R: Wait + Clock>(
 }
 
 /// Why the process serves no further session.
-fn served(told: &Result<Done, Failure>) -> Result<(), ListenFault> {
+fn close_reason(told: &Result<Done, Failure>) -> CloseReason {
     match told {
         // The one fault that a server would have as well: no session could be set up.
         Err(
@@ -64,8 +64,8 @@ fn served(told: &Result<Done, Failure>) -> Result<(), ListenFault> {
                 fault: ServeFault::Memory,
                 cause: _,
             },
-        ) => Err(ListenFault::Memory),
-        _ => Ok(()),
+        ) => CloseReason::NoMemory,
+        _ => CloseReason::Sessions,
     }
 }
 
@@ -88,7 +88,7 @@ where
     ensures { IsOfSession result }
 {
     // As if the session's own memory were refused: nothing was read or written.
-    let Ok(journal) = Journal::new(rt.alloc(), log.format, log.every, true) else {
+    let Ok(journal) = Journal::new(rt.alloc(), 1, log.format, log.every, true) else {
         return Err(Failure::Session {
             fault: ServeFault::Memory,
             cause: None,
@@ -99,14 +99,15 @@ where
         workers,
         idle,
     } = alone;
-    let terms = ServerTerms {
+    let terms = LoggedTerms {
         workers,
         // `run` is a server of one session, so its log has the same lines.
         sessions: Some(1),
         idle,
         session_seconds: None,
         min_rate: None,
-        limits: Limits::none(),
+        session_steps: None,
+        session_reserve: None,
     };
     journal.write_opening(rt, Origin::Streams, VERSION, steps, terms);
     let told = serve_logged(rt, &journal, alone);
@@ -117,7 +118,7 @@ where
         reserved: 0,
         spent,
     };
-    journal.write_closing(rt, Origin::Streams, &served(&told), totals);
+    journal.write_closing(rt, Origin::Streams, close_reason(&told), totals);
     told
 }
 

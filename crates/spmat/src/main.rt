@@ -7,7 +7,7 @@
 //! `answer` does what the words ask for, over two devices that it is lent; its contract says what
 //! they gave and took (`specs/inner/Running.antt`). The functions above it make these devices of
 //! the standard streams, which no contract sees. The contract for one of many sessions is that of
-//! `listener::serve_within`. Which server settings ask for is the contract of `open_server`
+//! `metered_session::serve_within`. Which server settings ask for is the contract of `open_server`
 //! (`specs/inner/Serving.antt`), and how serving a listener ends that of
 //! `listener::serve_acceptor`.
 #![tactic(auto)]
@@ -28,8 +28,8 @@ use crate::logged::{Alone, note_end, run_logged};
 use crate::serving::{log_of, open_server, serve};
 use crate::standard::Side;
 use command_line::{Done, Failure, Settings, SettingsFault, VERSION, ending_of, finish, settings};
-use listener::{Cause, Journal, Notice, Noticing, Origin, Watch, Watching, watch_in};
 use session::ServeFault;
+use session_log::{Cause, Journal, Notice, Noticing, Origin, Watch, Watching, watch_in};
 use std::io::{ErrorKind, Read, Write};
 use std::marker::Brand;
 use std::net::{Net, TcpListener, TcpStream};

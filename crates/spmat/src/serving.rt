@@ -6,9 +6,9 @@ ghost use Rattle.spmat.specs.inner.Address.{IsLocal};
 ghost use Rattle.spmat.specs.inner.Serving.{IsListening, IsOfServer, IsOpened, IsServerOf, MayNotOpen, MayRefuse};
 
 use command_line::{Failure, Settings, VERSION};
-use listener::{
-    Cause, Journal, Limits, ListenFault, LogFormat, Origin, ServerTerms, Supply, serve_on_terms,
-};
+use listener::{ListenFault, SEATS, ServerTerms, Supply, serve_on_terms};
+use metered_session::Limits;
+use session_log::{Cause, CloseReason, Journal, LogFormat, Origin};
 use std::alloc::{AllocError, Global};
 use std::net::{IpAddr, Ipv4Addr, Net, SocketAddr, TcpListener, TcpStream};
 use std::sync::Wait;
@@ -91,7 +91,13 @@ pub fn log_of(is_asked: bool, format: Option<LogFormat>, every: Option<u64>) -> 
 /// The journal of a log, if there is to be one.
 fn journal_of(alloc: Global, log: Option<Log>) -> Result<Option<Journal>, AllocError> {
     match log {
-        Some(Log { format, every }) => Ok(Some(Journal::new(alloc, format, every, false)?)),
+        Some(Log { format, every }) => Ok(Some(Journal::new(
+            alloc,
+            SEATS as usize,
+            format,
+            every,
+            false,
+        )?)),
         None => Ok(None),
     }
 }
@@ -140,13 +146,17 @@ where
     };
     let written = || {
         // By the writing thread, so that the listener doesn't wait for standard error.
-        journal.write_opening(rt, Origin::Address(address), VERSION, steps, terms);
+        journal.write_opening(rt, Origin::Address(address), VERSION, steps, terms.logged());
         journal.write_out(rt);
     };
     let ((), served) = join(rt, written, served);
     // After all sessions have handed back their passes, so the totals are final.
     let totals = purse.totals(rt, &mut own);
-    journal.write_closing(rt, Origin::Address(address), &served, totals);
+    let reason = match served {
+        Ok(()) => CloseReason::Sessions,
+        Err(fault) => fault.reason(),
+    };
+    journal.write_closing(rt, Origin::Address(address), reason, totals);
     served
 }
 

@@ -7,8 +7,9 @@ ghost use Rattle.step_purse.specs.Shares.{whole};
 ghost use Rattle.session.specs.Sessions.{full_session};
 ghost use Rattle.spmat.specs.inner.Running.{Ran};
 
-use listener::{Given, Limits, Watch, serve_unlimited};
+use metered_session::{Given, Limits, serve_unlimited};
 use session::{End, ServeFault, Session};
+use session_log::Watch;
 use std::alloc::{AllocError, Global};
 use std::sync::Wait;
 use std::thread::Threads;

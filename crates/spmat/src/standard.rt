@@ -4,7 +4,7 @@ ghost use Rattle.std.specs.Prelude.{◌≡◌, ◌≤◌};
 use libc::EINTR;
 use libc::net::{POLLIN, POLLOUT, poll};
 use libc::types::pollfd;
-use listener::Cause;
+use session_log::Cause;
 use std::io;
 use std::io::{ErrorKind, Read, Write};
 

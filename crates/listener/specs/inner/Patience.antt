@@ -2,7 +2,7 @@
 use Rattle.std.specs.Prelude.{ℕ, ◌+◌, ◌-◌, ◌*◌, ◌/◌, ◌^◌, min, max, nat_lt, if◌then◌else◌, Option, None, Some}
 use Rattle.listener.specs.declared.patience.Arrival.{Arrival}
 use Rattle.listener.specs.declared.patience.Bound.{Bound}
-use Rattle.listener.specs.declared.patience.Cut.TheVariants.{Idle, Seconds, Slow}
+use Rattle.session_log.specs.declared.entry.Cut.TheVariants.{Idle, Seconds, Slow}
 use Rattle.listener.specs.declared.patience.Patience.{Patience}
 
 -- thousand times a number: the largest number of 64 bits stands for all above it

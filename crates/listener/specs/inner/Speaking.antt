@@ -5,10 +5,10 @@ use Rattle.step_budget.specs.Drawing.{Draws}
 use Rattle.step_purse.specs.Passes.{PurseState, PassState, IsPassOf}
 use Rattle.step_purse.specs.declared.dealings.Dealing.{Dealing}
 use Rattle.session.specs.declared.end.ServeFault.TheVariants as faults
-use Rattle.listener.specs.Limits.{Metered, IsWithin}
-use Rattle.listener.specs.Metering.{told_steps, spent_by}
-use Rattle.listener.specs.declared.limits.Limits.{Limits}
-use Rattle.listener.specs.declared.streams.Served.{Served}
+use Rattle.metered_session.specs.Limits.{Metered, IsWithin}
+use Rattle.metered_session.specs.Metering.{told_steps, spent_by}
+use Rattle.metered_session.specs.declared.limits.Limits.{Limits}
+use Rattle.metered_session.specs.declared.streams.Served.{Served}
 
 -- a session's pass and limits before it has spent anything
 abbrev pub beginning : PassState → Limits → Metered

@@ -10,7 +10,7 @@ use Rattle.session.specs.Talk.{Outcome}
 use Rattle.session.specs.declared.end.End.{End}
 use Rattle.session.specs.declared.end.ServeFault.{ServeFault}
 use Rattle.session.specs.declared.end.ServeFault.TheVariants.{Read, Write, Turns, Memory}
-use Rattle.listener.specs.declared.fault.Cause.{Cause}
+use Rattle.session_log.specs.declared.cause.Cause.{Cause}
 use Rattle.command_line.specs.declared.ending.Done.{Done}
 use Rattle.command_line.specs.declared.ending.Done.TheVariants as done
 use Rattle.command_line.specs.declared.ending.Failure.{Failure}

@@ -1,7 +1,7 @@
 -- The server that settings ask for (this project's own).
 use Rattle.std.specs.Prelude.{ℕ, ◌≡◌}
 use Rattle.step_purse.specs.Passes.{IsPassOf}
-use Rattle.listener.specs.declared.limits.Limits.{Limits}
+use Rattle.metered_session.specs.declared.limits.Limits.{Limits}
 use Rattle.command_line.specs.declared.ending.Failure.{Failure}
 use Rattle.command_line.specs.declared.ending.Failure.TheVariants as failures
 use Rattle.command_line.specs.declared.asked.Settings.{Settings}

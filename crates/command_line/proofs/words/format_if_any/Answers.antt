@@ -2,8 +2,8 @@ use Rattle.std.proofs.Common.{◌≡◌, ◌≢◌, ◌∙◌, Option, Some, Non
 use Rattle.std.specs.Prelude.{option_map}
 use Rattle.clap.specs.Words.{Text, first_of, found_of, rows_of}
 use Rattle.clap.proofs.WalkLemmas.{first_value-rows}
-use Rattle.listener.specs.declared.journal.LogFormat.{LogFormat}
-use Rattle.listener.specs.declared.journal.LogFormat.TheVariants as formats
+use Rattle.session_log.specs.declared.journal.LogFormat.{LogFormat}
+use Rattle.session_log.specs.declared.journal.LogFormat.TheVariants as formats
 use Rattle.command_line.specs.Words.{IsFormatIfAny}
 use Rattle.command_line.proofs.words.format_if_any.Goals as goal
 

@@ -1,6 +1,6 @@
 use Rattle.std.proofs.Common.{refl, subst}
-use Rattle.listener.specs.Limits.{IsWithin}
-use Rattle.listener.specs.declared.limits.Limits.{Limits}
+use Rattle.metered_session.specs.Limits.{IsWithin}
+use Rattle.metered_session.specs.declared.limits.Limits.{Limits}
 use Rattle.listener.proofs.Speaking.{called}
 use Rattle.listener.proofs.connection.serve_sides.Goals as goal
 

@@ -1,0 +1,2 @@
+pub mod Metering
+pub mod Serving

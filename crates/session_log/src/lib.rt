@@ -1,0 +1,41 @@
+//! The log of sessions: what each does, how it ends, and why no more are served.
+//!
+//! A session never waits for whoever reads its log. It leaves an `Entry` in the queue of a
+//! `Journal`; one thread takes the entries and writes each as a line to standard error. The queue
+//! gives entries in the order in which they came, and counts those that it drops (`Waiting` in
+//! `journal`). Of each kind of line a second has only so many (`Pace`), and the next one says how
+//! many had none. What is noted of a session (`Note`) changes its own row of the roster and no
+//! other.
+//!
+//! A `Watch` stands for one session: its budget notes by it what is reserved and spent, the two
+//! sides of its connection (`Watching`) which bytes they move. `Noticing` looks for refusals among
+//! the replies. Both pass on the bytes of the device below.
+//!
+//! **What no contract says** is what a line tells, and that it is written. Tests on the program
+//! show that.
+//!
+//! Read `entry` (what is told) with `origin`, `cause` and `refusal`; `line` (an entry as text or
+//! JSON); `pace` and `tally` (how many lines there are); `roster` (the sessions that run) with
+//! `watching`; `notice` (how refusals come to the log); then `journal`.
+#![tactic(auto)]
+
+mod cause;
+mod entry;
+mod journal;
+mod line;
+mod notice;
+mod origin;
+mod pace;
+mod refusal;
+mod roster;
+mod tally;
+mod watching;
+
+pub use cause::Cause;
+pub use entry::{Cut, Ending};
+pub use journal::{Journal, LogFormat};
+pub use line::{CloseReason, LoggedTerms};
+pub use notice::{Notice, Noticing};
+pub use origin::Origin;
+pub use roster::{Note, Watch};
+pub use watching::{Watching, watch_in};
