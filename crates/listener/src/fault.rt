@@ -1,5 +1,5 @@
 //! Why no more connections are taken.
-ghost use Rattle.std.specs.Prelude.{◌≡◌, IfOk, IfErr};
+ghost use Rattle.std.specs.Prelude.{◌≡◌};
 
 use session_log::{Cause, CloseReason};
 use thiserror::Error;
