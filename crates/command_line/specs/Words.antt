@@ -1,7 +1,7 @@
 -- The command line of the program, as the parser of command lines reads it (this project's own):
 -- `spmat run --steps N --workers W [--idle SECONDS] [LOG]`, `spmat serve --port P --steps N --workers W [--sessions K]
--- [--idle SECONDS] [--session-seconds N] [--min-rate BYTES] [--session-steps N] [--session-reserve N] [LOG]`, and `spmat --version`. LOG stands for
--- `[--log] [--log-format FORMAT] [--log-every SECONDS]`.
+-- [--idle SECONDS] [--session-seconds N] [--min-rate BYTES] [--session-steps N] [--session-reserve N] [LOG]`, and
+-- `spmat --version`. LOG stands for `[--log] [--log-format FORMAT] [--log-every SECONDS]`.
 use Rattle.std.specs.Prelude.{ℕ, ◌≡◌, ◌^◌, Bool, true, false, List, [], ◌∷◌, Option, Some, None, codes}
 use Rattle.std.specs.Str.Parse.{digits_value, without_leading_plus, IsNumeral}
 use Rattle.clap.specs.Words.{App, Row, Rule, Shape, Text, new_app, new_rule, with_rule, with_subcommand}
@@ -115,7 +115,8 @@ IsAskedIn name rows (Run steps workers idle log log_format log_every) =
     (name ≡ codes "run") × IsNumberOf (one_of (codes "steps") rows) steps × IsNumberOf (one_of (codes "workers") rows) workers
     × IsNumberIfAny (one_of (codes "idle") rows) idle × (log ≡ is_set (first_of (codes "log") rows))
     × IsFormatIfAny (first_of (codes "log-format") rows) log_format × IsNumberIfAny (one_of (codes "log-every") rows) log_every
-IsAskedIn name rows (Serve port steps workers sessions idle session_seconds min_rate session_steps session_reserve log log_format log_every) =
+IsAskedIn name rows (Serve port steps workers sessions idle session_seconds min_rate session_steps session_reserve
+    log log_format log_every) =
     (name ≡ codes "serve") × IsNumberOf (one_of (codes "port") rows) port × IsNumberOf (one_of (codes "steps") rows) steps
     × IsNumberOf (one_of (codes "workers") rows) workers × IsNumberIfAny (one_of (codes "sessions") rows) sessions
     × IsNumberIfAny (one_of (codes "idle") rows) idle × IsNumberIfAny (one_of (codes "session-seconds") rows) session_seconds

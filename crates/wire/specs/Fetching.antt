@@ -41,8 +41,8 @@ IsFilled (Ok done) old new bytes = new.bytes ≡ bytes
 IsFilled (Err Failed) old new bytes = (new.bytes ≡ bytes) × ((bytes ≡ old.bytes) × (new.ended ≡ old.ended))
 IsFilled (Err OutOfReads) old new bytes = (new ≡ old) × ((bytes ≡ old.bytes) × (new.reads_left ≡ 0))
 
--- After one more read the bytes are those that it put into a buffer, from an index on, and none are held; after a fault there are no
--- more than before.
+-- After one more read the bytes are those that it put into a buffer, from an index on, and none are held; after a fault there
+-- are no more than before.
 abbrev pub IsReadBehind : Result ℕ ReadFault → (room : List ℕ) (at : ℕ) → InputState → InputState → List ℕ → Type 0
 IsReadBehind (Ok n) room at old new bytes = (bytes ≡ take n (drop at room)) × (new.bytes ≡ [])
 IsReadBehind (Err fault) room at old new bytes = IsFilled (Err fault) old new bytes

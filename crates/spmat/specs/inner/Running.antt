@@ -64,7 +64,8 @@ IsServed port sessions (Err failure) = MayFail port failure
 -- What settings ask for was done: one session of their steps and workers, over these two devices; or a server of theirs.
 abbrev pub IsDoneAs : Settings → Devices → Devices → Result Done Failure → Type 0
 IsDoneAs (Run steps workers idle log log_format log_every) old new told = IsRunOf steps workers old new told
-IsDoneAs (Serve port steps workers sessions idle session_seconds min_rate session_steps session_reserve log log_format log_every) old new told =
+IsDoneAs (Serve port steps workers sessions idle session_seconds min_rate session_steps session_reserve
+    log log_format log_every) old new told =
     (new ≡ old) × IsServed port sessions told
 
 -- the version was written, or could not be
@@ -107,7 +108,8 @@ IsOfSession (Err (failures.Listening fault)) = ⊥
 -- how what the command line asks for may end
 abbrev pub MayEnd : Result Settings SettingsFault → Result Done Failure → Type 0
 MayEnd (Ok (Run steps workers idle log log_format log_every)) told = IsOfSession told
-MayEnd (Ok (Serve port steps workers sessions idle session_seconds min_rate session_steps session_reserve log log_format log_every)) told =
+MayEnd (Ok (Serve port steps workers sessions idle session_seconds min_rate session_steps session_reserve
+    log log_format log_every)) told =
     IsServed port sessions told
 MayEnd (Err fault) told = IsRefused fault told
 
@@ -131,5 +133,6 @@ explained unread unwritten (Err (failures.Listening fault)) = Err (failures.List
 -- how long a call of a standard stream may wait: as `run` was told
 abbrev pub idle_in : Result Settings SettingsFault → Option ℕ
 idle_in (Ok (Run steps workers idle log log_format log_every)) = idle
-idle_in (Ok (Serve port steps workers sessions idle session_seconds min_rate session_steps session_reserve log log_format log_every)) = None
+idle_in (Ok (Serve port steps workers sessions idle session_seconds min_rate session_steps session_reserve
+    log log_format log_every)) = None
 idle_in (Err fault) = None

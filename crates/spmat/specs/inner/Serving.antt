@@ -12,7 +12,8 @@ use Rattle.spmat.specs.inner.Address.{IsLocal}
 -- these are settings of `serve`
 abbrev pub IsOfServer : Settings → Type 0
 IsOfServer (Run steps workers idle log log_format log_every) = ⊥
-IsOfServer (Serve port steps workers sessions idle session_seconds min_rate session_steps session_reserve log log_format log_every) = Unit {0}
+IsOfServer (Serve port steps workers sessions idle session_seconds min_rate session_steps session_reserve
+    log log_format log_every) = Unit {0}
 
 -- it was bound to 127.0.0.1 and this port, and its purse has so many steps and one pass
 pub record IsOpened (port steps : ℕ) (server : Server) : Type 0 where
@@ -23,7 +24,8 @@ pub record IsOpened (port steps : ℕ) (server : Server) : Type 0 where
 -- such a server, whose sessions have these workers, this number, this patience and these limits
 abbrev pub IsServerOf : Settings → Server → Type 0
 IsServerOf (Run steps workers idle log log_format log_every) server = ⊥
-IsServerOf (Serve port steps workers sessions idle session_seconds min_rate session_steps session_reserve log log_format log_every) server =
+IsServerOf (Serve port steps workers sessions idle session_seconds min_rate session_steps session_reserve
+    log log_format log_every) server =
     IsOpened port steps server × (server.terms.workers ≡ workers) × (server.terms.sessions ≡ sessions)
     × (server.terms.idle ≡ idle) × (server.terms.session_seconds ≡ session_seconds) × (server.terms.min_rate ≡ min_rate)
     × (server.terms.limits ≡ record { steps = session_steps; reserve = session_reserve })
@@ -49,7 +51,8 @@ MayFail port (failures.Listening fault) = Unit {0}
 -- why there may be no server that settings ask for
 abbrev pub MayNotOpen : Settings → Failure → Type 0
 MayNotOpen (Run steps workers idle log log_format log_every) failure = ⊥
-MayNotOpen (Serve port steps workers sessions idle session_seconds min_rate session_steps session_reserve log log_format log_every) failure =
+MayNotOpen (Serve port steps workers sessions idle session_seconds min_rate session_steps session_reserve
+    log log_format log_every) failure =
     MayRefuse port failure
 
 -- no more connections are taken
