@@ -9,7 +9,6 @@ import math
 import operator
 import os
 import tempfile
-import unittest
 import warnings
 
 import numpy
@@ -440,7 +439,3 @@ class Acts(support.InSession):
                     first = ask(graph)
                     change(graph)
                     self.assertEqual((first, ask(graph)), due)
-
-
-if __name__ == '__main__':
-    unittest.main()

@@ -6,7 +6,6 @@ import fractions
 import math
 import os
 import tempfile
-import unittest
 import warnings
 
 import numpy
@@ -277,7 +276,3 @@ class MoreActs(support.InSession):
             self.assertAlmostEqual(got, want, 6)
         else:
             self.assertEqual(got, want)
-
-
-if __name__ == '__main__':
-    unittest.main()

@@ -1,6 +1,4 @@
 """Matrices brought to the same names."""
-import unittest
-
 import spmat
 from test_metadata import EDGES, NAMES, Both, named
 
@@ -90,7 +88,3 @@ class Align(Both):
                           lambda: spmat.align(A, 3)):
                 with self.assertRaises((ValueError, TypeError)):
                     wrong()
-
-
-if __name__ == '__main__':
-    unittest.main()

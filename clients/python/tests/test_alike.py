@@ -7,7 +7,7 @@ import re
 import unittest
 
 import alike
-import support
+import support  # pylint: disable=unused-import  # it names the program
 import spmat
 from spmat import algorithms, blocks
 from spmat.blocks.sessions import OF_ONE_SESSION
@@ -109,8 +109,3 @@ class Directions(unittest.TestCase):
                     self.assertEqual(algorithms.bfs_levels(H, 0).to_list(), [0, None, None, None])
                     with self.assertRaisesRegex(ValueError, 'an edge leads one way alone'):
                         algorithms.triangle_count(H)
-
-
-if __name__ == '__main__':
-    support.program()
-    unittest.main()

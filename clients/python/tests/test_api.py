@@ -78,7 +78,3 @@ class Page(unittest.TestCase):
                     for title in re.findall(r'^#+ (.*)$', self.page, re.M)}
         for link in re.findall(r'\]\(#([^)]+)\)', self.page):
             self.assertIn(link, headings)
-
-
-if __name__ == '__main__':
-    unittest.main()

@@ -58,7 +58,3 @@ class Tasks(unittest.TestCase):
         self.assertEqual(measured, said)
         self.assertEqual({name for name in NAMES
                           if not any(re.match(r'%s\b' % name, task) for task in said)}, set())
-
-
-if __name__ == '__main__':
-    unittest.main()

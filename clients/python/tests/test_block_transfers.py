@@ -226,7 +226,3 @@ class Others(unittest.TestCase):
         self.assertEqual(spmat.algorithms.triangle_count(X),
                          sum(networkx.triangles(graph).values()) // 3)
         self.assertEqual(set(X.to_networkx(directed=False).edges), set(graph.edges))
-
-
-if __name__ == '__main__':
-    unittest.main()

@@ -374,7 +374,3 @@ class Sessions(unittest.TestCase):
             heard = []
             algorithms.k_core(G, 2, progress=lambda *told: heard.append(told))
             self.assertEqual(len(heard), len(set(heard)))
-
-
-if __name__ == '__main__':
-    unittest.main()

@@ -126,7 +126,3 @@ class Sections(unittest.TestCase):
         self.assertEqual(inspect.getdoc(spmat.Matrix.__abs__),
                          'A matrix has no abs().\n\nRaises\n------\nTypeError\n'
                          '    Write A.apply("abs").')
-
-
-if __name__ == '__main__':
-    unittest.main()

@@ -404,7 +404,3 @@ class WithoutMatplotlib(unittest.TestCase):
         with spmat.Session(program=support.program()) as session:
             self.assertEqual(session.full(2, 2).nvals, 4)
         self.assertTrue(callable(draw.spy))
-
-
-if __name__ == '__main__':
-    unittest.main()

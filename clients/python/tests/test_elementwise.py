@@ -1,7 +1,6 @@
 """Unions with defaults, and whether two matrices are equal, beside plain models: random small
 matrices, masks, units."""
 import random
-import unittest
 
 import model
 import spmat
@@ -74,7 +73,3 @@ class Loops(OfCells):
             self.assertTrue(state[name].isequal(want[name]), name)
         with self.assertRaisesRegex(TypeError, 'is to be called before the loop'):
             spmat.loop(lambda state: {'now': state.now.assign(7, [1])}, {'now': A})
-
-
-if __name__ == '__main__':
-    unittest.main()

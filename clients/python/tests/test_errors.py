@@ -175,7 +175,3 @@ class Pickled(unittest.TestCase):
             for other in (pickle.loads(pickle.dumps(fault)), copy.copy(fault)):
                 self.assertEqual((type(other), str(other), vars(other)),
                                  (type(fault), str(fault), vars(fault)))
-
-
-if __name__ == '__main__':
-    unittest.main()

@@ -10,7 +10,6 @@ import os
 import pickle
 import re
 import tempfile
-import unittest
 from fractions import Fraction
 
 import numpy
@@ -375,7 +374,3 @@ class Beside(support.InSession):
         stamps.unit = 's'
         self.assertEqual(stamps.select('>', datetime.datetime(2024, 5, 31)).nvals, 1)
         self.assertEqual(Fraction(stamps.unit), 1)
-
-
-if __name__ == '__main__':
-    unittest.main()

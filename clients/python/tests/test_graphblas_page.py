@@ -2,7 +2,6 @@
 import ast
 import os
 import re
-import unittest
 
 import support
 import model
@@ -107,7 +106,3 @@ class Page(support.InSession):
         ours = [line for _, line in lines()]
         self.assertEqual(sorted(ours), sorted(WANT))
         self.assertGreaterEqual(len(ours), 40)
-
-
-if __name__ == '__main__':
-    unittest.main()

@@ -2,7 +2,6 @@
 signs say."""
 import gc
 import random
-import unittest
 import warnings
 import weakref
 
@@ -490,7 +489,3 @@ class Masks(InSession):
                 call()
         with self.assertRaisesRegex(spmat.DimensionMismatch, 'one mask is 3x3, the other 2x2'):
             A.S & self.s.identity(2).S
-
-
-if __name__ == '__main__':
-    unittest.main()

@@ -77,7 +77,3 @@ class Labels(unittest.TestCase):
                     for column in found:
                         with self.subTest(algorithm=name, number=number):
                             self.assertEqual(column.nodes, LABELS)
-
-
-if __name__ == '__main__':
-    unittest.main()

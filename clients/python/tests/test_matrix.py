@@ -435,7 +435,3 @@ class Descriptions(unittest.TestCase):
                 call()
         with self.assertRaises(TypeError):
             unary.abs.bind_right()
-
-
-if __name__ == '__main__':
-    unittest.main()

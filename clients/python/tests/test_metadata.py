@@ -444,7 +444,3 @@ class Algorithms(unittest.TestCase):
                 s.from_edgelist([(1, 2, 5), (2, 3, 4), (3, 4, 1)], directed=False))
             self.assertEqual(forest.select('triu').to_edgelist(), [(1, 2, 5), (2, 3, 4), (3, 4, 1)])
             self.assertIs(forest.directed, False)
-
-
-if __name__ == '__main__':
-    unittest.main()

@@ -1,6 +1,4 @@
 """Each algorithm beside networkx, on graphs that it brings. Skipped where there is no networkx."""
-import unittest
-
 import support
 import spmat
 from spmat import algorithms
@@ -130,7 +128,3 @@ class Networkx(support.InSession):
             self.assertFalse(g.subgraph(chosen).edges())
             self.assertTrue(all(i in chosen or chosen & set(g[i]) for i in g))
         self.each(look, directed=False)
-
-
-if __name__ == '__main__':
-    unittest.main()

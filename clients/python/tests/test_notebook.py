@@ -48,7 +48,3 @@ class Notebook(unittest.TestCase):
             notebook = json.load(file)
         self.assertFalse([cell for cell in notebook['cells'] if cell.get('outputs')])
         self.assertLess(os.path.getsize(NOTEBOOK), 20_000)
-
-
-if __name__ == '__main__':
-    unittest.main()

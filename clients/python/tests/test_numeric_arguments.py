@@ -5,7 +5,6 @@ import itertools
 import linecache
 import os
 import re
-import unittest
 import warnings
 from decimal import Decimal
 from fractions import Fraction
@@ -173,7 +172,3 @@ class EachNumber(support.InSession):
         # decimals and fractions are numbers
         self.assertEqual(algorithms.pagerank(self.named, damping=Decimal('0.5')).to_list(),
                          algorithms.pagerank(self.named, damping=.5).to_list())
-
-
-if __name__ == '__main__':
-    unittest.main()

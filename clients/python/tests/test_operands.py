@@ -36,7 +36,3 @@ class TwoSessions(unittest.TestCase):
                         call(A, B)
             B = A.session.adopt(other.from_edgelist(EDGES))
             self.assertEqual(A.ewise_add(B).to_edgelist(), [('a', 'b', 4), ('b', 'c', 6)])
-
-
-if __name__ == '__main__':
-    unittest.main()

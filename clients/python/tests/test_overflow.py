@@ -2,7 +2,6 @@
 neither, and whole numbers cost nothing."""
 import io
 import random
-import unittest
 import warnings
 from fractions import Fraction
 
@@ -307,7 +306,3 @@ class Algorithms(Case):
                 self.fits(lambda graph=graph: find(graph, 'A'))
                 jobs.append(self.s.jobs - before)
             self.assertEqual(*jobs)
-
-
-if __name__ == '__main__':
-    unittest.main()

@@ -73,7 +73,3 @@ class Limits(support.InSession):
             for associative in (False, True):
                 got = ones.mxm(wide, mask=mask.S, parts=True, associative=associative)
                 self.assertEqual(got.to_dict(), dict.fromkeys(mask.to_dict(), 1))
-
-
-if __name__ == '__main__':
-    unittest.main()

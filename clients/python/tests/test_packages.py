@@ -126,7 +126,3 @@ class Missing(unittest.TestCase):
     def test_without_a_package_of_debian(self):
         self.assertEqual(extras.describe_missing('pyarrow', 'parquet'),
                          'parquet needs pyarrow (extra parquet): pip install pyarrow')
-
-
-if __name__ == '__main__':
-    unittest.main()

@@ -2,7 +2,6 @@
 it is there."""
 import collections
 import heapq
-import unittest
 from fractions import Fraction
 from unittest import mock
 
@@ -300,7 +299,3 @@ class Parts(graphs.OnGraphs):
         W = self.session.from_networkx(karate)
         forest = sum(data['weight'] for _, _, data in networkx.minimum_spanning_edges(karate))
         self.assertEqual(algorithms.minimum_spanning_forest(W).reduce_scalar('plus'), 2 * forest)
-
-
-if __name__ == '__main__':
-    unittest.main()

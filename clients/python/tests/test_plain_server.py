@@ -47,7 +47,3 @@ class PlainServer(unittest.TestCase):
                         self.assertEqual(took[0], took[1])
                     answers += by_program[0] != 'refused' if isinstance(by_program, tuple) else 1
         self.assertGreater(answers, 90)            # most aren't refused
-
-
-if __name__ == '__main__':
-    unittest.main()

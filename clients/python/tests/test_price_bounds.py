@@ -456,7 +456,3 @@ class Partial(unittest.TestCase):
 def whole_of(name, *more):
     with spmat.Session() as session:
         return getattr(algorithms, name)(graphs.UNDIRECTED[3].matrix(session), *more).to_dict()
-
-
-if __name__ == '__main__':
-    unittest.main()

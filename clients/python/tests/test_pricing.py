@@ -117,7 +117,3 @@ class Budgets(unittest.TestCase):
             least = float(str(caught.exception).split('give a tolerance of ')[1].split()[0])
             self.assertNotIn('decimals', str(caught.exception))
             algorithms.pagerank(W, weighted=True, tolerance=1.05 * least)
-
-
-if __name__ == '__main__':
-    unittest.main()

@@ -1,7 +1,6 @@
 """Powers, Kronecker products and semirings of positions, beside plain models."""
 import itertools
 import random
-import unittest
 
 import model
 import spmat
@@ -104,7 +103,3 @@ class Products(OfCells):
                 if k == l:
                     terms.setdefault((0, j), []).append(k)
         return terms
-
-
-if __name__ == '__main__':
-    unittest.main()

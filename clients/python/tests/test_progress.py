@@ -52,7 +52,3 @@ class WithoutTqdm(unittest.TestCase):
                                         r'a progress bar needs tqdm \(extra cli\): pip install '
                                         r'tqdm'):
                 Bar()
-
-
-if __name__ == '__main__':
-    unittest.main()

@@ -112,7 +112,3 @@ class Random(unittest.TestCase):
                 s.run()                                    # jobs whose results nobody holds
                 budget = s.budget()
                 self.assertEqual((budget.reserved, budget.left + budget.spent), (0, 2 ** 62))
-
-
-if __name__ == '__main__':
-    unittest.main()

@@ -80,7 +80,3 @@ class Page(unittest.TestCase):
             self.printed(lines)
         self.assertEqual('spmat.errors.OperatorRefused: %s' % fault.exception,
                          ' '.join(said.split()))
-
-
-if __name__ == '__main__':
-    unittest.main()

@@ -161,7 +161,3 @@ class Recipes(unittest.TestCase):
             want[way[-1]] = max(want.get(way[-1], 0),
                                 min(pipes[edge] for edge in zip(way, way[1:])))
         self.assertEqual(self.value('The widest path'), want)
-
-
-if __name__ == '__main__':
-    unittest.main()

@@ -1,7 +1,6 @@
 """Aggregators beside plain models: of rows, of columns and of all entries, with names and units, in
 row blocks."""
 import random
-import unittest
 
 import model
 from model import mask_of, some
@@ -86,7 +85,3 @@ class Aggregators(OfCells):
         self.assertEqual((huge.unit, huge.to_list()), (1, [2 ** 62, 6]))
         with self.assertRaisesRegex(ValueError, 'takes? it as an aggregator'):
             W.ewise_add(W, 'count')
-
-
-if __name__ == '__main__':
-    unittest.main()

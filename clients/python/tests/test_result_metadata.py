@@ -307,7 +307,3 @@ class Undirected(unittest.TestCase):
             self.assertEqual(type(algorithms.undirected(G).to_networkx()), networkx.Graph)
             self.assertEqual(type(G.ewise_add(G.T, 'max').to_networkx()), networkx.Graph)
             self.assertEqual(type(G.to_networkx()), networkx.DiGraph)
-
-
-if __name__ == '__main__':
-    unittest.main()

@@ -105,7 +105,3 @@ class Diagonals(OfCells):
         W = self.s.from_edgelist([('a', 'a', 2), ('a', 'b', 3)])
         self.assertEqual((W.diag().by_node(), W.diag().diag().nodes, W.diag(1).nodes),
                          ({'a': 2}, ['a', 'b'], None))
-
-
-if __name__ == '__main__':
-    unittest.main()

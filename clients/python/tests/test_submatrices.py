@@ -1,7 +1,6 @@
 """Tiles, sizes and shapes, beside plain models."""
 import itertools
 import random
-import unittest
 import warnings
 
 import model
@@ -100,7 +99,3 @@ class Shapes(OfCells):
         self.assertEqual((W.resize(2, 3).row_nodes, W.resize(5, 3).row_nodes,
                           W.resize(5, 3).column_nodes), (['a', 'b'], None, ['a', 'b', 'c']))
         self.assertEqual(self.made({}, 0, 3).reshape(3, 0).shape, (3, 0))
-
-
-if __name__ == '__main__':
-    unittest.main()

@@ -32,7 +32,3 @@ class Watch(unittest.TestCase):
         self.assertEqual(done.returncode, 1)
         self.assertIn('in test_that_waits_for_ever', done.stdout)
         self.assertNotIn('in test_short', done.stdout)
-
-
-if __name__ == '__main__':
-    unittest.main()

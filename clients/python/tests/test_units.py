@@ -7,7 +7,6 @@ import io
 import os
 import random
 import tempfile
-import unittest
 from decimal import Decimal
 from fractions import Fraction
 
@@ -704,7 +703,3 @@ class Commands(command_line.CommandLine):
                              '[\n{"node": "c", "sssp": 0.0},\n{"node": "d", "sssp": 4.0}\n]\n')):
             self.assertEqual(self.printed(words[0], *self.scaled, *words[1:]), want)
         self.assertIn('2 1 150\n', self.printed('sssp', *self.scaled, '--source', 'a', '--mtx'))
-
-
-if __name__ == '__main__':
-    unittest.main()

@@ -43,7 +43,3 @@ class Signs(unittest.TestCase):
         with self.assertRaises(TypeError) as said:
             numpy.asarray(self.G)
         self.assertIn('A.to_dense()', str(said.exception))
-
-
-if __name__ == '__main__':
-    unittest.main()

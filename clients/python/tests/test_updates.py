@@ -1,6 +1,5 @@
 """Parts that are set, beside a plain model: random small matrices, masks, names, and row blocks."""
 import random
-import unittest
 
 import model
 import spmat
@@ -98,7 +97,3 @@ class Assign(OfCells):
         got = W.assign(part, ['b', 'c'])
         self.assertEqual((sorted(got.to_edgelist()), got.nodes),
                          ([('a', 'b', 1), ('b', 'c', -2), ('c', 'a', -3)], ['a', 'b', 'c']))
-
-
-if __name__ == '__main__':
-    unittest.main()

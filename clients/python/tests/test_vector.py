@@ -1,7 +1,6 @@
 """Vectors: what users of python-graphblas expect of them, on columns and rows that algorithms and
 jobs give."""
 import pickle
-import unittest
 
 import numpy
 
@@ -180,7 +179,3 @@ class InNumpy(support.InSession):
         found = spmat.Vector(self.G.reduce_rowwise()).to_dense() - spmat.Vector(
             self.G.reduce_columnwise()).to_dense()
         self.assertEqual((found.shape, found.tolist()), ((5,), [0] * 5))
-
-
-if __name__ == '__main__':
-    unittest.main()

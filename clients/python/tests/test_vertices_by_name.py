@@ -344,7 +344,3 @@ class Commands(CommandLine):
                          'yes\n')
         for word in ('--3', '3-', '\u00b2', '8', ''):
             self.refused('bfs-levels', 'numbers', '--source=' + word, status=2)
-
-
-if __name__ == '__main__':
-    unittest.main()

@@ -22,7 +22,3 @@ class WithoutNumpy(unittest.TestCase):
                          r'(?m)^ImportError: spmat needs numpy \(1\.22 or newer\), and \S+ has '
                          r'none\. To have it: pip install numpy; or on Debian apt install '
                          r'python3-numpy')
-
-
-if __name__ == '__main__':
-    unittest.main()

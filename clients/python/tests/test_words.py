@@ -116,7 +116,3 @@ class Words(unittest.TestCase):
 
     def test_a_call_that_was_made(self):
         self.assertIn('spmat.price(lambda: f(G))', self.said(TypeError, spmat.price, 3))
-
-
-if __name__ == '__main__':
-    unittest.main()

@@ -1,7 +1,6 @@
 """Each algorithm beside plain Python, on graphs of one part and of several, directed and
 undirected."""
 import random
-import unittest
 from unittest import mock
 
 import graphs
@@ -227,7 +226,3 @@ class Algorithms(support.InSession):
                      lambda: algorithms.clustering(G, 0)):
             with self.assertRaises(ValueError):
                 call()
-
-
-if __name__ == '__main__':
-    unittest.main()

@@ -1,6 +1,4 @@
 """Lengths from some vertices of large graphs, which are squared where their rows stay short."""
-import unittest
-
 import support
 from spmat import algorithms
 
@@ -22,7 +20,3 @@ class Squares(support.InSession):
         self.assertEqual(algorithms.path_lengths(G, [count - 600],
                                                  lambda *now: told.append(now)).nvals, 600)
         self.assertLess(len(told), 300)
-
-
-if __name__ == '__main__':
-    unittest.main()

@@ -1,6 +1,5 @@
 """What is within k edges of some vertices, by loops that stay at the server: as plain Python has
 it."""
-import unittest
 import warnings
 from unittest import mock
 
@@ -83,7 +82,3 @@ class Hops(support.InSession):
             for graph in (PATH, ONE_WAY, graphs.UNDIRECTED[4]):
                 for most in (1, 3, 40, 100):
                     self.look(graph, [3, 0], most)
-
-
-if __name__ == '__main__':
-    unittest.main()

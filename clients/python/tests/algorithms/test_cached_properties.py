@@ -167,7 +167,3 @@ class Own(unittest.TestCase):
             self.assertEqual(told, [('round', k + 1, 0) for k in range(len(told))])
             with self.assertRaisesRegex(RuntimeError, '2 rounds'):
                 spmat.fixpoint(start, step, most=2)
-
-
-if __name__ == '__main__':
-    unittest.main()

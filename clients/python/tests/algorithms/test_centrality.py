@@ -1,7 +1,6 @@
 """Eigenvector and Katz centrality, hubs and authorities beside plain Python in fractions
 and floats: within the error that is told."""
 import math
-import unittest
 
 import graphs
 import support
@@ -123,7 +122,3 @@ class Large(support.InSession):
                             count, count)
         for found in algorithms.hits(G, weighted=True):
             self.assertLess(max(abs(x - 1 / count) for x in found.by_node().values()), 1e-11)
-
-
-if __name__ == '__main__':
-    unittest.main()

@@ -1,6 +1,4 @@
 """Closeness beside plain Python, exactly as it is rounded."""
-import unittest
-
 import graphs
 from spmat import algorithms
 
@@ -19,7 +17,3 @@ class Closeness(graphs.OnGraphs):
                 self.assertEqual(got, reached * reached * found.scale // (total * (graph.count - 1))
                                  if total else 0)
         self.each(graphs.ALL, look)
-
-
-if __name__ == '__main__':
-    unittest.main()

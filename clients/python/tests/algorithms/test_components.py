@@ -1,5 +1,4 @@
 """Components of all kinds, forests and independent sets; and searches that look at all vertices."""
-import unittest
 from unittest import mock
 
 import numpy
@@ -193,7 +192,3 @@ class Scans(InSession):
                 want.update(dict.fromkeys([(i, 0) for i in graphs.core(graph.near(), k)], k))
                 k += 1
             self.assertEqual(algorithms.core_numbers(G).to_dict(), want, graph.name)
-
-
-if __name__ == '__main__':
-    unittest.main()

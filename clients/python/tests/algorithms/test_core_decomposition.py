@@ -1,5 +1,4 @@
 """Core numbers, by pushes and by a loop that stays at the server: as plain Python has them."""
-import unittest
 from unittest import mock
 
 import graphs
@@ -44,7 +43,3 @@ class Cores(graphs.OnGraphs):
         super().setUp()
         self.few = spmat.Session(1 << 50, program=support.program())
         self.addCleanup(self.few.close)
-
-
-if __name__ == '__main__':
-    unittest.main()

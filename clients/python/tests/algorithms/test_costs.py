@@ -363,7 +363,3 @@ class Parts(unittest.TestCase):
                          {(i, 0): ring if i == hub else 2 for i in range(ring + 1)})
         self.assertEqual(algorithms.k_truss(G, 3).nvals, 4 * ring)
         self.assertEqual(algorithms.k_truss(G, 4).nvals, 0)
-
-
-if __name__ == '__main__':
-    unittest.main()

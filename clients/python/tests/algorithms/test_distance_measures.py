@@ -1,7 +1,6 @@
 """Lengths and distances between many vertices, beside plain Python: what is refused before it
 begins, and what rounds take."""
 import random
-import unittest
 from unittest import mock
 
 import graphs
@@ -170,7 +169,3 @@ class Distances(support.InSession):
             self.assertLess(self.session.runs - runs, 400)
             apart = self.session.from_triples([(2 * k, 2 * k + 1, 1) for k in range(20)], 40, 40)
             self.assertEqual(algorithms.transitive_closure(apart).nvals, 20)
-
-
-if __name__ == '__main__':
-    unittest.main()

@@ -75,7 +75,3 @@ class Drawn(support.InSession):
                          for seed in (1, 2))
         self.assertLess(sum(a == b for a, b in zip(first, second)), 3)
         self.assertLess(abs(sum(a < b for a, b in zip(first, second)) - 1000), 150)
-
-
-if __name__ == '__main__':
-    unittest.main()

@@ -127,7 +127,3 @@ class InBlocks(unittest.TestCase):
                          for maker in (session, sessions))
             self.assertEqual((one.modularity, one.labels.to_list()),
                              (many.modularity, many.labels.to_list()))
-
-
-if __name__ == '__main__':
-    unittest.main()

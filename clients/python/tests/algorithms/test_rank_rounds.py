@@ -2,7 +2,6 @@
 from those that linear equations have."""
 import math
 import random
-import unittest
 import warnings
 from unittest import mock
 
@@ -178,7 +177,3 @@ class Shares(support.InSession):
         self.assertAlmostEqual(1 + parts.weight, omega)
         self.assertAlmostEqual(parts.rate ** 2, parts.weight)
         self.assertTrue(math.isclose(parts.rate, .5567, abs_tol=1e-3))
-
-
-if __name__ == '__main__':
-    unittest.main()

@@ -1,7 +1,6 @@
 """What is handed to an algorithm by mistake: an error names the argument, what it is, and what
 came."""
 import inspect
-import unittest
 import warnings
 
 import numpy
@@ -87,7 +86,3 @@ class Arguments(support.InSession):
                 self.fail('%s: %s' % (type(fault).__name__, fault))
             except (TypeError, ValueError, RuntimeError, spmat.SpmatError) as fault:
                 self.assertFalse(any(words in str(fault) for words in WORDS), str(fault))
-
-
-if __name__ == '__main__':
-    unittest.main()

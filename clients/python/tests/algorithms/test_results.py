@@ -3,7 +3,6 @@ unit, groups as sets of vertices."""
 import inspect
 import math
 import random
-import unittest
 from fractions import Fraction
 
 import graphs
@@ -573,7 +572,3 @@ class Heavy(support.InSession):
             count = 40 if words == 'add up to' else 2
             with self.subTest(words=words), self.assertRaisesRegex(ValueError, words + '|beyond'):
                 algorithms.closeness(self.s.from_triples(edges, count, count), weighted=True)
-
-
-if __name__ == '__main__':
-    unittest.main()

@@ -1,6 +1,5 @@
 """Searches that go on at the server: levels, parents and lengths are those of plain Python,
 wherever the loop takes over."""
-import unittest
 from unittest import mock
 
 import graphs
@@ -56,7 +55,3 @@ class Long(support.InSession):
                 self.assertEqual(algorithms.sssp(G, 0).to_dict(),
                                  {(i, 0): length
                                   for i, length in graphs.shortest(graph.edges, near, 0).items()})
-
-
-if __name__ == '__main__':
-    unittest.main()

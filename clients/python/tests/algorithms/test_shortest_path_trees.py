@@ -177,7 +177,3 @@ class InBlocks(unittest.TestCase):
                           for path in algorithms.k_shortest_paths(G, 0, 5, 3, weighted=True)]
                          for G in (many, one))
             self.assertEqual(got, want)
-
-
-if __name__ == '__main__':
-    unittest.main()

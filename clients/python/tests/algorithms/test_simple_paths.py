@@ -1,6 +1,5 @@
 """The k shortest paths beside all simple paths in plain Python."""
 import itertools
-import unittest
 
 import graphs
 from graphs import by_chance
@@ -46,7 +45,3 @@ class SimplePaths(graphs.OnGraphs):
         got = algorithms.k_shortest_paths(G, 0, 4, 9, weighted=True)
         self.assertEqual([(path.length, list(path)) for path in got],
                          [(6, [0, 2, 3, 4]), (7, [0, 2, 1, 3, 4]), (8, [0, 1, 3, 4])])
-
-
-if __name__ == '__main__':
-    unittest.main()

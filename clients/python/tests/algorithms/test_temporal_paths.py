@@ -2,7 +2,6 @@
 events in the order of their times."""
 import datetime
 import random
-import unittest
 
 import numpy
 
@@ -221,7 +220,3 @@ class Test(support.InSession):
         self.assertEqual(spmat.events(self.s, array[:, :3]).earliest_arrival(1), {1: 5, 2: 5, 3: 5})
         with self.assertRaisesRegex(ValueError, 'an array of events'):
             spmat.events(self.s, array[:, :2])
-
-
-if __name__ == '__main__':
-    unittest.main()

@@ -1,6 +1,5 @@
 """Strong components, levels of graphs without cycles, sides, and shared neighbours, beside plain
 Python."""
-import unittest
 from unittest import mock
 
 import graphs
@@ -170,7 +169,3 @@ class Orders(graphs.OnGraphs):
             self.assertEqual(parts.to_dict(), want)
             self.assertGreater(len(told), 2)
         self.each(graphs.UNDIRECTED[2:], look)
-
-
-if __name__ == '__main__':
-    unittest.main()

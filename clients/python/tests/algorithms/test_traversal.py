@@ -116,7 +116,3 @@ class Vectors(unittest.TestCase):
                                       wraps=parse_integers.fields) as fields:
                 traversal.read_vector(text, 0 if column else 1)
                 self.assertEqual(fields.call_args.args[1], (2,))
-
-
-if __name__ == '__main__':
-    unittest.main()

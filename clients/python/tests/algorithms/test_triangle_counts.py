@@ -1,5 +1,4 @@
 """Trusses, by loops that stay at the server: as plain Python has them."""
-import unittest
 from unittest import mock
 
 import graphs
@@ -41,7 +40,3 @@ class Trusses(graphs.OnGraphs):
         self.assertGreater(len(told), 6)
         # traced, and not made round by round
         self.assertLessEqual(counted.call_count, 3 * 2)
-
-
-if __name__ == '__main__':
-    unittest.main()

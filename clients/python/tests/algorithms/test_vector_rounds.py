@@ -1,7 +1,6 @@
 """Rounds of eigenvector and Katz centrality, hubs and authorities: no sum passes a word, a share is
 rounded by less than 1, the server's numbers are those of the client, and looks are few."""
 import random
-import unittest
 from fractions import Fraction
 from unittest import mock
 
@@ -259,7 +258,3 @@ class AtTheServer(support.InSession):
                                    (hubs, authorities)):
                 for node, value in found.by_node().items():
                     self.assertAlmostEqual(value, abs(want[node]), 6)
-
-
-if __name__ == '__main__':
-    unittest.main()

@@ -373,7 +373,3 @@ with spmat.Session() as s:
                 del A
                 self.assertEqual((s.full(2, 2, 8).handle.key, s.backend.names.poisons),
                                  (key, False))
-
-
-if __name__ == '__main__':
-    unittest.main()

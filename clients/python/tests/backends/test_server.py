@@ -365,7 +365,3 @@ class Operators(unittest.TestCase):
             f, g = spmat.asm('unary', 'mov64 r0, 1\nexit',
                              'f'), spmat.asm('unary', 'mov64 r0, 2\nexit', 'f')
             self.assertEqual([A.apply(op).to_list() for op in (f, g, f)], [[1], [2], [1]])
-
-
-if __name__ == '__main__':
-    unittest.main()

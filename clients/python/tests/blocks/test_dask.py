@@ -473,7 +473,3 @@ class Dask(unittest.TestCase):
                 Client(cluster) as client:
             with self.assertRaisesRegex(ValueError, 'no workers yet'):
                 blocks.Dask(client)
-
-
-if __name__ == '__main__':
-    unittest.main()

@@ -218,8 +218,3 @@ class Files(unittest.TestCase):
                                                                    matrix_market.Values(), None,
                                                                    None))
         self.assertEqual(self.by_workers, [False, False])
-
-
-if __name__ == '__main__':
-    support.program()
-    unittest.main()

@@ -4,7 +4,7 @@ import unittest
 
 import model
 import spmat
-import support
+import support  # pylint: disable=unused-import  # it names the program
 from block_pairs import CASES, FEW, FORMS, MASKS, Pair, entries
 from spmat import blocks
 from spmat.algorithms.traversal import swap, vector_of
@@ -224,8 +224,3 @@ class Steps(unittest.TestCase):
                         lambda: (X.dup(mask=~Y.S), model.cut(a, lambda p: p not in b)),
                         lambda: (X.recut(Y.cut), a)))()
                 self.assertEqual(X.to_dict(), a, seed)
-
-
-if __name__ == '__main__':
-    support.program()
-    unittest.main()

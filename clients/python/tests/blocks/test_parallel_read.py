@@ -311,8 +311,3 @@ class Frames(unittest.TestCase):
             self.assertEqual(alike.plain(s.from_dask_dataframe(
                 dask.dataframe.from_pandas(frame, npartitions=3, sort=False), 'from', 'to', 'km')),
                              alike.plain(want))
-
-
-if __name__ == '__main__':
-    support.program()
-    unittest.main()

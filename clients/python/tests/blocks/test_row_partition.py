@@ -83,7 +83,3 @@ class Texts(unittest.TestCase):
                     want = [line for line, (i, _) in zip(lines, sorted(a)) if first <= i < end]
                     self.assertEqual(row_partition.lines_of(text, first, end),
                                      (b''.join(want), len(want)))
-
-
-if __name__ == '__main__':
-    unittest.main()

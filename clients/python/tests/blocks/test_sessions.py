@@ -4,7 +4,7 @@ import unittest
 
 import graphs
 import spmat
-import support
+import support  # pylint: disable=unused-import  # it names the program
 from spmat import algorithms, blocks
 
 BY_FRONTS = ('components', 'bfs_levels', 'bfs_parents', 'sssp', 'core')
@@ -222,8 +222,3 @@ class OneClass(unittest.TestCase):
             self.assertEqual(X.blocks.recut([0, 4, 9]).blocks.cut, blocks.Cut((0, 4, 9)))
             self.assertEqual((X.blocks.cut, X.blocks.counts(), X.blocks.sessions),
                              (X.cut, X.counts(), X.sessions))
-
-
-if __name__ == '__main__':
-    support.program()
-    unittest.main()

@@ -189,8 +189,3 @@ class Apart(unittest.TestCase):
                                      (False, ['a', 'b', 'c', 'd']))
                     self.assertEqual(algorithms.bfs_levels(found['G'], 'd', found['G']).by_node(),
                                      {'d': 0, 'c': 1, 'b': 2, 'a': 3})
-
-
-if __name__ == '__main__':
-    support.program()
-    unittest.main()

@@ -7,7 +7,7 @@ import unittest
 
 import graphs
 import spmat
-import support
+import support  # pylint: disable=unused-import  # it names the program
 from block_pairs import Pair
 from spmat import algorithms, blocks
 
@@ -89,8 +89,3 @@ class Lost(unittest.TestCase):
                                         'block 1 of 2, rows 20 to 39: Closed: ') as caught:
                 X.apply('abs').nvals
             self.assertEqual(caught.exception.block, 'block 1 of 2, rows 20 to 39')
-
-
-if __name__ == '__main__':
-    support.program()
-    unittest.main()

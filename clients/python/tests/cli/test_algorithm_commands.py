@@ -7,7 +7,6 @@ import signal
 import subprocess
 import sys
 import time
-import unittest
 
 import support
 from command_line import PACKAGE, CommandLine, with_body
@@ -314,7 +313,3 @@ class Commands(CommandLine):
 
     def test_no_progress_in_a_pipe(self):
         self.assertEqual(self.run_words('bfs-levels', 'graph.mtx').stderr, '')
-
-
-if __name__ == '__main__':
-    unittest.main()

@@ -11,7 +11,6 @@ import subprocess
 import sys
 import threading
 import time
-import unittest
 from unittest import mock
 
 import support
@@ -272,7 +271,3 @@ class Ends(CommandLine):
         told = dict(re.findall(r'^\.B (\d+)\n(.*)$', section.replace('\\-', '-'), re.M))
         self.assertEqual({int(number) for number in told}, {int(status) for status in Status})
         self.assertEqual(set(MEANINGS), set(Status))
-
-
-if __name__ == '__main__':
-    unittest.main()

@@ -299,7 +299,3 @@ class Secret(CommandLine):
                  'none.pem: No such file')):
                 with self.subTest(words=words[2:]):
                     self.assertIn(says, self.refused('degrees', 'roads.csv', *words, status=status))
-
-
-if __name__ == '__main__':
-    unittest.main()

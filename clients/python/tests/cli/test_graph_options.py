@@ -2,7 +2,6 @@
 error; and both ways are Python's."""
 import io
 import os
-import unittest
 
 import support
 from command_line import CommandLine
@@ -138,7 +137,3 @@ class Files(support.InSession):
                       {'nodelist': ['a', 'b', 'c']}, {'unit': 's'}, {'date_format': '%d'}):
             with self.assertRaisesRegex(ValueError, '%s= is for a list of edges' % list(words)[0]):
                 self.s.read_graph(io.BytesIO(FILES['g.mtx'].encode()), **words)
-
-
-if __name__ == '__main__':
-    unittest.main()

@@ -134,7 +134,3 @@ class EveryCommand(command_line.CommandLine):
     def test_spy(self):
         self.assertEqual(json.loads(self.printed('spy', 'graph.mtx', '--plot', 'p.png', '--json')),
                          {'rows': 6, 'columns': 6, 'entries': 14})
-
-
-if __name__ == '__main__':
-    unittest.main()

@@ -20,7 +20,3 @@ class Scripts(unittest.TestCase):
         self.assertIn('it is written `product OUT ADD MUL A B [mask M]`', said.getvalue())
         self.assertIn('it is written `reduce OUT OP A [mask M]`', said.getvalue())
         self.assertIn('commands are matrix, asm, op', said.getvalue())
-
-
-if __name__ == '__main__':
-    unittest.main()

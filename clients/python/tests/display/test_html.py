@@ -4,7 +4,6 @@ import io
 import threading
 import time
 import re
-import unittest
 from unittest import mock
 
 import support
@@ -216,7 +215,3 @@ class Html(support.InSession):
             self.assertIn(axes.figure.number, pyplot.get_fignums())        # a notebook shows these
         self.assertEqual(written.getvalue()[:8], b'\x89PNG\r\n\x1a\n')
         pyplot.close('all')
-
-
-if __name__ == '__main__':
-    unittest.main()

@@ -9,7 +9,6 @@ import signal
 import subprocess
 import sys
 import tempfile
-import unittest
 import zipfile
 from unittest import mock
 
@@ -233,7 +232,3 @@ class Lists(InAFolder):
         G, path = self.s.from_edgelist(EDGES), os.path.join(self.folder, 'g.parquet')
         G.to_parquet(path)
         self.assertTrue(self.s.read_graph(path).isequal(G))
-
-
-if __name__ == '__main__':
-    unittest.main()

@@ -1,6 +1,5 @@
 """Compressed rows and columns, and dicts, out and in again."""
 import random
-import unittest
 
 import spmat
 from model import some
@@ -64,7 +63,3 @@ class Forms(OfCells):
                                    'given as entry')):
             with self.assertRaisesRegex(kind, words):
                 call()
-
-
-if __name__ == '__main__':
-    unittest.main()

@@ -3,7 +3,6 @@ import io
 import os
 import random
 import time
-import unittest
 from unittest import mock
 
 from support import InSession, needs
@@ -232,7 +231,3 @@ class Scipy(InSession):
         M = scipy.sparse.coo_matrix((values, (rows, columns)), (1 << 20, 1 << 20))
         theirs = least(1, lambda: scipy.io.mmwrite(io.BytesIO(), M))
         self.assertLess(3 * ours, theirs)
-
-
-if __name__ == '__main__':
-    unittest.main()

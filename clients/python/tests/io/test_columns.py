@@ -441,7 +441,3 @@ class Page(unittest.TestCase):
         for argument in re.findall(r'^\| `(\w+)=', self.page, re.M):
             self.assertIn(argument, {*inspect.signature(spmat.Session.read_graph).parameters,
                                      *Layout._fields}, argument)
-
-
-if __name__ == '__main__':
-    unittest.main()

@@ -1,6 +1,5 @@
 """Every way in for arrays, by every kind of array: what each gives, or says."""
 import fractions
-import unittest
 
 import spmat
 from support import InSession, needs
@@ -375,7 +374,3 @@ class Scipy(InSession):
                 self.s.from_scipy_sparse(thing)
         with self.assertRaisesRegex(TypeError, 'from_scipy_sparse takes it'):
             self.s.from_dense(zero)
-
-
-if __name__ == '__main__':
-    unittest.main()

@@ -351,7 +351,3 @@ class Shell(command_line.CommandLine):
         self.assertEqual(self.run_words('degrees', 'kinds.csv', '--one-kind').stdout, '1 2\n')
         self.assertEqual(self.run_words('degrees', 'kinds.csv', '--bipartite').stdout,
                          self.run_words('degrees', 'kinds.csv', '--bipartite', '--quiet').stdout)
-
-
-if __name__ == '__main__':
-    unittest.main()

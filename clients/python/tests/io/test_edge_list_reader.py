@@ -8,7 +8,6 @@ import os
 import pickle
 import random
 import tempfile
-import unittest
 import warnings
 from unittest import mock
 
@@ -470,7 +469,3 @@ class FromPython(Case):
         self.assertEqual(self.s.from_pandas_edgelist(numbers).nodes, [3, 5, 9])
         missing = pandas.DataFrame({'source': ['a', None], 'target': ['b', 'c']})
         self.assertIn('row 1: a name is missing', self.said(self.s.from_pandas_edgelist, missing))
-
-
-if __name__ == '__main__':
-    unittest.main()

@@ -1,6 +1,5 @@
 """The greatest entries, found by a threshold, beside a sort of all."""
 import random
-import unittest
 from unittest import mock
 
 import support
@@ -57,7 +56,3 @@ class Ranking(support.InSession):
             entries = [(i, i * 7 % 40, i * 31 % 17) for i in range(200)]
             want = sorted(entries, key=lambda entry: -entry[-1])[:5]
             self.assertEqual(sessions.from_triples(entries, 200, 40).top(5), want)
-
-
-if __name__ == '__main__':
-    unittest.main()

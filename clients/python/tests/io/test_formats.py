@@ -4,7 +4,6 @@ import inspect
 import io
 import os
 import tempfile
-import unittest
 from unittest import mock
 
 import spmat
@@ -200,7 +199,3 @@ class Lists(InSession):
             with mock.patch('spmat.blocks.parallel_read.LEAST', 1), \
                     self.assertRaisesRegex(spmat.ReadError, 'directed=False'):
                 s.read_graph(os.path.join(folder, 'part.csv'))
-
-
-if __name__ == '__main__':
-    unittest.main()

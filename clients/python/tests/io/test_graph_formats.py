@@ -2,7 +2,6 @@
 where the package isn't there."""
 import io
 import sys
-import unittest
 from unittest import mock
 
 import support
@@ -155,7 +154,3 @@ class Parquet(Case):
         with mock.patch.dict(sys.modules, pandas=None):
             self.assertIn('parquet needs pandas (extra files): pip install pandas',
                           self.said(self.TEXT))
-
-
-if __name__ == '__main__':
-    unittest.main()

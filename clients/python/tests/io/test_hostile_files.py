@@ -219,7 +219,3 @@ class Fuzz(unittest.TestCase):
                               text=True, env={**os.environ, 'PYTHONPATH': support.CLIENT})
         self.assertEqual(done.returncode, 0, done.stdout)
         self.assertIn('faults: 0', done.stdout)
-
-
-if __name__ == '__main__':
-    unittest.main()

@@ -265,7 +265,3 @@ class Texts(unittest.TestCase):
         text = b'one\n\nthree\r\n' + b'x' * 200
         self.assertEqual([matrix_text.line_at(text, k) for k in range(1, 7)],
                          ['one', '', 'three', 'x' * 100 + '..', '', ''])
-
-
-if __name__ == '__main__':
-    unittest.main()

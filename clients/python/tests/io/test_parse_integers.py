@@ -105,7 +105,3 @@ class Loading(InSession):
         with blocks.Sessions(2) as many:
             self.assertEqual(many.from_coo([0, 3, 4], [1, 2, 4], [5, -6, 7],
                                            symmetric=True).to_dict(), want)
-
-
-if __name__ == '__main__':
-    unittest.main()

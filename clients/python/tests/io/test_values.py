@@ -4,7 +4,6 @@ import datetime
 import io
 import os
 import random
-import unittest
 
 import command_line
 import support
@@ -171,7 +170,3 @@ class Shell(command_line.CommandLine):
         self.assertEqual(self.printed('sssp', 'german.csv', '--source', 'a', '--unit', 'D',
                                       '--date-format', '%d.%m.%Y'), 'a 0\nb 2\n')
         self.assertTrue(os.path.exists(os.path.join(self.folder, 'calls.csv')))
-
-
-if __name__ == '__main__':
-    unittest.main()

@@ -281,7 +281,3 @@ class Shell(command_line.CommandLine):
                                  same(s.read_graph(os.path.join(self.folder, 'g.csv'),
                                                    values=False).to_edgelist()), edges)
                 self.assertEqual(same(as_text(got)), same(as_text(edges)))
-
-
-if __name__ == '__main__':
-    unittest.main()

@@ -2,7 +2,7 @@
 import unittest
 
 import spmat
-import support
+import support  # pylint: disable=unused-import  # it names the program
 from spmat import blocks
 
 
@@ -59,8 +59,3 @@ class Fixpoints(unittest.TestCase):
                                                    right=1).ewise_add(s.full(1, 2, 2), 'max'),
                                  most=9)
             self.assertEqual(got.to_list(), [2, 2])
-
-
-if __name__ == '__main__':
-    support.program()
-    unittest.main()

@@ -70,7 +70,3 @@ class Page(unittest.TestCase):
             lines += ['round %d without %s' % (number, name) for name in thin]
             left.difference_update(thin)
         self.assertEqual(self.said['Peeling by weight'].splitlines(), [*lines, str(sorted(left))])
-
-
-if __name__ == '__main__':
-    unittest.main()

@@ -380,7 +380,3 @@ class Steady(unittest.TestCase):
                 with self.assertRaisesRegex(ValueError,
                                             "looks at 'y', which no step returns: it has x"):
                     loop.run(until=spmat.steady('y'))
-
-
-if __name__ == '__main__':
-    unittest.main()

@@ -464,7 +464,3 @@ class Channels(unittest.TestCase):
             self.assertEqual((interrupted, loop.number, s.connection.ended), (2, 70, None))
             self.assertEqual(list(map(int, loop.shown['front'].places)), list(range(1, 70)))
             self.assertEqual(list(map(int, loop.shown['front'].rounds)), list(range(1, 70)))
-
-
-if __name__ == '__main__':
-    unittest.main()

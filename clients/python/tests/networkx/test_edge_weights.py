@@ -3,7 +3,6 @@ power of ten or two, or rounded as set."""
 import fractions
 import math
 import random
-import unittest
 
 import networkx as nx
 
@@ -190,7 +189,3 @@ class Weights(NetworkxCase):
     def read(self, found):
         key = edge_weights.make_key('w', 1, None)
         return edge_weights.read_values([{'w': value} for value in found], key)
-
-
-if __name__ == '__main__':
-    unittest.main()

@@ -274,7 +274,3 @@ class Imports(NetworkxCase):
             text = file.read()
         for group, (name, place) in wanted.items():
             self.assertIn('[project.entry-points."%s"]\n%s = "%s"\n' % (group, name, place), text)
-
-
-if __name__ == '__main__':
-    unittest.main()

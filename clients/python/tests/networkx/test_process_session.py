@@ -1,7 +1,6 @@
 """What networkx is told where spmat can't run, and what its settings take."""
 import contextlib
 import pickle
-import unittest
 import warnings
 from unittest import mock
 
@@ -138,7 +137,3 @@ class Settings(Case):
     def test_pickle(self):
         held = networkx.config.backends.spmat
         self.assertEqual(pickle.loads(pickle.dumps(held)), held)
-
-
-if __name__ == '__main__':
-    unittest.main()

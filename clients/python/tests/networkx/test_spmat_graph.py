@@ -3,7 +3,6 @@ change after spmat has read them: through a view, or by the dict of an edge, of 
 notices nothing."""
 import copy
 import pickle
-import unittest
 from unittest import mock
 
 import networkx as nx
@@ -328,7 +327,3 @@ class Changes(NetworkxCase):
             for backend in ('spmat', 'networkx'):
                 with self.assertRaises(fault, msg=(function, backend)):
                     list(function(*args, **more, backend=backend))
-
-
-if __name__ == '__main__':
-    unittest.main()

@@ -1,6 +1,5 @@
 """Assembly text of operators: labels, the form of each mnemonic, and the text of code."""
 import itertools
-import unittest
 
 import reference_code
 import support
@@ -75,7 +74,3 @@ class Mnemonics(Case):
                          [(0, 'wide r1, -9223372036854775807'), (2, 'wide r2, 4294967297'),
                           (4, 'exit')])
         self.assertEqual(spmat.code('unary', 'ff00000000000000').lines(), [(0, 'ff00000000000000')])
-
-
-if __name__ == '__main__':
-    unittest.main()

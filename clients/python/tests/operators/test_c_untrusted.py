@@ -208,7 +208,3 @@ class Limits(unittest.TestCase):
         self.assertEqual(said.split(), ['7', str(1 << 20), '200'])
         self.assertEqual((clang.UNTRUSTED.processor, clang.UNTRUSTED.seconds,
                           clang.TRUSTED.seconds), (10, 20, 300))
-
-
-if __name__ == '__main__':
-    unittest.main()

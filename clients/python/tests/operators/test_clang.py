@@ -147,7 +147,3 @@ class EachClang(unittest.TestCase):
         with self.assertRaisesRegex(TypeError,
                                     'expected the text of a function in C, got function'):
             spmat.c(lambda x: x)
-
-
-if __name__ == '__main__':
-    unittest.main()

@@ -192,7 +192,3 @@ class Shown(unittest.TestCase):
                                     (A.apply(functions.grade), functions.grade, 3)):
                 self.assertEqual(made.price, calls * spmat.explain(op).instructions)
             self.assertEqual(A.mxm(A, (min, functions.toll)).price, 5 * (4 + 5))
-
-
-if __name__ == '__main__':
-    unittest.main()

@@ -1,7 +1,5 @@
 """Operators by the names of other libraries: functions of numpy, and names of python-graphblas,
 mean a ready one exactly or say what to write."""
-import unittest
-
 from support import InSession, needs
 import spmat
 from spmat.operators import other_names
@@ -87,7 +85,3 @@ class Functions(InSession):
                 A.apply(ufunc)
         with self.assertRaises(spmat.DomainMismatch):
             A.apply(numpy.add)
-
-
-if __name__ == '__main__':
-    unittest.main()

@@ -183,7 +183,3 @@ class Semirings(unittest.TestCase):
         self.assertIn('min_plus', found)
         self.assertEqual(sum('_' in name and not name.startswith('_') for name in found),
                          len(list(spmat.binary)) ** 2)
-
-
-if __name__ == '__main__':
-    unittest.main()

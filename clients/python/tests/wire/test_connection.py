@@ -436,7 +436,3 @@ class Others(unittest.TestCase):
                 os._exit(status)
             self.assertEqual(os.waitpid(child, 0)[1], 0)
             self.assertEqual(A.apply('ainv').to_list(), [-1])
-
-
-if __name__ == '__main__':
-    unittest.main()

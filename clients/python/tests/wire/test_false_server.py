@@ -229,7 +229,3 @@ class Slow(unittest.TestCase):
             with self.assertRaisesRegex(spmat.ProtocolError, 'BYTES'):
                 s.from_text(text).to_text()
             self.assertIsNotNone(s.connection.ended)
-
-
-if __name__ == '__main__':
-    unittest.main()

@@ -114,7 +114,3 @@ class Carried(unittest.TestCase):
         plain = re.search(r'the plain server of this checkout does: SPMAT=(.*)', said).group(1)
         with spmat.Session(program=[sys.executable, plain]) as s:
             self.assertEqual(s.full(2, 2).nvals, 4)
-
-
-if __name__ == '__main__':
-    unittest.main()

@@ -164,7 +164,3 @@ class Relayed(unittest.TestCase):
             with self.assertRaises(spmat.Closed) as said:
                 spmat.Session.connect(port=server.port)
             self.assertIn('none of spmat', str(said.exception))
-
-
-if __name__ == '__main__':
-    unittest.main()

@@ -213,10 +213,6 @@ class Secrets(unittest.TestCase):
         self.assertIn('tls=', str(said.exception))
 
 
-if __name__ == '__main__':
-    unittest.main()
-
-
 @unittest.skipIf(shutil.which('openssl') is None, 'no program openssl')
 class Gateways(unittest.TestCase):
     """`spmat://USER@HOST:PORT`: TLS, and a first line that logs in. Tests of the gateway itself are

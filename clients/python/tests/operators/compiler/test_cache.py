@@ -8,7 +8,6 @@ import fractions
 import functools
 import sys
 import types
-import unittest
 
 import support
 from spmat import CompileError
@@ -212,7 +211,3 @@ class Comparisons(support.InSession):
         self.assertEqual(G.reduce_rowwise('argmax').by_node(), {1: 3, 2: 3, 3: 1})
         self.assertEqual(G.reduce_columnwise('argmin').by_node(), {1: 3, 2: 1, 3: 2})
         self.assertEqual(G.reduce_rowwise('argmax').to_list(), [2, 2, 0])
-
-
-if __name__ == '__main__':
-    unittest.main()

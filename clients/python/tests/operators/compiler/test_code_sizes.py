@@ -24,7 +24,3 @@ class Sizes(unittest.TestCase):
                                      (expected, expected), operands)
                 self.assertLessEqual(made.instructions, hand.instructions + self.MORE.get(name, 1))
                 self.assertLessEqual(made.longest(), hand.longest() + 1)
-
-
-if __name__ == '__main__':
-    unittest.main()

@@ -230,7 +230,3 @@ class Errors(unittest.TestCase):
                                        PYTHONDONTWRITEBYTECODE='1'))
         self.assertRegex(done.stderr.strip().split('\n')[-1],
                          r'CompileError: `<lambda>` \(<string>:2.*\): x / y is a float in Python')
-
-
-if __name__ == '__main__':
-    unittest.main()

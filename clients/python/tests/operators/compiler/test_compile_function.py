@@ -398,7 +398,3 @@ class Places(unittest.TestCase):
             'import sys, spmat; spmat.binary.plus; spmat.Session; print([m for m in sys.modules '
             'if "functions" in m and "spmat" in m])')
         self.assertEqual(self.run_by([sys.executable, '-c', program]), '[]\n')
-
-
-if __name__ == '__main__':
-    unittest.main()

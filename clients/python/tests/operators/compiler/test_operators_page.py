@@ -49,7 +49,3 @@ class Page(unittest.TestCase):
                                      (int(expected), int(expected)))
                 calls += 1
         self.assertGreaterEqual(calls, 35)
-
-
-if __name__ == '__main__':
-    unittest.main()

@@ -15,7 +15,3 @@ class Random(unittest.TestCase):
         self.assertEqual(found.fault, '')
         self.assertGreater(found.functions, COUNT * 2 // 3)
         self.assertGreater(found.calls, 20 * COUNT)
-
-
-if __name__ == '__main__':
-    unittest.main()

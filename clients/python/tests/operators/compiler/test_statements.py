@@ -373,7 +373,3 @@ class Warned(unittest.TestCase):
         for function in (lambda x: spmat.cdiv(2 ** 64 + 5, x),
                          lambda x: spmat.cmod(2 ** 64 + 5, x)):
             self.assertEqual(spmat.unary(function)(3), function(3))
-
-
-if __name__ == '__main__':
-    unittest.main()
