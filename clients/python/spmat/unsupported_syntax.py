@@ -203,7 +203,7 @@ class Signs(MatrixBase):
         name = other_names.UFUNCS['unary' if ufunc.nin == 1 else 'binary'].get(ufunc.__name__)
         if name is None:
             instead = 'A.apply(f) or A.ewise_mult(B, f) with a function f of your own; %s' % (
-                other_names.words_for(ufunc.__name__) or 'A.to_dense() gives an array')
+                other_names.INSTEAD.get(ufunc.__name__) or 'A.to_dense() gives an array')
         elif ufunc.nin == 1:
             instead = 'A.apply("%s")' % name
         else:

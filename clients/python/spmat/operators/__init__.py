@@ -280,8 +280,8 @@ def find(kind: str, op: Op) -> Operator:
         if not callable(op):
             raise TypeError('expected an operator, its name or a function, got %r' % (op,))
         if other_names.is_ufunc(op):
-            named = other_names.ready_of(kind, op)
-            return READY[named.kind][named.name]
+            kind, name = other_names.ready_of(kind, op)
+            return READY[kind][name]
         if op is abs and kind == 'unary':          # so that its result has a unit, as "abs" has
             return unary.abs
         return READY[kind](op)
@@ -300,9 +300,8 @@ def _instead(kind: str, name: str) -> str:
         can_bind = kind == 'unary' and 'binary' in others
         return ', but %s one is%s' % (
             kinds, ': bind an operand by right= or left=' if can_bind else '')
-    words = other_names.words_for(name)
-    if words is not None:
-        return ': ' + words
+    if name in other_names.INSTEAD:
+        return ': ' + other_names.INSTEAD[name]
     if '\n' in name:
         return ': spmat.asm(%r, text) makes one of assembly text' % kind
     sign, _, number = name.partition(' ')

@@ -105,21 +105,17 @@ FORMS = {'DV': 'rD, rS or rD, NUMBER', 'RV': 'rD, rS or rD, NUMBER', 'R': 'rD', 
          'DBN': 'rD, rBASE, OFFSET', 'BNS': 'rBASE, OFFSET, rS', 'BNN': 'rBASE, OFFSET, NUMBER',
          'DN': 'rD, NUMBER'}
 _LABEL = re.compile(r'([ \t]*)([A-Za-z_][A-Za-z0-9_]*):')
-_WORD = re.compile(r'[A-Za-z_][A-Za-z0-9_]*')
-_REGISTER = re.compile(r'r[0-9]+')
+_NAME_OF_LABEL = re.compile(r'(?!r[0-9]+\Z)[A-Za-z_][A-Za-z0-9_]*')
 
 
 class Line(NamedTuple):
-    """An instruction of a text: its line's number, its slot, its mnemonic and its operands."""
+    """An instruction of a text: its line's number, its slot, its text without the comment, its
+    mnemonic and its operands."""
     number: int
     slot: int
+    text: str
     mnemonic: str
     operands: List[str]
-
-    @property
-    def text(self) -> str:
-        """The instruction, as it is written."""
-        return self.mnemonic + (' ' + ', '.join(self.operands) if self.operands else '')
 
 
 def bare(line: str) -> str:
@@ -130,12 +126,17 @@ def bare(line: str) -> str:
 def lines_of(text: str) -> Iterator[Line]:
     """The instructions of a text without labels, whatever is wrong with them."""
     slot = 0
-    for number, line in enumerate(text.split('\n'), 1):
-        words = bare(line).split(None, 1)
-        if words:
-            operands = words[1].split(',') if len(words) > 1 else []
-            yield Line(number, slot, words[0], [operand.strip() for operand in operands])
-            slot += 2 if words[0] == 'wide' else 1
+    for number, line in enumerate(map(bare, text.split('\n')), 1):
+        if line:
+            mnemonic, *rest = line.split(None, 1)
+            operands = [operand.strip() for each in rest for operand in each.split(',')]
+            yield Line(number, slot, line, mnemonic, operands)
+            slot += size_of(mnemonic)
+
+
+def size_of(mnemonic: str) -> int:
+    """The slots of an instruction."""
+    return 2 if mnemonic == 'wide' else 1
 
 
 def without_labels(text: str) -> str:
@@ -143,34 +144,26 @@ def without_labels(text: str) -> str:
     of a name is there."""
     if ':' not in text:
         return text
-    lines, places = _cut(text)
-    if not places:
-        return text
-    jumps = {line.number: line for line in lines_of('\n'.join(lines))}
-    for number, line in jumps.items():
-        if OPERANDS.get(line.mnemonic, '').endswith('J') and line.operands:
-            word = line.operands[-1]
-            if _WORD.fullmatch(word) and not _REGISTER.fullmatch(word):
-                lines[number - 1] = _numbered(lines[number - 1], line, places)
+    lines, places = _cut_labels(text)
+    for line in lines_of('\n'.join(lines)) if places else ():
+        is_jump = OPERANDS.get(line.mnemonic, '').endswith('J') and line.operands
+        if is_jump and _NAME_OF_LABEL.fullmatch(line.operands[-1]):
+            lines[line.number - 1] = _numbered(lines[line.number - 1], line, places)
     return '\n'.join(lines)
 
 
-def _cut(text: str) -> Tuple[List[str], Dict[str, int]]:
+def _cut_labels(text: str) -> Tuple[List[str], Dict[str, int]]:
     """The lines without their labels, and the slot that each label stands for."""
     lines, places, slot = [], {}, 0  # type: List[str], Dict[str, int], int
     for number, line in enumerate(text.split('\n'), 1):
-        while True:
-            found = _LABEL.match(line)
-            if found is None:
-                break
+        while found := _LABEL.match(line):
             if found.group(2) in places:
                 raise ValueError('line %d: the label %s: is in the text already' % (
                     number, found.group(2)))
             places[found.group(2)] = slot
             line = found.group(1) + line[found.end():]
         lines.append(line)
-        words = bare(line).split(None, 1)
-        slot += 0 if not words else 2 if words[0] == 'wide' else 1
+        slot += sum(size_of(each.mnemonic) for each in lines_of(line))
     return lines, places
 
 
@@ -180,7 +173,7 @@ def _numbered(line: str, jump: Line, places: Dict[str, int]) -> str:
     if label not in places:
         raise ValueError('line %d: no label %s: in the text; there are %s' % (
             jump.number, label, ', '.join(sorted(places))))
-    end = line.find(bare(line)) + len(bare(line))
+    end = line.find(jump.text) + len(jump.text)
     code, comment = line[:end], line[end:]
     return code[:code.rindex(label)] + str(places[label] - jump.slot - 1) + comment
 
@@ -194,10 +187,7 @@ def form_of(mnemonic: str) -> Optional[str]:
 
 # -- the text of code, for people: what has no mnemonic is written as its bytes
 
-# names of operations, by their codes and whether they are of signed words
-ARITHMETIC = {(each.code, each.signed): name for name, each in OPERATIONS.items()}
-SIZES = ('32', '16', '8', '64')
-NEG, END, MOV, WIDE, EXIT = 8, 13, 11, 0x18, 0x95
+WIDE = 0x18                                        # the opcode
 
 
 class Slot(NamedTuple):
@@ -207,6 +197,32 @@ class Slot(NamedTuple):
     source: int
     offset: int
     immediate: int
+
+
+def _list_formats() -> Dict[Tuple[int, bool], str]:
+    """The texts of instructions by their opcodes, and whether it is the one that a field `offset`
+    makes of another one (RFC 9669, section 4.1)."""
+    out = {(0x95, False): 'exit', (0x05, False): 'ja {offset}', (0x06, False): 'ja32 {immediate}'}
+    for opcode, name in ((0xd4, 'le'), (0xdc, 'be'), (0xd7, 'swap')):
+        out[opcode, False] = name + '{immediate} r{target}'
+    for width, operation, jump in (('64', 7, 5), ('32', 4, 6)):
+        out[0x80 + operation, False] = 'neg%s r{target}' % width
+        for by_register, right in ((0, '{immediate}'), (8, 'r{source}')):
+            operands = width + ' r{target}, ' + right
+            out.update(((each.code << 4 | by_register | operation, each.signed), name + operands)
+                       for name, each in OPERATIONS.items())
+            out.update(((code << 4 | by_register | jump, False), name + operands + ', {offset}')
+                       for code, name in CONDITIONS.items())
+        out[0xb8 + operation, True] = 'movs{offset}_%s r{target}, r{source}' % width
+    for at, size in enumerate(('32', '16', '8', '64')):
+        for opcode, name in ((0x61, 'ldx'), (0x81, 'ldsx')):
+            out[opcode + 8 * at, False] = name + size + ' r{target}, r{source}, {offset}'
+        for opcode, name, what in ((0x63, 'stx', 'r{source}'), (0x62, 'st', '{immediate}')):
+            out[opcode + 8 * at, False] = name + size + ' r{target}, {offset}, ' + what
+    return out
+
+
+_FORMATS = _list_formats()
 
 
 def lines_of_code(code: bytes) -> List[Tuple[int, str]]:
@@ -227,51 +243,7 @@ def lines_of_code(code: bytes) -> List[Tuple[int, str]]:
     return out
 
 
-def _text(slot: Slot) -> Optional[str]:
-    """The text of an instruction of one slot, None where it has none."""
-    family = slot.opcode & 7
-    if family in (4, 7):
-        return _arithmetic(slot, '64' if family == 7 else '32')
-    if family in (5, 6):
-        return _jump(slot, '64' if family == 5 else '32')
-    return _access(slot, family)
-
-
-def _arithmetic(slot: Slot, width: str) -> Optional[str]:
-    code, by_register = slot.opcode >> 4, slot.opcode & 8
-    if code == NEG:
-        return 'neg%s r%d' % (width, slot.target)
-    if code == END:
-        name = 'swap' if width == '64' else 'be' if by_register else 'le'
-        return '%s%d r%d' % (name, slot.immediate, slot.target)
-    if slot.offset and code == MOV:
-        return 'movs%d_%s r%d, r%d' % (slot.offset, width, slot.target, slot.source)
-    found = ARITHMETIC.get((code, slot.offset != 0)) or ARITHMETIC.get((code, False))
-    if found is None:
-        return None
-    right = 'r%d' % slot.source if by_register else str(slot.immediate)
-    return '%s%s r%d, %s' % (found, width, slot.target, right)
-
-
-def _jump(slot: Slot, width: str) -> Optional[str]:
-    code = slot.opcode >> 4
-    if slot.opcode == EXIT:
-        return 'exit'
-    if code == 0:
-        return 'ja %d' % slot.offset if width == '64' else 'ja32 %d' % slot.immediate
-    if code not in CONDITIONS:
-        return None
-    other = 'r%d' % slot.source if slot.opcode & 8 else '%d' % slot.immediate
-    return '%s%s r%d, %s, %d' % (CONDITIONS[code], width, slot.target, other, slot.offset)
-
-
-def _access(slot: Slot, family: int) -> Optional[str]:
-    size, mode = SIZES[slot.opcode >> 3 & 3], slot.opcode >> 5
-    if family == 1 and mode in (3, 4):
-        name = 'ldx' if mode == 3 else 'ldsx'
-        return '%s%s r%d, r%d, %d' % (name, size, slot.target, slot.source, slot.offset)
-    if family == 3 and mode == 3:
-        return 'stx%s r%d, %d, r%d' % (size, slot.target, slot.offset, slot.source)
-    if family == 2 and mode == 3:
-        return 'st%s r%d, %d, %d' % (size, slot.target, slot.offset, slot.immediate)
-    return None
+def _text(slot: Slot) -> str:
+    """The text of an instruction of one slot, empty where it has none."""
+    found = _FORMATS.get((slot.opcode, slot.offset != 0)) or _FORMATS.get((slot.opcode, False), '')
+    return found.format(**slot._asdict())

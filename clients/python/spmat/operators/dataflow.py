@@ -127,7 +127,7 @@ def _is_number(text: str) -> bool:
 
 def _following(line: assembly.Line, jump: Optional[int]) -> Tuple[int, ...]:
     """The slots that may follow an instruction, which may jump over so many."""
-    after = line.slot + (2 if line.mnemonic == 'wide' else 1)
+    after = line.slot + assembly.size_of(line.mnemonic)
     if line.mnemonic == 'exit':
         return ()
     if jump is None:

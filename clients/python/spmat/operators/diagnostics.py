@@ -15,6 +15,13 @@ from ..errors import OperatorRefused
 from . import KINDS, Op, Operator, READY, assembly, dataflow, find
 
 COMMENTS = 'comments begin with ; or #'
+# How to mend a line, by the rule of assembly text that it breaks; A2 and A3 go on.
+REPAIRS = {'A1': 'put the comment on lines of its own',
+           'A2': 'mnemonics are in lower case and end in their width, as ',
+           'A3': 'it is written ', 'A4': 'registers are r0 to r10',
+           'A5': 'offsets are -32768 to 32767, other numbers -2147483648 to 2147483647; '
+                 '`wide rD, NUMBER` takes 64 bits',
+           'A6': '`exit` ends each operator, with its value in r0'}
 HEADS = ['slot', 'instruction'] + ['R%d' % number for number in range(dataflow.REGISTERS)]
 UNREACHED = 'no way leads here'
 BOTH = 'each position at which both have an entry (row by row, the fewer of both)'
@@ -72,47 +79,36 @@ def table(rows: List[List[str]]) -> List[str]:
     """Instructions beside what is known before each, in columns."""
     if not rows:
         return []
-    whole = [HEADS] + [row for row in rows if len(row) == len(HEADS)]
-    widths = [max(len(row[at]) for row in whole) for at in range(len(HEADS))]
-    widths[1] = max([widths[1]] + [len(row[1]) for row in rows])
-    return _aligned([HEADS] + rows, widths)
+    whole = [HEADS, *rows]
+    # what no way leads to has one cell for all registers, which is wider than one of them
+    widths = [max(len(row[at]) for row in whole if at < 2 or len(row) == len(HEADS))
+              for at in range(len(HEADS))]
+    return _align_columns(whole, widths)
 
 
-def _aligned(rows: List[List[str]], widths: List[int]) -> List[str]:
+def _align_columns(rows: List[List[str]], widths: List[int]) -> List[str]:
     return ['  '.join(cell.ljust(width) for cell, width in zip(row, widths)).rstrip()
             for row in rows]
 
 
+def _make_row(slot: str, text: str, tags: List[str]) -> List[str]:
+    """The row of an instruction. There are no tags where no way leads."""
+    return [slot, text, *([tag.replace('u', '-') for tag in tags] or [UNREACHED])]
+
+
 def rows_of(lines: List[str], types: List[str]) -> List[List[str]]:
     """The rows of an operator that is accepted, from what `dis` and `types` answer."""
-    out = []
-    for line, known in zip(lines, types):
-        slot, *tags = known.split()
-        is_reached = tags != ['-']
-        out.append([slot, line, *([tag.replace('u', '-') for tag in tags] if is_reached else
-                                  [UNREACHED])])
-    return out
+    return [_make_row(slot, line, [] if tags == ['-'] else tags)
+            for line, (slot, *tags) in zip(lines, map(str.split, types))]
 
 
-def rows_before(operator: Operator, slot: int) -> List[List[str]]:
-    """The rows of one that is refused, up to the instruction of a slot, as the client reckons
-    them."""
+def rows_before(operator: Operator, slot: Optional[int] = None) -> List[List[str]]:
+    """The rows up to the instruction of a slot, or all, as the client reckons them."""
     steps = dataflow.steps_of(operator)
     before = dataflow.walk(operator.kind, steps)
-    out = []
-    for step in steps:
-        if step.slot <= slot:
-            held = before.get(step.slot)
-            tags = [UNREACHED] if held is None else [dataflow.tag(kinds).replace('u', '-')
-                                                     for kinds in held]
-            out.append([str(step.slot), step.text, *tags])
-    return out
-
-
-def _one_of_two(text: str) -> str:
-    """Which of the two faults of rule A6 a text has."""
-    has_some = any(map(assembly.bare, text.split('\n')))
-    return 'more than 4,096 slots' if has_some else 'no instruction at all'
+    return [_make_row(str(step.slot), step.text,
+                      list(map(dataflow.tag, before.get(step.slot, ()))))
+            for step in steps if slot is None or step.slot <= slot]
 
 
 def explain_refusal(operator: Operator, refused: OperatorRefused) -> OperatorRefused:
@@ -120,15 +116,16 @@ def explain_refusal(operator: Operator, refused: OperatorRefused) -> OperatorRef
     and V12, and how to mend a line."""
     if refused.at is None or refused.detail:
         return refused
-    number, detail = None, ''
+    number, detail, said = None, '', ''
     if refused.rule in ('V11', 'V12'):
         detail = register_of(operator, refused.rule, refused.at)
-    if refused.rule.startswith('V') and operator.text is not None:
+    if operator.text is not None and refused.rule.startswith('V'):
         number = next((line.number for line in assembly.lines_of(operator.text)
                        if line.slot == refused.at), None)
-    if refused.rule.startswith('A') and operator.text is not None:
+    if operator.text is not None and refused.rule.startswith('A'):
         detail = suggest_repair(operator.text, refused.rule, refused.at)
-    said = _one_of_two(operator.text) if refused.rule == 'A6' and operator.text is not None else ''
+    if operator.text is not None and refused.rule == 'A6':     # it has one of two faults
+        said = 'more than 4,096 slots' if operator.bare_text else 'no instruction at all'
     out = refused.of_file(said=said).on_line(number, detail)
     assert isinstance(out, OperatorRefused)
     return out
@@ -174,26 +171,18 @@ def suggest_repair(text: str, rule: str, at: int) -> str:
     """How to mend a line that breaks a rule of assembly text."""
     lines = text.split('\n')
     line = lines[at - 1] if 0 < at <= len(lines) else ''
-    words = assembly.bare(line).split(None, 1)
-    mnemonic = words[0] if words else ''
+    given = next(assembly.lines_of(line), None)
+    mnemonic, operands = (given.mnemonic, given.operands) if given else ('', [])
+    if rule == 'A6' and any(map(assembly.bare, lines)):
+        return 'an instruction is a slot, and a `wide` takes two'
+    mend = REPAIRS.get(rule, '')
     if '//' in line and rule in ('A2', 'A3'):
-        return 'to mend it: ' + COMMENTS
-    if rule == 'A2':
-        near = ' or '.join(_find_similar_mnemonics(mnemonic)) or 'mov64, add32'
-        return 'to mend it: mnemonics are in lower case and end in their width, as ' + near
-    if rule == 'A3':
-        return 'to mend it: it is written `%s`%s' % (assembly.form_of(mnemonic),
-                                                     _describe_odd_operand(words))
-    if rule == 'A4':
-        return 'to mend it: registers are r0 to r10'
-    if rule == 'A5':
-        return ('to mend it: offsets are -32768 to 32767, other numbers -2147483648 to 2147483647; '
-                '`wide rD, NUMBER` takes 64 bits')
-    if rule == 'A6':
-        if any(map(assembly.bare, lines)):
-            return 'an instruction is a slot, and a `wide` takes two'
-        return 'to mend it: `exit` ends each operator, with its value in r0'
-    return 'to mend it: put the comment on lines of its own' if rule == 'A1' else ''
+        mend = COMMENTS
+    elif rule == 'A2':
+        mend += ' or '.join(_find_similar_mnemonics(mnemonic)) or 'mov64, add32'
+    elif rule == 'A3':
+        mend += '`%s`%s' % (assembly.form_of(mnemonic), _describe_odd_operand(operands))
+    return mend and 'to mend it: ' + mend
 
 
 def _find_similar_mnemonics(mnemonic: str) -> List[str]:
@@ -202,8 +191,7 @@ def _find_similar_mnemonics(mnemonic: str) -> List[str]:
     return found or difflib.get_close_matches(low, assembly.OPERANDS, 3)
 
 
-def _describe_odd_operand(words: List[str]) -> str:
-    operands = [operand.strip() for operand in words[1].split(',')] if len(words) > 1 else []
+def _describe_odd_operand(operands: List[str]) -> str:
     for operand in operands:
         if len(operand.split()) > 1:
             return '; commas part operands'
@@ -244,7 +232,7 @@ class Listing:
         source = self.source.rstrip('\n') + '\n\n' if self.language != 'assembly' else ''
         cells = self.columns()
         widths = [max(len(row[at]) for row in cells) for at in range(len(cells[0]))]
-        return '%s%s\n%s' % (source, '\n'.join(_aligned(cells, widths)), steps(self.operator))
+        return '%s%s\n%s' % (source, '\n'.join(_align_columns(cells, widths)), steps(self.operator))
 
     __repr__ = __str__
 
@@ -300,11 +288,7 @@ def code_of(op: Op, kind: Optional[str] = None) -> Listing:
     """
     found = find_operator(op, kind)
     language, source = found.origin()
-    slots = [slot for slot, _ in found.lines()]
-    texts: Dict[str, str] = {str(slot): text for slot, text in found.lines()}
-    rows = rows_before(found, slots[-1]) if slots else []
-    return Listing(found, language, source,
-                   [[row[0], texts.get(row[0], row[1]), *row[2:]] for row in rows])
+    return Listing(found, language, source, rows_before(found))
 
 
 def longest_way(op: Operator) -> int:

@@ -4,7 +4,7 @@ from __future__ import annotations
 from dataclasses import dataclass, field
 from typing import Iterator, List, Optional, Tuple, Union
 
-from .assembly import bare, lines_of_code, without_labels
+from .assembly import lines_of, lines_of_code, without_labels
 
 KINDS = ('unary', 'binary', 'index')
 # What is put before a binary operator, so that an operand of it is the thunk: as text and as code.
@@ -119,11 +119,8 @@ class Operator:
         line : str
             The instruction.
         """
-        slot = 0
-        for line in map(bare, (self.text or '').split('\n')):
-            if line:
-                yield slot, line
-                slot += 2 if line.split()[0] == 'wide' else 1
+        for line in lines_of(self.text or ''):
+            yield line.slot, line.text
 
     def lines(self) -> List[Tuple[int, str]]:
         """The slot of each instruction, and its assembly text: of code, too.

@@ -3,7 +3,7 @@ ready one exactly, and what to write for those that don't.
 """
 from __future__ import annotations
 
-from typing import Any, Dict, NamedTuple, Optional
+from typing import Any, Dict, Tuple
 
 # Words for ready operators, where the meaning is the same for all words of 64 bits.
 ALIASES: Dict[str, Dict[str, str]] = {
@@ -65,31 +65,21 @@ INSTEAD: Dict[str, str] = {
     'average': '"mean" is an aggregator: A.reduce_rowwise("mean")'}
 
 
-class Named(NamedTuple):
-    """A ready operator that a function of numpy is: its kind and its name."""
-    kind: str
-    name: str
-
-
 def is_ufunc(thing: Any) -> bool:
     """Whether this is a function of numpy that works entry by entry."""
     return type(thing).__name__ == 'ufunc' and type(thing).__module__ == 'numpy'
 
 
-def ready_of(kind: str, ufunc: Any) -> Named:
-    """The ready operator that a function of numpy is: of a kind, or of the kind of its operands
-    where that one has none. TypeError where no ready operator has its meaning for all words."""
+def ready_of(kind: str, ufunc: Any) -> Tuple[str, str]:
+    """The kind and the name of the ready operator that a function of numpy is: of a kind, or of the
+    kind of its operands where that one has none. TypeError where no ready operator has its meaning
+    for all words."""
     own = 'unary' if ufunc.nin == 1 else 'binary'
     for wanted in (kind, own):
         name = UFUNCS[wanted].get(ufunc.__name__)
         if name is not None:
-            return Named(wanted, name)
+            return wanted, name
     write = 'write a function of x%s, such as lambda %s: ..' % (
         ('', 'x') if own == 'unary' else (' and y', 'x, y'))
     raise TypeError('np.%s is no operator on whole numbers of 64 bits: %s' % (
         ufunc.__name__, INSTEAD.get(ufunc.__name__, write)))
-
-
-def words_for(name: str) -> Optional[str]:
-    """What to write for a name that other libraries use; None where nothing is known of it."""
-    return INSTEAD.get(name)

@@ -196,6 +196,12 @@ def find_positional(function: Function) -> Tuple[List[str], int, int]:
     """The names of a function's positional parameters, and how many operands it takes at the least
     and at the most. Any number where it doesn't say (some that are written in C). Where a keyword
     is wanted without a default, no number of operands is enough."""
+    if type(function) is types.FunctionType and not vars(function):
+        # at each use of a function that was compiled before, and `signature` takes 10 us
+        code = function.__code__
+        if not code.co_flags & inspect.CO_VARARGS and not code.co_kwonlyargcount:
+            plain = list(code.co_varnames[:code.co_argcount])
+            return plain, len(plain) - len(function.__defaults__ or ()), len(plain)
     try:
         found = list(inspect.signature(function).parameters.values())
     except ValueError:
