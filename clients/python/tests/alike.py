@@ -7,6 +7,8 @@ import os
 import re
 import tempfile
 
+import numpy
+
 import spmat
 from spmat import algorithms, blocks
 from spmat.blocks.sessions import OF_ONE_SESSION
@@ -246,7 +248,6 @@ def _networkx():
 
 
 def _scipy():
-    import numpy
     import scipy.sparse
     return scipy.sparse.csr_matrix(numpy.arange(12).reshape(3, 4) % 5)
 

@@ -13,7 +13,7 @@ from spmat import algorithms, blocks
 from spmat.blocks.sessions import OF_ONE_SESSION
 
 WANTS = {'to_pandas': 'pandas', 'to_pandas_edgelist': 'pandas', 'to_parquet': 'pyarrow',
-         'to_dense': 'numpy', 'to_networkx': 'networkx', 'to_scipy_sparse': 'scipy',
+         'to_networkx': 'networkx', 'to_scipy_sparse': 'scipy',
          'from_networkx': 'networkx', 'from_scipy_sparse': 'scipy',
          'from_pandas_edgelist': 'pandas'}
 

@@ -42,7 +42,6 @@ class Tasks(unittest.TestCase):
                              called(re.sub(r'algorithms\.%s\(' % name, 'other.%s(' % name,
                                            tasks_file())))
 
-    @support.needs('numpy')
     def test_answers_are_those_of_the_peers(self):
         """Once through all tasks, on graphs of 64 vertices; status 1 were an answer that
         differs."""

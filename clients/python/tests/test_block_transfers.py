@@ -1,5 +1,7 @@
 """Matrices in row blocks that come by pieces and go out block by block: files, scipy, networkx,
 generators of edges."""
+import numpy
+
 import bz2
 import gzip
 import io
@@ -203,9 +205,8 @@ class Others(unittest.TestCase):
         with self.assertRaisesRegex(spmat.TextRefused, 'M8'):
             self.many.from_coo(i, j, x)
 
-    @support.needs('numpy', 'scipy')
+    @support.needs('scipy')
     def test_scipy_and_numpy(self):
-        import numpy
         import scipy.sparse
         S = scipy.sparse.random(80, 50, .1, 'csc', dtype=numpy.int64, random_state=3,
                                 data_rvs=lambda n: numpy.arange(n) - n // 2)

@@ -257,7 +257,6 @@ class Names(InSession):
 @needs('numpy')
 class Arrays(InSession):
     def test_as_numpy_has_it(self):
-        import numpy
         table = numpy.arange(1, 31).reshape(6, 5)
         N, r = self.s.from_dense(table), numpy.random.default_rng(3)
         for _ in range(20):
@@ -273,7 +272,6 @@ class Arrays(InSession):
         self.assertEqual(N[numpy.array([]), :].shape, (0, 5))
 
     def test_what_is_refused(self):
-        import numpy
         N = self.s.from_dense(numpy.arange(6).reshape(3, 2))
         for index, kind, words in ((numpy.array([True, False]), IndexError,
                                     'a filter of 2 values for 3 rows'),
@@ -296,7 +294,6 @@ class Arrays(InSession):
         self.assertEqual(N[numpy.array([True, False, True], object), :].nrows, 2)
 
     def test_names(self):
-        import numpy
         W = self.s.from_edgelist([('a', 'b', 1), ('b', 'c', 1), ('a', 'c', 10)])
         self.assertEqual(W[numpy.array([False, False, True]), :].row_nodes, ['c'])
         self.assertEqual(W[numpy.array(['c', 'a']), :].row_nodes, ['c', 'a'])
@@ -400,7 +397,6 @@ class Signs(InSession):
 
     @needs('numpy')
     def test_functions_and_arrays_of_numpy(self):
-        import numpy
         A = self.s.from_triples([(0, 1, 5), (1, 0, -2)], 2, 2)
         for call, words in ((lambda: numpy.add(A, A), r'A\.ewise_mult\(B, "plus"\)'),
                             (lambda: numpy.abs(A), r'A\.apply\("abs"\)'),

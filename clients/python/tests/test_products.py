@@ -2,6 +2,8 @@
 import itertools
 import random
 
+import numpy
+
 import model
 import spmat
 from model import some
@@ -32,7 +34,6 @@ class Products(OfCells):
 
     @needs('numpy')
     def test_kronecker_and_power_of_numpy(self):
-        import numpy
         r = numpy.random.default_rng(1)
         a, b = r.integers(-3, 4, (3, 4)), r.integers(-3, 4, (2, 3))
         self.assertTrue((self.s.from_dense(a).kronecker(self.s.from_dense(b)).to_dense()

@@ -10,6 +10,8 @@ import tempfile
 from decimal import Decimal
 from fractions import Fraction
 
+import numpy
+
 import command_line
 import support
 import spmat
@@ -519,7 +521,7 @@ class OutAndIn(Case):
             getattr(networkx, 'write_' + format_)(graph, text)
             self.same(self.s.read_graph(io.BytesIO(text.getvalue()), scale=1000))
 
-    @support.needs('numpy', 'pandas', 'pyarrow')
+    @support.needs('pandas', 'pyarrow')
     def test_parquet(self):
         G = self.s.from_edgelist(self.edges, scale=1000)
         G.to_parquet(self.path)
@@ -527,7 +529,6 @@ class OutAndIn(Case):
         G.to_parquet(self.path, raw=True)
         self.assertEqual(self.s.read_graph(self.path).to_edgelist(), G.to_edgelist(raw=True))
 
-    @support.needs('numpy')
     def test_folders(self):
         """Of a folder each file is read by a worker."""
         folder = os.path.join(os.path.dirname(self.path), 'lists')
@@ -550,7 +551,7 @@ class OutAndIn(Case):
         G = self.s.read_graph(io.BytesIO(b'p sp 2 1\na 1 2 1.5\n'), scale=10)
         self.assertEqual((G.unit, G.to_edgelist()), (10, [(1, 2, 1.5)]))
 
-    @support.needs('numpy', 'pandas')
+    @support.needs('pandas')
     def test_pandas(self):
         import pandas
         frame = pandas.DataFrame(self.edges, columns=['source', 'target', 'weight'])
@@ -568,9 +569,8 @@ class OutAndIn(Case):
             if sessions is not self.s:
                 sessions.close()
 
-    @support.needs('numpy', 'scipy')
+    @support.needs('scipy')
     def test_arrays(self):
-        import numpy
         import scipy.sparse
         table = scipy.sparse.coo_matrix(([1.25, -3.5], ([0, 1], [1, 0])), (2, 2))
         A = self.s.from_scipy_sparse(table, scale=100)

@@ -1,7 +1,9 @@
 """Signs and functions of Python's that matrices don't have: each names the method that is."""
 import unittest
 
-import support
+import numpy
+
+import support  # pylint: disable=unused-import  # it names the program
 import spmat
 
 
@@ -37,9 +39,7 @@ class Signs(unittest.TestCase):
         self.assertIn('A.update', str(said.exception))
         self.assertTrue(A == A)
 
-    @support.needs('numpy')
     def test_no_array_of_one_object(self):
-        import numpy
         with self.assertRaises(TypeError) as said:
             numpy.asarray(self.G)
         self.assertIn('A.to_dense()', str(said.exception))

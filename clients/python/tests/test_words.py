@@ -54,9 +54,7 @@ class Words(unittest.TestCase):
             self.assertEqual(self.said(ValueError, s.from_coo, [0], [-2], 1, 3, 3),
                              'column -2 is below 0 (entry 0)')
 
-    @support.needs('numpy')
     def test_arrays_of_indices_below_zero(self):
-        import numpy
         with spmat.Session() as s:
             self.assertEqual(self.said(ValueError, s.from_coo, numpy.array([-1]), numpy.array([0])),
                              'row -1 is below 0 (entry 0)')

@@ -65,8 +65,7 @@ class Ready:
 
     def __init__(self, kind: str) -> None:
         self._kind = kind
-        self._known: Dict[str, Operator] = {}
-        self._own: List[str] = []
+        self._known: Dict[str, Operator] = {}      # those that were asked for or registered
 
     def __repr__(self) -> str:
         return '<ready %s operators: %s>' % (self._kind, ', '.join(self))
@@ -158,39 +157,35 @@ class Ready:
             raise ValueError('%r is the name of a ready %s operator: take another one' % (
                 name, self._kind))
         self._known[name] = registered = self(func, name=name)
-        if name not in self._own:
-            self._own.append(name)
         return registered
 
     def _file(self, name: str) -> str:
         return os.path.join(_FOLDER, self._kind, name + '.asm')
 
-    def __getitem__(self, name: str) -> Operator:
-        name = self._meant(name)
+    def _find(self, name: str) -> Optional[Operator]:
+        """The operator of a name, or of one that another name stands for; None where none has
+        it."""
         if name not in self._known:
-            if not name.isidentifier() or not os.path.isfile(self._file(name)):
-                raise KeyError(name)
+            name = other_names.ALIASES[self._kind].get(name, name)
+        if name not in self._known and name.isidentifier() and os.path.isfile(self._file(name)):
             with open(self._file(name), encoding='ascii', newline='') as file:
                 self._known[name] = asm(self._kind, file.read(), name)
-        return self._known[name]
+        return self._known.get(name)
+
+    def __getitem__(self, name: str) -> Operator:
+        found = self._find(name)
+        if found is None:
+            raise KeyError(name)
+        return found
 
     def __getattr__(self, name: str) -> Operator:
-        if not name.startswith('_'):
-            try:
-                return self[name]
-            except KeyError:
-                pass
-        raise AttributeError('no ready %s operator %r' % (self.__dict__.get('_kind'), name))
-
-    def _meant(self, name: str) -> str:
-        """The name of the ready operator that another name stands for, else the name itself."""
-        return name if name in self._known else other_names.ALIASES[self._kind].get(name, name)
+        found = None if name.startswith('_') else self._find(name)
+        if found is None:
+            raise AttributeError('no ready %s operator %r' % (self.__dict__.get('_kind'), name))
+        return found
 
     def __contains__(self, name: object) -> bool:
-        if not isinstance(name, str):
-            return False
-        name = self._meant(name)
-        return name in self._known or (name.isidentifier() and os.path.isfile(self._file(name)))
+        return isinstance(name, str) and self._find(name) is not None
 
     def ready(self) -> List[str]:
         """The names of the ready operators, without those that were registered."""
@@ -198,7 +193,7 @@ class Ready:
         return sorted(file[:-4] for file in files if file.endswith('.asm'))
 
     def __iter__(self) -> Iterator[str]:
-        return iter(sorted([*self.ready(), *self._own]))
+        return iter(sorted({*self.ready(), *self._known}))
 
     def __dir__(self) -> List[str]:
         return [*self, 'register_anonymous', 'register_new']

@@ -245,5 +245,6 @@ def lines_of_code(code: bytes) -> List[Tuple[int, str]]:
 
 def _text(slot: Slot) -> str:
     """The text of an instruction of one slot, empty where it has none."""
-    found = _FORMATS.get((slot.opcode, slot.offset != 0)) or _FORMATS.get((slot.opcode, False), '')
-    return found.format(**slot._asdict())
+    key = slot.opcode, slot.offset != 0
+    return _FORMATS.get(key if key in _FORMATS else (slot.opcode, False), '').format(
+        **slot._asdict())

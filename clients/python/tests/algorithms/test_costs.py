@@ -96,7 +96,6 @@ class Costs(unittest.TestCase):
             self.assertEqual(self.spent(cached_properties.check_undirected, G, True), 0)
             self.assertLessEqual(self.spent(cached_properties.extremes, G), 8 * m + 4 * n)
 
-    @support.needs('numpy')
     def test_no_more_steps_than_by_columns(self):
         """On a skewed graph of 256 vertices no search takes more steps than it took when all
         vertices were walked along in each level or round, by products with columns; on a uniform

@@ -1,7 +1,7 @@
 """Seeds of algorithms that draw, what networkx takes for one; and the numbers that they draw."""
-import importlib.util
 import random
-import unittest
+
+import numpy
 
 import support
 from spmat import algorithms
@@ -33,9 +33,7 @@ class Seeds(support.InSession):
         self.assertGreater(len({tuple(algorithms.maximal_independent_set(self.G, None).to_list())
                                 for _ in range(8)}), 1)
 
-    @unittest.skipIf(importlib.util.find_spec('numpy') is None, 'no numpy')
     def test_numpy(self):
-        import numpy
         for make in (numpy.random.default_rng, numpy.random.RandomState):
             self.assertEqual(self.calls(make(5)), self.calls(make(5)))
         self.assertEqual(self.calls(numpy.int64(7)), self.calls(7))

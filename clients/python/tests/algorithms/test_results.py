@@ -101,7 +101,6 @@ class Shapes(support.InSession):
                 self.assertEqual(list(found.to_pandas_edgelist()['weight']),
                                  list(found.by_node().values()))
 
-    @support.needs('numpy')
     def test_arrays(self):
         found = called(graph_for(self.s, 'katz', True), 'katz', True)
         self.assertEqual(found.to_dense(float).ravel().tolist(), list(found.by_node().values()))

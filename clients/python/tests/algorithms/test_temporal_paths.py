@@ -129,7 +129,6 @@ class Test(support.InSession):
                                      'days': [1, 5]}, 'payer', 'payee', 'day', 'days')
         self.assertEqual(made.earliest_arrival(3), {3: 1, 1: 2, 2: 7})
 
-    @support.needs('numpy')
     def test_dates(self):
         day, hour = datetime.datetime(2024, 3, 1), datetime.timedelta(hours=1)
         rows = [('a', 'b', day), ('b', 'c', day + hour), ('b', 'd', day - hour),
@@ -196,7 +195,7 @@ class Test(support.InSession):
                 self.assertEqual((made.event(1).time, found.path('c')[-1].arrival),
                                  (second, second))
 
-    @support.needs('numpy', 'pandas')
+    @support.needs('pandas')
     def test_tables(self):
         import pandas
         frame = pandas.DataFrame({'from': ['Ann', 'Bob', 'Bob'], 'to': ['Bob', 'Cid', 'Cid'],

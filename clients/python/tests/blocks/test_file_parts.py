@@ -8,7 +8,7 @@ import unittest
 from unittest import mock
 
 import alike
-import support
+import support  # pylint: disable=unused-import  # it names the program
 import spmat
 from spmat import blocks
 from spmat.blocks import file_parts, parallel_read
@@ -69,7 +69,6 @@ class Files(unittest.TestCase):
         with open(self.path, 'wb') as file:
             file.write(text)
 
-    @support.needs('numpy')
     def test_as_one_session_reads_them(self):
         """Of each kind and order, in ranges of 300 bytes, by workers."""
         chance = random.Random(5)
@@ -87,7 +86,6 @@ class Files(unittest.TestCase):
                                 alike.outcome(lambda: sessions.mmread(self.path, **options)), want)
         self.assertEqual(self.by_workers, [True] * 6 * len(kinds))
 
-    @support.needs('numpy')
     def test_large_numbers(self):
         """Rows of eight digits, and values of nineteen, which numbers of floats don't tell
         apart."""
@@ -102,7 +100,6 @@ class Files(unittest.TestCase):
                                  sorted(self.one.mmread(self.path).to_triples()))
             self.assertTrue(self.by_workers[0])
 
-    @support.needs('numpy')
     def test_what_is_unusual_or_wrong(self):
         """Is read by the caller's process, which names the line as one session does."""
         head = b'%%MatrixMarket matrix coordinate integer general\n9 9 4\n'
@@ -130,7 +127,6 @@ class Files(unittest.TestCase):
         self.assertEqual({name for number, name in enumerate(bodies)
                           if any(self.by_workers[3 * number:3 * number + 3])}, {'sign', 'long row'})
 
-    @support.needs('numpy')
     def test_a_cut_that_is_asked_for(self):
         self.write(a_text(random.Random(1), n=20))
         with blocks.Sessions(3) as s:
@@ -141,7 +137,6 @@ class Files(unittest.TestCase):
                 s.mmread(self.path, cut=[0, 4, 19])
         self.assertEqual(self.by_workers, [True, True])
 
-    @support.needs('numpy')
     def test_a_cut_by_some_lines(self):
         """Blocks get about as many entries, though few lines are looked at."""
         chance = random.Random(2)
@@ -151,7 +146,6 @@ class Files(unittest.TestCase):
                 made = [counts.nvals for counts in s.mmread(self.path).blocks.counts()]
                 self.assertLess(max(made), 1.2 * sum(made) / 4)
 
-    @support.needs('numpy')
     def test_progress(self):
         told = []
         self.write(a_text(random.Random(3), n=200))
@@ -162,7 +156,6 @@ class Files(unittest.TestCase):
         self.assertEqual(read, sorted(read))
         self.assertGreater(len(read), 5)
 
-    @support.needs('numpy')
     def test_lost_and_changed(self):
         """A killed program's block is read again from what was laid aside, also where the file is
         gone; that has to be as it was."""
@@ -183,7 +176,6 @@ class Files(unittest.TestCase):
             with self.assertRaisesRegex(ValueError, 'has changed since it was written'):
                 G.to_text()
 
-    @support.needs('numpy')
     def test_a_file_that_changes_meanwhile(self):
         self.write(a_text(random.Random(4), n=50))
         stamp = file_parts.read_stamp(None, self.path)

@@ -36,7 +36,6 @@ def a_list(chance, name, delimiter=',', header='source,target,weight', values=Tr
     return ('\n'.join(lines) + '\n').encode()
 
 
-@support.needs('numpy')
 class Lists(unittest.TestCase):
     def setUp(self):
         folder = tempfile.TemporaryDirectory()

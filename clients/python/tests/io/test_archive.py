@@ -12,6 +12,8 @@ import tempfile
 import zipfile
 from unittest import mock
 
+import numpy
+
 import support
 import spmat
 from spmat import blocks
@@ -124,7 +126,6 @@ class Archives(InAFolder):
                  datetime.datetime(2024, 1, 2, tzinfo=datetime.timezone.utc), frozenset(),
                  frozenset({'b', 'a', 3}), ('x', datetime.date(2024, 1, 2), frozenset({(1, 2)}))]
         if support.has('pandas'):
-            import numpy
             import pandas
             names += [pandas.Timestamp('2024-05-02 03:04:05.678901234'),
                       pandas.Timestamp('2024-07-02', tz='Europe/Berlin'),

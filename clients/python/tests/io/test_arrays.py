@@ -5,6 +5,8 @@ import random
 import time
 from unittest import mock
 
+import numpy
+
 from support import InSession, needs
 import spmat
 from spmat import limits
@@ -14,7 +16,6 @@ from spmat.io import matrix_text
 @needs('numpy')
 class Numpy(InSession):
     def test_there_and_back(self):
-        import numpy
         r = numpy.random.default_rng(1)
         for least, most in ((0, 1), (-9, 10), (0, 10 ** 8), (-10 ** 9, 10 ** 12),
                             (-2 ** 63, 2 ** 63 - 1)):
@@ -35,7 +36,6 @@ class Numpy(InSession):
 
     def test_without_leading_zeros(self):
         """Where lines of one width are too long for a body, the zeros are taken out."""
-        import numpy
         rows, columns, values = numpy.array([0, 99999,
                                              7]), numpy.array([12345678, 0, 9]), numpy.array(
                                                  [0, -10, 2 ** 62])
@@ -50,7 +50,6 @@ class Numpy(InSession):
         self.assertTrue(self.s.from_text(short).isequal(self.s.from_text(long)))
 
     def test_kinds_of_arrays(self):
-        import numpy
         s = self.s
         for values in (numpy.array([1, 0, 5], numpy.uint8), numpy.array([1., 0., 5.]),
                        numpy.array([1, 0, 5], object), [1, 0, 5],
@@ -71,7 +70,6 @@ class Numpy(InSession):
     def test_lists_beside_arrays(self):
         """A list with a float in it stays as it is, where numpy would round its whole numbers to
         floats."""
-        import numpy
         for values in ([2 ** 53 + 1, 1.0], [1.0, 2 ** 63 - 1], [-2 ** 63, 2.0],
                        (2 ** 53 + 1, numpy.float64(3))):
             A = self.s.from_coo(numpy.arange(2), [0, 0], values, 2, 1)
@@ -83,7 +81,6 @@ class Numpy(InSession):
                                          (k for k in (5, 6))).to_dict(), {(0, 0): 5, (1, 1): 6})
 
     def test_repeated_entries_are_named(self):
-        import numpy
         with self.assertRaises(spmat.TextRefused) as said:
             self.s.from_coo(numpy.array([4, 0, 1, 0]), numpy.array([0, 2, 0, 2]), numpy.arange(4))
         self.assertIn('row 0, column 2 is given as entry 1 and as entry 3', str(said.exception))
@@ -91,7 +88,6 @@ class Numpy(InSession):
 
     def test_small_arrays_are_quick(self):
         """The table of digits is made once, not at each upload."""
-        import numpy
         matrix_text.write(matrix_text.Triples(numpy.arange(3), numpy.arange(3), numpy.arange(3), 3,
                                               3))
         before = matrix_text._four_digits.cache_info().misses
@@ -101,7 +97,6 @@ class Numpy(InSession):
         self.assertEqual(matrix_text._four_digits.cache_info().misses, before)
 
     def test_wrong_arrays(self):
-        import numpy
         s, one = self.s, numpy.array([0])
         before = s.connection.commands
         for kind, value in ((ValueError, .5), (ValueError, 2. ** 63),
@@ -123,7 +118,6 @@ class Numpy(InSession):
         self.assertIn('2.5 (entry 2)', str(said.exception))
 
     def test_repeated_positions(self):
-        import numpy
         r = random.Random(2)
         for op in ('plus', 'minus', 'second'):
             many = [(r.randrange(5), r.randrange(4), r.randrange(9)) for _ in range(60)]
@@ -135,7 +129,6 @@ class Numpy(InSession):
             self.s.from_coo(numpy.zeros(2), numpy.zeros(2), 1)
 
     def test_tables(self):
-        import numpy
         table = numpy.array([[1, 0, -3], [0, 5, 0]])
         self.assertTrue((self.s.from_dense(table).to_dense() == table).all())
         self.assertEqual(self.s.from_dense(table, 0).nvals, 3)
@@ -145,7 +138,6 @@ class Numpy(InSession):
                          [(0, 0, 4), (1, 0, 5)])
 
     def test_large_transpose(self):
-        import numpy
         at = numpy.unique(numpy.random.default_rng(3).integers(0, 1 << 30, 20000))
         A = self.s.from_coo(at >> 15, at & (1 << 15) - 1, numpy.arange(len(at)), 1 << 15, 1 << 15)
         rows, columns, values = A.to_coo()
@@ -154,10 +146,9 @@ class Numpy(InSession):
             self.assertTrue((got == want).all())
 
 
-@needs('numpy', 'scipy')
+@needs('scipy')
 class Scipy(InSession):
     def test_there_and_back(self):
-        import numpy
         import scipy.sparse
         M = scipy.sparse.random(50, 40, .1, random_state=1,
                                 data_rvs=lambda n: numpy.arange(n) - 70.)
@@ -183,7 +174,6 @@ class Scipy(InSession):
             self.s.from_scipy_sparse(scipy.sparse.coo_matrix([[1j]]))
 
     def test_files(self):
-        import numpy
         import scipy.io
         import scipy.sparse
         M = scipy.sparse.random(30, 30, .2, random_state=1,
@@ -206,7 +196,6 @@ class Scipy(InSession):
         """A million entries from numpy are there in a third of the time that scipy.io.mmwrite takes
         to write them: processor time, the server's with it, since on a busy machine nothing can be
         said of the clock's."""
-        import numpy
         import scipy.io
         import scipy.sparse
         r = numpy.random.default_rng(1)

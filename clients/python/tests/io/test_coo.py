@@ -1,6 +1,8 @@
 """Every way in for arrays, by every kind of array: what each gives, or says."""
 import fractions
 
+import numpy
+
 import spmat
 from support import InSession, needs
 
@@ -11,7 +13,6 @@ NAN = float('nan')
 
 def columns_of(kind):
     """Three columns of one kind: rows, columns, values."""
-    import numpy
     import pandas
     makers = {
         'lists': list, 'tuples': tuple, 'iterators': iter,
@@ -37,7 +38,7 @@ KINDS = ('lists', 'tuples', 'iterators', 'int64', 'int32', 'floats', 'objects', 
          'whole floats')
 
 
-@needs('numpy', 'pandas')
+@needs('pandas')
 class Columns(InSession):
     """from_coo takes columns by position, whatever their labels are."""
 
@@ -61,7 +62,6 @@ class Columns(InSession):
                 self.s.from_coo([0, 1], [0, 1], [1, number])
 
     def test_gaps(self):
-        import numpy
         import pandas
         for values in ([5, NAN, 1], numpy.array([5, NAN, 1]), numpy.array([5, None, 1], object),
                        pandas.Series([5, NAN, 1]), pandas.Series([5, None, 1], dtype='Int64'),
@@ -76,7 +76,6 @@ class Columns(InSession):
                 self.s.from_coo(values, COLUMNS, 1)
 
     def test_what_is_no_column(self):
-        import numpy
         import pandas
         A = self.s.identity(3)
         frame = pandas.DataFrame({'a': ROWS, 'b': COLUMNS})
@@ -106,7 +105,6 @@ class Columns(InSession):
                 self.s.from_coo(ROWS, COLUMNS, values)
 
     def test_truth_values_are_values(self):
-        import numpy
         import pandas
         for values in ([True, False, True], numpy.array([True, False, True]),
                        pandas.Series([True, False, True]),
@@ -115,7 +113,6 @@ class Columns(InSession):
                              {(0, 1): 1, (2, 0): 0, (1, 1): 1})
 
     def test_triples(self):
-        import numpy
         import pandas
         triples = list(zip(ROWS, COLUMNS, VALUES))
         for kind in (triples, [list(one) for one in triples], numpy.array(triples),
@@ -189,7 +186,6 @@ class Tables(InSession):
 @needs('numpy')
 class DenseArrays(InSession):
     def test_kinds(self):
-        import numpy
         for kind in (int, numpy.int8, numpy.uint8, numpy.uint64, float, numpy.float32, object):
             array = numpy.array(CELLS, kind)
             for table in (array, numpy.asfortranarray(array), array[::-1][::-1],
@@ -213,7 +209,6 @@ class DenseArrays(InSession):
                          == numpy.where(numpy.array(CELLS) == 0, 9, CELLS)).all())
 
     def test_gaps_and_masks(self):
-        import numpy
         table = numpy.array([[1, NAN], [3, 4]])
         for cells in (table, table.astype(object), numpy.array([[1, None], [3, 4]], object)):
             with self.assertRaisesRegex(ValueError, 'the cell at row 0, column 1 is missing'):
@@ -228,7 +223,6 @@ class DenseArrays(InSession):
                              {at: value for at, value in want.items() if value != 5})
 
     def test_what_is_refused(self):
-        import numpy
         for array, kind, words in ((numpy.zeros((2, 2, 2)), ValueError,
                                     'one or two dimensions, got 3'),
                                    (numpy.array(5), TypeError, 'expected a table'),
@@ -290,14 +284,13 @@ class DenseArrays(InSession):
         self.assertEqual(self.s.from_dense(pairs).column_nodes, [('a', 1), ('a', 2)])
 
 
-@needs('numpy', 'pandas')
+@needs('pandas')
 class WideNames(InSession):
     """Whole numbers above 2^63 - 1 are names as any other, and no values."""
 
     WIDE = [(1 << 63) + 1, (1 << 64) - 1, 5]
 
     def test_columns_of_pandas(self):
-        import numpy
         import pandas
         near = [5, 7, (1 << 63) + 9]
         want = sorted(zip(self.WIDE, near))
@@ -321,7 +314,6 @@ class WideNames(InSession):
 
     def test_other_ways_in(self):
         import io
-        import numpy
         pairs = numpy.array([self.WIDE, [5, 5, 9]], 'uint64').T
         want = [(5, 9, 1), (self.WIDE[0], 5, 1), (self.WIDE[1], 5, 1)]
         text = ''.join('%d,%d\n' % tuple(pair) for pair in pairs.tolist()).encode()
@@ -332,7 +324,6 @@ class WideNames(InSession):
             self.assertEqual(made.to_edgelist(), want)
 
     def test_values(self):
-        import numpy
         import pandas
         import scipy.sparse
         frame = pandas.DataFrame({'source': [1], 'target': [2],
@@ -350,7 +341,6 @@ class WideNames(InSession):
 @needs('scipy', 'numpy')
 class Scipy(InSession):
     def test_kinds(self):
-        import numpy
         import scipy.sparse
         for form in ('csr', 'csc', 'coo', 'lil', 'dok', 'bsr', 'dia'):
             for kind in (numpy.int8, numpy.int32, numpy.int64, numpy.uint16, float, numpy.float32,

@@ -207,7 +207,6 @@ class Missing(Case):
                                                        tupleize_cols=False))
         self.assertEqual(read(tuples, edge_attr=('x', 'y')).to_edgelist(), [('a', 'b', 5)])
 
-    @support.needs('numpy')
     def test_long_lists(self):
         """What is read in bulk without holes is read line by line with them, to the same end."""
         lines = ['from,to,w', *('w%dx,w%dx,%d' % (k, k + 1, k) for k in range(9000))]

@@ -157,7 +157,6 @@ class Files(support.InSession):
             self.s.mmread('/no/such/file.mtx')
 
 
-@support.needs('numpy')
 class Quick(unittest.TestCase):
     """Large files are read by numpy all at once; what it takes is what the slow way takes, line by
     line."""

@@ -5,6 +5,8 @@ import io
 import os
 import random
 
+import numpy
+
 import command_line
 import support
 import spmat
@@ -118,7 +120,6 @@ class Times(support.InSession):
 
     @support.needs('pandas', 'numpy')
     def test_pandas(self):
-        import numpy
         import pandas
         times = ['2024-01-02 03:04:05.678901234', '2024-01-03', None]
         frame = pandas.DataFrame({'source': list('abc'), 'target': list('bca'),

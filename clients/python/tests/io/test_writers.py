@@ -132,7 +132,6 @@ class ReadBack(unittest.TestCase):
                 mock.patch.object(parallel_read, 'MOST', 60):
             self.random(5, 40, lambda G: G.to_csv(self.path))
 
-    @support.needs('numpy')
     def test_long_csv(self):
         """Of a list that is read in bulk."""
         for number, name in enumerate(SPECIAL):

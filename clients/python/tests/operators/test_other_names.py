@@ -1,5 +1,7 @@
 """Operators by the names of other libraries: functions of numpy, and names of python-graphblas,
 mean a ready one exactly or say what to write."""
+import numpy
+
 from support import InSession, needs
 import spmat
 from spmat.operators import other_names
@@ -40,7 +42,6 @@ class Names(InSession):
 @needs('numpy')
 class Functions(InSession):
     def test_each_is_what_numpy_computes(self):
-        import numpy
         pairs = [(x, y) for x in EDGES for y in EDGES]
         X = self.s.from_coo(range(len(pairs)), [0] * len(pairs), [x for x, _ in pairs], len(pairs),
                             1)
@@ -69,7 +70,6 @@ class Functions(InSession):
                          [int(numpy.maximum(xs, ys).min())])
 
     def test_others_say_what_to_write(self):
-        import numpy
         A = self.s.from_triples([(0, 0, 3), (0, 1, -4)], 1, 2)
         for ufunc, words in ((numpy.true_divide, 'cdiv'), (numpy.divide, 'floordiv'),
                              (numpy.remainder, 'cmod'), (numpy.power, r'x \*\* 3'),

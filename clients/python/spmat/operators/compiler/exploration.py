@@ -161,7 +161,7 @@ class Exploration:
     def __init__(self, names: Sequence[str], operands: Optional[Sequence[int]] = None,
                  by_range: bool = True) -> None:
         self.graph, self.names, self.by_range, self.pruned = Graph(), names, by_range, False
-        self.operands = ([self.graph.leaf('arg', at) for at in range(len(names))]
+        self.operands = ([self.graph.node('arg', number=at) for at in range(len(names))]
                          if operands is None else list(map(self.graph.const, operands)))
         self.caught: Dict[Point, bool] = {}
         self.warnings: Dict[Tuple[str, Optional[Line]], str] = {}

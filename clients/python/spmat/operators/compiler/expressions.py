@@ -100,25 +100,20 @@ class Graph:
         # ways that are run again ask the same
         self._chosen: Dict[Tuple[Condition, Node, Node], Node] = {}
 
-    def node(self, op: str, *args: Node) -> Node:
-        """The node of an operation, as it is."""
-        made = self._nodes.get((op, args))
+    def node(self, op: str, *args: Node, number: int = 0) -> Node:
+        """The node of an operation, as it is; of an operand (`arg`), or of a number that fits in a
+        word (`const`)."""
+        key = op, args, number
+        made = self._nodes.get(key)
         if made is None:
-            made = self._nodes[op, args] = Node(op, args, 0, len(self._nodes))
-        return made
-
-    def leaf(self, op: str, number: int) -> Node:
-        """The node of an operand (`arg`), or of a number that fits in a word (`const`)."""
-        made = self._nodes.get((op, number))
-        if made is None:
-            made = self._nodes[op, number] = Node(op, (), number, len(self._nodes))
+            made = self._nodes[key] = Node(op, args, number, len(self._nodes))
         return made
 
     def const(self, number: int) -> Node:
         """A number, wrapped."""
         word = wrap(number)
         self.wrapped |= word != number
-        return self.leaf('const', word)
+        return self.node('const', number=word)
 
     # -- operations
 

@@ -9,6 +9,8 @@ import functools
 import sys
 import types
 
+import numpy
+
 import support
 from spmat import CompileError
 
@@ -184,9 +186,8 @@ class Comparisons(support.InSession):
                     self.A.select(function)
         self.assertEqual(self.A.select(lambda x: x in (77, 5)).nvals, 1)
 
-    @support.needs('numpy', 'pandas')
+    @support.needs('pandas')
     def test_arrays(self):
-        import numpy
         import pandas
         for several in (numpy.array([77, 88]), numpy.array([20]), pandas.Series([77]),
                         pandas.Index([77]), numpy.timedelta64(77, 's')):

@@ -9,6 +9,8 @@ import subprocess
 import sys
 import unittest
 
+import numpy as np
+
 import support
 import spmat
 
@@ -211,9 +213,6 @@ class Errors(unittest.TestCase):
             spmat.unary(function, check=False)
 
     def test_errors_of_numpy(self):
-        if not support.importlib.util.find_spec('numpy'):
-            self.skipTest('no module numpy')
-        import numpy as np
         for function, words in [(np.minimum, 'does not support ufuncs'),
                                 (lambda x, y: np.where(x > y, x, y),
                                  'numpy makes no array of it .spmat.where, min and max take it'),

@@ -11,6 +11,8 @@ import sys
 import unittest
 import weakref
 
+import numpy as np
+
 import operator_functions as functions
 import support
 import spmat
@@ -165,9 +167,6 @@ class Meaning(unittest.TestCase):
                                  (name, operands))
 
     def test_words_of_numpy(self):
-        if not support.importlib.util.find_spec('numpy'):
-            self.skipTest('no module numpy')
-        import numpy as np
         k, small, yes, table = np.int64(5), np.uint8(200), np.bool_(True), np.array([3, 1, 4, 1])
         for number, function in enumerate([
             lambda x, y: k + x * k - y, lambda x, y: k - x, lambda x, y: small + x,
@@ -354,7 +353,6 @@ class Objects(unittest.TestCase):
                     spmat.binary.register_new(name, min)
         finally:
             spmat.binary._known.pop('tollway', None)  # pylint: disable=protected-access
-            spmat.binary._own.clear()  # pylint: disable=protected-access
 
 
 PROGRAM = '''
