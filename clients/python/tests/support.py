@@ -63,6 +63,13 @@ def has(module):
     return found is not None and found.origin is not None
 
 
+def said(kind, call, *given, **named):
+    """The words of the error of a kind that a call ends with."""
+    with unittest.TestCase().assertRaises(kind) as caught:
+        call(*given, **named)
+    return str(caught.exception)
+
+
 class InSession(unittest.TestCase):
     """Tests that share a session: `s`, or `session` where a test has several things of one
     letter."""
@@ -74,6 +81,10 @@ class InSession(unittest.TestCase):
     @classmethod
     def tearDownClass(cls):
         cls.s.close()
+
+    def said(self, call, *given, kind=ValueError, **named):
+        """The words of the error that a call ends with."""
+        return said(kind, call, *given, **named)
 
 
 class OfCells(InSession):

@@ -261,9 +261,7 @@ class MoreActs(support.InSession):
 
     def held(self, act, due):
         if isinstance(due, Says):
-            with self.assertRaises(Exception) as said:
-                act(self.s)
-            self.assertIn(due, str(said.exception))
+            self.assertIn(due, support.said(Exception, act, self.s))
             return
         got, want = act(self.s), due() if callable(due) else due
         if isinstance(want, dict) or type(want).__name__ == 'DegreeView':

@@ -197,9 +197,7 @@ class Pictures(unittest.TestCase):
                                   (FileNotFoundError,
                                    os.path.join(self.folder.name, 'none', 'a.png'),
                                    'no such folder')):
-            with self.assertRaises(kind) as said:
-                draw.check(path)
-            self.assertIn(words, str(said.exception))
+            self.assertIn(words, support.said(kind, draw.check, path))
 
     def test_formats_and_bad_input(self):
         G = graphs.UNDIRECTED[2].matrix(self.session)

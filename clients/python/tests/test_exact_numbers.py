@@ -83,10 +83,9 @@ class Advice(support.InSession):
         self.whole = self.s.from_edgelist([('A', 'B', 7), ('B', 'C', 9)])
 
     def said(self, kind, call):
-        with self.assertRaises(kind) as said:
-            call()
-        self.assertNotIn('thunk', str(said.exception))
-        return str(said.exception)
+        words = support.said(kind, call)
+        self.assertNotIn('thunk', words)
+        return words
 
     def written(self, words, A, name):
         """The values of a matrix once what stands behind `write` is run."""
@@ -174,9 +173,8 @@ class Times(support.InSession):
                      lambda a, b: a.ewise_mult(b, 'floordiv'),
                      lambda a, b: a.ewise_union(b, 'max', 0, 0),
                      lambda a, b: algorithms.sssp(a, 'A', b.T)):
-            with self.assertRaises(UnitsDiffer) as said:
-                call(self.seconds, self.days)
-            self.assertIn("a unit of s, and B of D; write B.rescale('s')", str(said.exception))
+            self.assertIn("a unit of s, and B of D; write B.rescale('s')",
+                          support.said(UnitsDiffer, call, self.seconds, self.days))
         with self.assertRaisesRegex(UnitsDiffer, r"write A\.rescale\('s'\)"):
             self.days.ewise_add(self.seconds, 'min')
         self.assertEqual(self.seconds.ewise_mult(self.days.rescale('s'), 'minus').to_edgelist(),

@@ -61,9 +61,8 @@ class InAndOut(Matrices):
         self.assertEqual(s.from_coo([1], [2], 1, 9, square=True).shape, (9, 9))
         with self.assertRaisesRegex(ValueError, 'not of 2 rows and 9 columns'):
             s.from_coo([1], [2], 1, 2, 9, square=True)
-        with self.assertRaises(ValueError) as said:
-            s.from_triples([(0, 1), (1, 2, 3, 4)])
-        self.assertIn('(1, 2, 3, 4) (entry 1)', str(said.exception))
+        self.assertIn('(1, 2, 3, 4) (entry 1)',
+                      support.said(ValueError, s.from_triples, [(0, 1), (1, 2, 3, 4)]))
 
     def test_nothing(self):
         """What has no rows has no values either."""
@@ -110,9 +109,8 @@ class InAndOut(Matrices):
             with self.assertRaises(kind):
                 call()
         self.assertEqual(s.connection.commands, before)    # nothing was sent
-        with self.assertRaises(ValueError) as said:
-            s.from_triples([(0, 0, 1), (0, 5, 1)], 2, 2)
-        self.assertIn('column 5 is not in 0 to 1 (entry 1)', str(said.exception))
+        self.assertIn('column 5 is not in 0 to 1 (entry 1)',
+                      support.said(ValueError, s.from_triples, [(0, 0, 1), (0, 5, 1)], 2, 2))
 
     def test_tables(self):
         self.assertEqual(self.s.from_dense([[1, 0], [0, 2], [3, 0]], 0).to_dict(),
@@ -138,9 +136,7 @@ class InAndOut(Matrices):
 
     def test_not_pickled(self):
         for thing in (self.s, self.A):
-            with self.assertRaises(TypeError) as said:
-                pickle.dumps(thing)
-            self.assertIn('pickled', str(said.exception))
+            self.assertIn('pickled', support.said(TypeError, pickle.dumps, thing))
 
 
 class Jobs(Matrices):
@@ -263,9 +259,7 @@ class Jobs(Matrices):
                 with self.assertRaises(kind):
                     call()
             self.assertLessEqual(s.connection.commands - before, 4)   # the two transposes
-            with self.assertRaises(spmat.DimensionMismatch) as said:
-                A.ewise_add(flat)
-            self.assertIn('3x3 and 1x3', str(said.exception))
+            self.assertIn('3x3 and 1x3', support.said(spmat.DimensionMismatch, A.ewise_add, flat))
 
 
 class Masks(Matrices):
@@ -393,9 +387,7 @@ class Progress(unittest.TestCase):
             if what == 'sent':
                 s.budget()
         with spmat.Session(progress=progress) as s:
-            with self.assertRaises(spmat.SpmatError) as said:
-                s.full(1000, 300)
-            self.assertIn('from within', str(said.exception))
+            self.assertIn('from within', support.said(spmat.SpmatError, s.full, 1000, 300))
             self.assertIsNotNone(s.connection.ended)
 
 

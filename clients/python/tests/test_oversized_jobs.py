@@ -21,9 +21,8 @@ class Limits(support.InSession):
                       'parts=True) makes it by parts of the rows', str(said.exception))
         self.assertIn('(in `product`)', str(said.exception))
         some = self.s.from_coo(range(4000), [0] * 4000, 1, 5000, 5000)
-        with self.assertRaises(spmat.TooLarge) as said:
-            self.ones.mxm(self.wide, mask=some.S)
-        self.assertIn('20,000,000 multiplications', str(said.exception))
+        self.assertIn('20,000,000 multiplications',
+                      support.said(spmat.TooLarge, self.ones.mxm, self.wide, mask=some.S))
         few = self.s.from_coo(range(5), [0] * 5, 1, 5000, 5000)
         self.assertEqual(self.ones.mxm(self.wide, mask=few.S).nvals, 5)
         job = Job('union', (spmat.binary.plus,), (self.ones.handle, self.ones.handle),

@@ -3,7 +3,7 @@ import unittest
 
 import numpy
 
-import support  # pylint: disable=unused-import  # it names the program
+import support
 import spmat
 
 
@@ -31,15 +31,11 @@ class Signs(unittest.TestCase):
                             (lambda: len(A), 'A.nvals'), (lambda: bool(A), 'A.nvals > 0'),
                             (lambda: list(A), 'A.to_triples()'), (lambda: A <= 1, '<='),
                             (lambda: A > 1, '>')):
-            with self.assertRaises(TypeError) as said:
-                call()
-            self.assertIn(words, str(said.exception))
+            self.assertIn(words, support.said(TypeError, call))
         with self.assertRaises(TypeError) as said:
             A[0, 0] = 3
         self.assertIn('A.update', str(said.exception))
         self.assertTrue(A == A)
 
     def test_no_array_of_one_object(self):
-        with self.assertRaises(TypeError) as said:
-            numpy.asarray(self.G)
-        self.assertIn('A.to_dense()', str(said.exception))
+        self.assertIn('A.to_dense()', support.said(TypeError, numpy.asarray, self.G))

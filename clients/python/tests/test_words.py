@@ -5,7 +5,7 @@ import unittest
 
 import numpy
 
-import support  # noqa: F401 (finds the program)
+from support import said
 import spmat
 from spmat import operators
 from spmat.wire.connection import checked_settings
@@ -13,11 +13,6 @@ from spmat.operators.c import FromC
 
 
 class Words(unittest.TestCase):
-    def said(self, kind, call, *more):
-        with self.assertRaises(kind) as fault:
-            call(*more)
-        return str(fault.exception)
-
     def test_names_of_operators(self):
         for kind, name, words in (
             ('unary', 'plus',
@@ -29,12 +24,12 @@ class Words(unittest.TestCase):
             ('unary', 'tril', "no ready unary operator is called 'tril', but an index one is"),
             ('binary', 'tims', "no ready binary operator is called 'tims'; near it: times"),
             ('binary', 'qqqq', "no ready binary operator is called 'qqqq'")):
-            self.assertEqual(self.said(ValueError, operators.find, kind, name), words)
+            self.assertEqual(said(ValueError, operators.find, kind, name), words)
 
     def test_hexadecimal(self):
         self.assertIn('two hexadecimal digits a byte',
-                      self.said(ValueError, spmat.code, 'unary', '9x'))
-        self.assertIn('a kind is unary', self.said(ValueError, spmat.code, 'Unary', '95'))
+                      said(ValueError, spmat.code, 'unary', '9x'))
+        self.assertIn('a kind is unary', said(ValueError, spmat.code, 'Unary', '95'))
 
     def test_operators_in_few_words(self):
         self.assertEqual(repr(spmat.unary), '<ready unary operators: %s>' % ', '.join(spmat.unary))
@@ -42,33 +37,33 @@ class Words(unittest.TestCase):
 
     def test_settings(self):
         self.assertEqual(checked_settings(1e9, 2.0), (1000000000, 2))
-        self.assertIn('number of steps', self.said(ValueError, checked_settings, 1.5, 1))
+        self.assertIn('number of steps', said(ValueError, checked_settings, 1.5, 1))
         self.assertIn("number of workers is a whole number, not '2'",
-                      self.said(TypeError, checked_settings, 1, '2'))
-        self.assertIn('steps are 0 to', self.said(ValueError, checked_settings, float(1 << 63), 1))
+                      said(TypeError, checked_settings, 1, '2'))
+        self.assertIn('steps are 0 to', said(ValueError, checked_settings, float(1 << 63), 1))
 
     def test_indices_below_zero(self):
         with spmat.Session() as s:
-            self.assertEqual(self.said(ValueError, s.from_coo, [3, -1], [0, 0]),
+            self.assertEqual(said(ValueError, s.from_coo, [3, -1], [0, 0]),
                              'row -1 is below 0 (entry 1)')
-            self.assertEqual(self.said(ValueError, s.from_coo, [0], [-2], 1, 3, 3),
+            self.assertEqual(said(ValueError, s.from_coo, [0], [-2], 1, 3, 3),
                              'column -2 is below 0 (entry 0)')
 
     def test_arrays_of_indices_below_zero(self):
         with spmat.Session() as s:
-            self.assertEqual(self.said(ValueError, s.from_coo, numpy.array([-1]), numpy.array([0])),
+            self.assertEqual(said(ValueError, s.from_coo, numpy.array([-1]), numpy.array([0])),
                              'row -1 is below 0 (entry 0)')
 
     def test_things_of_other_packages(self):
         with spmat.Session() as s:
-            self.assertIn('from_dense', self.said(TypeError, s.from_scipy_sparse, [[1]]))
+            self.assertIn('from_dense', said(TypeError, s.from_scipy_sparse, [[1]]))
             self.assertIn('expected a graph of networkx, got int',
-                          self.said(TypeError, s.from_networkx, 5))
+                          said(TypeError, s.from_networkx, 5))
             self.assertIn('a matrix of a session',
-                          self.said(TypeError, spmat.algorithms.bfs_levels, [[1]], 0))
+                          said(TypeError, spmat.algorithms.bfs_levels, [[1]], 0))
             for call in (s.dis, s.types):
                 self.assertIn("expected an operator, such as spmat.binary.plus, got 'plus'",
-                              self.said(TypeError, call, 'plus'))
+                              said(TypeError, call, 'plus'))
 
     def test_what_is_no_matrix(self):
         with spmat.Session() as s:
@@ -80,9 +75,9 @@ class Words(unittest.TestCase):
                     with self.assertRaisesRegex(TypeError, 'expected a matrix, got ' + words):
                         call(operand)
             self.assertIn('a session makes matrices: s.from_triples',
-                          self.said(TypeError, spmat.Matrix, 3, 3))
+                          said(TypeError, spmat.Matrix, 3, 3))
             self.assertIn('spmat.Vector(s.from_dense(values))',
-                          self.said(TypeError, spmat.Vector, [1, 2]))
+                          said(TypeError, spmat.Vector, [1, 2]))
 
     def test_shapes(self):
         with spmat.Session() as s:
@@ -90,15 +85,15 @@ class Words(unittest.TestCase):
             for call, words in ((A.mxm, '3x3 and 2x4: the second has to have 3 rows'),
                                 (A.mxv, '3x3 and 2x4: the second has to be 3x1'),
                                 (A.ewise_add, '3x3 and 2x4: the second has to be 3x3')):
-                self.assertIn(words, self.said(spmat.DimensionMismatch, call, B))
+                self.assertIn(words, said(spmat.DimensionMismatch, call, B))
             self.assertIn('got 3x3: to_triples(), to_edgelist() and to_dense() take any matrix',
-                          self.said(spmat.DimensionMismatch, A.to_list))
+                          said(spmat.DimensionMismatch, A.to_list))
 
     def test_text_of_an_operator(self):
-        self.assertEqual(self.said(ValueError, operators.find, 'unary', 'mov64 r0, r1\nexit'),
+        self.assertEqual(said(ValueError, operators.find, 'unary', 'mov64 r0, r1\nexit'),
                          "no ready unary operator is called 'mov64 r0, r1\\nexit': "
                          "spmat.asm('unary', text) makes one of assembly text")
-        self.assertEqual(self.said(ValueError, operators.find, 'index', '> 3'),
+        self.assertEqual(said(ValueError, operators.find, 'index', '> 3'),
                          "no ready index operator is called '> 3': the number stands apart, as in "
                          'A.select(">", 3)')
 
@@ -106,11 +101,11 @@ class Words(unittest.TestCase):
         with spmat.Session() as s:
             for path in ('graph.csv', pathlib.Path('graph.csv')):
                 self.assertIn('read_graph(path) reads a file',
-                              self.said(TypeError, s.from_edgelist, path))
+                              said(TypeError, s.from_edgelist, path))
             self.assertIn('expected a table of pandas, got dict: from_edgelist takes a list',
-                          self.said(TypeError, s.from_pandas_edgelist, {'source': [1]}))
+                          said(TypeError, s.from_pandas_edgelist, {'source': [1]}))
             self.assertIn('from_edgelist(edges) takes edges',
-                          self.said(TypeError, s.read_graph, [('a', 'b')]))
+                          said(TypeError, s.read_graph, [('a', 'b')]))
 
     def test_a_call_that_was_made(self):
-        self.assertIn('spmat.price(lambda: f(G))', self.said(TypeError, spmat.price, 3))
+        self.assertIn('spmat.price(lambda: f(G))', said(TypeError, spmat.price, 3))

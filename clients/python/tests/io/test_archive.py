@@ -37,11 +37,6 @@ class InAFolder(support.InSession):
         self.folder = folder.name
         self.path = os.path.join(folder.name, 'work.spmat')
 
-    def said(self, kind, call, *args, **named):
-        with self.assertRaises(kind) as said:
-            call(*args, **named)
-        return str(said.exception)
-
 
 def kinds(name):
     """The type of a name with what its repr says beside, and those of its parts, whatever order a
@@ -77,7 +72,7 @@ class Archives(InAFolder):
 
     def test_those_with_a_name(self):
         with spmat.Session() as s:
-            self.assertIn('no matrix has a name', self.said(ValueError, s.save, self.path))
+            self.assertIn('no matrix has a name', support.said(ValueError, s.save, self.path))
             A = s.from_coo([0], [0], 5, 1, 1, name='A')
             B = A.apply('abs', name='of two words')
             A.apply('ainv')                        # has no name
@@ -100,8 +95,9 @@ class Archives(InAFolder):
         odd = self.s.full(1, 1)
         odd.nodes = [1j]
         self.assertIn("the vertex 1j of B can't be saved",
-                      self.said(TypeError, self.s.save, self.path, B=odd))
-        self.assertIn('B is no matrix, but int', self.said(TypeError, self.s.save, self.path, B=5))
+                      support.said(TypeError, self.s.save, self.path, B=odd))
+        self.assertIn('B is no matrix, but int',
+                      support.said(TypeError, self.s.save, self.path, B=5))
         self.assertEqual(list(self.s.load(self.path)), ['A'])
         self.assertEqual(os.listdir(self.folder), ['work.spmat'])
 
@@ -113,10 +109,10 @@ class Archives(InAFolder):
             with open(self.path, 'wb') as file:
                 file.write(text)
             self.assertIn('work.spmat: this is no file that save() wrote',
-                          self.said(spmat.ReadError, self.s.load, self.path))
+                          support.said(spmat.ReadError, self.s.load, self.path))
         with zipfile.ZipFile(self.path, 'w') as file:
             file.writestr('matrices.json', json.dumps({'spmat': 9}))
-        self.assertIn('its version is 9', self.said(spmat.ReadError, self.s.load, self.path))
+        self.assertIn('its version is 9', support.said(spmat.ReadError, self.s.load, self.path))
         self.assertRaises(FileNotFoundError, self.s.load, self.path + 'x')
 
 
@@ -138,11 +134,11 @@ class Archives(InAFolder):
                 got = s.load(self.path)['G'].nodes
                 self.assertEqual((got, list(map(kinds, got))), (G.nodes, list(map(kinds, G.nodes))))
         self.assertIn('this is a file that save() wrote: s.load(path) reads it',
-                      self.said(ValueError, self.s.read_graph, self.path))
+                      support.said(ValueError, self.s.read_graph, self.path))
         if support.has('pandas'):
             with mock.patch.dict(sys.modules, {'pandas': None}):
                 self.assertIn('those of pandas, which is not installed',
-                              self.said(spmat.ReadError, self.s.load, self.path))
+                              support.said(spmat.ReadError, self.s.load, self.path))
 
     def test_no_folder(self):
         """The error names the folder, and not the file that is written meanwhile."""
@@ -169,7 +165,7 @@ class Archives(InAFolder):
                     self.assertEqual(many.read_graph(file).to_edgelist(), [('a', 'b', 3)])
             elif members:
                 self.assertIn('a zip archive of several files',
-                              self.said(ValueError, self.s.read_graph, path))
+                              support.said(ValueError, self.s.read_graph, path))
         with zipfile.ZipFile(path, 'w') as file:
             file.writestr('g.mtx', support.BANNER + '2 2 1\n1 2 3\n')
         self.assertEqual(self.s.mmread(path).to_triples(), [(0, 1, 3)])
@@ -178,7 +174,7 @@ class Archives(InAFolder):
         at = whole.index(b'1 2 3')
         whole[at:at + 5] = b'1 2 4'
         self.assertIn('packed by zip, and damaged',
-                      self.said(ValueError, self.s.read_graph, io.BytesIO(bytes(whole))))
+                      support.said(ValueError, self.s.read_graph, io.BytesIO(bytes(whole))))
 
 
 class Lists(InAFolder):
@@ -198,14 +194,14 @@ class Lists(InAFolder):
                          'name,most')
         self.assertEqual(self.s.from_triples([(1, 0, 3)], 2, 2).to_csv(header=False), '1,0,3\n')
         self.assertIn("expected 2 fields, such as ('node', 'value'), got 3",
-                      self.said(ValueError, G.reduce_rowwise().to_csv, fields=('a', 'b', 'c')))
+                      support.said(ValueError, G.reduce_rowwise().to_csv, fields=('a', 'b', 'c')))
         self.assertIn('No such file',
-                      self.said(OSError, G.to_csv, os.path.join(self.folder, 'none', 'g.csv')))
+                      support.said(OSError, G.to_csv, os.path.join(self.folder, 'none', 'g.csv')))
 
     def test_edge_lists(self):
         G = self.s.from_edgelist(EDGES)
         path = os.path.join(self.folder, 'g.txt')
-        self.assertIn("the name 'Dvořák, Emil'", self.said(ValueError, G.write_edgelist, path))
+        self.assertIn("the name 'Dvořák, Emil'", support.said(ValueError, G.write_edgelist, path))
         self.assertFalse(os.path.exists(path))
         G.write_edgelist(path, '\t')
         self.assertTrue(self.s.read_graph(path).isequal(G))

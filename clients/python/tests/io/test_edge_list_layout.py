@@ -21,11 +21,6 @@ class Case(support.InSession):
     def read(self, text, **how):
         return self.s.read_graph(io.BytesIO(text.encode()), **how)
 
-    def said(self, call, *args, **named):
-        with self.assertRaises(ValueError) as said:
-            call(*args, **named)
-        return str(said.exception)
-
 
 class Repeated(Case):
     def test_edges_that_count_once(self):

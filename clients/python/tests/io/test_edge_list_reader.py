@@ -34,11 +34,6 @@ class Case(support.InSession):
     def edges(self, text, **how):
         return self.read(text, **how).to_edgelist()
 
-    def said(self, call, *args, kind=ValueError, **named):
-        with self.assertRaises(kind) as said:
-            call(*args, **named)
-        return str(said.exception)
-
 
 class Formats(Case):
     def test_csv_with_names(self):

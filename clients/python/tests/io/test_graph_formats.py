@@ -16,9 +16,7 @@ class Case(support.InSession):
         return self.s.read_graph(io.BytesIO(text), **how)
 
     def said(self, text, kind=spmat.ReadError, **how):
-        with self.assertRaises(kind) as said:
-            self.read(text, **how)
-        return str(said.exception)
+        return support.said(kind, self.read, text, **how)
 
 
 @support.needs('networkx')

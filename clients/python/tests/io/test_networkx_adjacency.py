@@ -4,7 +4,7 @@ import datetime
 import random
 import unittest
 
-from support import InSession, needs
+from support import InSession, needs, said
 import spmat
 
 
@@ -66,9 +66,7 @@ class Networkx(InSession):
         import networkx
         G = networkx.MultiGraph()
         G.add_weighted_edges_from([(0, 1, 5), (0, 1, 7), (1, 1, 2), (1, 1, 3)])
-        with self.assertRaises(ValueError) as said:
-            self.s.from_networkx(G)
-        self.assertIn('dup_op=', str(said.exception))
+        self.assertIn('dup_op=', said(ValueError, self.s.from_networkx, G))
         self.assertEqual(self.s.from_networkx(G, dup_op='plus').to_dict(),
                          {(0, 1): 12, (1, 0): 12, (1, 1): 5})
         self.assertEqual(self.s.from_networkx(G, dup_op='min').to_dict(),
@@ -83,9 +81,7 @@ class Networkx(InSession):
             self.assertEqual(self.s.from_networkx(G).to_dict(),
                              self.s.from_networkx(simple).to_dict())
             G.add_edge('b', 'c')
-            with self.assertRaises(ValueError) as said:
-                self.s.from_networkx(G)
-            self.assertIn("2 edges lead from 'b' to 'c'", str(said.exception))
+            self.assertIn("2 edges lead from 'b' to 'c'", said(ValueError, self.s.from_networkx, G))
 
     def test_wrong_weights_name_their_edge(self):
         import networkx
@@ -95,14 +91,13 @@ class Networkx(InSession):
                             (datetime.date(2024, 5, 31), TypeError)):
             H = networkx.relabel_nodes(G, {150: 'here', 151: 'there'})
             H['here']['there']['weight'] = value
-            with self.assertRaises(kind) as said:
+            with self.assertRaises(kind) as caught:
                 self.s.from_networkx(H)
-            self.assertIn("the edge from 'here' to 'there': ", str(said.exception))
-            self.assertNotIn('unit=', str(said.exception))     # which from_networkx doesn't have
+            self.assertIn("the edge from 'here' to 'there': ", str(caught.exception))
+            self.assertNotIn('unit=', str(caught.exception))     # which from_networkx doesn't have
         for weight in (lambda u, v, d: 1, len):
-            with self.assertRaises(TypeError) as said:
-                self.s.from_networkx(G, weight=weight)
-            self.assertIn('set_edge_attributes', str(said.exception))
+            self.assertIn('set_edge_attributes',
+                          said(TypeError, self.s.from_networkx, G, weight=weight))
 
     def test_beside_networkx(self):
         """Random graphs of each kind, with and without numpy's columns: the entries that networkx

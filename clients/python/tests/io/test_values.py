@@ -19,11 +19,6 @@ SECONDS = 1704164645
 
 
 class Times(support.InSession):
-    def said(self, call, *args, kind=ValueError, **named):
-        with self.assertRaises(kind) as said:
-            call(*args, **named)
-        return str(said.exception)
-
     def value(self, value, **how):
         return self.s.from_edgelist([('a', 'b', value)], **how).to_edgelist()[0][2]
 

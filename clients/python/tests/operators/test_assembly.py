@@ -35,9 +35,7 @@ class Labels(Case):
                              'line 1: no label end: in the text; there are fin'),
                             ('a: mov64 r0, r1\na: exit',
                              'line 2: the label a: is in the text already')):
-            with self.assertRaises(ValueError) as said:
-                spmat.asm('unary', text)
-            self.assertIn(words, str(said.exception))
+            self.assertIn(words, support.said(ValueError, spmat.asm, 'unary', text))
         back = self.refusal('unary', 'mov64 r0, r1\nback: add64 r0, 1\nja back\nexit')
         self.assertEqual((back.rule, back.text_line), ('V7', 3))
 

@@ -61,9 +61,8 @@ class Registers(Case):
         code = (
             'bf130000000000001501010000000000b706000005000000'
             '0f63000000000000bf300000000000009500000000000000')
-        with self.assertRaises(spmat.OperatorRefused) as said:
-            self.s.types(spmat.code('unary', code))
-        self.assertIn('r6 is unset where', str(said.exception))
+        self.assertIn('r6 is unset where',
+                      support.said(spmat.OperatorRefused, self.s.types, spmat.code('unary', code)))
 
     def test_rows_up_to_there(self):
         """What is known of one that is refused, as `types` has it of one that is accepted."""

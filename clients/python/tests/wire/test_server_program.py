@@ -52,9 +52,7 @@ class Order(unittest.TestCase):
         self.assertEqual(self.words('own', PATH=self.folder), ['own'])
 
     def test_none(self):
-        with self.assertRaises(FileNotFoundError) as said:
-            self.words()
-        self.assertIn('this package carries none', str(said.exception))
+        self.assertIn('this package carries none', support.said(FileNotFoundError, self.words))
 
     def test_words_in_one_text(self):
         self.assertEqual(self.words('ssh -T "a b" spmat'), ['ssh', '-T', 'a b', 'spmat'])

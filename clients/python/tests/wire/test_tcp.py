@@ -121,15 +121,13 @@ class Relayed(unittest.TestCase):
     def test_nobody_listens(self):
         with socket.create_server(('127.0.0.1', 0)) as taken:
             port = taken.getsockname()[1]
-        with self.assertRaises(ConnectionRefusedError) as said:
-            spmat.Session.connect(port=port)
-        self.assertIn('no connection to 127.0.0.1, port %d' % port, str(said.exception))
+        self.assertIn('no connection to 127.0.0.1, port %d' % port,
+                      support.said(ConnectionRefusedError, spmat.Session.connect, port=port))
 
     def test_addresses_that_are_none(self):
         for port in (0, 65536, -1):
-            with self.assertRaises(ValueError) as said:
-                spmat.Session.connect(port=port)
-            self.assertIn('a port is 1 to 65535', str(said.exception))
+            self.assertIn('a port is 1 to 65535',
+                          support.said(ValueError, spmat.Session.connect, port=port))
         with self.assertRaises(OSError) as said:
             spmat.Session.connect('127.0.0.1:7171', 7171)      # the port belongs behind the comma
         self.assertIn('no connection to 127.0.0.1:7171', str(said.exception))
@@ -141,9 +139,7 @@ class Relayed(unittest.TestCase):
         with support.Scripted(answer) as server:
             s = spmat.Session.connect(port=server.port)
             A = s.from_triples([(0, 0, 1)])
-            with self.assertRaises(spmat.Closed) as said:
-                A.to_text()
-            self.assertIn('the server closed the connection', str(said.exception))
+            self.assertIn('the server closed the connection', support.said(spmat.Closed, A.to_text))
             with self.assertRaises(spmat.Closed):
                 A.apply('abs')
             s.close()
@@ -161,6 +157,5 @@ class Relayed(unittest.TestCase):
 
     def test_no_server_of_spmat(self):
         with support.Scripted(lambda words, body: b'HTTP/1.1 400 Bad Request\r\n') as server:
-            with self.assertRaises(spmat.Closed) as said:
-                spmat.Session.connect(port=server.port)
-            self.assertIn('none of spmat', str(said.exception))
+            self.assertIn('none of spmat',
+                          support.said(spmat.Closed, spmat.Session.connect, port=server.port))

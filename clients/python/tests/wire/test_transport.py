@@ -97,28 +97,23 @@ class Files(unittest.TestCase):
         self.assertEqual(said.stdout, '')
 
     def test_no_file(self):
-        with self.assertRaises(FileNotFoundError) as said:
-            spmat.Session.connect(self.path)
-        self.assertIn('no connection to %s: No such file' % self.path, str(said.exception))
+        self.assertIn('no connection to %s: No such file' % self.path,
+                      support.said(FileNotFoundError, spmat.Session.connect, self.path))
 
     def test_nobody_listens(self):
         with socket.socket(socket.AF_UNIX) as gone:
             gone.bind(self.path)
-        with self.assertRaises(ConnectionRefusedError) as said:
-            spmat.Session.connect(self.path)
-        self.assertIn(self.path, str(said.exception))
+        self.assertIn(self.path,
+                      support.said(ConnectionRefusedError, spmat.Session.connect, self.path))
 
     def test_a_path_that_is_too_long(self):
-        with self.assertRaises(OSError) as said:
-            spmat.Session.connect('/' + 'a' * 200)
-        self.assertIn('too long', str(said.exception))
+        self.assertIn('too long', support.said(OSError, spmat.Session.connect, '/' + 'a' * 200))
 
     def test_no_place_left(self):
         """systemd closes the connections that pass its number without a word."""
         with support.Scripted(lambda words, body: None) as server:
-            with self.assertRaises(spmat.Closed) as said:
-                spmat.Session.connect(port=server.port)
-            self.assertIn('before a first answer', str(said.exception))
+            self.assertIn('before a first answer',
+                          support.said(spmat.Closed, spmat.Session.connect, port=server.port))
 
     def test_no_tls_at_a_file(self):
         with self.assertRaises(ValueError) as said:
