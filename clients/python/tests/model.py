@@ -1,5 +1,6 @@
 """Matrices as finite maps of Python, {(row, column): value}, and the client's methods on them: what
 random calls are compared with."""
+import ready_meanings
 
 
 def signed(value):
@@ -7,23 +8,13 @@ def signed(value):
     return (int(value) + 2 ** 63) % 2 ** 64 - 2 ** 63
 
 
-def truncated(x, y):
-    """x / y toward zero; 0 where y is 0."""
-    return 0 if y == 0 else signed(abs(x) // abs(y) * (1 if (x < 0) == (y < 0) else -1))
-
-
-UNARY = {'identity': lambda x: x, 'one': lambda x: 1, 'ainv': lambda x: -x, 'abs': abs,
-         'bnot': lambda x: ~x,
-         'lnot': lambda x: x == 0}
-BINARY = {'plus': lambda x, y: x + y, 'minus': lambda x, y: x - y, 'times': lambda x, y: x * y,
-          'min': min, 'max': max,
-          'first': lambda x, y: x, 'second': lambda x, y: y, 'cdiv': truncated,
-          'ne': lambda x, y: x != y}
+UNARY = {name: ready_meanings.UNARY[name] for name in ('identity', 'one', 'ainv', 'abs', 'bnot',
+                                                       'lnot')}
+BINARY = {name: ready_meanings.BINARY[name] for name in ('plus', 'minus', 'times', 'min', 'max',
+                                                         'first', 'second', 'cdiv', 'ne')}
 ASSOCIATIVE = ('plus', 'times', 'min', 'max', 'first', 'second')
-INDEX = {'tril': lambda x, i, j, t: j <= i + t, 'triu': lambda x, i, j, t: j >= i + t,
-         'rowle': lambda x, i, j, t: i <= t,
-         'valuegt': lambda x, i, j, t: x > t, 'offdiag': lambda x, i, j, t: j != i + t,
-         'rowindex': lambda x, i, j, t: i + t}
+INDEX = {name: ready_meanings.INDEX[name] for name in ('tril', 'triu', 'rowle', 'valuegt',
+                                                       'offdiag', 'rowindex')}
 
 
 def fold(op, values):

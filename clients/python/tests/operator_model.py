@@ -10,6 +10,8 @@ import sys
 
 import support
 import spmat
+from model import signed
+from ready_meanings import quotient
 
 sys.path.insert(0, support.TOP)
 from reference.assembly import assemble  # noqa: E402
@@ -23,12 +25,6 @@ EDGES = [0, 1, -1, 2, -2, 3, -3, 5, 7, -7, 8, 10, 11, 31, 32, 63, 64, 65, 100, -
          MOST - 1, LEAST, LEAST + 1]
 COUNTS = {'unary': 1, 'binary': 2, 'index': 4}
 READY = {'unary': spmat.unary, 'binary': spmat.binary, 'index': spmat.indexunary}
-
-
-def signed(number):
-    """The word of 64 bits that a whole number wraps to."""
-    number = int(number) & WORD
-    return number - (1 << 64) if number >> 63 else number
 
 
 MEANINGS = {
@@ -109,14 +105,10 @@ for _name in ('lt', 'le', 'gt', 'ge', 'eq', 'ne'):
     setattr(Model, '__%s__' % _name, _operation(getattr(operator, _name), False))
 
 
-def _quotient(x, y):
-    return abs(x) // abs(y) * (1 if (x < 0) == (y < 0) else -1) if y else 0
-
-
 # What the functions without a sign in Python mean, by Python's numbers.
 SIGNLESS = {
-    'where': lambda c, a, b: a if c else b, 'cdiv': _quotient,
-    'cmod': lambda x, y: x - y * _quotient(x, y),
+    'where': lambda c, a, b: a if c else b, 'cdiv': quotient,
+    'cmod': lambda x, y: x - y * quotient(x, y),
     'udiv': lambda x, y: (x & WORD) // (y & WORD) if y else 0,
     'umod': lambda x, y: (x & WORD) % (y & WORD) if y else x,
     'ult': lambda x, y: (x & WORD) < (y & WORD), 'rsh': lambda x, y: (x & WORD) >> (y & 63)}

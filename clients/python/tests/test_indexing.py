@@ -254,7 +254,6 @@ class Names(InSession):
             empty[0, :]
 
 
-@needs('numpy')
 class Arrays(InSession):
     def test_as_numpy_has_it(self):
         table = numpy.arange(1, 31).reshape(6, 5)
@@ -395,7 +394,6 @@ class Signs(InSession):
             with self.assertRaisesRegex(TypeError, r'A\.isequal\(B\)'):
                 call()
 
-    @needs('numpy')
     def test_functions_and_arrays_of_numpy(self):
         A = self.s.from_triples([(0, 1, 5), (1, 0, -2)], 2, 2)
         for call, words in ((lambda: numpy.add(A, A), r'A\.ewise_mult\(B, "plus"\)'),

@@ -8,7 +8,7 @@ import model
 import spmat
 from model import some
 from spmat import blocks
-from support import OfCells, needs
+from support import OfCells
 
 
 class Products(OfCells):
@@ -32,7 +32,6 @@ class Products(OfCells):
         with self.assertRaisesRegex(spmat.TooLarge, '25000000 entries'):
             big.kronecker(big)
 
-    @needs('numpy')
     def test_kronecker_and_power_of_numpy(self):
         r = numpy.random.default_rng(1)
         a, b = r.integers(-3, 4, (3, 4)), r.integers(-3, 4, (2, 3))

@@ -1,23 +1,18 @@
 """Values and parts in brackets, single values, and diagonals, beside plain models."""
 import random
-import unittest
 
 import spmat
 from model import some
-from support import OfCells
+from support import InSession, OfCells
 
 
-class Brackets(unittest.TestCase):
+class Brackets(InSession):
     @classmethod
     def setUpClass(cls):
-        cls.s = spmat.Session()
+        super().setUpClass()
         cls.G = cls.s.from_triples([(i, j, 10 * i + j) for i in range(4) for j in range(5)
                                     if (i + j) % 3])
         cls.want = cls.G.to_dict()
-
-    @classmethod
-    def tearDownClass(cls):
-        cls.s.close()
 
     def test_values(self):
         for i in range(4):

@@ -15,27 +15,26 @@ import numpy
 import command_line
 import support
 import spmat
+from ready_meanings import BINARY
 from spmat import UnitsDiffer, algorithms, binary, blocks
 
 UNITS = ((1, 1), (1, 100), (100, 1), (100, 100), (100, 1000), (1000, 100), (3, 3),
          (Fraction(1, 2), Fraction(1, 2)), (Fraction(1, 2), 1000), (3, 100))
 LEAST, MOST = -2 ** 63, 2 ** 63 - 1
-# What ready operators come to in numbers: those of values of one unit, which the result has, too;
-# those of one unit that answer a question; and those whose values may have any units.
-MEET = {'plus': lambda x, y: x + y, 'minus': lambda x, y: x - y, 'rminus': lambda x, y: y - x,
-        'min': min, 'max': max, 'any': lambda x, y: x,
-        'absdiff': lambda x, y: abs(x - y),
-        'cmod': lambda x, y: abs(x) % abs(y) * (-1 if x < 0 else 1)}
-COMPARE = {'eq': lambda x, y: x == y, 'ne': lambda x, y: x != y, 'lt': lambda x, y: x < y,
-           'le': lambda x, y: x <= y,
-           'gt': lambda x, y: x > y, 'ge': lambda x, y: x >= y, 'iseq': lambda x, y: x == y,
-           'isne': lambda x, y: x != y}
-ONE_OF = {'first': lambda x, y: x, 'second': lambda x, y: y}
-NUMBER = {'pair': lambda x, y: 1, 'oneb': lambda x, y: 1, 'zero': lambda x, y: 0,
-          'land': lambda x, y: bool(x and y),
-          'lor': lambda x, y: bool(x or y), 'lxor': lambda x, y: bool(x) != bool(y),
-          'lxnor': lambda x, y: bool(x) == bool(y)}
-TIMES = {'times': lambda x, y: x * y}
+
+
+def meanings(names):
+    """What ready operators come to in numbers."""
+    return {name: BINARY[name] for name in names.split()}
+
+
+# Those of values of one unit, which the result has, too; those of one unit that answer a question;
+# and those whose values may have any units.
+MEET = meanings('plus minus rminus min max any absdiff cmod')
+COMPARE = meanings('eq ne lt le gt ge iseq isne')
+ONE_OF = meanings('first second')
+NUMBER = meanings('pair oneb zero land lor lxor lxnor')
+TIMES = meanings('times')
 EXACT = {**MEET, **COMPARE, **ONE_OF, **NUMBER, **TIMES}
 FOLDS = {**MEET, **ONE_OF}                         # those whose results are as what stands alone
 DIVIDE, ON_BITS = ('floordiv', 'cdiv', 'rdiv'), ('band', 'bor', 'bxor', 'bxnor', 'lsh', 'rsh',

@@ -1,23 +1,16 @@
 """Signs and functions of Python's that matrices don't have: each names the method that is."""
-import unittest
-
 import numpy
 
 import support
-import spmat
 
 
-class Signs(unittest.TestCase):
+class Signs(support.InSession):
     @classmethod
     def setUpClass(cls):
-        cls.s = spmat.Session()
+        super().setUpClass()
         cls.G = cls.s.from_triples([(i, j, 10 * i + j) for i in range(4) for j in range(5)
                                     if (i + j) % 3])
         cls.want = cls.G.to_dict()
-
-    @classmethod
-    def tearDownClass(cls):
-        cls.s.close()
 
     def test_signs_say_what_to_write(self):
         """Each sign of Python's that isn't there names the method that is."""

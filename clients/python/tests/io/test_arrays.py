@@ -13,7 +13,6 @@ from spmat import limits
 from spmat.io import matrix_text
 
 
-@needs('numpy')
 class Numpy(InSession):
     def test_there_and_back(self):
         r = numpy.random.default_rng(1)

@@ -183,7 +183,6 @@ class Tables(InSession):
                 self.s.from_dense(cells)
 
 
-@needs('numpy')
 class DenseArrays(InSession):
     def test_kinds(self):
         for kind in (int, numpy.int8, numpy.uint8, numpy.uint64, float, numpy.float32, object):

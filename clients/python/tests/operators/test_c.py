@@ -18,16 +18,13 @@ from unittest import mock
 
 import support
 import spmat
+from model import signed
+from ready_meanings import quotient
 from spmat.operators import c as from_c, clang
 
 FOLDER = os.path.join(os.path.dirname(os.path.abspath(__file__)), 'c')
 PAGE = os.path.join(support.TOP, 'docs', 'operators.md')
 WORDS = 1 << 64
-
-
-def signed(number):
-    number %= WORDS
-    return number - WORDS if number >> 63 else number
 
 
 def gcd(x, y):
@@ -53,17 +50,11 @@ def mix(x):
     return x ^ x >> 31
 
 
-def wide_quotient(x, y):
-    """Truncated, of two words as they wrap."""
-    x, y = signed(x), signed(y)
-    return (abs(x) // abs(y) if (x < 0) == (y < 0) else -(abs(x) // abs(y))) if y else 0
-
-
 def share(x, y):
     if y == 0:
         return 0
     size_x, size_y = signed(abs(x)), signed(abs(y))
-    parts = wide_quotient(2000 * size_x + size_y, 2 * size_y)
+    parts = quotient(signed(2000 * size_x + size_y), signed(2 * size_y))
     return parts if (x < 0) == (y < 0) else -parts
 
 

@@ -2,7 +2,7 @@
 mean a ready one exactly or say what to write."""
 import numpy
 
-from support import InSession, needs
+from support import InSession
 import spmat
 from spmat.operators import other_names
 
@@ -39,7 +39,6 @@ class Names(InSession):
             self.assertFalse(any(name in ready for ready in spmat.operators.READY.values()), name)
 
 
-@needs('numpy')
 class Functions(InSession):
     def test_each_is_what_numpy_computes(self):
         pairs = [(x, y) for x in EDGES for y in EDGES]
