@@ -116,7 +116,7 @@ def _slowly(file: str, text: bytes, problem: Problem, wanted: Values) -> Edges:
     weights: Any = None
     rounding = Rounding(wanted.scale)
     if problem.directed and wanted.read:
-        weights = numpy.array(whole_values(fields, fault, rounding), numpy.int64)
+        weights = whole_values(fields, fault, rounding)
     sources, targets = (numpy.array(end, numpy.int64) for end in ends)
     return Edges(sources, targets, weights, fault, '' if weights is None else str(rounding))
 

@@ -6,6 +6,7 @@ or blanks.
 """
 from __future__ import annotations
 
+import functools
 import itertools
 import re
 from typing import Iterator, List, Match, NamedTuple, Optional, Sequence, Tuple
@@ -25,11 +26,11 @@ COLUMN = re.compile(r'[^\W\d][\w .:/()-]*')        # what a column may be called
 SAMPLE = 100                                       # lines that are looked at
 LONG = 1 << 20                                     # of so many bytes, at most
 SEPARATOR = re.compile(rb'"?sep=([,;|\t])"?(?=\r?\n)', re.I)
-ABOVE = re.compile(rb'(?:[ \t]*(?:[#%][^\r\n]*)?(?:\r\n?|\n))*(?:[ \t]*[#%][^\r\n]*\Z)?')
+ABOVE = re.compile(rb'(?:[ \t]*(?:[#%][^\r\n]*)?(?:\r\n?|\n))*(?:[ \t]*[#%][^\r\n]*\Z)?|')
 COMMENT = re.compile(rb'[#%][^\r\n]*')
 ATTACHED = re.compile(rb'[#%]+[^\s#%]')            # a comment, or a name that begins so
 QUOTED_BYTES = rb'(?m)(?:^|(?<=[,;|\t])) *"[^"]*(?:""[^"]*)*"'
-QUOTED = re.compile(r' *"([^"]*(?:""[^"]*)*)" *')
+QUOTED = r' *"([^"]*(?:""[^"]*)*)" *'
 
 
 class Form(NamedTuple):
@@ -45,6 +46,11 @@ class Form(NamedTuple):
     def is_by_byte(self) -> bool:
         """Whether a byte parts the fields, or blanks do."""
         return self.delimiter is None or self.delimiter.isascii()
+
+    @property
+    def columns(self) -> List[int]:
+        """The columns that are read, ascending."""
+        return sorted({*self.ends, *(() if self.value is None else (self.value,))})
 
 
 class Table(NamedTuple):
@@ -67,13 +73,28 @@ class Table(NamedTuple):
         """The error of a line."""
         return ReadError(self.file, number, words, line_at(self.original, number))
 
+    def rows(self) -> Iterator[Row]:
+        """The lines of the edges."""
+        return (row for row in rows_of(self.file, self.text, self.form.delimiter)
+                if row.number > self.skipped)
+
+    def summarize(self, done: object) -> str:
+        """What was taken of the list, and what was done to its values, in words."""
+        return '; '.join(filter(None, (self.summary,
+                                       '' if self.form.value is None else str(done))))
+
 
 # -- comments
 
-def _read_marks(comments: Comments) -> Sequence[str]:
-    """What begins a comment in any line. TypeError and ValueError for what says nothing of it."""
+def blank_comments(text: bytes, comments: Comments) -> Tuple[bytes, LeftOut]:
+    """A list with blanks in place of its comments, byte by byte, so that lines and places stay, and
+    how many there were. TypeError and ValueError for what says nothing of comments."""
+    if comments is True:
+        end = _end_of_comments(text)
+        head, count = COMMENT.subn(_blanks_for, text[:end])
+        return (head + text[end:] if count else text), LeftOut(count)
     marks = ([] if comments is None or comments is False else [comments]
-             if isinstance(comments, str) else list(comments))  # type: ignore[arg-type]
+             if isinstance(comments, str) else list(comments))
     if not all(isinstance(mark, str) for mark in marks):
         raise TypeError(
             'comments is a text such as "#", several of them, or None for no comments; not %r'
@@ -81,17 +102,7 @@ def _read_marks(comments: Comments) -> Sequence[str]:
     if any(not mark or '\n' in mark or '"' in mark for mark in marks):
         raise ValueError('what begins a comment is a text without quotes and ends of lines, not %r'
                          % (comments,))
-    return marks
-
-
-def blank_comments(text: bytes, comments: Comments) -> Tuple[bytes, LeftOut]:
-    """A list with blanks in place of its comments, byte by byte, so that lines and places stay, and
-    how many there were."""
-    if comments is True:
-        end = _end_of_comments(text)
-        head, count = COMMENT.subn(_blanks_for, text[:end])
-        return (head + text[end:] if count else text), LeftOut(count)
-    starts = [mark.encode() for mark in _read_marks(comments)]
+    starts = [mark.encode() for mark in marks]
     if not any(start in text for start in starts):
         return text, LeftOut()
     counts = [0, 0]
@@ -121,6 +132,13 @@ def _end_of_comments(text: bytes) -> int:
 
 def _blanks_for(found: Match[bytes]) -> bytes:
     return b' ' * len(found.group())
+
+
+def ask_comment(file: str, number: int, line: str) -> ReadError:
+    """The error of a line that begins as comments do, and is written as the rows are."""
+    return ReadError(file, number,
+                     'this line may be a comment or a row: comments="%s" passes over such '
+                     'lines, comments=None reads them' % line[0], line)
 
 
 # -- lines, parted into fields
@@ -165,25 +183,27 @@ def rows_of(file: str, text: bytes, delimiter: Optional[str]) -> Iterator[Row]:
 def _split_quoted(row: Head, words: str, start: int, delimiter: str) -> Tuple[List[str], int]:
     """The fields of a row some of which are quoted, and where it ends."""
     fields: List[str] = []
-    plain, at = re.compile('[^\n%s]*' % re.escape(delimiter)), start
-    while True:
-        found = QUOTED.match(words, at)
-        fault = ''
-        if found is not None:
-            field: str = Quoted(found.group(1).replace('""', '"'))
-            at = found.end() + words.startswith('\r', found.end())
-            fault = 'a quotation ends amid a field' if words[at:at + 1] not in ('', '\n',
-                                                                               delimiter) else ''
+    for found in _field_pattern(delimiter).finditer(words, start):
+        quoted, plain, end = found.groups()
+        if quoted is not None:
+            fields.append(Quoted(quoted.replace('""', '"')))
+        elif plain.lstrip(BLANKS).startswith('"'):
+            ends = re.compile(QUOTED).match(words, found.start())
+            raise row.fault('no list of fields (a quotation %s)' % (
+                'ends amid a field' if ends else 'does not end'),
+                line_at(words[start:].encode(), 1))
         else:
-            part = plain.match(words, at)
-            field, at = (part.group().strip(' \t\r'), part.end()) if part else ('', len(words))
-            fault = 'a quotation does not end' if field.startswith('"') else ''
-        if fault:
-            raise row.fault('no list of fields (%s)' % fault, line_at(words[start:].encode(), 1))
-        fields.append(field)
-        if words[at:at + 1] != delimiter:
-            return fields, at
-        at += 1
+            fields.append(plain.strip(' \t\r'))
+        if end != delimiter:
+            break
+    return fields, found.end() - end.endswith('\n')
+
+
+@functools.lru_cache(maxsize=8)
+def _field_pattern(delimiter: str) -> 're.Pattern[str]':
+    """A field, what stands in it where it is quoted or where it isn't, and what ends it."""
+    part = re.escape(delimiter)
+    return re.compile(r'(?:%s|([^\n%s]*))(%s|\r?(?:\n|\Z))' % (QUOTED, part, part))
 
 
 def _split_line(line: str, delimiter: Optional[str]) -> List[str]:
@@ -215,8 +235,7 @@ def lay_out(file: str, text: bytes, layout: Layout) -> Table:
     below = [fields for _, fields in (rows if above else rows[1:])]
     head = Head(file, number, first, below, len(rows) < SAMPLE and len(plain) <= LONG, delimiter)
     choice = choose_columns(head, layout._replace(header=True) if above else layout)
-    form = Form(delimiter, len(first), choice.ends, choice.value)
-    return Table(file, text, plain, form,
+    return Table(file, text, plain, Form(delimiter, len(first), choice.ends, choice.value),
                  rows[0].number - (0 if choice.header and above is None else 1),
                  '%s: %s' % (file, choice.describe(first)),
                  left_out._replace(comments=left_out.comments - (above is not None)),
@@ -237,13 +256,11 @@ def _choose_delimiter(text: bytes, comments: Sequence[Tuple[int, bytes]],
     """A list with blanks in place of a first line `sep=;`, by which Excel is told what parts the
     fields; and what parts them, None for blanks."""
     separator = SEPARATOR.match(text)
+    delimiter = given
     if separator is not None:
         text = b' ' * separator.end() + text[separator.end():]
-    if given is not None:
-        delimiter: Optional[str] = given
-    elif separator is not None:
-        delimiter = separator.group(1).decode('latin-1')
-    else:
+        delimiter = separator.group(1).decode('latin-1') if given is None else given
+    elif given is None:
         delimiter = find_delimiter(text if text[:LONG].strip()
                                    else b'\n'.join(line for _, line in comments))
     delimiter = delimiter if delimiter is not None and delimiter.strip(' ') else None
@@ -305,10 +322,3 @@ def _header_above(file: str, comments: Sequence[Tuple[int, bytes]], rows: List[R
         if is_attached and len(marked) == width and (rows or width > 1):
             raise ask_comment(file, number, words)
     return None
-
-
-def ask_comment(file: str, number: int, line: str) -> ReadError:
-    """The error of a line that begins as comments do, and is written as the rows are."""
-    return ReadError(file, number,
-                     'this line may be a comment or a row: comments="%s" passes over such '
-                     'lines, comments=None reads them' % line[0], line)

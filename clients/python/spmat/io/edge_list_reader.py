@@ -1,24 +1,25 @@
-"""Lists of edges, read by pandas where every line is written as the first ones are. What pandas
-would take otherwise than it is meant, or can't name a line of, is read line by line: missing names,
-quoted blanks, dates, decimals beyond floats, and whatever is wrong."""
+"""Lists of edges, read at once where every line is written as the first ones are: whole numbers by
+`parse_integers`, anything else by pandas. What these would take otherwise than it is meant, or
+can't name a line of, is read line by line: missing names, quoted blanks, dates, decimals beyond
+floats, and whatever is wrong."""
 from __future__ import annotations
 
 import io
 import itertools
 import re
 import warnings
-from typing import Any, Iterable, List, NamedTuple, Optional, Tuple
+from typing import Any, Callable, Iterator, List, NamedTuple, Optional, Sequence, Set, Tuple
 
 import numpy
 
 from ..errors import ReadError
 from ..extras import import_extra
+from . import parse_integers
 from .columns import MAY_BE_HEADER, Layout
-from .edge_list_layout import BLANKS, CALLED, Form, Quoted, Table, ask_comment, lay_out, rows_of
+from .edge_list_layout import BLANKS, CALLED, Form, Quoted, Row, Table, ask_comment, lay_out
 from .edges import WHOLE, Edges, LeftOut, Names, code_names
 from .files import UTF8_MARK
 from .matrix_text import line_at, start_of_line
-from .parse_integers import count_even_lines
 from .values import (LONGEST, NO_NAMES, SKIP, SKIPS, TAKES, Rounding, clock_of, is_missing,
                      is_number, is_time, scaled_array, whole_values)
 
@@ -59,54 +60,53 @@ def _stands_alone(edges: Edges) -> bool:
     return all(names.count(own[0]) == 1 for own in both)
 
 
-def _summarize(table: Table, done: object) -> str:
-    """What was taken of a list, and what was done to its values, in words."""
-    return (table.summary if table.form.value is None or not str(done)
-            else '%s; %s' % (table.summary, done))
-
-
-# -- by pandas
+# -- at once
 
 def _read_in_bulk(table: Table, scale: Optional[float]) -> Optional[Edges]:
-    """All lines by pandas; None where something is unusual or wrong."""
+    """All lines at once; None where something is unusual or wrong."""
     start, rounding = start_of_line(table.text, table.skipped + 1), Rounding(scale)
     found = read_plain(table.text[start:] if start else table.text, table.form, rounding)
     if found is None:
         return None
 
     def fault(at: int, words: str) -> ReadError:
-        rows = (row for row in rows_of(table.file, table.text, table.form.delimiter)
-                if row.number > table.skipped)
-        return table.fault(next(itertools.islice(rows, at, None)).number, words)
-    return Edges(*found, fault, _summarize(table, rounding), table.left_out)
+        return table.fault(next(itertools.islice(table.rows(), at, None)).number, words)
+    return Edges(*found, fault, table.summarize(rounding), table.left_out)
 
 
 def read_plain(body: bytes, form: Form, rounding: Rounding) -> Optional[Tuple[Any, Any, Any]]:
     """The names and values of lines that are written alike: arrays of whole numbers, or `Names`.
-    None where they have to be read line by line."""
+    None where they have to be read line by line. ImportError where pandas is missing."""
+    pandas = import_extra('pandas', 'a list of edges')
     plain = _unquote(body, form) if form.is_by_byte else None
-    if plain is None or not _are_alike(plain, form):
+    if plain is None:
         return None
-    if not plain.strip():
-        none = numpy.zeros(0, numpy.int64)
-        return none, none, None if form.value is None else none
-    frame = _parse(plain, form)
-    if frame is None:
-        return None
-    kinds = {frame[at].dtype.kind for at in form.ends}
-    if kinds != {'O'} and not (kinds == {'i'} and _are_as_written(plain, frame)):
-        # so that names are as they are written
-        frame = _parse(plain, form, {at: object for at in form.ends})
+    columns = _read_integers(plain, form)
+    if columns is None:
+        frame = _parse(pandas, plain, form) if _are_alike(plain, form) else None
         if frame is None:
             return None
-    values = None if form.value is None else _convert_values(frame[form.value].to_numpy(), rounding)
+        columns = {at: frame[at].to_numpy() for at in form.columns}
+    sources, targets = (columns[at] for at in form.ends)
+    values = None if form.value is None else scaled_array(columns[form.value], rounding)
     if form.value is not None and values is None:
         return None
-    sources, targets = (frame[at].to_numpy() for at in form.ends)
     if sources.dtype.kind == 'i':
         return sources, targets, values
     coded = _code(sources, targets, form, b' ' in plain or b'\t' in plain)
     return None if coded is None else (*coded, values)
+
+
+def _read_integers(body: bytes, form: Form) -> Optional[Any]:
+    """The columns that are read, by their numbers, where all that the lines have is whole numbers,
+    each written as Python would write it, parted by one byte; also of no line at all. Else None."""
+    columns = form.columns
+    if not body.strip():
+        return dict.fromkeys(columns, numpy.zeros(0, numpy.int64))
+    delimiter = (form.delimiter or ('\t' if b'\t' in body[:PIECE] else ' ')).encode()
+    found = parse_integers.read_plain(body if body.endswith(b'\n') else body + b'\n', form.width,
+                                      delimiter, columns, True)
+    return None if found is None else dict(zip(columns, found))
 
 
 def _unquote(body: bytes, form: Form) -> Optional[bytes]:
@@ -142,38 +142,34 @@ def _are_alike(body: bytes, form: Form) -> bool:
     tabs = body.count(b'\t') if form.delimiter in (None, '\t') else 0
     if odd != body.count(b'\n') + tabs:
         return False
-    if len(_read_columns(form)) == form.width:
+    if len(form.columns) == form.width:
         first = len(body) - len(body.lstrip())
         body = body[first:body.find(b'\n', first) + 1 or None]
-    return count_even_lines(body, form.width, form.delimiter) is not None
+    return parse_integers.count_even_lines(body, form.width, form.delimiter) is not None
 
 
-def _read_columns(form: Form) -> List[int]:
-    """The columns that are read, ascending."""
-    return sorted({*form.ends, *(() if form.value is None else (form.value,))})
-
-
-def _parse(body: bytes, form: Form, kinds: Any = None) -> Optional[Any]:
-    """The columns that are read, as pandas has them; None where it can't."""
-    pandas = import_extra('pandas', 'a list of edges')
-    wanted = _read_columns(form)
-    try:
+def _parse(pandas: Any, body: bytes, form: Form) -> Optional[Any]:
+    """The columns that are read, as pandas has them; None where it can't. Names are whole numbers
+    where all are, and are written as such; else they are text as it is written."""
+    def parse(kinds: Any = None) -> Any:
         return pandas.read_csv(
             io.BytesIO(body), sep=form.delimiter or r'\s+', header=None, names=range(form.width),
-            index_col=False, usecols=wanted if len(wanted) < form.width else None, dtype=kinds,
-            na_filter=False, quoting=3, low_memory=False, engine='c',
+            index_col=False, usecols=form.columns if len(form.columns) < form.width else None,
+            dtype=kinds, na_filter=False, quoting=3, low_memory=False, engine='c',
             skipinitialspace=form.delimiter is not None)
+    try:
+        frame = parse()
+        kinds = {frame[at].dtype.kind for at in form.ends}
+        if kinds == {'O'} or (kinds == {'i'} and _are_as_written(body)):
+            return frame
+        return parse({at: object for at in form.ends})
     except (ValueError, OverflowError, pandas.errors.ParserError):
         return None
 
 
-def _are_as_written(body: bytes, frame: Any) -> bool:
+def _are_as_written(body: bytes) -> bool:
     """Whether no number begins with 0 or +, but 0 itself: names are numbers where they are written
     as numbers are."""
-    # the shortest way to write whole numbers is Python's, so a body of that length has no other
-    if all(kind.kind == 'i' for kind in frame.dtypes) and frame.size and _count_characters(
-        frame) == len(body) + (not body.endswith(b'\n')):
-        return True
     start = 0
     while start < len(body):
         end = body.find(b'\n', start + PIECE) + 1 or len(body)
@@ -189,30 +185,6 @@ def _are_as_written(body: bytes, frame: Any) -> bool:
             return False
         start = end
     return True
-
-
-def _count_characters(frame: Any) -> int:
-    """How many characters the numbers of a table take as Python writes them, with one behind each;
-    -1 of numbers below 0."""
-    count: int = 2 * frame.size                    # a digit and its end
-    for column in frame:
-        numbers = frame[column].to_numpy()
-        if numbers.min() < 0:
-            return -1
-        most, power = int(numbers.max()), 10
-        while power <= most:
-            count += int(numpy.count_nonzero(numbers >= power))
-            power *= 10
-    return count
-
-
-def _convert_values(values: Any, rounding: Rounding) -> Optional[Any]:
-    """Values as whole numbers, scaled where that is asked; None where they have to be looked at one
-    by one."""
-    if values.dtype.kind == 'i' and rounding.scale is None:
-        return values.astype(numpy.int64, copy=False)
-    return (scaled_array(values.astype(numpy.float64), rounding) if values.dtype.kind in 'if'
-            else None)
 
 
 def _code(sources: Any, targets: Any, form: Form,
@@ -235,38 +207,27 @@ def _code(sources: Any, targets: Any, form: Form,
 
 # -- line by line
 
-class _Fields(NamedTuple):
-    """Of each edge the line, the two names, and the field of its value; and the edges of which a
-    name is missing, or is where the others of its column are numbers."""
-    numbers: List[int]
-    sources: List[str]
-    targets: List[str]
-    values: List[str]
-    nameless: List[int]
-    doubtful: List[int]
-
-    def without(self, some: Iterable[int]) -> _Fields:
-        """The others of these edges."""
-        gone = set(some)
-        if not gone:
-            return self
-        columns: List[List[Any]] = [self.numbers, self.sources, self.targets, self.values]
-        numbers, *fields = [[field for at, field in enumerate(column) if at not in gone]
-                            for column in columns]
-        return _Fields(numbers, fields[0], fields[1], fields[2], [], [])
+class _Line(NamedTuple):
+    """An edge: the number of its line, the two names, the field of its value, and which of the
+    names (0, 1) are missing, or are so where the others of their column are numbers."""
+    number: int
+    names: Tuple[str, str]
+    value: str
+    missing: Sequence[int]
+    doubtful: Sequence[int]
 
 
 def _read_lines(table: Table, layout: Layout) -> Edges:
     """Line by line, so that whatever is wrong is named."""
-    fields, left_out = _complete_fields(table, layout)
+    lines, left_out = _complete_lines(table, layout)
     clock = clock_of(layout.unit, layout.date_format, layout.scale)
     rounding = Rounding(layout.scale)
 
     def fault(at: int, words: str) -> ReadError:
-        return table.fault(fields.numbers[at], words)
+        return table.fault(lines[at].number, words)
 
     def value_fault(at: int, words: str) -> ReadError:
-        value = fields.values[at]
+        value = lines[at].value
         if layout.missing is not None and is_missing(value):
             words = VALUELESS % value
         elif clock is None and is_time(value):
@@ -274,70 +235,71 @@ def _read_lines(table: Table, layout: Layout) -> Edges:
         return fault(at, words)
     values: Any = None
     if table.form.value is not None:
-        values = (clock.read(fields.values, value_fault) if clock is not None
-                  else numpy.array(whole_values(fields.values, value_fault, rounding), numpy.int64))
-    return Edges(*convert_names(fields.sources, fields.targets, layout.nodetype, fault), values,
-                 fault, _summarize(table, clock or rounding), left_out)
+        fields = [line.value for line in lines]
+        values = (clock.read(fields, value_fault) if clock is not None
+                  else whole_values(fields, value_fault, rounding))
+    sources, targets = ([line.names[end] for line in lines] for end in (0, 1))
+    return Edges(*convert_names(sources, targets, layout.nodetype, fault), values, fault,
+                 table.summarize(clock or rounding), left_out)
 
 
-def _complete_fields(table: Table, layout: Layout) -> Tuple[_Fields, LeftOut]:
-    """The fields of all edges of which no name and no value is missing. ReadError where these
-    aren't to be left out."""
-    fields, left_out = _split_lines(table, layout.comments is True), table.left_out
+def _complete_lines(table: Table, layout: Layout) -> Tuple[List[_Line], LeftOut]:
+    """The edges of which no name and no value is missing. ReadError where others aren't to be left
+    out."""
+    lines, left_out = list(_split_lines(table, layout.comments is True)), table.left_out
     if layout.missing is not None:
-        nameless = sorted({*fields.nameless, *_nameless_numbers(fields, fields.sources),
-                           *_nameless_numbers(fields, fields.targets)})
+        nameless = _find_nameless(lines)
         if nameless and layout.missing != SKIP:
-            at = nameless[0]
-            name = next(name for name in (fields.sources[at], fields.targets[at])
-                        if is_missing(name))
-            skip = SKIPS % 'line'
+            line, skip = lines[min(nameless)], SKIPS % 'line'
+            name = next(filter(is_missing, line.names))
             words = ('a name is missing (%r): %s, missing=None takes it for a name' % (name, skip)
                      if name else 'a name is empty: ' + skip)
-            raise table.fault(fields.numbers[at], words)
-        left_out, fields = left_out._replace(names=len(nameless)), fields.without(nameless)
+            raise table.fault(line.number, words)
+        lines = [line for at, line in enumerate(lines) if at not in nameless]
+        left_out = left_out._replace(names=len(nameless))
     if layout.missing == SKIP and table.form.value is not None:
-        valueless = [at for at, value in enumerate(fields.values) if is_missing(value)]
-        left_out, fields = left_out._replace(values=len(valueless)), fields.without(valueless)
-    for names in (fields.sources, fields.targets):
-        ended = next((at for at, name in enumerate(names) if '\n' in name or '\r' in name), None)
-        if ended is not None:
-            raise table.fault(fields.numbers[ended], 'a name has an end of line in it')
-    return fields, left_out
+        complete = [line for line in lines if not is_missing(line.value)]
+        left_out, lines = left_out._replace(values=len(lines) - len(complete)), complete
+    ended = next((line for line in lines if not {'\n', '\r'}.isdisjoint(''.join(line.names))), None)
+    if ended is not None:
+        raise table.fault(ended.number, 'a name has an end of line in it')
+    return lines, left_out
 
 
-def _nameless_numbers(fields: _Fields, names: List[str]) -> List[int]:
-    """The names that may be missing, where all others of a column are numbers."""
-    missing = [at for at in fields.doubtful if is_missing(names[at])]
-    gone = set(missing)
-    return (missing if missing and len(gone) < len(names)
-            and all(is_number(name) for at, name in enumerate(names) if at not in gone) else [])
+def _find_nameless(lines: Sequence[_Line]) -> Set[int]:
+    """The edges of which a name is missing."""
+    nameless = {at for at, line in enumerate(lines) if line.missing}
+    doubtful = [at for at, line in enumerate(lines) if line.doubtful]
+    for end in (0, 1):
+        gone = {at for at in doubtful if is_missing(lines[at].names[end])}
+        if gone and len(gone) < len(lines) and all(
+            is_number(line.names[end]) for at, line in enumerate(lines) if at not in gone):
+            nameless |= gone
+    return nameless
 
 
-def _split_lines(table: Table, may_be_comments: bool) -> _Fields:
+def _split_lines(table: Table, may_be_comments: bool) -> Iterator[_Line]:
     """The fields of each edge that are read. A name in quotation marks isn't missing, unless its
     whole line is written so. ReadError where blanks part the fields of a line, and it begins with #
     alone, as comments do."""
-    found, form = _Fields([], [], [], [], [], []), table.form
-    for number, fields in rows_of(table.file, table.text, form.delimiter):
-        if number <= table.skipped:
-            continue
+    form = table.form
+    for row in table.rows():
+        number, fields = row
         if len(fields) != form.width:
             raise table.fault(number, _describe_width(table, fields))
         if may_be_comments and form.delimiter is None and not fields[0].strip('#%'):
             raise ask_comment(table.file, number, line_at(table.text, number))
-        source, target = (fields[at] for at in form.ends)
-        for name in (source, target):
-            if len(name) <= LONGEST and is_missing(name) and (
-                not name or not isinstance(name, Quoted)
-                or all(isinstance(field, Quoted) for field in fields)):
-                (found.nameless if name in NO_NAMES else found.doubtful).append(len(found.numbers))
-        found.numbers.append(number)
-        found.sources.append(source)
-        found.targets.append(target)
-        if form.value is not None:
-            found.values.append(fields[form.value])
-    return found
+        names = fields[form.ends[0]], fields[form.ends[1]]
+        absent = [end for end in (0, 1) if _may_be_missing(names[end], row)]
+        yield _Line(number, names, '' if form.value is None else fields[form.value],
+                    [end for end in absent if names[end] in NO_NAMES],
+                    [end for end in absent if names[end] not in NO_NAMES])
+
+
+def _may_be_missing(name: str, row: Row) -> bool:
+    return len(name) <= LONGEST and is_missing(name) and (
+        not name or not isinstance(name, Quoted)
+        or all(isinstance(field, Quoted) for field in row.fields))
 
 
 def _describe_width(table: Table, fields: List[str]) -> str:
@@ -356,7 +318,7 @@ def _describe_width(table: Table, fields: List[str]) -> str:
 
 
 def convert_names(sources: List[str], targets: List[str], wanted: Optional[type],
-                  fault: Any) -> Tuple[List[Any], List[Any]]:
+                  fault: Callable[[int, str], ReadError]) -> Tuple[List[Any], List[Any]]:
     """Names as whole numbers where all are, as they would be written, unless text is wanted.
     ReadError where one isn't, and numbers are."""
     columns = sources, targets

@@ -321,7 +321,8 @@ def read_quickly(kind: Kind, body: bytes, count: int, nrows: int, ncols: int) ->
     i, j = (_grid(kind.symmetry, nrows, ncols) if kind.array
             else (columns[0] - 1, columns[1] - 1))
     values = (numpy.ones(count, numpy.int64) if kind.is_bare
-              else _whole_values(columns[0 if kind.array else 2], kind.values))
+              else scaled_array(columns[0 if kind.array else 2],
+                                kind.values.rounding or Rounding(kind.values.scale)))
     outside = (i < 0) | (i >= nrows) | (j < 0) | (j >= ncols)
     if values is None or outside.any():
         return None
@@ -360,10 +361,3 @@ def _is_number(word: bytes) -> bool:
     except ValueError:
         return False
     return True
-
-
-def _whole_values(found: Any, wanted: Values) -> Any:
-    """The values of entries as whole numbers; None where they have to be looked at one by one."""
-    return (found if found.dtype.kind == 'i' and wanted.scale is None
-            else scaled_array(found.astype(numpy.float64),
-                              wanted.rounding or Rounding(wanted.scale)))

@@ -9,7 +9,7 @@ takes a word or two more.
 from __future__ import annotations
 
 import functools
-from typing import Any, List, Optional, Sequence
+from typing import Any, List, NamedTuple, Optional, Sequence
 
 import numpy
 
@@ -19,7 +19,10 @@ CHUNK = 1 << 17
 SHORT = 1 << 14
 # digits of a word, and the bytes of the three words that a number may have
 WORD, LONGEST = 8, 24
-MINUS, LF = 45, 10
+MINUS, LF, ZERO = 45, 10, 48
+MOST = (1 << 63) - 1
+# what may part numbers
+SEPARATORS = (b' ', b'\t', b',', b';', b'|')
 # digits of a number that is below 2^63 for certain; of one more digit it may be
 SURE = 18
 # bytes of lines whose fields are counted together
@@ -34,48 +37,48 @@ def fields(text: bytes, wanted: Sequence[int] = (1, 2), per_line: int = 3) -> Li
         numbers = (numpy.fromstring(text, numpy.int64, sep=' ') if text
                    else numpy.zeros(0, numpy.int64))
         return [numbers[field::per_line].copy() for field in wanted]
-    return _read_chunks(text, wanted, per_line)
+    return _read_chunks(text, wanted, per_line, _Form(False)) or []
 
 
-def _read_chunks(text: bytes, wanted: Sequence[int], per_line: int) -> List[Any]:
-    if len(text) <= 2 * CHUNK:
-        return _fields(memoryview(text), wanted, per_line)
-    parts, at = [], 0
+class _Form(NamedTuple):
+    """Whether lines have to be looked at before they are read, and whether their numbers have to be
+    written as Python writes them: no 007, and no -0."""
+    is_checked: bool
+    as_written: bool = False
+
+
+def read_plain(body: bytes, per_line: int, delimiter: bytes = b' ', wanted: Sequence[int] = (),
+               as_written: bool = False) -> Optional[List[Any]]:
+    """The wanted fields, or all, of lines that are written as `fields` wants them, with another
+    byte in place of blanks; None of other lines. With `as_written` numbers are those that Python
+    would write so: no 007, and no -0."""
+    allowed = b'0123456789-\n' + delimiter
+    if (delimiter not in SEPARATORS or not body.endswith(b'\n')
+        or any(part.translate(None, allowed) for part in (body[:SHORT], body))):
+        return None
+    # what parts fields is below `-`
+    body = body.replace(delimiter, b' ') if delimiter > b'-' else body
+    try:
+        return _read_chunks(body, wanted or range(per_line), per_line, _Form(True, as_written))
+    except OverflowError:
+        return None
+
+
+def _read_chunks(text: bytes, wanted: Sequence[int], per_line: int,
+                 form: _Form) -> Optional[List[Any]]:
+    """The fields of all lines; None where they have to be looked at, and one is written
+    otherwise."""
+    parts: List[List[Any]] = []
+    at = 0
     while at < len(text):
-        end = text.rfind(b'\n', at, at + CHUNK) + 1 if len(text) - at > CHUNK else len(text)
-        parts.append(_fields(memoryview(text)[at:end], wanted, per_line))
-        at = end
-    return [numpy.concatenate(some) for some in zip(*parts)]
-
-
-def read_plain(body: bytes, per_line: int) -> Optional[List[Any]]:
-    """All fields of lines that are written as `fields` wants them; None of other lines."""
-    if body.translate(None, b'0123456789- \n') or not body.endswith(b'\n'):
-        return None
-    # a sign stands behind a blank, and before a digit
-    if (b'-' in body
-        and (b'--' in body or b'- ' in body or b'-\n' in body
-             or body.count(b'-') != body.count(b' -'))):
-        return None
-    marks = numpy.frombuffer(body, numpy.uint8)
-    ends = numpy.flatnonzero(marks < MINUS)
-    if (len(ends) % per_line or (marks[ends[per_line - 1::per_line]] != LF).any()
-        or len(ends) != per_line * body.count(b'\n')):
-        return None
-    lengths = numpy.diff(ends, prepend=-1)
-    if lengths.min() < 2:
-        return None
-    # not by numpy's own reader, which takes numbers beyond 64 bits for others
-    columns = _read_chunks(body, range(per_line), per_line)
-    if lengths.max() > SURE + 1:
-        minus = marks[ends - lengths + 1] == MINUS
-        if (lengths - minus > SURE + 2).any():
+        end = (text.rfind(b'\n', at, at + CHUNK) + 1 if len(text) - at > 2 * CHUNK
+               else 0) or len(text)
+        part = _fields(memoryview(text)[at:end], wanted, per_line, form)
+        if part is None:
             return None
-        # a number of one digit more that is beyond 64 bits comes out with the other sign
-        for at, column in enumerate(columns):
-            if ((column < 0) != minus[at::per_line])[column != 0].any():
-                return None
-    return columns
+        parts.append(part)
+        at = end
+    return parts[0] if len(parts) == 1 else [numpy.concatenate(some) for some in zip(*parts)]
 
 
 def count_even_lines(body: bytes, width: int, delimiter: Optional[str] = None) -> Optional[int]:
@@ -105,17 +108,40 @@ def count_even_lines(body: bytes, width: int, delimiter: Optional[str] = None) -
     return count
 
 
-def _fields(text: memoryview, wanted: Sequence[int], per_line: int) -> List[Any]:
+def _fields(text: memoryview, wanted: Sequence[int], per_line: int,
+            form: _Form) -> Optional[List[Any]]:
     # so that three words stand before each end
     padded = numpy.empty(len(text) + LONGEST, numpy.uint8)
     padded[:LONGEST] = 32
     padded[LONGEST:] = numpy.frombuffer(text, numpy.uint8)
     # the first is the byte before the text
     ends = numpy.flatnonzero(padded[LONGEST - 1:] < MINUS) + LONGEST - 1
+    if form.is_checked and not _are_plain(padded, ends, per_line, form.as_written):
+        return None
     words: Any = numpy.ndarray((len(padded) - WORD + 1,), numpy.uint64, buffer=padded.data,
                                strides=(1,))
     return [_numbers(padded, words, ends[field:-1:per_line], ends[field + 1::per_line])
             for field in wanted]
+
+
+def _are_plain(padded: Any, ends: Any, per_line: int, as_written: bool) -> bool:
+    """Whether each line has so many numbers, of 19 digits at most, with a sign at their beginning
+    alone."""
+    last = padded[ends[1:]] == LF
+    if (len(last) % per_line or not last[per_line - 1::per_line].all()
+        or numpy.count_nonzero(last) != len(last) // per_line):
+        return False
+    starts, digits = padded[ends[:-1] + 1], numpy.diff(ends) - 1
+    signs = numpy.count_nonzero(padded == MINUS)
+    if signs:
+        minus = starts == MINUS
+        if numpy.count_nonzero(minus) != signs or (
+            as_written and (padded[ends[:-1][minus] + 2] == ZERO).any()):
+            return False
+        digits -= minus
+    if digits.min() < 1 or digits.max() > SURE + 1:
+        return False
+    return not (as_written and (digits[starts == ZERO] > 1).any())
 
 
 @functools.lru_cache(maxsize=None)
@@ -152,6 +178,8 @@ def _numbers(padded: Any, words: Any, before: Any, ends: Any) -> Any:
         some = numpy.flatnonzero(lengths > above)
         value[some] += _word(words, ends[some] - above,
                              numpy.minimum(lengths[some] - above, WORD)) * numpy.uint64(10 ** above)
+    if most > SURE and (value > numpy.uint64(MOST) + minus).any():
+        raise OverflowError('a number is beyond 64 bits')
     value = value.view(numpy.int64)
     if signed:
         numpy.negative(value, out=value, where=minus)

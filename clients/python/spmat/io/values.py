@@ -10,7 +10,7 @@ import functools
 import numbers
 import operator
 import re
-from typing import Any, Callable, List, Optional, Sequence, Tuple
+from typing import Any, Callable, Optional, Sequence, Tuple
 
 import numpy
 
@@ -111,25 +111,19 @@ class Rounding:
 
 
 def whole_values(fields: Sequence[str], wrong: Callable[[int, str], Exception],
-                 rounding: Rounding) -> List[int]:
-    """Fields as whole numbers. With a scale each is multiplied by it and rounded to the nearest,
+                 rounding: Rounding) -> Any:
+    """Fields as an array of whole numbers. With a scale each is multiplied by it and rounded to the nearest,
     halves to the even one; without one 0.5 is an error, and 2.0 is 2. `rounding` has the scale, and
     notes what it did; `wrong` makes the error of a field, by its number."""
-    if rounding.scale is None:
-        try:
-            values = list(map(int, fields))
-        except ValueError:
-            pass
-        else:
-            if (all(LEAST <= value <= MOST for value in values)
-                and not any('_' in field for field in fields)):
-                return values
+    if rounding.scale is None and not any('_' in field for field in fields):
+        with contextlib.suppress(ValueError, OverflowError):     # which are named below
+            return numpy.array(list(map(int, fields)), numpy.int64)
     scale = check_scale(rounding.scale)
     found = []
     for at, field in enumerate(fields):
         fault = functools.partial(wrong, at)
         found.append(whole_of(_read_decimal(field, fault), field, scale, fault, rounding))
-    return found
+    return numpy.array(found, numpy.int64)
 
 
 def _read_decimal(field: str, wrong: Wrong) -> decimal.Decimal:
@@ -172,7 +166,7 @@ def whole_of(exact: decimal.Decimal, field: str, scale: Optional[decimal.Decimal
     return int(rounded)
 
 
-def scaled(values: Any, scale: Optional[float], what: str = 'value') -> Tuple[Any, Rounding]:
+def scaled(values: Any, scale: Optional[float]) -> Tuple[Any, Rounding]:
     """Numbers of Python or numpy as whole ones: multiplied by a scale and rounded to the nearest,
     halves to the even one, as they are written in decimals (0.29 times 100 is 29); and what that
     did. One number is for all. Without a scale they are as they were. TypeError for what is no
@@ -180,33 +174,27 @@ def scaled(values: Any, scale: Optional[float], what: str = 'value') -> Tuple[An
     rounding, exact = Rounding(scale), check_scale(scale)
     if exact is None:
         return values, rounding
-    if isinstance(values, numpy.ndarray) and values.dtype.kind in 'iuf':
-        found = scaled_array(values.astype('float64'), rounding)
-        if found is not None:
-            return found, rounding
     if not hasattr(values, '__iter__'):
-        return scaled_one(values, exact, rounding, what), rounding
-    return [scaled_one(value, exact, rounding, '%s (entry %d)' % (what, at))
-            for at, value in enumerate(values)], rounding
+        return scaled_one(values, exact, rounding, 'value'), rounding
+    found = scaled_array(values, rounding) if isinstance(values, numpy.ndarray) else None
+    return [scaled_one(value, exact, rounding, 'value (entry %d)' % at)
+            for at, value in enumerate(values)] if found is None else found, rounding
 
 
 def whole_numbers(values: Any, rounding: Rounding, wrong: Callable[[int, Exception], Exception],
                   what: str = 'value') -> Any:
     """An array of whole numbers out of a list of numbers, or an array, as `scaled` has it. `wrong`
     makes the error of one, of its number and of an error that doesn't name it."""
-    kind = values.dtype.kind if isinstance(values, numpy.ndarray) else ''
     exact, found = check_scale(rounding.scale), None
-    if exact is None and kind == 'i':
-        found = values.astype(numpy.int64, copy=False)
-    elif kind and kind in 'iuf':
-        found = scaled_array(values.astype(numpy.float64), rounding)
+    if isinstance(values, numpy.ndarray):
+        found = scaled_array(values, rounding)
     elif exact is None:
         with contextlib.suppress(TypeError, OverflowError):     # which are named below
             found = numpy.array(list(map(operator.index, values)), numpy.int64)
     if found is not None:
         return found
     whole_ones = []
-    for at, value in enumerate(values.tolist() if kind else values):
+    for at, value in enumerate(values.tolist() if isinstance(values, numpy.ndarray) else values):
         try:
             whole_ones.append(word(value, what) if exact is None
                               else scaled_one(value, exact, rounding, what))
@@ -239,10 +227,14 @@ def _decimal_of(value: Any) -> decimal.Decimal:
 
 
 def scaled_array(values: Any, rounding: Rounding) -> Any:
-    """An array of floats as one of int64, as `whole_values` has it; None where floats can't tell
-    that."""
-    scale = rounding.scale
-    products = values if scale is None else values * float(scale)
+    """An array of numbers as one of int64, as `whole_values` has it; None where they have to be
+    looked at one by one."""
+    kind, scale = values.dtype.kind, rounding.scale
+    if kind == 'i' and scale is None:
+        return values.astype(numpy.int64, copy=False)
+    if kind not in 'iuf':
+        return None
+    products = values.astype(numpy.float64) * float(1 if scale is None else scale)
     rounded = numpy.rint(products)
     if not (numpy.abs(products) < (EXACT if scale is None else NEAR)).all():
         return None
