@@ -9,7 +9,7 @@ import numpy
 from ..extras import import_extra
 from ..matrix_base import MatrixBase
 from ..units import are_decimals
-from . import compressed, coo
+from . import coo
 from .arrays import dense
 
 
@@ -101,7 +101,7 @@ class ArrayExports(MatrixBase):
         >>> s.from_coo([0, 2], [1, 0], [5, 6], 3, 2).to_dicts()
         {0: {1: 5}, 2: {0: 6}}
         """
-        return compressed.to_dicts(self._read_stored(True), order)
+        return coo.to_dicts(self._read_stored(True), order)
 
     def to_csr(self) -> Tuple[Any, Any, Any]:
         """Compressed rows.
@@ -116,7 +116,7 @@ class ArrayExports(MatrixBase):
         -----
         Runs the queue where this matrix waits. In python-graphblas the same name.
         """
-        return compressed.to_compressed(self.entries(), self.nrows)
+        return coo.to_compressed(self.entries(), self.nrows)
 
     def to_csc(self) -> Tuple[Any, Any, Any]:
         """Compressed columns.
@@ -131,7 +131,7 @@ class ArrayExports(MatrixBase):
         -----
         Runs the queue where this matrix waits. In python-graphblas the same name.
         """
-        return compressed.to_compressed(compressed.by_columns(self.entries()), self.ncols)
+        return coo.to_compressed(coo.by_columns(self.entries()), self.ncols)
 
     def to_list(self, missing: Any = None, dtype: Any = None) -> List[Any]:
         """The values of a column or a row.

@@ -9,7 +9,7 @@ from .. import overflow, units
 from ..matrix_base import MatrixBase
 from ..metadata import NOTHING, Axes, axes_of, sizes_of
 from ..operators import Op
-from . import arrays, compressed, coo, matrix_market, networkx_adjacency
+from . import arrays, coo, matrix_market, networkx_adjacency
 from .matrix_text import Triples
 from .values import Rounding, scaled
 
@@ -216,10 +216,9 @@ class ArraySources(abc.ABC, Generic[Made]):
         -----
         In python-graphblas `Matrix.from_csr`.
         """
-        rows = compressed.expand(arrays.plain_column(indptr, 'beginning'),
-                                 arrays.plain_column(columns, 'column'), 'row')
-        return self.from_coo(rows, columns, values, compressed.side_of(indptr, nrows, 'row'), ncols,
-                             scale=scale, dup_op=dup_op, name=name)
+        rows, nrows = coo.expand(indptr, columns, nrows, 'row')
+        return self.from_coo(rows, columns, values, nrows, ncols, scale=scale, dup_op=dup_op,
+                             name=name)
 
     def from_csc(self, indptr: Any, rows: Any, values: Any = 1, nrows: Optional[int] = None,
                  ncols: Optional[int] = None, *, scale: Optional[float] = None,
@@ -257,11 +256,9 @@ class ArraySources(abc.ABC, Generic[Made]):
         -----
         In python-graphblas `Matrix.from_csc`.
         """
-        columns = compressed.expand(arrays.plain_column(indptr, 'beginning'),
-                                    arrays.plain_column(rows, 'row'), 'column')
-        return self.from_coo(rows, columns, values, nrows,
-                             compressed.side_of(indptr, ncols, 'column'), scale=scale,
-                             dup_op=dup_op, name=name)
+        columns, ncols = coo.expand(indptr, rows, ncols, 'column')
+        return self.from_coo(rows, columns, values, nrows, ncols, scale=scale, dup_op=dup_op,
+                             name=name)
 
     def from_dicts(self, nested: Any, nrows: Optional[int] = None, ncols: Optional[int] = None, *,
                    order: str = 'rowwise', scale: Optional[float] = None,
@@ -291,7 +288,7 @@ class ArraySources(abc.ABC, Generic[Made]):
         -----
         In python-graphblas `Matrix.from_dicts`.
         """
-        rows, columns, values = compressed.from_dicts(nested, order)
+        rows, columns, values = coo.from_dicts(nested, order)
         return self.from_coo(rows, columns, values, nrows, ncols, scale=scale, name=name)
 
     def from_scipy_sparse(self, matrix: Any, *, scale: Optional[float] = None,

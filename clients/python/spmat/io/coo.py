@@ -1,5 +1,5 @@
 """Triples from what callers have, looked at before anything is sent: lists, arrays of numpy,
-tables, scipy.sparse."""
+tables, scipy.sparse, compressed rows, dicts; and back."""
 from __future__ import annotations
 
 import decimal
@@ -7,7 +7,7 @@ import math
 import numbers
 import operator
 import os
-from typing import Any, Callable, Iterable, List, Mapping, Optional, Tuple
+from typing import Any, Callable, Dict, Iterable, List, Mapping, Optional, Tuple
 
 import numpy
 
@@ -19,6 +19,8 @@ from .matrix_text import Triples
 LEAST, MOST = -1 << 63, (1 << 63) - 1
 LONGEST = 60                                       # characters of a value that an error shows
 DUP_OP = 'dup_op= folds the values of a position that repeats'
+ORDERS = {'rowwise': True, 'columnwise': False}
+Columns = Tuple[Any, Any, Any]
 
 
 def checked(rows: Any, columns: Any, values: Any, nrows: Optional[int] = None,
@@ -27,10 +29,9 @@ def checked(rows: Any, columns: Any, values: Any, nrows: Optional[int] = None,
     aren't given are the least that fit. `values` may be one number for all. TypeError for what is
     no number, ValueError for lengths that differ, values that aren't whole, and what is out of
     range; the place is counted from 0."""
-    rows, columns = whole_array(plain_column(rows, 'row'),
-                                'row'), whole_array(plain_column(columns, 'column'), 'column')
+    rows, columns = _convert_column(rows, 'row'), _convert_column(columns, 'column')
     if is_many(values):
-        values = whole_array(plain_column(values, 'value'), 'value')
+        values = _convert_column(values, 'value')
     else:
         values = numpy.full(len(rows), word(values, 'value'), numpy.int64)
     if not len(rows) == len(columns) == len(values):
@@ -41,19 +42,17 @@ def checked(rows: Any, columns: Any, values: Any, nrows: Optional[int] = None,
     for what, many, most in (('row', rows, nrows - 1), ('column', columns, ncols - 1)):
         if len(many) and not (many.min() >= 0 and many.max() <= most):
             at = int(((many < 0) | (many > most)).argmax())
-            raise _outside(what, many[at], 0, most, at)
+            # the least size that fits an index below 0 may be none
+            why = 'below 0' if many[at] < 0 else 'not in 0 to %d' % most
+            raise ValueError('%s %d is %s (entry %d)' % (what, many[at], why, at))
     return Triples(rows, columns, values, nrows, ncols)
 
 
-def _outside(what: str, number: int, least: int, most: int, at: int) -> ValueError:
-    """What is said of a number out of range: of an index below 0 no more than that, as the least
-    size that fits may be none."""
-    if least == 0 and number < 0:
-        return ValueError('%s %d is below 0 (entry %d)' % (what, number, at))
-    return ValueError('%s %d is not in %d to %d (entry %d)' % (what, number, least, most, at))
+def _convert_column(many: Any, what: str) -> Any:
+    return whole_array(plain_column(many, what), what)
 
 
-def columns_of(triples: Any) -> Tuple[Any, Any, Any]:
+def columns_of(triples: Any) -> Columns:
     """The rows, columns and values of (row, column, value) or (row, column), whose value is 1; or
     of an array of numpy with these as its columns."""
     if is_frame(triples):
@@ -158,26 +157,18 @@ def whole_list(many: Iterable[Any], what: str) -> List[int]:
     try:
         return list(map(operator.index, many))
     except TypeError:
-        return [_whole_at(number, what, at) for at, number in enumerate(many)]
+        return [_convert_at(whole, number, what, at) for at, number in enumerate(many)]
 
 
-def _whole_at(number: Any, what: str, at: int) -> int:
-    """A number as an int; errors name its place."""
+def _convert_at(convert: Callable[[Any, str], int], number: Any, what: str, at: int) -> int:
+    """A number as an int, by `whole` or `word`; errors name its place."""
     if is_gap(number):
         raise ValueError('a %s is missing: it is %s (entry %d)'
                          % (what, 'nan' if isinstance(number, float) else repr(number), at))
     try:
-        return whole(number, what)
+        return convert(number, what)
     except (TypeError, ValueError) as fault:
         raise type(fault)('%s (entry %d)' % (fault, at)) from None
-
-
-def _word_at(number: Any, what: str, at: int) -> int:
-    """A whole number within 64 bits; errors name its place."""
-    got = _whole_at(number, what, at)
-    if not LEAST <= got <= MOST:
-        raise ValueError('%s %s is not in -2^63 to 2^63 - 1 (entry %d)' % (what, shown(got), at))
-    return got
 
 
 def side(given: Optional[int], least: int, what: str) -> int:
@@ -204,7 +195,7 @@ def whole_array(many: Any, what: str) -> Any:
     if array.ndim != 1:
         raise ValueError('expected one dimension of %ss, got %d' % (what, array.ndim))
     if array.dtype.kind == 'O' or not len(array):
-        return numpy.array([_word_at(number, what, at)
+        return numpy.array([_convert_at(word, number, what, at)
                             for at, number in enumerate(array.tolist())], numpy.int64)
     if array.dtype.kind not in 'biuf':
         since = (
@@ -336,3 +327,73 @@ def unrepeated(triples: Triples, fold: Fold) -> Triples:
         (triples.rows[alone], triples.rows[first]),
         (triples.columns[alone], triples.columns[first]), (triples.values[alone], folded)))
     return Triples(rows, columns, values, triples.nrows, triples.ncols)
+
+
+# -- compressed rows, and dicts
+
+def to_compressed(entries: Columns, count: int) -> Columns:
+    """Where the entries of each row begin, and at last how many there are; their columns and
+    values. Rows ascend."""
+    rows, columns, values = entries
+    return numpy.searchsorted(rows, numpy.arange(count + 1)), columns, values
+
+
+def by_columns(entries: Columns) -> Columns:
+    """Entries by ascending column, and each column's by ascending row: columns, rows, values."""
+    rows, columns, values = entries
+    order = numpy.argsort(columns, kind='stable')
+    return columns[order], rows[order], values[order]
+
+
+def expand(indptr: Any, others: Any, given: Optional[int], what: str) -> Tuple[Any, int]:
+    """The row (or column) of each entry, of where the rows begin, and how many rows there are.
+    ValueError where another number is given."""
+    beginnings = _convert_column(indptr, 'beginning')
+    entries = len(plain_column(others, 'column' if what == 'row' else 'row'))
+    if not len(beginnings) or beginnings[0] != 0 or beginnings[-1] != entries:
+        raise ValueError(
+            'the beginnings of the %ss go from 0 to the number of entries, %d, and not %s' % (
+                what, entries, 'from %d to %d' % (beginnings[0], beginnings[-1])
+                if len(beginnings) else 'over none'))
+    counts = numpy.diff(beginnings)
+    if (counts < 0).any():
+        at = int((counts < 0).argmax())
+        raise ValueError('the beginnings of the %ss ascend, and %d comes after %d (entry %d)'
+                         % (what, beginnings[at + 1], beginnings[at], at + 1))
+    if given is not None and whole(given, 'number of ' + what) != len(counts):
+        raise ValueError('%s %ss are given, and the beginnings are of %d'
+                         % (shown(given), what, len(counts)))
+    return numpy.repeat(indices(len(counts)), counts), len(counts)
+
+
+def to_dicts(entries: Columns, order: str) -> Dict[int, Dict[int, int]]:
+    """A dict of the entries of each row, or column, that has some."""
+    rows, columns, values = (part.tolist()
+                             for part in (entries if _is_rowwise(order) else by_columns(entries)))
+    out: Dict[int, Dict[int, int]] = {}
+    for row, column, value in zip(rows, columns, values):
+        out.setdefault(row, {})[column] = value
+    return out
+
+
+def from_dicts(nested: Any, order: str) -> Columns:
+    """Rows, columns and values of a dict for each row, or column. TypeError for what is no such
+    dict, and for names."""
+    if not isinstance(nested, dict) or not all(isinstance(inner, dict)
+                                               for inner in nested.values()):
+        raise TypeError('expected {row: {column: value}}, got %s' % (
+            'a dict of other things' if isinstance(nested, dict) else type(nested).__name__))
+    triples = [(row, column, value) for row, inner in nested.items()
+               for column, value in inner.items()]
+    if any(not hasattr(end, '__index__') for row, column, _ in triples for end in (row, column)):
+        raise TypeError(
+            'rows and columns are numbers from 0: s.from_edgelist((a, b, x) for a, inner in '
+            'nested.items() for b, x in inner.items()) takes names')
+    rows, columns, values = zip(*triples) if triples else ((), (), ())
+    return (rows, columns, values) if _is_rowwise(order) else (columns, rows, values)
+
+
+def _is_rowwise(order: str) -> bool:
+    if order not in ORDERS:
+        raise ValueError('order is "rowwise" or "columnwise", not %r' % (order,))
+    return ORDERS[order]
