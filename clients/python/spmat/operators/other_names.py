@@ -12,8 +12,21 @@ ALIASES: Dict[str, Dict[str, str]] = {
                'bitor': 'bor', 'bitxor': 'bxor', 'bitxnor': 'bxnor'},
     'index': {}}
 
-# ready operators that another ready one does the same as, by its own name
-SECOND_NAMES = ('any', 'iseq', 'isne', 'oneb')
+# Ready operators, but for second names of others, each behind the CRC-32 of its kind and its
+# instructions. So a function is found to be one without the files of all.
+_BY_CHECKSUM = '''
+67ec55b7 abs 6dede0d9 ainv 365f7b17 bnot 7245da94 identity 5cdfdc41 lnot 1a3cd74f minv
+b9a71398 nonzero baad6fde one 98a47f88 sgn 1cda646a zero 448d0efc absdiff 86a91ec2 arsh
+c8ccc1ee band 75d332ef bor e269a570 bxnor 2c7c1922 bxor 22584db5 cdiv 1ce8f9ad cmod 5d32aaa9 eq
+674e309f first e0467f89 floordiv d90a5cc3 ge 39933902 gt 1e6822ee land f3016028 le 824c1d7a lor
+99aae7a2 lsh 139805e9 lt 3deb857f lxnor 64a49976 lxor daadbc17 max ed5f8cdb min 12f112f6 minus
+a2d8b816 ne 6b6a2d83 pair fae01eb7 plus 68aed5cb rdiv 8cb045a1 rminus ae24a933 rsh 56a62a02 second
+05fdaacc times cd1d2637 zero 875ff787 colgt 8f351907 colindex 4dcdaead colle 85ca8582 diag
+018fcc82 diagindex bac85f7a nonzero 7a20973d offdiag 60425110 rowgt ea522241 rowindex aad0083a rowle
+e8f070dd thunk 080c3450 tril 220708bb triu 8e4646c0 valueeq 728cd929 valuege 9215bce8 valuegt
+5887e5c2 valuele b81e8003 valuelt 71ac547f valuene
+'''.split()
+READY_BY_CHECKSUM = dict(zip(_BY_CHECKSUM[::2], _BY_CHECKSUM[1::2]))
 
 UFUNCS: Dict[str, Dict[str, str]] = {
     'unary': {'absolute': 'abs', 'negative': 'ainv', 'positive': 'identity', 'invert': 'bnot',

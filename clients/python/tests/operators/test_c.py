@@ -97,11 +97,12 @@ def has_clang():
 wants_clang = unittest.skipUnless(has_clang(), 'no clang of 14 or above')
 
 
-class Values(unittest.TestCase):
+class Values(support.InSession):
     """What the functions give, through the program."""
     @classmethod
     def setUpClass(cls):
-        cls.session, random_ = spmat.Session(program=support.program()), random.Random(3)
+        super().setUpClass()
+        random_ = random.Random(3)
         word = lambda: random_.choice((random_.randrange(-2 ** 63, 2 ** 63),
                                        random_.randrange(-40, 40)))
         pairs = [(x, y) for x in EDGES for y in EDGES] + [(word(), word()) for _ in range(300)]
@@ -111,10 +112,6 @@ class Values(unittest.TestCase):
                         for part in (cls.x, cls.y))
         cls.cells = [(k // 20, k % 20, x) for k, x in enumerate(cls.x[:400])]
         cls.A = cls.session.from_triples(cls.cells, 20, 20)
-
-    @classmethod
-    def tearDownClass(cls):
-        cls.session.close()
 
     def look(self, name, op):
         kind, meaning = MEANINGS[name]

@@ -7,6 +7,7 @@ import re
 import subprocess
 import sys
 import unittest
+import zlib
 
 import support
 import spmat
@@ -17,6 +18,8 @@ from spmat.operators import other_names
 
 FOLDER = os.path.join(os.path.dirname(os.path.abspath(spmat.__file__)), 'operators')
 READY = {'unary': spmat.unary, 'binary': spmat.binary, 'index': spmat.indexunary}
+# ready operators that another ready one does the same as, by its own name
+SECOND_NAMES = ('any', 'iseq', 'isne', 'oneb')
 
 
 EDGES = [0, 1, -1, 2, -2, 3, 7, -7, 31, 32, 63, 64, 65, 2 ** 31 - 1, 2 ** 31, -2 ** 31, 2 ** 32,
@@ -29,19 +32,15 @@ def file_of(kind, name):
         return file.read()
 
 
-def names(kind):
-    return sorted(file[:-4] for file in os.listdir(os.path.join(FOLDER, kind))
-                  if file.endswith('.asm'))
-
-
 def instructions(text):
     return [line for line in text.split('\n') if line and not line.startswith(';')]
 
 
-class ReadyOperators(unittest.TestCase):
+class ReadyOperators(support.InSession):
     @classmethod
     def setUpClass(cls):
-        cls.session, random_ = spmat.Session(program=support.program()), random.Random(1)
+        super().setUpClass()
+        random_ = random.Random(1)
         word = lambda: random_.choice((random_.randrange(-2 ** 63, 2 ** 63),
                                        random_.randrange(-20, 20)))
         pairs = [(x, y) for x in EDGES for y in EDGES] + [(word(), word()) for _ in range(200)]
@@ -50,13 +49,9 @@ class ReadyOperators(unittest.TestCase):
         cls.X, cls.Y = (cls.session.from_coo([0] * size, range(size), list(part), 1, size)
                         for part in (cls.x, cls.y))
 
-    @classmethod
-    def tearDownClass(cls):
-        cls.session.close()
-
     def test_files_have_a_meaning_here(self):
         for kind, meanings in MEANINGS.items():
-            self.assertEqual(names(kind), sorted(meanings))
+            self.assertEqual(READY[kind].ready(), sorted(meanings))
             self.assertEqual(sorted(READY[kind]), sorted(meanings))
         with open(os.path.join(support.TOP, 'docs', 'operators.md'), encoding='utf-8') as page:
             self.assertIn('%d operators are [ready]' % sum(map(len, MEANINGS.values())),
@@ -105,7 +100,7 @@ class ReadyOperators(unittest.TestCase):
         """Each is a comment with its meaning and its instructions, which are what the server has of
         it."""
         for kind in MEANINGS:
-            for name in names(kind):
+            for name in READY[kind].ready():
                 text = file_of(kind, name)
                 self.assertRegex(text, r'\A; .{1,100}\n([a-z0-9]+( [^;#\n]+)?\n)*exit\n\Z',
                                  (kind, name))
@@ -132,7 +127,7 @@ def tables():
 class Table(unittest.TestCase):
     def test_table_is_that_of_the_files(self):
         rows = list(tables())
-        files = [(kind, name, file_of(kind, name)) for kind in MEANINGS for name in names(kind)]
+        files = [(kind, name, file_of(kind, name)) for kind in MEANINGS for name in READY[kind].ready()]
         want = [(kind, name, text.split('\n')[0][2:], len(instructions(text)))
                 for kind, name, text in files]
         self.assertEqual(sorted(rows), sorted(want))
@@ -142,16 +137,17 @@ class Texts(unittest.TestCase):
     """A function is found to be a ready operator by its instructions."""
 
     def test_each_has_a_text_of_its_own(self):
-        """Second names aside, so that a text is one operator."""
+        """Second names aside, so that a text is one operator; and it is found by its checksum."""
+        checksums = {}
         for kind, ready in READY.items():
             texts = collections.defaultdict(list)
             for name in ready.ready():
                 texts[ready[name].bare_text].append(name)
-            for names_of_one in texts.values():
+            for text, names_of_one in texts.items():
                 with self.subTest(kind=kind, names=names_of_one):
-                    self.assertEqual(
-                        len([name for name in names_of_one
-                             if name not in other_names.SECOND_NAMES]), 1)
+                    name, = (name for name in names_of_one if name not in SECOND_NAMES)
+                    checksums['%08x' % zlib.crc32(('%s\n%s' % (kind, text)).encode())] = name
+        self.assertEqual(other_names.READY_BY_CHECKSUM, checksums)
 
     def test_functions_that_are_ready(self):
         for made, name in ((spmat.binary(lambda x, y: x + y), 'plus'),
@@ -160,8 +156,8 @@ class Texts(unittest.TestCase):
             self.assertEqual((made.name, made.text), (name, READY[made.kind][name].text))
         self.assertEqual(spmat.binary(lambda x, y: y + 3 * x).name, None)
 
-    def test_files_are_read_once(self):
-        """Those of one kind, and none for a second function."""
+    def test_which_files_are_read(self):
+        """None for a function that is no ready operator, and that of the ready one for another."""
         program = ('import builtins, spmat\nopened = []\nreal = open\n'
                    'def counting(name, *more, **words):\n'
                    '    opened.append(str(name)); return real(name, *more, **words)\n'
@@ -172,9 +168,7 @@ class Texts(unittest.TestCase):
         done = subprocess.run([sys.executable, '-c', program], stdout=subprocess.PIPE, check=True,
                               universal_newlines=True,
                               env=dict(os.environ, PYTHONPATH=support.CLIENT))
-        read = len([name for name in READY['binary'].ready()
-                    if name not in other_names.SECOND_NAMES])
-        self.assertEqual(done.stdout, '%d %d\n' % (read, read))
+        self.assertEqual(done.stdout, '0 1\n')
 
 
 class Semirings(unittest.TestCase):

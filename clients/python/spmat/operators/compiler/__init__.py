@@ -15,13 +15,14 @@ from __future__ import annotations
 import functools
 import inspect
 import textwrap
+import zlib
 from dataclasses import dataclass, field
-from typing import Any, Callable, Dict, Optional, Tuple
+from typing import Any, Callable, Optional, Tuple
 
 from ...errors import CompileError
 from .. import Operator, READY
 from ..integer_functions import Operand, whole
-from ..other_names import SECOND_NAMES
+from ..other_names import READY_BY_CHECKSUM
 from .cache import code_of
 from .compile_function import NAMES, find_positional, name_of
 from .exploration import call
@@ -63,19 +64,19 @@ def operator_of(kind: str, function: Callable[..., Any], name: Optional[str] = N
         raise TypeError('expected a function, got %r' % (function,))
     made = code_of(kind, function, name, check)
     called = name or (None if name_of(function) == '<lambda>' else name_of(function))
-    text, ready = made.text, _ready_by_text(kind).get(made.text)
+    text, ready = made.text, _find_ready(kind, made.text)
     if ready is not None:                          # what is known of it is known of this one, too
         text, called = ready.body.decode(), called or ready.name
     return FromFunction(kind, text=text, name=called, function=function,
                         instructions=made.instructions)
 
 
-@functools.lru_cache(maxsize=None)
-def _ready_by_text(kind: str) -> Dict[str, Operator]:
-    """The ready operators of a kind by their instructions. Their files are read once, when a
-    function first becomes an operator of this kind: that takes 2 ms."""
-    operators = [READY[kind][name] for name in READY[kind].ready() if name not in SECOND_NAMES]
-    return {one.bare_text: one for one in operators}
+@functools.lru_cache(maxsize=1024)
+def _find_ready(kind: str, text: str) -> Optional[Operator]:
+    """The ready operator of a kind that has these instructions; None where none has."""
+    name = READY_BY_CHECKSUM.get('%08x' % zlib.crc32(('%s\n%s' % (kind, text)).encode()))
+    found = READY[kind][name] if name is not None else None
+    return found if found is not None and found.bare_text == text else None
 
 
 def source_of(function: Callable[..., Any]) -> str:
