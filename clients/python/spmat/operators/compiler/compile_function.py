@@ -217,15 +217,15 @@ def find_positional(function: Function) -> Tuple[List[str], int, int]:
 
 # -- one way
 
-def _take_way(function: Function, used: int, path: Path) -> Node:
-    """One way through a function: its result."""
+def _take_way(function: Function, used: int, path: Path) -> Optional[Node]:
+    """One way through a function: its result, or None where it is to be run again."""
     result, raised = None, None                    # type: Any, Optional[Exception]
     try:
         result = call(function, [Word(path, node) for node in path.shared.operands[:used]])
     except Exception as fault:  # pylint: disable=broad-exception-caught  # whatever it raises
         raised = fault
-    if path.note_probe(raised):
-        return path.shared.operands[0]
+    if path.is_uncaught(raised):
+        return None
     if path.refused is None and raised is not None:
         raise _locate_fault(RAISES % (type(raised).__name__, raised, path.conditions()),
                       _find_raise(raised)) from raised

@@ -13,7 +13,8 @@ import inspect
 import linecache
 import os
 from types import CodeType, FrameType
-from typing import Any, Callable, Dict, Iterator, List, NamedTuple, Optional, Sequence, Tuple
+from typing import (Any, Callable, Dict, Iterator, List, NamedTuple, Optional, Sequence, Set,
+                    Tuple)
 
 from ...errors import CompileError
 from ..assembly import MEANINGS, OPERATIONS, WORDS
@@ -39,13 +40,6 @@ Point = Tuple[Tuple[bool, ...], int]               # the answers so far, and how
 class Impure(BaseException):
     """A function did something else when it was run again. The function itself must not catch it,
     so it is no Exception."""
-
-
-class Probe(NamedTuple):
-    """An error that was raised to see whether the function catches it: the point on a way at which
-    it was raised, and the error."""
-    point: Point
-    error: Exception
 
 
 # -- the function at work
@@ -155,15 +149,15 @@ def _of_bits(op: str, one: Range, other: Range) -> Sequence[int]:
 
 class Exploration:
     """What all ways through a function share. `operands` are numbers where these are known.
-    `by_range` says whether ranges answer questions, `pruned` whether they did. `caught` says of
-    points of all ways whether the function catches an error that is raised there."""
+    `by_range` says whether ranges answer questions, `pruned` whether they did. `uncaught` has the
+    points, of all ways, at which the function doesn't catch an error of Python's."""
 
     def __init__(self, names: Sequence[str], operands: Optional[Sequence[int]] = None,
                  by_range: bool = True) -> None:
         self.graph, self.names, self.by_range, self.pruned = Graph(), names, by_range, False
         self.operands = ([self.graph.node('arg', number=at) for at in range(len(names))]
                          if operands is None else list(map(self.graph.const, operands)))
-        self.caught: Dict[Point, bool] = {}
+        self.uncaught: Set[Point] = set()
         self.warnings: Dict[Tuple[str, Optional[Line]], str] = {}
 
 
@@ -177,8 +171,8 @@ class Path:
         self.refused: Optional[CompileError] = None
         self.line: Optional[Line] = None           # where it was refused
         self.asked = 0
-        self.probe: Optional[Probe] = None
         self.points = 0                            # at which an error might have been raised
+        self.raised: List[Tuple[Point, Exception]] = []    # and where it was
         self.facts: Dict[Node, bool] = {}
         self.ranges = Ranges()
         for side in exploration.operands[1:3] if len(exploration.operands) == 4 else []:
@@ -196,23 +190,21 @@ class Path:
         self.shared.warnings.setdefault((what, current_line()), what + self.conditions() + meaning)
 
     def raise_if_caught(self, condition: Condition, error: Exception) -> None:
-        """Raises an error of Python's where a condition holds, if the function catches it. To see
-        that, the error is raised once for each point, and the way is run again."""
-        if self.probe is not None or not may_catch():
+        """Raises an error of Python's where a condition holds, if the function may catch it. Where
+        it doesn't, the way is run again without the error."""
+        if not may_catch():
             return
         point = tuple(answer for _, answer in self.taken), self.points
         self.points += 1
-        if point not in self.shared.caught:
-            self.probe = Probe(point, error)
-            raise error
-        if self.shared.caught[point] and self.decide(condition):
+        if point not in self.shared.uncaught and self.decide(condition):
+            self.raised.append((point, error))
             raise error
 
-    def note_probe(self, raised: Optional[Exception]) -> bool:
-        """Notes whether a probe was caught, by what the function raised; False without a probe."""
-        if self.probe is not None:
-            self.shared.caught[self.probe.point] = raised is not self.probe.error
-        return self.probe is not None
+    def is_uncaught(self, fault: Optional[Exception]) -> bool:
+        """Whether what the function raised is such an error, which is noted."""
+        points = {point for point, error in self.raised if error is fault}
+        self.shared.uncaught |= points
+        return bool(points)
 
     # -- questions
 
@@ -253,7 +245,7 @@ class Path:
 
     def _ask(self, c: Node) -> bool:
         """The answer to a question that nothing known answers."""
-        planned = self.probe is None and len(self.taken) < len(self.plan)
+        planned = len(self.taken) < len(self.plan)
         expected, answer = self.plan[len(self.taken)] if planned else (c, True)
         if expected is not c:
             raise Impure
@@ -322,9 +314,10 @@ class Explored(NamedTuple):
     shared: Exploration
 
 
-def explore(names: Sequence[str], run: Callable[[Path], Node],
+def explore(names: Sequence[str], run: Callable[[Path], Optional[Node]],
             operands: Optional[Sequence[int]] = None, by_range: bool = True) -> Explored:
-    """All ways through a function as one expression; `run` takes one."""
+    """All ways through a function as one expression. `run` takes one, and gives None for one that
+    is to be run again."""
     shared = Exploration(names, operands, by_range)
     graph = shared.graph
     plan: Answers = []
@@ -332,9 +325,10 @@ def explore(names: Sequence[str], run: Callable[[Path], Node],
     ways = 0
     while True:
         path = Path(shared, plan)
-        root = tree = run(path)
-        if path.probe is not None:
+        found = run(path)
+        if found is None:
             continue
+        root = tree = found
         ways, taken = ways + 1, path.taken
         if len(taken) < len(plan):
             raise Impure
