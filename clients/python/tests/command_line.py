@@ -24,9 +24,7 @@ class CommandLine(unittest.TestCase):
     """Tests that run commands in a folder of their own."""
 
     def setUp(self):
-        folder = tempfile.TemporaryDirectory()
-        self.addCleanup(folder.cleanup)
-        self.folder = folder.name
+        self.folder = support.enter(self, tempfile.TemporaryDirectory())
 
     def write(self, name, text):
         with open(os.path.join(self.folder, name), 'wb' if isinstance(text, bytes)

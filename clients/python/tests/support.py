@@ -63,6 +63,13 @@ def has(module):
     return found is not None and found.origin is not None
 
 
+def enter(test, manager):
+    """What a context manager gives, which ends with a test."""
+    entered = manager.__enter__()
+    test.addCleanup(manager.__exit__, None, None, None)
+    return entered
+
+
 def said(kind, call, *given, **named):
     """The words of the error of a kind that a call ends with."""
     with unittest.TestCase().assertRaises(kind) as caught:

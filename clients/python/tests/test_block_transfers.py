@@ -39,10 +39,8 @@ def shuffled(many):
 
 class Files(unittest.TestCase):
     def setUp(self):
-        self.one = spmat.Session()
-        self.addCleanup(self.one.close)
-        self.many = blocks.Sessions(3)
-        self.addCleanup(self.many.close)
+        self.one = support.enter(self, spmat.Session())
+        self.many = support.enter(self, blocks.Sessions(3))
 
     def test_read_by_pieces(self):
         """Sorted and in any order, by pieces of a few lines and whole, with numpy where it is
@@ -179,8 +177,7 @@ class Files(unittest.TestCase):
 
 class Others(unittest.TestCase):
     def setUp(self):
-        self.many = blocks.Sessions(3)
-        self.addCleanup(self.many.close)
+        self.many = support.enter(self, blocks.Sessions(3))
 
     def test_generator_of_edges(self):
         a = entries(1, 60, 40, 500)

@@ -402,9 +402,8 @@ class OutAndIn(Case):
     """Random decimals through each reader and writer."""
 
     def setUp(self):
-        folder = tempfile.TemporaryDirectory()
-        self.addCleanup(folder.cleanup)
-        self.path = os.path.join(folder.name, 'g.csv')
+        folder = support.enter(self, tempfile.TemporaryDirectory())
+        self.path = os.path.join(folder, 'g.csv')
         chance = random.Random(5)
         names = ['n%d' % k for k in range(12)]
         cells = chance.sample([(a, b) for a in names for b in names if a != b], 60)

@@ -8,7 +8,7 @@ from spmat import algorithms, blocks
 from spmat.algorithms import graph_model, strong_components, traversal
 from spmat.io.matrix_text import Triples
 from spmat.operators import Semiring, binary
-from support import InSession
+from support import InSession, enter
 
 FORESTS = [graph for graph in graphs.UNDIRECTED if graph.count < 100]
 
@@ -160,9 +160,7 @@ class Scans(InSession):
 
     def setUp(self):
         super().setUp()
-        small = mock.patch.object(traversal, 'SMALL', 0)
-        small.start()
-        self.addCleanup(small.stop)
+        enter(self, mock.patch.object(traversal, 'SMALL', 0))
 
     def test_searches(self):
         scanned = []

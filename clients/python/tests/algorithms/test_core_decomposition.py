@@ -41,5 +41,4 @@ class Cores(graphs.OnGraphs):
 
     def setUp(self):
         super().setUp()
-        self.few = spmat.Session(1 << 50, program=support.program())
-        self.addCleanup(self.few.close)
+        self.few = support.enter(self, spmat.Session(1 << 50, program=support.program()))

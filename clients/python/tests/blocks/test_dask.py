@@ -131,8 +131,7 @@ class Dask(unittest.TestCase):
                 break
             time.sleep(.1)
         gc.collect()                                                   # what earlier tests held
-        self.one = spmat.Session()
-        self.addCleanup(self.one.close)
+        self.one = support.enter(self, spmat.Session())
 
     @contextlib.contextmanager
     def sessions(self, engine=None, **settings):

@@ -8,7 +8,7 @@ import unittest
 from unittest import mock
 
 import alike
-import support  # pylint: disable=unused-import  # it names the program
+import support
 import spmat
 from spmat import blocks
 from spmat.blocks import file_parts, parallel_read
@@ -37,15 +37,11 @@ def a_text(chance, field='integer', symmetry='general', n=None, order='ascending
 
 class Files(unittest.TestCase):
     def setUp(self):
-        folder = tempfile.TemporaryDirectory()
-        self.addCleanup(folder.cleanup)
-        self.path = os.path.join(folder.name, 'graph.mtx')
+        folder = support.enter(self, tempfile.TemporaryDirectory())
+        self.path = os.path.join(folder, 'graph.mtx')
         for module, name, value in ((parallel_read, 'LEAST', 1), (parallel_read, 'MOST', 300)):
-            patched = mock.patch.object(module, name, value)
-            patched.start()
-            self.addCleanup(patched.stop)
-        self.one = spmat.Session()
-        self.addCleanup(self.one.close)
+            support.enter(self, mock.patch.object(module, name, value))
+        self.one = support.enter(self, spmat.Session())
         self.by_workers = []
         read = parallel_read.read_matrix_market
 
@@ -53,9 +49,7 @@ class Files(unittest.TestCase):
             made = read(*args)
             self.by_workers.append(made is not None)
             return made
-        patched = mock.patch.object(parallel_read, 'read_matrix_market', noted)
-        patched.start()
-        self.addCleanup(patched.stop)
+        support.enter(self, mock.patch.object(parallel_read, 'read_matrix_market', noted))
 
     def refused_or_read(self, session):
         """What a session makes of the file: its text, or the rule, the line and the file that are

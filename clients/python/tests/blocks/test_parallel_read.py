@@ -38,10 +38,8 @@ def a_list(chance, name, delimiter=',', header='source,target,weight', values=Tr
 
 class Lists(unittest.TestCase):
     def setUp(self):
-        folder = tempfile.TemporaryDirectory()
-        self.addCleanup(folder.cleanup)
-        self.folder = folder.name
-        self.path = os.path.join(folder.name, 'graph.csv')
+        self.folder = support.enter(self, tempfile.TemporaryDirectory())
+        self.path = os.path.join(self.folder, 'graph.csv')
         read, self.by_workers = parallel_read.read_list, []
 
         def noted(*args):
@@ -50,11 +48,8 @@ class Lists(unittest.TestCase):
             return made
         for module, name, value in ((parallel_read, 'LEAST', 1), (parallel_read, 'MOST', 120),
                                     (parallel_read, 'read_list', noted)):
-            patched = mock.patch.object(module, name, value)
-            patched.start()
-            self.addCleanup(patched.stop)
-        self.one = spmat.Session()
-        self.addCleanup(self.one.close)
+            support.enter(self, mock.patch.object(module, name, value))
+        self.one = support.enter(self, spmat.Session())
 
     def write(self, text, name='graph.csv'):
         path = os.path.join(self.folder, name)

@@ -32,10 +32,8 @@ os.kill(os.getpid(), signal.SIGKILL)
 
 class InAFolder(support.InSession):
     def setUp(self):
-        folder = tempfile.TemporaryDirectory()
-        self.addCleanup(folder.cleanup)
-        self.folder = folder.name
-        self.path = os.path.join(folder.name, 'work.spmat')
+        self.folder = support.enter(self, tempfile.TemporaryDirectory())
+        self.path = os.path.join(self.folder, 'work.spmat')
 
 
 def kinds(name):

@@ -363,9 +363,7 @@ class ByTheCommandLine(unittest.TestCase):
     wrong."""
 
     def setUp(self):
-        folder = tempfile.TemporaryDirectory()
-        self.addCleanup(folder.cleanup)
-        self.folder = folder.name
+        self.folder = support.enter(self, tempfile.TemporaryDirectory())
 
     def degrees(self, name, text=None, command='degrees'):
         path = os.path.join(self.folder, name)

@@ -60,10 +60,8 @@ class ReadBack(unittest.TestCase):
         cls.addClassCleanup(cls.many.close)
 
     def setUp(self):
-        folder = tempfile.TemporaryDirectory()
-        self.addCleanup(folder.cleanup)
-        self.folder = folder.name
-        self.path = os.path.join(folder.name, 'graph')
+        self.folder = support.enter(self, tempfile.TemporaryDirectory())
+        self.path = os.path.join(self.folder, 'graph')
         self.asked = self.warned = self.refused = self.equal = 0
 
     def check(self, edges, write, asks=False, refuses=False, **how):

@@ -7,7 +7,7 @@ import time
 import unittest
 from unittest import mock
 
-import support  # noqa: F401  # pylint: disable=unused-import  # sets the paths
+import support
 import spmat
 from spmat.operators import c as from_c, clang
 
@@ -98,9 +98,8 @@ class Guarded(unittest.TestCase):
     """The secret is a file of this test's own."""
 
     def setUp(self):
-        folder = tempfile.TemporaryDirectory()
-        self.addCleanup(folder.cleanup)
-        self.path = os.path.join(folder.name, 'secret')
+        folder = support.enter(self, tempfile.TemporaryDirectory())
+        self.path = os.path.join(folder, 'secret')
         with open(self.path, 'w', encoding='ascii') as file:
             file.write(str(SECRET))
         self.compilers = compilers()
