@@ -27,3 +27,4 @@ pub mod Columns
 pub mod IndexCalls
 pub mod Answering
 pub mod Beside
+pub mod ColumnPairs

@@ -15,6 +15,7 @@ ghost use Rattle.entry_ops.specs.inner.PairCalls.{ArePairs};
 ghost use Rattle.entry_ops.specs.inner.Paired.{pairs_in};
 ghost use Rattle.entry_ops.specs.inner.Walking.{Joins, HaveRows, IsFormMade};
 
+use crate::column_pairs::join_columns;
 use crate::form::EntryForm;
 use crate::index_calls::IndexCalls;
 use crate::operand_rows::Sources;
@@ -208,9 +209,13 @@ pub fn merge_region(
     ensures { IsFormMade (form_of form) operator.now sources.entry.left.now (mask_of sources.entry.right)
         (mask_of sources.entry.mask) range.start (range.end - range.start) result }
 {
-    // Positions differ, or a mask hides some: the rows have to be read side by side.
+    // Positions differ, or a mask hides some: unless one of two columns has all of them, the rows
+    // have to be read side by side.
     let Some(pairs) = Pairs::of_rows(sources, range.start..range.end) else {
-        return fill_region(alloc, calls, form, operator, sources, range);
+        return match join_columns(alloc, form, operator, sources, range.start..range.end) {
+            Some(made) => made,
+            None => fill_region(alloc, calls, form, operator, sources, range),
+        };
     };
     operator.recall();
     // Either operand would do, as they have the same positions.
