@@ -5,7 +5,7 @@ use Rattle.std.specs.String.{string_bytes}
 use Rattle.session.specs.declared.end.End.TheVariants.{Quit, InputEnd, Refused}
 use Rattle.session.specs.declared.end.ServeFault.{ServeFault}
 use Rattle.session.specs.declared.end.ServeFault.TheVariants as faults
-use Rattle.listener.specs.declared.fault.ListenFault.TheVariants as listen
+use Rattle.session_log.specs.declared.listen_fault.ListenFault.TheVariants as listen
 use Rattle.session_log.specs.declared.cause.Cause.{Cause}
 use Rattle.command_line.specs.declared.ending.Done.{Done}
 use Rattle.command_line.specs.declared.ending.Done.TheVariants as done

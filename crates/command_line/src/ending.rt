@@ -5,9 +5,8 @@ ghost use Rattle.command_line.specs.Endings.{code_of, status_of, said_by, sessio
 ghost use Rattle.command_line.specs.declared.ending.Failure.TheVariants as failures;
 
 use crate::asked::SettingsFault;
-use listener::ListenFault;
 use session::{End, ServeFault};
-use session_log::Cause;
+use session_log::{Cause, ListenFault};
 use std::fmt;
 use std::process::ExitCode;
 

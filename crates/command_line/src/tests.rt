@@ -2,9 +2,8 @@
 use crate::asked::{Settings, SettingsFault};
 use crate::ending::{Detail, Done, Ending, Failure, Fault, Message, Status, ending_of, finish};
 use crate::words::settings;
-use listener::ListenFault;
 use session::{End, FatalRule, ServeFault};
-use session_log::{Cause, LogFormat};
+use session_log::{Cause, ListenFault, LogFormat};
 use std::alloc::Global;
 use std::io;
 use std::process::{Abort, ExitCode};

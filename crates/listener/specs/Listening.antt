@@ -1,8 +1,8 @@
 -- How serving a listener ends (this project's own).
 use Rattle.std.specs.Prelude.{ℕ, ◌≡◌, ◌+◌, ◌≤◌, Option, Some, None, Result, Ok, Err}
 use Rattle.listener.specs.Acceptors.{AcceptorState}
-use Rattle.listener.specs.declared.fault.ListenFault.{ListenFault}
-use Rattle.listener.specs.declared.fault.ListenFault.TheVariants.{Network, Memory}
+use Rattle.session_log.specs.declared.listen_fault.ListenFault.{ListenFault}
+use Rattle.session_log.specs.declared.listen_fault.ListenFault.TheVariants.{Network, Memory}
 
 -- It ends well only where a number of sessions was asked for, with that many connections accepted at least and no call failed. It
 -- ends with a fault of the network only by one call that failed, the last.

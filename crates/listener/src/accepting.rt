@@ -7,12 +7,11 @@ ghost use Rattle.listener.specs.inner.Starting.{IsReady};
 
 use crate::acceptor::{AcceptFailed, Acceptor, FromListener};
 use crate::connection::admit;
-use crate::fault::ListenFault;
 use crate::seats::SEATS;
 use crate::server::{ServerState, ServerTerms};
 use metered_session::Limits;
 use session::Session;
-use session_log::Journal;
+use session_log::{Journal, ListenFault};
 use std::alloc::Global;
 use std::marker::Brand;
 use std::net::{OpenListener, TcpStream};

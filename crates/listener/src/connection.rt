@@ -4,6 +4,7 @@ ghost use Rattle.wire.specs.Devices.{IsNewCount};
 ghost use Rattle.step_purse.specs.Passes.{IsPassOf};
 ghost use Rattle.session.specs.Sessions.{full_session};
 ghost use Rattle.session.specs.Talk.{Outcome};
+ghost use Rattle.metered_session.specs.Ends.{logged_as};
 ghost use Rattle.metered_session.specs.Limits.{IsWithin, Meters};
 ghost use Rattle.listener.specs.inner.Speaking.{IsServedBy, beginning};
 
@@ -12,7 +13,7 @@ use crate::retrying::{LastCall, Retrying, set_idle};
 use crate::seats::{Seat, take_seat};
 use crate::server::ServerState;
 use crate::timed::{Timed, Timer, Timing};
-use metered_session::{Given, Served, serve_within};
+use metered_session::{Given, Served, ending_of, serve_within};
 use session::{End, ServeFault, Session};
 use session_log::{Cut, Ending, Notice, Noticing, Origin, Watching, watch_in};
 use std::io::{Read, Write};
@@ -146,17 +147,16 @@ fn serve_over<R: Read + Drop, W: Write + Drop, H: Threads + Wait, L: Ledger>(
 
 /// How a session ended, by its outcome, where a call that failed had waited for too long by this
 /// bound, or not.
-fn ending_of(outcome: Result<End, ServeFault>, is_idle: bool, cut: Cut) -> Ending
-    ensures ended { IfOk outcome (λ end. result ≡ Ending.Ended end) }
+fn ending_within(outcome: Result<End, ServeFault>, is_idle: bool, cut: Cut) -> Ending
+    ensures ended { IfOk outcome (λ end. result ≡ logged_as outcome) }
     ensures idle { is_idle ≡ true → (outcome ≡ Err ServeFault.Read) ⊎ (outcome ≡ Err ServeFault.Write)
         → result ≡ Ending.Cut cut }
     ensures broken { IfErr outcome (λ fault. (is_idle ≡ false) ⊎ (fault ≡ ServeFault.Turns) ⊎ (fault ≡ ServeFault.Memory)
-        → result ≡ Ending.BrokenOff fault) }
+        → result ≡ logged_as outcome) }
 {
     match outcome {
-        Ok(end) => Ending::Ended(end),
         Err(ServeFault::Read | ServeFault::Write) if is_idle => Ending::Cut(cut),
-        Err(fault) => Ending::BrokenOff(fault),
+        _ => ending_of(outcome),
     }
 }
 
@@ -195,7 +195,7 @@ fn attend<'a, R: Threads + Wait + Clock, L: Ledger>(
     };
     let served = serve_over(rt, server, given, reader, writer);
     if let (Some(journal), Some(watch)) = (server.journal, watch) {
-        let ending = ending_of(
+        let ending = ending_within(
             served.outcome,
             read.is_idle || wrote.is_idle,
             timing.cut(rt),

@@ -21,7 +21,6 @@
 mod accepting;
 mod acceptor;
 mod connection;
-mod fault;
 mod patience;
 mod retrying;
 mod seats;
@@ -30,6 +29,6 @@ mod timed;
 
 pub use accepting::{Supply, serve_acceptor, serve_listener, serve_on_terms};
 pub use acceptor::{AcceptFailed, Acceptor, Caller, FromListener};
-pub use fault::ListenFault;
 pub use seats::SEATS;
 pub use server::{ServerState, ServerTerms};
+pub use session_log::ListenFault;

@@ -10,12 +10,15 @@
 //! What the session reserves, spends and takes is noted in a log, where a watch is given. No
 //! contract speaks of that.
 //!
-//! Read `streams` first (one session), with `meter` (its budget) and `limits`.
+//! Read `streams` first (one session), with `meter` (its budget) and `limits`; `ends` names the end
+//! of a session for a log.
 #![tactic(auto)]
 
+mod ends;
 mod limits;
 mod meter;
 mod streams;
 
+pub use ends::ending_of;
 pub use limits::Limits;
 pub use streams::{Given, Served, serve_pass, serve_unlimited, serve_within};

@@ -5,7 +5,7 @@ use crate::pace::Untold;
 use crate::refusal::Refusal;
 use crate::roster::Standing;
 use crate::tally::Kind;
-use session::{End, ServeFault};
+use command_text::FatalRule;
 use std::fmt;
 use std::time::{Clock, Duration, SystemTime};
 
@@ -23,10 +23,20 @@ pub enum Cut {
 /// How a session ended, or that there was none.
 #[derive(Clone, Copy, Debug, PartialEq, Eq)]
 pub enum Ending {
-    /// It met no fault.
-    Ended(End),
-    /// It broke off.
-    BrokenOff(ServeFault),
+    /// By `quit`.
+    Quit,
+    /// By the end of the input.
+    InputEnd,
+    /// By a refusal after which a session can't go on.
+    Refused(FatalRule),
+    /// A read failed.
+    ReadFailed,
+    /// A write failed.
+    WriteFailed,
+    /// More reads were needed than a session may make.
+    TooManyReads,
+    /// The memory that a session needs from its start was refused.
+    NoMemory,
     /// It waited for its client for as long as it may.
     Cut(Cut),
     /// There was no seat, no room or no thread for it: the client was told `no busy`.
@@ -36,16 +46,16 @@ pub enum Ending {
 impl fmt::Display for Ending {
     fn fmt<W: fmt::Write>(&self, f: &mut fmt::Formatter<W>) -> fmt::Result {
         match self {
-            Ending::Ended(End::Quit) => f.write_str("quit"),
-            Ending::Ended(End::InputEnd) => f.write_str("input-end"),
-            Ending::Ended(End::Refused(rule)) => {
+            Ending::Quit => f.write_str("quit"),
+            Ending::InputEnd => f.write_str("input-end"),
+            Ending::Refused(rule) => {
                 f.write_str("refused-")?;
                 f.write_str(rule.name())
             }
-            Ending::BrokenOff(ServeFault::Read) => f.write_str("read-failed"),
-            Ending::BrokenOff(ServeFault::Write) => f.write_str("write-failed"),
-            Ending::BrokenOff(ServeFault::Turns) => f.write_str("too-many-reads"),
-            Ending::BrokenOff(ServeFault::Memory) => f.write_str("no-memory"),
+            Ending::ReadFailed => f.write_str("read-failed"),
+            Ending::WriteFailed => f.write_str("write-failed"),
+            Ending::TooManyReads => f.write_str("too-many-reads"),
+            Ending::NoMemory => f.write_str("no-memory"),
             Ending::Cut(Cut::Idle) => f.write_str("idle"),
             Ending::Cut(Cut::Seconds) => f.write_str("seconds"),
             Ending::Cut(Cut::Slow) => f.write_str("slow"),

@@ -14,7 +14,7 @@
 //! **What no contract says** is what a line tells, and that it is written. Tests on the program
 //! show that.
 //!
-//! Read `entry` (what is told) with `origin`, `cause` and `refusal`; `line` (an entry as text or
+//! Read `entry` (what is told) with `origin`, `cause`, `listen_fault` and `refusal`; `line` (an entry as text or
 //! JSON); `pace` and `tally` (how many lines there are); `roster` (the sessions that run) with
 //! `watching`; `notice` (how refusals come to the log); then `journal`.
 #![tactic(auto)]
@@ -23,6 +23,7 @@ mod cause;
 mod entry;
 mod journal;
 mod line;
+mod listen_fault;
 mod notice;
 mod origin;
 mod pace;
@@ -35,6 +36,7 @@ pub use cause::Cause;
 pub use entry::{Cut, Ending};
 pub use journal::{Journal, LogFormat};
 pub use line::{CloseReason, LoggedTerms};
+pub use listen_fault::ListenFault;
 pub use notice::{Notice, Noticing};
 pub use origin::Origin;
 pub use roster::{Note, Watch};

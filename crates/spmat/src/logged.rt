@@ -6,6 +6,7 @@ ghost use Rattle.spmat.specs.inner.Running.{IsOfSession};
 use crate::respond_on;
 use crate::serving::Log;
 use command_line::{Done, Failure, Settings, VERSION};
+use metered_session::ending_of;
 use session::ServeFault;
 use session_log::{Cause, CloseReason, Cut, Ending, Journal, LoggedTerms, Origin, Watch};
 use std::net::{Net, TcpListener, TcpStream};
@@ -24,9 +25,9 @@ pub struct Alone {
 }
 
 /// How the log reports the end of a session.
-fn ending_of(told: &Result<Done, Failure>) -> Option<Ending> {
+fn ending_told(told: &Result<Done, Failure>) -> Option<Ending> {
     match told {
-        Ok(Done::Session(end)) => Some(Ending::Ended(*end)),
+        Ok(Done::Session(end)) => Some(ending_of(Ok(*end))),
         Err(
             Failure::Session {
                 fault: _,
@@ -35,7 +36,7 @@ fn ending_of(told: &Result<Done, Failure>) -> Option<Ending> {
                 cause: Some(Cause::Idle),
             },
         ) => Some(Ending::Cut(Cut::Idle)),
-        Err(Failure::Session { fault, cause: _ }) => Some(Ending::BrokenOff(*fault)),
+        Err(Failure::Session { fault, cause: _ }) => Some(ending_of(Err(*fault))),
         // No session was served, so there is no end of one.
         _ => None,
     }
@@ -50,7 +51,7 @@ pub fn note_end<R: Wait + Clock>(
     told: &Result<Done, Failure>,
     refused: u64,
 ) {
-    if let (Some(journal), Some(watch), Some(ending)) = (journal, watch, ending_of(told)) {
+    if let (Some(journal), Some(watch), Some(ending)) = (journal, watch, ending_told(told)) {
         journal.note_end(rt, watch, ending, refused);
     }
 }

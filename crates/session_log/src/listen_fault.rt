@@ -1,7 +1,8 @@
 //! Why no more connections are taken.
 ghost use Rattle.std.specs.Prelude.{◌≡◌};
 
-use session_log::{Cause, CloseReason};
+use crate::cause::Cause;
+use crate::line::CloseReason;
 use thiserror::Error;
 
 /// Why no more connections are taken.
