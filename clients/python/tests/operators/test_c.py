@@ -376,8 +376,5 @@ def write():
         print(name, len(digits) // 16)
 
 
-if __name__ == '__main__':
-    if sys.argv[1:] == ['--write']:
-        write()
-    else:
-        unittest.main()
+if __name__ == '__main__' and sys.argv[1:] == ['--write']:
+    write()
