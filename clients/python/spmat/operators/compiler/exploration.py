@@ -77,14 +77,10 @@ def describe_line(line: Line) -> str:
     return '%s:%d%s' % (os.path.basename(line[0]), line[1], ', `%s`' % text if text else '')
 
 
-def may_catch() -> bool:
-    """Whether an error that was raised now might be caught by the function: code at work has a
-    handler of some kind (`except`, but also `finally`, `with` or a generator)."""
-    return any(_has_handler(frame.f_code) for frame in frames())
-
-
 @functools.lru_cache(maxsize=4096)
 def _has_handler(code: CodeType) -> bool:
+    """Whether code has a handler of some kind: `except`, but also `finally`, `with` or a
+    generator."""
     if hasattr(code, 'co_exceptiontable'):         # from Python 3.11 on
         return bool(code.co_exceptiontable)
     return any(each.opname.startswith(('SETUP_FINALLY', 'SETUP_WITH', 'SETUP_ASYNC_WITH'))
@@ -190,9 +186,9 @@ class Path:
         self.shared.warnings.setdefault((what, current_line()), what + self.conditions() + meaning)
 
     def raise_if_caught(self, condition: Condition, error: Exception) -> None:
-        """Raises an error of Python's where a condition holds, if the function may catch it. Where
-        it doesn't, the way is run again without the error."""
-        if not may_catch():
+        """Raises an error of Python's where a condition holds, if code at work might catch it.
+        Where none does, the way is run again without the error."""
+        if not any(_has_handler(frame.f_code) for frame in frames()):
             return
         point = tuple(answer for _, answer in self.taken), self.points
         self.points += 1
