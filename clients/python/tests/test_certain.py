@@ -1,11 +1,12 @@
 """What calls need for certain: never more than they do, told before anything is sent, and of every
 algorithm that begins with a job of known size."""
+import functools
 import inspect
 import random
 import unittest
 from unittest import mock
 
-import alike
+import algorithm_calls
 import graphs
 import support
 import spmat
@@ -13,42 +14,7 @@ from spmat import algorithms
 from spmat.backends import estimate, placeholders
 from spmat.pricing import call_price
 
-# Calls of algorithms; of any other that of `alike`.
-OWN = {
-    'all_pairs': algorithms.all_pairs, 'betweenness': algorithms.betweenness,
-    'bipartite_sides': algorithms.bipartite_sides,
-    'bfs_levels': lambda G: algorithms.bfs_levels(G, 0),
-    'bfs_parents': lambda G: algorithms.bfs_parents(G, 0),
-    'closeness': algorithms.closeness, 'clustering': algorithms.clustering,
-    'common_neighbours': algorithms.common_neighbours,
-    'connected_components': algorithms.connected_components,
-    'core_numbers': algorithms.core_numbers, 'degrees': algorithms.degrees,
-    'diameter': algorithms.diameter, 'distance_counts': algorithms.distance_counts,
-    'eccentricity': algorithms.eccentricity, 'eigenvector': algorithms.eigenvector,
-    'has_path': lambda G: algorithms.has_path(G, 0, 5),
-    'hits': algorithms.hits, 'jaccard': algorithms.jaccard,
-    'k_core': lambda G: algorithms.k_core(G, 2),
-    'k_hop': lambda G: algorithms.k_hop(G, 2),
-    'k_shortest_paths': lambda G: algorithms.k_shortest_paths(G, 0, 5, 2),
-    'k_truss': lambda G: algorithms.k_truss(G, 3), 'katz': lambda G: algorithms.katz(G, .05),
-    'label_propagation': algorithms.label_propagation,
-    'longest_paths': algorithms.longest_paths, 'louvain': algorithms.louvain,
-    'maximal_independent_set': algorithms.maximal_independent_set,
-    'minimum_spanning_forest': algorithms.minimum_spanning_forest,
-    'modularity': lambda G: algorithms.modularity(
-        G, G.session.from_coo(range(G.nrows), [0] * G.nrows, range(G.nrows))),
-    'pagerank': algorithms.pagerank, 'path_lengths': lambda G: algorithms.path_lengths(G, [0, 1]),
-    'shared_neighbours': lambda G: algorithms.shared_neighbours(G, [0, 1], [2, 3]),
-    'shortest_path': lambda G: algorithms.shortest_path(G, 0, 5),
-    'shortest_paths': lambda G: algorithms.shortest_paths(G, 0),
-    'squares': algorithms.squares, 'sssp': lambda G: algorithms.sssp(G, 0),
-    'strongly_connected_components': algorithms.strongly_connected_components,
-    'topological_levels': algorithms.topological_levels,
-    'transitive_closure': algorithms.transitive_closure,
-    'triangle_count': algorithms.triangle_count, 'triangles': algorithms.triangles,
-    'undirected': algorithms.undirected}
-CALLS = {**{name: calls[0] for name, calls in alike.ALGORITHMS.items()
-            if name in algorithms.__all__}, **OWN}
+CALLS = {name: functools.partial(algorithm_calls.call, name) for name in algorithm_calls.OPTIONS}
 # What a search does first depends on where it begins; small graphs are looked at whole for strong
 # components, and labels are read first.
 UNKNOWN = {'bfs_levels', 'bfs_parents', 'has_path', 'shortest_path', 'shortest_paths',
