@@ -1,4 +1,4 @@
-"""Components of all kinds, forests and independent sets; and searches that look at all vertices."""
+"""Components of all kinds, and searches that look at all vertices."""
 from unittest import mock
 
 import numpy
@@ -9,8 +9,6 @@ from spmat.algorithms import graph_model, strong_components, traversal
 from spmat.io.matrix_text import Triples
 from spmat.operators import Semiring, binary
 from support import InSession, enter
-
-FORESTS = [graph for graph in graphs.UNDIRECTED if graph.count < 100]
 
 
 def least_of(groups, count):
@@ -31,27 +29,13 @@ def strong_groups(near):
     return [{j for j in there[i] if i in there[j]} for i in range(len(near))]
 
 
-def forest_weight(graph):
-    """Kruskal."""
-    label = list(range(graph.count))
-    total = 0
-    for (i, j), weight in sorted(graph.edges.items(), key=lambda edge: edge[1]):
-        if label[i] != label[j]:
-            total += weight
-            label = [label[i] if one == label[j] else one for one in label]
-    return total, len(set(label))
-
-
 class Parts(InSession):
-    """Components, strong components, forests and independent sets as plain Python has them."""
+    """Components and strong components as plain Python has them."""
 
-    def test_models(self):
+    def test_strong_components(self):
         for graph in graphs.ALL:
             with self.subTest(graph=graph.name):
                 G, near = graph.matrix(self.session), graph.near()
-                groups = [reached(graphs.both_ways(near), i) for i in range(graph.count)]
-                self.assertEqual(algorithms.connected_components(G).to_list(),
-                                 least_of(groups, graph.count))
                 want = least_of(strong_groups(near), graph.count)
                 for at_once, most, pulls in ((1 << 12, 1 << 18, 16), (0, 1 << 18, 16),
                                              (0, 1 << 18, 1), (0, 0, 1)):
@@ -62,26 +46,6 @@ class Parts(InSession):
                             G.kept.pop('transpose', None)
                             self.assertEqual(algorithms.strongly_connected_components(G).to_list(),
                                              want)
-        for graph in FORESTS:
-            weight, parts = forest_weight(graph)
-            forest = algorithms.minimum_spanning_forest(graph.matrix(self.session))
-            self.assertEqual(((forest.reduce_scalar('plus') or 0) // 2, forest.nvals),
-                             (weight, 2 * (graph.count - parts)), graph.name)
-            self.assertEqual(forest.to_triples(),
-                             self.session.from_coo(*forest.to_coo(), *forest.shape).to_triples())
-
-    def test_independent_sets(self):
-        """A seed means one set; it is maximal, and no two of it are neighbours."""
-        for graph in graphs.UNDIRECTED:
-            G, near = graph.matrix(self.session), graph.near()
-            for seed in (0, 7):
-                found = algorithms.maximal_independent_set(G, seed).to_dict()
-                self.assertEqual(algorithms.maximal_independent_set(G, seed).to_dict(), found,
-                                 graph.name)
-                chosen = {i for i, _ in found}
-                wrong = [i for i in range(graph.count)
-                         if (i in chosen) == bool(chosen & (set(near[i]) - {i}))]
-                self.assertEqual(wrong, [], graph.name)
 
     def test_blocks(self):
         with blocks.Sessions(3) as many:
