@@ -1,5 +1,5 @@
-"""Cores, forests, communities, hops and betweenness, beside plain Python, and beside networkx where
-it is there."""
+"""Forests, communities, hops and betweenness, beside plain Python, and beside networkx where it is
+there."""
 import collections
 import heapq
 from fractions import Fraction
@@ -13,18 +13,6 @@ try:
     import networkx
 except ImportError:
     pass
-
-
-def core_numbers(near):
-    """The least degree among those that are left, as they are taken away one by one."""
-    left, out, k = {i: set(js) for i, js in enumerate(near)}, {}, 0
-    while left:
-        i = min(left, key=lambda i: len(left[i]))
-        k = max(k, len(left[i]))
-        out[i] = k
-        for j in left.pop(i):
-            left[j].discard(i)
-    return out
 
 
 def propagated(near, rounds):
@@ -82,13 +70,6 @@ def lightest(edges, count):
 
 
 class Parts(graphs.OnGraphs):
-    def test_core_numbers(self):
-        def look(graph, near, G):
-            want = core_numbers(near)
-            self.assertEqual(algorithms.core_numbers(G).to_dict(),
-                             {(i, 0): k for i, k in want.items()})
-        self.each(graphs.UNDIRECTED, look)
-
     def test_forests(self):
         def look(graph, near, G):
             for edges in (graph.edges,

@@ -11,7 +11,7 @@ PATH = graphs.undirected('path', 90, [(i, i + 1) for i in range(89)])
 
 
 class Cores(graphs.OnGraphs):
-    def compare(self):
+    def test_pushes(self):
         """The loop takes over at the start, amid the peeling, and never."""
         def look(graph, near, G):
             want, k = dict.fromkeys([(i, 0) for i in range(graph.count)], 0), 1
@@ -25,9 +25,6 @@ class Cores(graphs.OnGraphs):
                         G, lambda *now: told.append(now)).to_dict(), want, most)
                 self.assertEqual(told, [('round', number, 0) for number in range(1, len(told) + 1)])
         self.each(graphs.UNDIRECTED, look)
-
-    def test_pushes(self):
-        self.compare()
 
     def test_a_budget_counts(self):
         """Where steps are counted nobody is looked at but those that fall."""
