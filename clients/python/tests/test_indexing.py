@@ -1,9 +1,6 @@
-"""What an index means: positions as in numpy, names as in pandas, filters, masks; and what Python's
-signs say."""
-import gc
+"""What an index means: positions as in numpy, names as in pandas, filters, masks."""
 import random
 import warnings
-import weakref
 
 import numpy
 
@@ -187,6 +184,15 @@ class Positions(InSession):
         with self.assertRaisesRegex(ValueError, 'no vertex 6'):
             self.N[6, :]
 
+    def test_top(self):
+        A = self.s.from_triples([(0, 1, 5), (1, 0, -2)], 2, 2)
+        self.assertEqual((A.top(1), A.top(0)), ([(0, 1, 5)], []))
+        with self.assertRaisesRegex(ValueError, 'k is 0 or more, not -1'):
+            A.top(-1)
+        for k in (1.5, '2', None):
+            with self.assertRaises((TypeError, ValueError)):
+                A.top(k)
+
 
 class Names(InSession):
     def setUp(self):
@@ -328,95 +334,6 @@ class Arrays(InSession):
                          {(0, 2): 7})
         with self.assertRaisesRegex(IndexError, 'write filter.to_numpy'):
             N[pandas.Series([True, False, False], ['a', 'b', 'c']), :]
-
-
-class Signs(InSession):
-    def test_every_sign_says_what_to_write(self):
-        A = self.s.from_triples([(0, 1, 5), (1, 0, -2)], 2, 2)
-        signs = {
-            '==': (lambda: A == A.dup(),
-                   r'A\.isequal\(B\).*A\.select\("valueeq", 3\).*A\.ewise_mult\(B, "eq"\)'),
-            '!=': (lambda: A != 3, r'A\.isequal\(B\)'), '@': (lambda: A @ A, r'A\.mxm'),
-            '+': (lambda: A + A, r'A\.ewise_add'),
-            '+ left': (lambda: 1 + A, r'A\.ewise_add'), '-': (lambda: A - 1, 'minus'),
-            '- left': (lambda: 1 - A, 'minus'),
-            '*': (lambda: 2 * A, 'times'), '/': (lambda: A / 2, 'cdiv'),
-            '//': (lambda: A // 2, 'floordiv'), '%': (lambda: A % 2, 'cmod'),
-            '**': (lambda: A ** 2, r'A\.power\(2\)'), 'divmod': (lambda: divmod(A, 2), 'floordiv'),
-            '&': (lambda: A & A, 'land'),
-            '|': (lambda: A | A, 'lor'), '^': (lambda: A ^ A, 'lxor'),
-            '<<': (lambda: A << A, r'C = A\.mxm\(B\)'),
-            '>>': (lambda: A >> 1, 'arsh'), '<': (lambda: A < 3, r'A\.select\("<", 3\)'),
-            '>=': (lambda: 3 <= A, r'A\.select'),
-            '-A': (lambda: -A, 'ainv'), '+A': (lambda: +A, r'A\.dup'), '~A': (lambda: ~A, r'~A\.S'),
-            'abs': (lambda: abs(A), 'abs'),
-            'round': (lambda: round(A), 'whole numbers'),
-            'round of tens': (lambda: round(A, -1), 'whole numbers'),
-            'len': (lambda: len(A), r'A\.nvals'), 'iter': (lambda: list(A), r'to_triples'),
-            'in': (lambda: 3 in A, r'A\.get\(i, j\)'),
-            'int': (lambda: int(A), r'A\.reduce_scalar'),
-            'float': (lambda: float(A), r'A\.reduce_scalar')}
-        for sign, (call, words) in signs.items():
-            with self.subTest(sign=sign), \
-                    self.assertRaisesRegex(TypeError, 'a matrix has no .*write.*' + words):
-                call()
-        with self.assertRaisesRegex(TypeError, r'A\.assign\(B, rows, columns\)'):
-            A[0, 0] = 1
-        with self.assertRaisesRegex(TypeError, r'A\.without\(B\)'):
-            del A[0, 0]
-        B = A
-        with self.assertRaisesRegex(TypeError, r'A\.ewise_add\(B\)'):
-            B += A
-
-    def test_numbers_of_one_entry(self):
-        one = self.s.from_coo([0], [0], 7, 1, 1)
-        self.assertEqual((int(one), float(one), type(float(one))), (7, 7.0, float))
-        with self.assertRaisesRegex(ValueError, 'without an entry'):
-            int(one.select('valuegt', 9))
-        for call in (lambda: bool(one), lambda: not one, lambda: one or 3,
-                     lambda: [1 for _ in 'x' if one.select('valuegt', 9)]):
-            with self.assertRaisesRegex(TypeError, r'no truth value: write A\.nvals > 0'):
-                call()
-
-    def test_what_identity_does(self):
-        A, B = self.s.identity(2), self.s.identity(2)
-        self.assertTrue(A is not B and A in [A, B] and A in {A, B} and len({A, B, A}) == 2)
-        self.assertEqual({A: 'a', B: 'b'}[B], 'b')
-        held = weakref.WeakSet([A, B])
-        self.assertIn(B, held)
-        del B
-        gc.collect()
-        self.assertEqual(len(held), 1)
-        self.assertTrue(A.S == A.S and A.S != A.V and len({A.S, A.S, ~A.S}) == 2)
-        self.assertFalse(A.S != A.S)
-        for call in (lambda: A.S == A.dup().S, lambda: A.S == A, lambda: A == A.S,
-                     lambda: A.V != A.dup().V, lambda: A.S == 3):
-            with self.assertRaisesRegex(TypeError, r'A\.isequal\(B\)'):
-                call()
-
-    def test_functions_and_arrays_of_numpy(self):
-        A = self.s.from_triples([(0, 1, 5), (1, 0, -2)], 2, 2)
-        for call, words in ((lambda: numpy.add(A, A), r'A\.ewise_mult\(B, "plus"\)'),
-                            (lambda: numpy.abs(A), r'A\.apply\("abs"\)'),
-                            (lambda: numpy.array([1, 2]) + A, 'plus'),
-                            (lambda: numpy.int64(3) * A, 'times'),
-                            (lambda: numpy.array([1]) == A, 'eq'),
-                            (lambda: numpy.sqrt(A), 'function f of your own'),
-                            (lambda: numpy.true_divide(A, A), 'cdiv'),
-                            (lambda: numpy.asarray(A), r'A\.to_dense\(\)'),
-                            # as numpy 2 asks
-                            (lambda: A.__array__(dtype=None, copy=None), r'A\.to_dense\(\)')):
-            with self.assertRaisesRegex(TypeError, 'a matrix has no .*write.*' + words):
-                call()
-
-    def test_top(self):
-        A = self.s.from_triples([(0, 1, 5), (1, 0, -2)], 2, 2)
-        self.assertEqual((A.top(1), A.top(0)), ([(0, 1, 5)], []))
-        with self.assertRaisesRegex(ValueError, 'k is 0 or more, not -1'):
-            A.top(-1)
-        for k in (1.5, '2', None):
-            with self.assertRaises((TypeError, ValueError)):
-                A.top(k)
 
 
 class Masks(InSession):
