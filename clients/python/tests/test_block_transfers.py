@@ -169,8 +169,8 @@ class Files(unittest.TestCase):
             with open(path, 'ab') as file:
                 file.write(b' ')
             with self.assertRaisesRegex(ValueError, 'has changed since it was written'):
-                s.results([s.submit(0, 'a block', blocks.worker_tasks.read, path, b'')],
-                          ['a block'])
+                text = blocks.row_partition.Stored(b'', 0, path, 0, os.path.getsize(path))
+                s.results([s.submit(0, 'a block', blocks.worker_tasks.source, text)], ['a block'])
             s.close()
             self.assertEqual(os.listdir(folder), [])
 

@@ -25,7 +25,7 @@ import numpy
 from ..backends.protocol import AMPLE
 from ..io import matrix_text, parse_integers
 from ..io.matrix_text import Triples
-from ..loops.round_results import Push
+from ..loops.round_text import Push
 from ..matrix import Matrix
 from ..operators import Semiring, binary
 from .cached_properties import found, is_both_ways, transpose_of

@@ -10,8 +10,7 @@ With `blocks.Sessions(blocks.Dask(client))` the sessions are those of the worker
 which size it pays.
 """
 from .dask import Dask
-from .errors import BlockFailed, VersionMismatch
-from .executor import Engine
+from .engine import BlockFailed, Engine, VersionMismatch
 from .matrix import BlockMatrix
 from .row_partition import Cut
 from .sessions import Sessions

@@ -16,7 +16,8 @@ from ..errors import SpmatError
 from ..io import matrix_text
 from ..io.matrix_text import Triples
 from ..operators import Operator, Semiring
-from . import chunked_input, jobs, row_partition, worker_tasks
+from . import jobs, row_partition, worker_tasks
+from .chunked_input import InMemory, Spooled
 from .matrix import BlockMatrix
 from .row_partition import Cut
 from .worker_store import Counts, Piece
@@ -63,17 +64,24 @@ class BlockHandle(Handle):
         """The blocks in words, as errors name them."""
         return [self.cut.label(block) for block in range(self.cut.blocks)]
 
+    def submit_each(self, function: Any, *args: Any) -> List[Any]:
+        """The futures of a task of each block."""
+        submit = self.backend.sessions.submit
+        return [submit(block, label, function, future, *args)
+                for block, (label, future) in enumerate(zip(self.labels, self.futures))]
+
+    def ask_each(self, function: Any, *args: Any) -> List[Any]:
+        """What a task of each block gives."""
+        return self.backend.sessions.results(self.submit_each(function, *args), self.labels)
+
     def counts(self) -> List[Counts]:
         """The sizes, entries, price and steps of each block, once all are made."""
         if self._counts is None:
-            sessions, labels = self.backend.sessions, self.labels
-            asked = [sessions.submit(block, label, worker_tasks.counts_of, future)
-                     for block, (label, future) in enumerate(zip(labels, self.futures))]
             try:
-                self._counts = sessions.results(asked, labels)
+                self._counts = self.ask_each(worker_tasks.counts_of)
             except SpmatError:
                 # so that `run` doesn't tell a failure that was told
-                sessions.forget(self)
+                self.backend.sessions.waiting.pop(self.serial, None)
                 raise
             self.nvals = self.most = sum(counts.nvals for counts in self._counts)
             self.price = sum(counts.price for counts in self._counts) if self.form else None
@@ -124,10 +132,9 @@ class DeferredBlockHandle(BlockHandle):
         self.most = self.nvals
 
     def _send(self) -> List[Any]:
-        put = self.backend.sessions.put
-        with chunked_input.InMemory(self.entries) as held:
-            return [put(block, self.cut.label(block), text)
-                    for block, text in enumerate(held.texts(self.cut))]
+        texts = InMemory(self.entries).texts(self.cut)
+        return [self.backend.sessions.put(block, self.cut.label(block), text)
+                for block, text in enumerate(texts)]
 
     def check_made(self) -> None:
         """It is there."""
@@ -177,7 +184,7 @@ class BlocksBackend(Backend):
         made = BlockHandle(self, cut, job.shape[1], futures, [*holds, *wholes], job.form)
         # with a visit, entries may lie outside of the mask
         made.most = most_of(job if job.visit is None else job._replace(mask=None), 0).entries
-        self.sessions.note_result(made)
+        self.sessions.waiting[made.serial] = made
         return made
 
     def fuses(self, job: Job) -> bool:
@@ -211,15 +218,12 @@ class BlocksBackend(Backend):
         """A matrix of entries by ascending row and column. Those of a column or a row are sent when
         a job wants them."""
         if 1 in (entries.nrows, entries.ncols):
-            cut = self.sessions.cut_for(entries.nrows, None)
-            if cut is None:
-                cut = row_partition.cut_evenly(entries.nrows, self.sessions.blocks)
-            return DeferredBlockHandle(self, entries, cut)
-        with chunked_input.InMemory(entries) as held:
-            return self.load_spool(held, self.sessions.find_cut(held.nrows, held))
+            return DeferredBlockHandle(self, entries, self.sessions.find_cut(entries.nrows))
+        held = InMemory(entries)
+        return self.load_spool(held, self.sessions.find_cut(held.nrows, held))
 
-    def load_spool(self, spool: 'chunked_input.Spooled', cut: Cut,
-                fold: Optional[Callable[[Triples], Triples]] = None) -> BlockHandle:
+    def load_spool(self, spool: Spooled, cut: Cut,
+                   fold: Callable[[Triples], Triples] = lambda triples: triples) -> BlockHandle:
         """A matrix of what lies in a spool, block by block."""
         futures = [self.sessions.put(block, cut.label(block), text)
                    for block, text in enumerate(spool.texts(cut, fold))]

@@ -9,11 +9,10 @@ from __future__ import annotations
 
 import abc
 import contextlib
-import hashlib
 import itertools
 import os
 import tempfile
-from typing import Any, BinaryIO, Callable, Iterable, Iterator, Optional
+from typing import Any, BinaryIO, Callable, ContextManager, Iterable, Iterator, Optional, Set, Tuple
 
 import numpy
 
@@ -23,7 +22,7 @@ from ..io import coo, files, matrix_market, matrix_text
 from ..io.files import name_of
 from ..io.matrix_text import Triples
 from ..metadata import NOTHING, Metadata
-from .executor import Progress
+from .engine import Progress
 from .row_partition import Cut
 
 PIECE = 1 << 23                                    # bytes of a file that are read at a time
@@ -32,30 +31,8 @@ WIDTH = 24                                         # bytes of an entry in a spoo
 ENTRIES = 1 << 18                                  # entries that are sorted out at a time
 
 
-def digest_of(text: bytes) -> bytes:
-    """What tells contents apart."""
-    return hashlib.blake2b(text, digest_size=32).digest()
-
-
-def write_text(path: str, text: bytes) -> bytes:
-    """Writes a text into a file; what tells its content."""
-    with open(path, 'wb') as file:
-        file.write(text)
-    return digest_of(text)
-
-
-def read_text(path: str, digest: bytes) -> bytes:
-    """The text that was written there. ValueError where the file has changed since."""
-    with open(path, 'rb') as file:
-        text = file.read()
-    if digest_of(text) != digest:
-        raise ValueError('the file %s has changed since it was written' % path)
-    return text
-
-
 class Spooled(abc.ABC):
-    """Entries whose rows can be counted, and that are given block by block. To be used in a
-    `with`."""
+    """Entries whose rows can be counted, and that are given block by block."""
     nrows: int
     ncols: int
     notes: Metadata = NOTHING
@@ -66,25 +43,16 @@ class Spooled(abc.ABC):
     def counts(self) -> Any:
         """The number of entries of each row."""
 
-    def __enter__(self) -> Any:
-        return self
-
-    def __exit__(self, *_: Any) -> None:
-        self.close()
-
-    def close(self) -> None:
-        """Gives back what it took."""
-
     @abc.abstractmethod
     def blocks(self, cut: Cut) -> Iterator[Triples]:
         """The entries of each block, in order."""
 
-    def texts(self, cut: Cut, fold: Optional[Callable[[Triples],
-                                                      Triples]] = None) -> Iterator[bytes]:
+    def texts(self, cut: Cut,
+              fold: Callable[[Triples], Triples] = lambda triples: triples) -> Iterator[bytes]:
         """The text of each block, in order, folded where its positions may repeat: TooLarge where
         one is longer, or has more entries, than a session takes."""
         for block, triples in enumerate(self.blocks(cut)):
-            triples = triples if fold is None else fold(triples)
+            triples = fold(triples)
             if len(triples.rows) > limits.MOST_SIDE:
                 raise refusal('M4',
                               detail='%d entries in %s' % (len(triples.rows), cut.label(block)))
@@ -104,7 +72,7 @@ class InMemory(Spooled):
 
     @property
     def counts(self) -> Any:
-        return _count_rows(numpy.zeros(self.nrows, numpy.int64), self._triples.rows)
+        return numpy.bincount(self._triples.rows, minlength=self.nrows)
 
     def blocks(self, cut: Cut) -> Iterator[Triples]:
         rows, columns, values, nrows, ncols = self._triples
@@ -115,7 +83,7 @@ class InMemory(Spooled):
 
 
 class Spool(Spooled):
-    """Entries in a file of this machine."""
+    """Entries in a file of this machine. To be used in a `with`, or closed."""
 
     def __init__(self, nrows: int, ncols: int) -> None:
         self.nrows, self.ncols = nrows, ncols
@@ -123,7 +91,10 @@ class Spool(Spooled):
         self._file: BinaryIO = tempfile.TemporaryFile()  # type: ignore[assignment]
         self._ascends, self._last = True, 0
 
-    def close(self) -> None:
+    def __enter__(self) -> 'Spool':
+        return self
+
+    def __exit__(self, *_: Any) -> None:
         self._file.close()
 
     @property
@@ -149,7 +120,9 @@ class Spool(Spooled):
         rows = triples.rows
         if len(rows) == 0:
             return
-        self._counts = _count_rows(self._counts, rows)
+        least = int(rows.min())
+        more = numpy.bincount(rows - least)
+        self._counts[least:least + len(more)] += more
         self._file.write(_pack(triples))
         if self._ascends:
             self._ascends = self._last <= rows[0] and bool((rows[1:] >= rows[:-1]).all())
@@ -169,9 +142,8 @@ class Spool(Spooled):
         try:
             self._file.seek(0)
             for piece in iter(lambda: self._file.read(ENTRIES * WIDTH), b''):
-                with InMemory(self._unpack(piece)) as held:
-                    for part, triples in zip(parts, held.blocks(cut)):
-                        part.write(_pack(triples))
+                for part, triples in zip(parts, InMemory(self._unpack(piece)).blocks(cut)):
+                    part.write(_pack(triples))
             for part in parts:
                 part.seek(0)
                 yield self._unpack(part.read())
@@ -189,20 +161,16 @@ def _pack(triples: Triples) -> bytes:
     return numpy.column_stack(triples[:3]).astype(numpy.int64, copy=False).tobytes()
 
 
-def _count_rows(counts: Any, rows: Any) -> Any:
-    """The counts with those of more rows."""
-    if len(rows):
-        least = int(rows.min())
-        more = numpy.bincount(rows - least)
-        counts[least:least + len(more)] += more
-    return counts
-
-
 # -- Matrix Market files
+
+def _open(source: Any, limit: files.Limit = files.Limit()) -> ContextManager[Any]:
+    is_open = hasattr(source, 'read')
+    return contextlib.nullcontext(source) if is_open else files.opened(source, limit)
+
 
 def spool_file(source: Any, values: matrix_market.Values = matrix_market.Values(),
                progress: Progress = None, whole: bool = True,
-               limit: files.Limit = files.Limit()) -> Spooled:
+               limit: files.Limit = files.Limit()) -> Spool:
     """The entries of a file, which is read by pieces; an `array` file at once. What is refused
     names the file. Unless the `whole` is wanted, the other triangle of a symmetric one is left
     out."""
@@ -213,22 +181,53 @@ def spool_file(source: Any, values: matrix_market.Values = matrix_market.Values(
         if progress is not None:
             progress('read', done, size)
     try:
-        with (contextlib.nullcontext(source) if hasattr(source, 'read')
-              else files.opened(source, limit)) as file:
-            return _spool_opened(file, values, whole, report)
+        with _open(source, limit) as file, contextlib.ExitStack() as failing:
+            reader = matrix_market.Reader(file, values)
+            spool = failing.enter_context(Spool(reader.nrows, reader.ncols))
+            spool.symmetry = 'general' if whole else reader.kind.symmetry
+            for triples in reader.pieces(PIECE, report):
+                spool.add(matrix_market.mirrored(triples, reader.kind.symmetry) if whole
+                          else triples)
+            spool.notes = reader.kind.notes
+            failing.pop_all()
+            return spool
     except Refused as fault:
         raise fault.of_file(name_of(source)) from None
 
 
-def _spool_opened(file: Any, values: matrix_market.Values, whole: bool,
-                   progress: Callable[[int], None]) -> Spool:
-    reader = matrix_market.Reader(file, values)
-    spool = Spool(reader.nrows, reader.ncols)
-    try:
-        for triples in reader.pieces(PIECE, progress):
-            spool.add(matrix_market.mirrored(triples, reader.kind.symmetry if whole else 'general'))
-    except BaseException:
-        spool.close()
-        raise
-    spool.notes, spool.symmetry = reader.kind.notes, 'general' if whole else reader.kind.symmetry
-    return spool
+# -- positions that repeat: a session names the line of a text that nobody but it saw
+
+def _find_repeated(triples: Triples) -> Optional[int]:
+    """The first entry whose position an earlier one has, as they were given; None where each
+    position stands once."""
+    key = triples.rows * max(triples.ncols, 1) + triples.columns
+    order = numpy.argsort(key, kind='stable')
+    again = order[1:][key[order][1:] == key[order][:-1]]
+    return int(again.min()) if len(again) else None
+
+
+def refuse_triples(triples: Triples, fault: Refused) -> Refused:
+    """The refusal of entries that came as lists or arrays."""
+    at = _find_repeated(triples)
+    return fault if at is None else coo.repeated(triples, at)
+
+
+def refuse_line(source: Any, start: Optional[int], spool: Spooled, cut: Cut,
+                fault: Refused) -> Refused:
+    """The refusal of a file's line, which is found by reading the file once more; where it can't
+    be, of the position."""
+    again: Set[Tuple[int, int]] = set()            # of each block one
+    for triples in spool.blocks(cut):
+        at = _find_repeated(triples)
+        if at is not None:
+            again.add((int(triples.rows[at]), int(triples.columns[at])))
+    row, column = min(again, default=(-1, -1))
+    named = ('row %d, column %d is given twice; %s' % (row + 1, column + 1, coo.DUP_OP) if again
+             else '')
+    with contextlib.suppress(OSError, ValueError):
+        if start is not None:
+            source.seek(start)
+        if start is not None or not hasattr(source, 'read'):
+            with _open(source) as file:
+                return matrix_market.find_repeated(file, again) or fault.hinting('M8', named)
+    return matrix_market.Line(1, b'').refused('M8', named)

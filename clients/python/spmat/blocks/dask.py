@@ -3,27 +3,29 @@ from __future__ import annotations
 
 import asyncio
 import contextlib
+import functools
 import os
 import signal
 import time
 import uuid
 import warnings
-from typing import (Any, Callable, Dict, Iterable, List, Optional, Sequence, Tuple, Union, cast)
+from typing import Any, Callable, Dict, List, Optional, Sequence, Set, Tuple, cast
 
 from ..backends.job_queue import without_frames
 from ..errors import Closed
-from . import dask_watch, worker_store, worker_tasks
-from .dask_watch import OURS, ResultWatch, begin_counting, count_repeated
-from .errors import AtBlock
-from .executor import Engine, Progress, Version
-from .shared_budget import Work
-from .worker_store import Settings, close_store, end_stopped_program, store_of, version_of
+from . import worker_store, worker_tasks
+from .engine import AtBlock, Engine, Progress, Settings, Version, Work
+from .worker_store import close_store, end_stopped_program, store_of, version_of
 
 LOOK = 1.0                                         # seconds after which it is seen what holds up
 TRIES = 5                                          # times to ask workers, where all are lost
 RESTART = 5                                        # seconds to end, before a nanny kills a worker
 MOST_KNOWN = 1 << 14                               # pieces of which it is noted where they lie
 SECONDS = 10.0                                     # to answer, where nobody says how patient to be
+OURS = 'spmat_'                                    # what the names of our tasks begin with
+FRESH = 2.0                                        # seconds since which a worker was heard of
+WITHOUT = 60.0                                     # seconds to wait for any worker to come
+TIMES = 10                                         # times what its kin took, until a part is late
 
 
 class Dask(Engine):
@@ -63,6 +65,7 @@ class Dask(Engine):
     forgets = True
 
     def __init__(self, client: Any) -> None:
+        super().__init__()
         self._client = client
         self._addresses = sorted(self._list_workers())
         if not self._addresses:
@@ -70,7 +73,6 @@ class Dask(Engine):
         self._listed = time.monotonic()
         # the workers of some pieces, as far as that was asked
         self._where: Dict[str, str] = {}
-        self._reported_again = 0
         # where the scheduler doesn't find this package, it counts nothing, and a wish for a worker
         # that is lost could hold a task up for good
         self._wishes = False
@@ -111,14 +113,16 @@ class Dask(Engine):
         doesn't answer, a piece that is elsewhere, gives None: then the same is asked by tasks,
         which mend it."""
         try:
-            self._find([work.args[0] for work in works])
+            self._find_pieces(works)
             by_worker: Dict[str, List[Tuple[int, str, Work]]] = {}
             for number, work in enumerate(works):
                 key = work.args[0].key
                 asked = by_worker.setdefault(self._where[key], [])
                 # the future of the piece stays here
                 asked.append((number, key, work._replace(args=work.args[1:])))
-            replies: Dict[str, Any] = self._client.sync(self._ask_workers, settings, by_worker)
+            replies: Dict[str, Any] = self._client.sync(
+                self._client.run, _answer_works, settings, by_worker, workers=list(by_worker),
+                callback_timeout=SECONDS if settings.patience is None else settings.patience)
             answers = dict(answer for many in replies.values() for answer in many)
         except Exception:  # pylint: disable=broad-exception-caught  # whatever it is, tasks mend it
             answers = {}
@@ -131,14 +135,9 @@ class Dask(Engine):
             self._where.pop(work.args[0].key, None)
         return None
 
-    async def _ask_workers(self, settings: Settings, by_worker: Dict[str, Any]) -> Dict[str, Any]:
-        seconds = SECONDS if settings.patience is None else settings.patience
-        asked = self._client.run(_answer_works, settings, by_worker, workers=list(by_worker))
-        return dict(await asyncio.wait_for(asked, seconds))
-
-    def _find(self, pieces: Sequence[Any]) -> None:
+    def _find_pieces(self, works: Sequence[Work]) -> None:
         """Asks where pieces lie of which it isn't known."""
-        unknown = [piece for piece in pieces if piece.key not in self._where]
+        unknown = [work.args[0] for work in works if work.args[0].key not in self._where]
         if unknown:
             if len(self._where) > MOST_KNOWN:
                 self._where.clear()
@@ -165,60 +164,17 @@ class Dask(Engine):
                         progress: Progress) -> List[Any]:
         """The results, once they are there. Where they don't come, it is looked at what holds them
         up."""
-        watch = ResultWatch(self, settings, futures)
-        while True:
+        watch = _ResultWatch(self._client, settings, futures)
+        found: Optional[List[Any]] = None
+        while found is None:
             try:
-                found = list(self._client.sync(self._gather_for_a_while, futures))
-            except asyncio.TimeoutError:
+                found = list(self._client.sync(self._client.gather, futures, callback_timeout=LOOK))
+            except (asyncio.TimeoutError, TimeoutError):
                 watch.look()
-                self._report_progress(settings, futures, progress)
-                continue
+                self._report_again(settings, progress)
             if progress is not None:
-                progress('blocks', len(futures), len(futures))
-            return found
-
-    async def _gather_for_a_while(self, futures: List[Any]) -> List[Any]:
-        return list(await asyncio.wait_for(self._client.gather(futures, asynchronous=True), LOOK))
-
-    def _report_progress(self, settings: Settings, futures: List[Any], progress: Progress) -> None:
-        if progress is None:
-            return
-        progress('blocks', sum(future.done() for future in futures), len(futures))
-        again = self.again(settings)
-        if again > self._reported_again:
-            self._reported_again = again
-            progress('again', again, 0)
-
-    def list_last_heard(self) -> Dict[str, float]:
-        """When the scheduler last heard of each worker, by its own clock."""
-        workers = self._client.scheduler_info()['workers']
-        return {address: about['last_seen'] for address, about in workers.items()}
-
-    def find_busy(self, keys: Iterable[str]) -> List[str]:
-        """The workers that do some of these tasks; none where all workers do."""
-        wanted, processing = set(keys), self._client.processing()
-        found = [address for address, many in processing.items()
-                 if not wanted.isdisjoint(map(str, many))]
-        return found if len(found) < len(processing) else []
-
-    def find_ours(self, addresses: Iterable[str]) -> List[str]:
-        """Those of some workers that have tasks or results of ours."""
-        held, processing = self._client.has_what(), self._client.processing()
-        return [address for address in addresses
-                if any(str(key).startswith(OURS)
-                       for many in (held, processing) for key in many.get(address, ()))]
-
-    def restart(self, addresses: Sequence[str]) -> None:
-        """Has nannies start workers anew, whose tasks others do meanwhile. Of a worker without a
-        nanny nothing."""
-        with contextlib.suppress(Exception):       # it takes longer, or the worker has gone
-            self._client.restart_workers(list(addresses), timeout=RESTART)
-
-    def end_stopped(self, settings: Settings, patience: float, workers: Sequence[str]) -> None:
-        """Ends programs of some workers that stand still amid a command."""
-        if workers:
-            self._client.run(_run_in_thread, end_stopped_program, settings, patience,
-                             workers=list(workers), on_error='ignore')
+                progress('blocks', sum(future.done() for future in futures), len(futures))
+        return found
 
     def again(self, settings: Settings) -> int:
         try:
@@ -249,7 +205,7 @@ class Dask(Engine):
                     raise value
             if heard or not replies:
                 return heard
-            self._client.wait_for_workers(1, timeout=dask_watch.WITHOUT)
+            self._client.wait_for_workers(1, timeout=WITHOUT)
         raise TimeoutError('no worker of the cluster answers: each was lost, %d times' % TRIES)
 
     def close(self, settings: Settings) -> None:
@@ -274,12 +230,14 @@ def _is_lost(reply: Any) -> bool:
         isinstance(reply, OSError) and reply.errno is None)
 
 
+# -- in a worker
+
 def _perform_task(settings: Settings, label: str, function: Callable[..., Any],
-               args: Sequence[Any]) -> Any:
+                  args: Sequence[Any]) -> Any:
     """A task in a worker process of Dask, which ends itself where its program has ended."""
     _end_with_program()
     try:
-        return worker_tasks.perform(lambda: store_of(settings), label, function, args)
+        return worker_tasks.perform(functools.partial(store_of, settings), label, function, args)
     except AtBlock as at:
         if isinstance(at.fault, Closed):
             worker_store.leave()
@@ -293,37 +251,150 @@ def _end_with_program() -> None:
     from distributed import get_worker
     with contextlib.suppress(ValueError):          # this thread does no task
         if get_worker().nanny:
-            worker_store.leave = _kill_process
-
-
-def _kill_process() -> None:
-    """Ends this process, whatever its threads do."""
-    os.kill(os.getpid(), signal.SIGKILL)
+            worker_store.leave = functools.partial(os.kill, os.getpid(), signal.SIGKILL)
 
 
 async def _answer_works(settings: Settings, by_worker: Dict[str, Any],
-                        dask_worker: Any = None) -> List[Any]:
-    """What comes of the works for a worker, by their numbers."""
-    out = []
+                        dask_worker: Any = None) -> List[Tuple[int, Any]]:
+    """What comes of the works for a worker, by their numbers: a tuple of one, or what a session
+    refuses; None where the piece isn't here, and for another fault, which tasks come upon again."""
+    out, find = [], functools.partial(store_of, settings)
     for number, key, work in by_worker[dask_worker.address]:
-        answer = None                              # where the piece isn't here
+        answer: Any = None
         if key in dask_worker.data:
-            piece = dask_worker.data[key]
-            answer = await _run_in_thread(_answer_work, settings, work, piece)
+            args = (dask_worker.data[key], *work.args)
+            try:
+                answer = (await _run_in_thread(worker_tasks.perform, find, work.label,
+                                               work.function, args),)
+            except AtBlock as at:
+                answer = at if hasattr(at.fault, 'rule') else None
         out.append((number, answer))
     return out
-
-
-def _answer_work(settings: Settings, work: Work, piece: Any) -> Union[Tuple[Any], AtBlock, None]:
-    """What a function gives for a piece, as a tuple of one; what a session refuses it for; None for
-    another fault, which tasks come upon again."""
-    try:
-        return (worker_tasks.perform(lambda: store_of(settings), work.label, work.function,
-                                     (piece, *work.args)),)
-    except AtBlock as at:
-        return at if hasattr(at.fault, 'rule') else None
 
 
 async def _run_in_thread(function: Callable[..., Any], *args: Any) -> Any:
     """A function in a thread of its own, so that a worker goes on to answer."""
     return await asyncio.get_running_loop().run_in_executor(None, function, *args)
+
+
+# -- results that don't come
+
+class _ResultWatch:
+    """What is done about results that don't come, once a second."""
+
+    def __init__(self, client: Any, settings: Settings, futures: List[Any]) -> None:
+        self._client, self._settings, self._futures = client, settings, futures
+        self._begun, self._kin = time.monotonic(), 0.0
+        self._without: Optional[float] = None      # since when there has been no worker
+        # of workers when the scheduler heard of them, and since when that is known
+        self._heard: Dict[str, Tuple[float, float]] = {}
+        self._ended = False
+
+    def look(self) -> None:
+        """Looks at what holds them up, and gives up what stands still."""
+        patience = self._settings.patience
+        if patience is None:
+            return
+        now = time.monotonic()
+        quiet = self._measure_silence(now)
+        self._without = None if quiet else self._without or now
+        if self._without and now - self._without > max(WITHOUT, 6 * patience):
+            # nannies may be lost, too
+            raise TimeoutError('the cluster has no worker, and none came for %d seconds: start '
+                               'workers, and make the matrix again' % (now - self._without))
+        late = [address for address, passed in quiet.items() if passed > patience]
+        if len(late) == len(quiet):                # that may be the scheduler's own fault
+            late = [address for address in late if quiet[address] > 3 * patience]
+        late = self._find_ours(late) if late else []
+        self._restart(late)
+        heard = [address for address, passed in quiet.items()
+                 if passed <= FRESH and address not in late]
+        if now - self._begun > patience and heard:
+            self._client.run(_run_in_thread, end_stopped_program, self._settings, patience,
+                             workers=heard, on_error='ignore')
+        self._end_slow(now - self._begun, patience)
+
+    def _measure_silence(self, now: float) -> Dict[str, float]:
+        """For how many seconds nothing was heard of each worker: since when the scheduler tells the
+        same, by this machine's clock alone."""
+        watched = self._client.scheduler_info()['workers']
+        self._heard = {address: self._heard[address]
+                       if self._heard.get(address, (None, 0))[0] == about['last_seen']
+                       else (about['last_seen'], now) for address, about in watched.items()}
+        return {address: now - since for address, (_, since) in self._heard.items()}
+
+    def _find_ours(self, addresses: Sequence[str]) -> List[str]:
+        """Those of some workers that have tasks or results of ours."""
+        held, processing = self._client.has_what(), self._client.processing()
+        return [address for address in addresses
+                if any(str(key).startswith(OURS)
+                       for many in (held, processing) for key in many.get(address, ()))]
+
+    def _restart(self, addresses: Sequence[str]) -> None:
+        """Has nannies start workers anew, whose tasks others do meanwhile. Of a worker without a
+        nanny nothing."""
+        if addresses:
+            with contextlib.suppress(Exception):   # it takes longer, or the worker has gone
+                self._client.restart_workers(list(addresses), timeout=RESTART)
+
+    def _end_slow(self, passed: float, patience: float) -> None:
+        """Has the workers started anew whose parts are late, once, unless all workers do some."""
+        late = {future.key for future in self._futures if not future.done()}
+        if 2 * len(late) > len(self._futures):
+            return
+        self._kin = self._kin or passed
+        if late and not self._ended and passed > patience and passed > TIMES * self._kin:
+            self._ended, processing = True, self._client.processing()
+            busy = [address for address, many in processing.items()
+                    if not late.isdisjoint(map(str, many))]
+            self._restart(busy if len(busy) < len(processing) else [])
+
+
+# -- in Dask's scheduler, whose process has to find this package; else nothing is counted
+
+class Counting:
+    """A plugin of the scheduler, which counts how often tasks of some sessions, named by the word
+    behind `OURS`, were computed again.
+
+    Where no worker is left, it also takes away the wishes of tasks for theirs. The scheduler gives
+    a task to another worker than it wishes for, but not to one that comes when there was none."""
+
+    name = 'spmat-counting'
+    idempotent = True
+
+    def __init__(self, scheduler: Any) -> None:
+        self._scheduler = scheduler
+        self._seen: Dict[str, Set[str]] = {}
+        self.again: Dict[str, int] = {}
+
+    def transition(self, key: Any, start: str, finish: str, *_: Any, **__: Any) -> None:
+        """Each task that changes its state, by the scheduler."""
+        if finish not in ('memory', 'forgotten', 'no-worker') or not str(key).startswith(OURS):
+            return
+        if finish == 'no-worker':
+            self._scheduler.set_restrictions({key: ()})
+            return
+        token = str(key).split('-')[1]
+        seen = self._seen.setdefault(token, set())
+        if finish == 'forgotten':
+            seen.discard(str(key))
+            if not seen:
+                del self._seen[token]
+        elif start == 'processing':
+            if str(key) in seen:
+                self.again[token] = self.again.get(token, 0) + 1
+            seen.add(str(key))
+
+
+def begin_counting(dask_scheduler: Any) -> None:
+    """Has the scheduler count from now on."""
+    from distributed.diagnostics.plugin import SchedulerPlugin
+    if Counting.name not in dask_scheduler.plugins:
+        counted_here = type('Counted', (Counting, SchedulerPlugin), {})
+        dask_scheduler.add_plugin(counted_here(dask_scheduler), name=Counting.name)
+
+
+def count_repeated(token: str, dask_scheduler: Any = None) -> int:
+    """How many tasks of some sessions were computed again."""
+    found = dask_scheduler.plugins.get(Counting.name)
+    return 0 if found is None else int(found.again.get(token, 0))

@@ -14,27 +14,26 @@ from __future__ import annotations
 # pylint: disable=unused-argument
 
 import os
-from typing import Any, List, NamedTuple, Optional, Sequence, Tuple, Union
+from typing import Any, Callable, List, NamedTuple, Optional, Sequence, Tuple
 
 import numpy
 
 from .. import overflow
-from ..errors import ReadError, TextRefused
+from ..errors import ReadError, Refused, TextRefused
 from ..io import edge_list_reader, files, formats, matrix_market, matrix_text, parse_integers
 from ..io.columns import Layout
 from ..io.coo import LEAST, MOST
 from ..io.edge_list_layout import Form
 from ..io.edge_sources import edges_of_frame
-from ..io.edges import LeftOut, number_ascending, number_names
+from ..io.edges import Edges, LeftOut, number_ascending, number_names
 from ..io.matrix_text import Triples
 from ..io.values import Rounding
 from ..operators import Operator
 from ..units import Unit
 from . import row_partition
-from .chunked_input import digest_of
-from .errors import find_repeated
-from .row_partition import Cut
+from .row_partition import Cut, Stored, write_texts
 from .worker_store import Piece, Store
+from .worker_tasks import make_piece
 
 UNUSUAL = -1
 Names = Any
@@ -96,28 +95,7 @@ def cut_file(path: str, stamp: Stamp, first: int, most: int, least: int) -> List
 
 # -- lines by blocks
 
-class Lines(NamedTuple):
-    """Lines of a block: themselves, or where they lie in a file and what tells their content; and
-    their number."""
-    lines: bytes
-    entries: int
-    path: str = ''
-    first: int = 0
-    end: int = 0
-
-    def text(self) -> bytes:
-        """The lines. ValueError where the file has changed since they were written."""
-        if not self.path:
-            return self.lines
-        with open(self.path, 'rb') as file:
-            file.seek(self.first)
-            text = file.read(self.end - self.first)
-        if digest_of(text) != self.lines:
-            raise ValueError('the file %s has changed since it was written' % self.path)
-        return text
-
-
-def _write_lines(triples: Triples, bare: bool, cut: Cut, path: str) -> List[Lines]:
+def _write_lines(triples: Triples, bare: bool, cut: Cut, path: str) -> List[Stored]:
     """The lines of each block, in the order of the entries; in a file where a path is given."""
     rows, columns, values, nrows, ncols = triples
     of = numpy.searchsorted(numpy.array(cut.bounds[1:-1], numpy.int64), rows, side='right')
@@ -130,26 +108,8 @@ def _write_lines(triples: Triples, bare: bool, cut: Cut, path: str) -> List[Line
         at = order[first:end]
         text = matrix_text.write(Triples(rows[at], columns[at], values[at], nrows, ncols),
                                  ones=bare)
-        parts.append(Lines(text[matrix_text.head_of(text).start:], end - first))
-    return _lay_out(parts, path) if path else parts
-
-
-def _lay_out(parts: Sequence[Lines], path: str) -> List[Lines]:
-    """The same lines, in a file."""
-    out, at = [], 0
-    with open(path, 'wb') as file:
-        for part in parts:
-            file.write(part.lines)
-            out.append(Lines(digest_of(part.lines), part.entries, path, at, at + len(part.lines)))
-            at += len(part.lines)
-    return out
-
-
-def make_block(store: Store, bare: bool, shape: Tuple[int, int], parts: Sequence[Lines]) -> Piece:
-    """A block of its lines in several parts, which have no values where it is `bare`."""
-    text = row_partition.text_of(*shape, [(part.text(), part.entries) for part in parts])
-    banner = matrix_text.PATTERN if bare else matrix_text.BANNER
-    return store.piece(store.session.from_text(banner + text[len(matrix_text.BANNER):]))
+        parts.append(Stored(text[matrix_text.head_of(text).start:], end - first))
+    return write_texts(parts, path) if path else parts
 
 
 # -- Matrix Market files
@@ -169,7 +129,7 @@ def split_range(store: Store, part: Range, market: Market, cut: Cut, path: str) 
     triples = (matrix_market.read_quickly(market.kind, body, lines, market.nrows, market.ncols)
                if body else None)
     if triples is None:
-        return [Lines(b'', 0)] * cut.blocks + [UNUSUAL if body else 0]
+        return [Stored(b'')] * cut.blocks + [UNUSUAL if body else 0]
     triples = matrix_market.mirrored(triples, market.kind.symmetry)
     return [*_write_lines(triples, market.kind.is_bare, cut, path), lines]
 
@@ -182,90 +142,52 @@ class EdgePart(NamedTuple):
     codes: List[Any]
     names: List[Names]
     values: Optional[Any]
-    summary: str = ''
-    left_out: LeftOut = LeftOut()
+    summary: str
+    left_out: LeftOut
 
 
-class ListRange(NamedTuple):
-    """Lines of a list that are read in bulk."""
-    range: Range
-    form: Form
-
-    @property
-    def label(self) -> str:
-        """The range in words."""
-        return self.range.label
-
-    def read(self, bipartite: bool) -> Optional[EdgePart]:
-        """Its edges; None where they have to be read line by line."""
-        found = edge_list_reader.read_plain(read_lines(self.range), self.form, Rounding(None))
-        return None if found is None else _number_edges(*found, bipartite)
+def read_range(part: Range, form: Form) -> Optional[Edges]:
+    """The edges of lines of a list, which are read in bulk; None where they have to be read line by
+    line."""
+    found = edge_list_reader.read_plain(read_lines(part), form, Rounding(None))
+    return None if found is None else Edges(*found, lambda at, words: ValueError(words))
 
 
-class WholeFile(NamedTuple):
-    """A file that one worker reads: a list, also packed, or of parquet."""
-    path: str
-    request: formats.Request
-
-    @property
-    def label(self) -> str:
-        """The file."""
-        return self.path
-
-    def read(self, bipartite: bool) -> EdgePart:
-        """Its edges. ReadError, with file and line, where it can't be read."""
-        text = files.load(self.path, self.request.max_bytes)
-        request = (self.request._replace(format='parquet') if text.startswith(b'PAR1')
-                   else self.request)
-        format = formats.check_format(self.path, text, request.format)
-        if format not in formats.OF_LISTS:
-            raise ReadError(self.path, None, 'the files of a folder are lists of edges or parquet, '
-                            'and this is one of the format %s: read it by itself' % format)
-        edges, _ = formats.edges_of(self.path, text, request)
-        return _number_edges(edges.sources, edges.targets, edges.values, bipartite)._replace(
-            summary=edges.summary, left_out=edges.left_out)
+def read_file(path: str, request: formats.Request) -> Edges:
+    """The edges of a file that one worker reads: a list, also packed, or of parquet. ReadError,
+    with file and line, where it can't be read."""
+    text = files.load(path, request.max_bytes)
+    request = request._replace(format='parquet') if text.startswith(b'PAR1') else request
+    format = formats.check_format(path, text, request.format)
+    if format not in formats.OF_LISTS:
+        raise ReadError(path, None, 'the files of a folder are lists of edges or parquet, '
+                        'and this is one of the format %s: read it by itself' % format)
+    return formats.edges_of(path, text, request)[0]
 
 
-class Frame(NamedTuple):
-    """A frame of pandas, or what computes one, the columns that are read of it, and how."""
-    frame: Any
-    ends: Tuple[Any, Any]
-    value: Any
-    layout: Layout
-
-    @property
-    def label(self) -> str:
-        """The frame in words."""
-        return 'a part of the frame'
-
-    def read(self, bipartite: bool) -> EdgePart:
-        """Its edges. ValueError, with the row, where they can't be read."""
-        frame = self.frame.compute() if hasattr(self.frame, 'compute') else self.frame
-        edges = edges_of_frame(frame, self.ends, self.value, self.layout)
-        return _number_edges(edges.sources, edges.targets, edges.values, bipartite)._replace(
-            summary=edges.summary, left_out=edges.left_out)
+def read_frame(frame: Any, ends: Tuple[Any, Any], value: Any, layout: Layout) -> Edges:
+    """The edges of a frame of pandas, or of what computes one, by columns. ValueError, with the
+    row, where they can't be read."""
+    frame = frame.compute() if hasattr(frame, 'compute') else frame
+    return edges_of_frame(frame, ends, value, layout)
 
 
-Source = Union[ListRange, WholeFile, Frame]
-
-
-def read_edges(store: Store, fields: Sequence[Any], kind: Any,
+def read_edges(store: Store, read: Callable[..., Optional[Edges]], args: Sequence[Any],
                bipartite: bool) -> Optional[EdgePart]:
-    """The edges of a source, which comes as its fields and its type: Dask looks for what it has to
-    compute in plain lists, but not in named tuples."""
-    found: Optional[EdgePart] = kind(*fields).read(bipartite)
-    return found
-
-
-def _number_edges(sources: Any, targets: Any, values: Any, bipartite: bool) -> EdgePart:
+    """What one of these functions reads, by number. Its arguments come in a plain list: there Dask
+    looks for what it has to compute."""
+    edges = read(*args)
+    if edges is None:
+        return None
     codes: List[Any] = []
     names: List[Names] = []
-    for columns in ([[sources], [targets]] if bipartite else [[sources, targets]]):
+    for columns in ([[edges.sources], [edges.targets]] if bipartite
+                    else [[edges.sources, edges.targets]]):
         found, nodes = number_names(columns)
         codes += found
         is_whole = all(type(name) is int and LEAST <= name <= MOST for name in nodes)
         names.append(numpy.array(nodes, numpy.int64) if is_whole else list(nodes))
-    return EdgePart(codes, names, values)
+    return EdgePart(codes, names, edges.values, edges.summary, edges.left_out)
 
 
 def tell_names(store: Store, part: Optional[EdgePart]) -> Any:
@@ -280,24 +202,24 @@ def merge_names(parts: Sequence[Names]) -> Optional[Names]:
     parts = [names for names in parts if len(names)]
     if all(isinstance(names, numpy.ndarray) for names in parts):
         return number_ascending(parts)[1]
-    every = dict.fromkeys(name for names in parts for name in (
-        names.tolist() if isinstance(names, numpy.ndarray) else names))
-    if not any(map(_are_whole, parts)):
+    every = dict.fromkeys(name for names in parts for name in _list_names(names))
+    are_whole = [isinstance(names, numpy.ndarray) or all(type(name) is int for name in names)
+                 for names in parts]
+    if not any(are_whole):
         return list(every)
     # some of which are beyond 64 bits
-    return sorted(every) if all(map(_are_whole, parts)) else None
+    return sorted(every) if all(are_whole) else None
 
 
-def _are_whole(names: Names) -> bool:
-    return isinstance(names, numpy.ndarray) or all(type(name) is int for name in names)
+def _list_names(names: Names) -> List[Any]:
+    return names.tolist() if isinstance(names, numpy.ndarray) else names
 
 
 def number_part(names: Names, all_names: Names, places: Any) -> Any:
     """The number of each name of a part among all; `places` are theirs where they are a list."""
     if isinstance(all_names, numpy.ndarray):
         return numpy.searchsorted(all_names, names).astype(numpy.int32)
-    return numpy.array([places[name] for name in (
-        names.tolist() if isinstance(names, numpy.ndarray) else names)], numpy.int32)
+    return numpy.array([places[name] for name in _list_names(names)], numpy.int32)
 
 
 class To(NamedTuple):
@@ -324,10 +246,12 @@ def count_rows(store: Store, part: EdgePart, to: To, edges: Sequence[int]) -> An
     return numpy.histogram(_triples(part, to).rows, numpy.array(edges))[0]
 
 
-def split_edges(store: Store, part: EdgePart, to: To, cut: Cut, path: str) -> List[Lines]:
+def split_edges(store: Store, part: EdgePart, to: To, cut: Cut, path: str) -> List[Stored]:
     """The lines of each block out of a part, in a file where a path is given."""
     return _write_lines(_triples(part, to), to.bare, cut, path)
 
+
+# -- blocks of lines
 
 class Fold(NamedTuple):
     """What becomes of edges that share a position: an operator, the unit of their values, and
@@ -350,29 +274,38 @@ class Repeated(ReadError):
         return Repeated, (self.row, self.column)
 
 
-def make_block_of_edges(store: Store, bare: bool, shape: Tuple[int, int], parts: Sequence[Lines],
-                        fold: Fold) -> Piece:
-    """A block of its lines in several parts. Edges that repeat are folded, or count once where they
-    have no values. ValueError where a sum is beyond 64 bits."""
+def make_block(store: Store, bare: bool, shape: Tuple[int, int], parts: Sequence[Stored],
+               fold: Optional[Fold] = None) -> Piece:
+    """A block of its lines in several parts, which have no values where it is `bare`. What repeats
+    is refused, unless `fold` says what becomes of it."""
+    text = row_partition.text_of(*shape, [(part.text(), part.entries) for part in parts])
+    banner = matrix_text.PATTERN if bare else matrix_text.BANNER
     try:
-        return make_block(store, bare, shape, parts)
+        return make_piece(store, banner + text[len(matrix_text.BANNER):])
     except TextRefused as fault:
-        if fault.rule != 'M8':
+        if fault.rule != 'M8' or fold is None:
             raise
+        refused: Refused = fault
+    return _fold_lines(store, bare, text, fold, refused)
+
+
+def _fold_lines(store: Store, bare: bool, text: bytes, fold: Fold, refused: Refused) -> Piece:
+    """A block of lines that repeat: they are folded, or count once where they have no values.
+    ValueError where a sum is beyond 64 bits."""
+    nrows, ncols, _, start = matrix_text.head_of(text)
     # `matrix_text.write` signs each value where one is below 0
-    unsigned = b''.join(part.text() for part in parts).replace(b'+', b'0')
-    rows, columns, *values = parse_integers.fields(unsigned, range(2 if bare else 3),
-                                                   2 if bare else 3)
+    rows, columns, *values = parse_integers.fields(text[start:].replace(b'+', b'0'),
+                                                   range(2 if bare else 3), 2 if bare else 3)
     triples = Triples(rows - 1, columns - 1, values[0] if values
-                      else numpy.ones(len(rows), numpy.int64), *shape)
+                      else numpy.ones(len(rows), numpy.int64), nrows, ncols)
     if fold.op is not None:
         # which only refuses sums that are too large: the session folds
         overflow.folded(lambda many, _: many, triples, fold.op, fold.unit)
         return store.piece(store.session.from_coo(*triples, dup_op=fold.op))
     if fold.weighted:
-        again = find_repeated(triples)
-        assert again is not None
-        raise Repeated(int(triples.rows[again]), int(triples.columns[again]))
-    first = numpy.unique(triples.rows * max(shape[1], 1) + triples.columns, return_index=True)[1]
+        assert refused.at is not None
+        at = refused.at - matrix_text.HEAD_LINES - 1
+        raise Repeated(int(triples.rows[at]), int(triples.columns[at]))
+    first = numpy.unique(triples.rows * max(ncols, 1) + triples.columns, return_index=True)[1]
     return store.piece(store.session.from_coo(triples.rows[first], triples.columns[first],
-                                              triples.values[first], *shape))
+                                              triples.values[first], nrows, ncols))

@@ -3,9 +3,7 @@ from __future__ import annotations
 
 import functools
 import io
-from typing import Any, Callable, Iterable, List, Optional, Sequence, Tuple, Union
-
-import numpy
+from typing import Any, Iterable, List, Optional, Sequence, Tuple, Union
 
 from .. import limits, units
 from ..errors import Refused, TextRefused, refusal
@@ -17,32 +15,21 @@ from ..io.formats import Request, check_layout
 from ..io.importers import DupOp, Sources
 from ..io.matrix_text import Triples
 from ..metadata import BY_POSITIONS, as_constant
-from ..operators import Operator, find
-from . import chunked_input, errors, parallel_read, row_partition, worker_tasks
-from .executor import Engine, Progress
-from .file_parts import Frame
+from ..operators import find
+from . import chunked_input, parallel_read, row_partition, worker_tasks
 from .backend import BlockHandle, BlocksBackend
+from .chunked_input import InMemory, Spool, Spooled
 from .matrix import BlockMatrix
-from .row_partition import Cut
-from .shared_budget import Work
-from .worker_store import Settings
+from .row_partition import Cut, Stored
+from .task_runner import TaskRunner
 
 
-class Inputs(Sources[BlockMatrix]):
+class Inputs(TaskRunner, Sources[BlockMatrix]):
     """What makes matrices of several sessions."""
 
     blocks: int
     cut: Optional[Cut]
-    files: List[str]
-    progress: Progress
-    submit: Callable[..., Any]
-    submit_batch: Callable[[Sequence[Work]], List[Any]]
-    results: Callable[..., List[Any]]
-    spool: Callable[[], Optional[str]]
-    new_file: Callable[[], str]
-    _backend: 'BlocksBackend'
-    engine: Engine
-    settings: Settings
+    _backend: BlocksBackend
 
     def from_edges(self, edges: Iterable[Any], nrows: int, ncols: int, *,
                    cut: Optional[Sequence[int]] = None, dup_op: DupOp = None,
@@ -73,7 +60,7 @@ class Inputs(Sources[BlockMatrix]):
         TextRefused
             Where a position repeats (M8), and no `dup_op` folds it.
         """
-        with chunked_input.Spool(coo.side(nrows, 0, 'nrows'), coo.side(ncols, 0, 'ncols')) as spool:
+        with Spool(coo.side(nrows, 0, 'nrows'), coo.side(ncols, 0, 'ncols')) as spool:
             spool.take(edges)
             spool.notes = BY_POSITIONS
             return self._load_spool(spool, cut, name, dup_op)
@@ -108,7 +95,7 @@ class Inputs(Sources[BlockMatrix]):
                 return made
             except Refused:                        # a session has the words for it
                 pass
-        self.results([self.submit(0, '', worker_tasks.source, text)], [''])
+        self.results([self.submit(0, '', worker_tasks.source, Stored(text))], [''])
         raise AssertionError('a session takes a text that was refused here')
 
     def mmread(self, source: Any, *, values: bool = True, scale: Optional[float] = None,
@@ -170,8 +157,8 @@ class Inputs(Sources[BlockMatrix]):
             except TextRefused as fault:
                 if fault.rule != 'M8':
                     raise
-                found = errors.refuse_line(source, start, spool,
-                                           self.find_cut(spool.nrows, spool, cut), fault)
+                found = chunked_input.refuse_line(
+                    source, start, spool, self.find_cut(spool.nrows, spool, cut), fault)
                 raise found.of_file(name_of(source)) from None
 
     def _read(self, path: Any, request: Request, dup_op: DupOp, name: Optional[str]) -> BlockMatrix:
@@ -223,15 +210,14 @@ class Inputs(Sources[BlockMatrix]):
         if question is not None:
             raise ValueError(question)
         layout = Layout(bipartite=bipartite, missing=missing, unit=unit, date_format=date_format)
-        return parallel_read.read_frame(self, frame,
-                                        Frame(None, (source, target), edge_attr, layout),
+        return parallel_read.read_frame(self, frame, (source, target), edge_attr,
                                         Request(None, layout, directed), dup_op, name)
 
-    def _fold_file(self, spool: 'chunked_input.Spooled', cut: Optional[Sequence[int]],
-                  name: Optional[str], dup_op: DupOp) -> BlockMatrix:
+    def _fold_file(self, spool: Spool, cut: Optional[Sequence[int]], name: Optional[str],
+                   dup_op: DupOp) -> BlockMatrix:
         """A matrix of a file's entries, whose positions may repeat: they are folded as they stand
         in the file, and then the other triangle of a symmetric one is added."""
-        with chunked_input.Spool(spool.nrows, spool.ncols) as folded:
+        with Spool(spool.nrows, spool.ncols) as folded:
             for triples in spool.blocks(row_partition.cut_by_entries(spool.counts, self.blocks)):
                 folded.add(matrix_market.mirrored(self._folded(triples, dup_op), spool.symmetry))
             folded.notes = spool.notes._replace(weighted=True)
@@ -250,7 +236,8 @@ class Inputs(Sources[BlockMatrix]):
         if dup_op is None:
             return triples
         op = find('binary', dup_op)
-        return coo.unrepeated(triples, lambda many: self._fold(many, op))
+        return coo.unrepeated(triples,
+                              lambda many: self._from(many).reduce_rowwise(op).entries()[2])
 
     def full(self, nrows: int, ncols: int, value: int = 1, *,
              name: Optional[str] = None) -> BlockMatrix:
@@ -271,10 +258,8 @@ class Inputs(Sources[BlockMatrix]):
             The matrix.
         """
         shape = coo.side(nrows, 0, 'nrows'), coo.side(ncols, 0, 'ncols')
-        cut, value = self.find_cut(shape[0], None), coo.word(value, 'value')
-        return as_constant(
-            self._make_each(cut, shape[1], name,
-                            lambda first, end: (worker_tasks.full, first, end, shape, value)))
+        return as_constant(self._make_rows(worker_tasks.full, shape, coo.word(value, 'value'),
+                                           name))
 
     def ones(self, ncols: int) -> BlockMatrix:
         """A row of ones, which folds columns.
@@ -289,11 +274,9 @@ class Inputs(Sources[BlockMatrix]):
         BlockMatrix
             The row, which is made at a worker where a job wants it.
         """
-        cut = self.find_cut(1, None)
-        futures = functools.partial(self._submit_each, cut,
-                                    lambda first, end: (
-                                        worker_tasks.full, first, end, (1, ncols), 1))
-        handle = BlockHandle(self._backend, cut, ncols, futures)
+        cut = self.find_cut(1)
+        submit = functools.partial(self._submit_rows, cut, worker_tasks.full, (1, ncols), 1)
+        handle = BlockHandle(self._backend, cut, ncols, submit)
         handle.is_ones = True
         return BlockMatrix(self, handle)
 
@@ -314,23 +297,27 @@ class Inputs(Sources[BlockMatrix]):
         BlockMatrix
             The matrix.
         """
-        n, value = coo.side(n, 0, 'n'), coo.word(value, 'value')
-        return as_constant(
-            self._make_each(self.find_cut(n, None), n, name,
-                            lambda first, end: (worker_tasks.identity, first, end, n, value)))
+        n = coo.side(n, 0, 'n')
+        return as_constant(self._make_rows(worker_tasks.identity, (n, n), coo.word(value, 'value'),
+                                           name))
 
-    def _make_each(self, cut: Cut, ncols: int, name: Optional[str],
-              task: Callable[[int, int], Tuple[Any, ...]]) -> BlockMatrix:
-        return self.assemble(cut, ncols, self._submit_each(cut, task), name)
+    def _submit_rows(self, cut: Cut, task: Any, shape: Tuple[int, int], value: int) -> List[Any]:
+        return [self.submit(block, cut.label(block), task, first, end, shape, value)
+                for block, (first, end) in enumerate(cut.ranges())]
+
+    def _make_rows(self, task: Any, shape: Tuple[int, int], value: int,
+                   name: Optional[str]) -> BlockMatrix:
+        """A matrix of what a task makes for the rows of each block."""
+        cut = self.find_cut(shape[0])
+        futures = self._submit_rows(cut, task, shape, value)
+        return BlockMatrix(self, BlockHandle(self._backend, cut, shape[1], futures), name)
 
     def assemble(self, cut: Cut, ncols: int, futures: Sequence[Any],
                  name: Optional[str]) -> BlockMatrix:
-        """A matrix of its blocks."""
-        return BlockMatrix(self, BlockHandle(self._backend, cut, ncols, futures), name)
-
-    def _submit_each(self, cut: Cut, task: Callable[[int, int], Tuple[Any, ...]]) -> List[Any]:
-        return [self.submit(block, cut.label(block), *task(first, end))
-                for block, (first, end) in enumerate(cut.ranges())]
+        """A matrix of its blocks, once these are made."""
+        made = BlockMatrix(self, BlockHandle(self._backend, cut, ncols, futures), name)
+        made.wait()
+        return made
 
     def cut_for(self, nrows: int, given: Union[Cut, Sequence[int], None]) -> Optional[Cut]:
         """Where a new matrix is cut: as the caller says, or as the matrix that these sessions cut
@@ -339,36 +326,27 @@ class Inputs(Sources[BlockMatrix]):
             return row_partition.check_cut(given.bounds if isinstance(given, Cut) else given, nrows)
         return self.cut if self.cut is not None and self.cut.nrows == nrows else None
 
-    def find_cut(self, nrows: int, spool: Optional['chunked_input.Spooled'],
+    def find_cut(self, nrows: int, spool: Optional[Spooled] = None,
                  given: Union[Cut, Sequence[int], None] = None) -> Cut:
         """Where a new matrix is cut: as `cut_for` has it, or by entries."""
-        found = self.cut_for(nrows, given)
-        if found is not None:
-            return found
-        return (row_partition.cut_evenly(nrows, self.blocks) if spool is None
-                else row_partition.cut_by_entries(spool.counts, self.blocks))
+        return self.cut_for(nrows, given) or (
+            row_partition.cut_evenly(nrows, self.blocks) if spool is None
+            else row_partition.cut_by_entries(spool.counts, self.blocks))
 
     def _from(self, triples: Triples, dup_op: DupOp = None,
               name: Optional[str] = None) -> BlockMatrix:
         folded = self._folded(triples, dup_op)
-        with chunked_input.InMemory(folded) as held:
-            try:
-                return self._load_spool(held, None, name)
-            except TextRefused as fault:
-                raise (errors.refuse_triples(folded, fault) if fault.rule == 'M8'
-                       else fault) from None
+        try:
+            return self._load_spool(InMemory(folded), None, name)
+        except TextRefused as fault:
+            raise (chunked_input.refuse_triples(folded, fault) if fault.rule == 'M8'
+                   else fault) from None
 
-    def _fold(self, many: Triples, op: Operator) -> Any:
-        label = 'values that share a position'
-        folds = self.results(
-            self.submit_batch([Work(0, label, worker_tasks.fold_repeated, (many, op))]), [label])[0]
-        return numpy.array(folds)
-
-    def _load_spool(self, spool: 'chunked_input.Spooled', given: Union[Cut, Sequence[int], None],
-                 name: Optional[str], dup_op: DupOp = None) -> BlockMatrix:
-        """A matrix of what lies in a spool, block by block."""
-        cut = self.find_cut(spool.nrows, spool, given)
-        fold = None if dup_op is None else lambda triples: self._folded(triples, dup_op)
-        made = BlockMatrix(self, self._backend.load_spool(spool, cut, fold), name)
+    def _load_spool(self, spool: Spooled, given: Union[Cut, Sequence[int], None],
+                    name: Optional[str], dup_op: DupOp = None) -> BlockMatrix:
+        """A matrix of what lies in a spool, block by block, in which each position is folded."""
+        made = BlockMatrix(self, self._backend.load_spool(
+            spool, self.find_cut(spool.nrows, spool, given),
+            functools.partial(self._folded, dup_op=dup_op)), name)
         made.notes = spool.notes
         return made

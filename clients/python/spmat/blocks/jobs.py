@@ -12,7 +12,7 @@ from ..operators import Operator, Semiring, binary
 from ..wire.protocol import FORMS
 from . import row_partition, worker_tasks
 from .row_partition import Cut
-from .shared_budget import Work
+from .engine import Work
 
 if TYPE_CHECKING:
     from .backend import BlockHandle, BlocksBackend
@@ -20,8 +20,6 @@ if TYPE_CHECKING:
 
 FOLDS = (binary.any, binary.first, binary.second, binary.min, binary.max, binary.plus)
 BY_ARRAYS: Dict[Operator, str] = {binary.min: 'minimum', binary.max: 'maximum', binary.plus: 'add'}
-# ranges of columns that are counted for the cut of a transpose
-BINS = 4096
 
 
 def job_at(cut: Cut, block: int, job: Job, pieces: Iterable[Any], mask: Optional['BlockHandle'],
@@ -217,13 +215,6 @@ def _submit_lines(matrix: 'BlockHandle', block: int, first: int, end: int) -> An
     return matrix.backend.sessions.submit(block, label, worker_tasks.lines, future, first, end)
 
 
-def _submit_each(matrix: 'BlockHandle', function: Any, *args: Any) -> List[Any]:
-    """The futures of a task of each block."""
-    submit = matrix.backend.sessions.submit
-    return [submit(block, label, function, future, *args)
-            for block, (label, future) in enumerate(zip(matrix.labels, matrix.futures))]
-
-
 def iterate_lines(matrix: 'BlockHandle') -> Iterator[worker_tasks.Lines]:
     """The lines of each block, in order, one at a time."""
     for block, rows in enumerate(matrix.cut.ranges()):
@@ -233,9 +224,7 @@ def iterate_lines(matrix: 'BlockHandle') -> Iterator[worker_tasks.Lines]:
 
 def read_lines(matrix: 'BlockHandle') -> List[worker_tasks.Lines]:
     """The lines of each block, in order, all asked for at a time."""
-    futures = [_submit_lines(matrix, block, *rows)
-               for block, rows in enumerate(matrix.cut.ranges())]
-    return matrix.backend.sessions.results(futures, matrix.labels)
+    return matrix.ask_each(worker_tasks.lines, 0, matrix.shape[0])
 
 
 def join_blocks(matrix: 'BlockHandle') -> Any:
@@ -247,7 +236,7 @@ def join_blocks(matrix: 'BlockHandle') -> Any:
     if matrix.shape[1] == 1:
         blocks = list(matrix.futures)
         return sessions.submit(next(sessions.turns), label, worker_tasks.join_vector, blocks)
-    parts = [_submit_lines(matrix, block, *rows) for block, rows in enumerate(matrix.cut.ranges())]
+    parts = matrix.submit_each(worker_tasks.lines, 0, matrix.shape[0])
     return sessions.submit(next(sessions.turns), label, worker_tasks.assemble, matrix.shape, parts)
 
 
@@ -270,7 +259,7 @@ def transpose_blocks(matrix: 'BlockHandle') -> 'BlockHandle':
     nrows, ncols = matrix.shape
     submit = matrix.backend.sessions.submit
     cut = matrix.cut if nrows == ncols else _cut_of_columns(matrix)
-    turned = _submit_each(matrix, worker_tasks.turn_lines, cut)
+    turned = matrix.submit_each(worker_tasks.turn_lines, cut)
     futures = []
     for block in range(cut.blocks):
         parts = [submit(k, label, worker_tasks.pick, future, block)
@@ -281,29 +270,20 @@ def transpose_blocks(matrix: 'BlockHandle') -> 'BlockHandle':
 
 
 def _cut_of_columns(matrix: 'BlockHandle') -> Cut:
-    """A cut of the columns by entries, at ranges of columns of which there are 4,096 at most."""
-    bins = max(1, min(BINS, matrix.shape[1]))
-    edges = [matrix.shape[1] * k // bins for k in range(bins + 1)]
-    futures = _submit_each(matrix, worker_tasks.column_counts, edges)
-    found = matrix.backend.sessions.results(futures, matrix.labels)
-    cut = row_partition.cut_by_entries([sum(many) for many in zip(*found)], matrix.cut.blocks)
-    return Cut(tuple(edges[bound] for bound in cut.bounds))
+    """A cut of the columns by entries."""
+    return row_partition.cut_by_ranges(
+        matrix.shape[1], matrix.cut.blocks,
+        lambda edges: matrix.ask_each(worker_tasks.column_counts, edges))
 
 
 def checkpoint_blocks(matrix: 'BlockHandle') -> 'BlockHandle':
     """The same matrix on texts that stand by themselves, one block at a time."""
     sessions, futures = matrix.backend.sessions, []
     for block, label in enumerate(matrix.labels):
-        if sessions.spool() is None:
-            part, = sessions.results([_submit_lines(matrix, block, *matrix.cut.rows(block))],
-                                     [label])
-            text = row_partition.text_of(*matrix.shape, [part])
-            futures.append(sessions.submit(block, label, worker_tasks.source, text))
-        else:
-            path, piece = sessions.new_file(), matrix.futures[block]
-            future = sessions.submit(block, label, worker_tasks.write, piece, path)
-            digest, = sessions.results([future], [label])
-            futures.append(sessions.submit(block, label, worker_tasks.read, path, digest))
+        taken = sessions.submit(block, label, worker_tasks.take_text, matrix.futures[block],
+                                sessions.new_file())
+        futures.append(sessions.submit(block, label, worker_tasks.source,
+                                       *sessions.results([taken], [label])))
     made = matrix.derive(futures, matrix.cut, matrix.shape[1])
     made.holds = ()
     made.counts()

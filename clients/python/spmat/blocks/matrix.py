@@ -10,7 +10,7 @@ from ..matrix import Matrix
 from ..vector import as_vector
 from . import jobs, row_partition, worker_tasks
 from .row_partition import Cut
-from .shared_budget import Work
+from .engine import Work
 from .worker_store import Counts
 
 if TYPE_CHECKING:

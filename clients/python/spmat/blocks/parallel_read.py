@@ -14,7 +14,7 @@ from __future__ import annotations
 
 import functools
 import os
-from typing import TYPE_CHECKING, Any, List, NamedTuple, Optional, Sequence, Union
+from typing import TYPE_CHECKING, Any, Callable, List, NamedTuple, Optional, Sequence, Tuple
 
 import numpy
 
@@ -32,10 +32,10 @@ from ..io.matrix_text import start_of_line
 from ..metadata import Metadata, Nodes, axis_of
 from ..operators import find
 from . import file_parts, row_partition, worker_tasks
-from .file_parts import Fold, Frame, ListRange, Market, Range, Repeated, Source, To, WholeFile
+from .engine import Work
+from .file_parts import Fold, Market, Range, Repeated, To
 from .matrix import BlockMatrix
 from .row_partition import Cut
-from .shared_budget import Work
 
 if TYPE_CHECKING:
     from .importers import Inputs
@@ -44,7 +44,6 @@ LEAST = 1 << 22                                    # bytes of a file that is rea
 MOST = 1 << 25                                     # bytes of a range
 SAMPLES, SAMPLE = 512, 1 << 9                      # places that are looked at, and bytes there
 HEAD = 1 << 21                                     # bytes that tell how a list is written
-BINS = 4096                                        # ranges of rows that are counted, to cut there
 
 
 class SharedFile(NamedTuple):
@@ -72,47 +71,45 @@ def find_shared(sessions: 'Inputs', source: Any) -> Optional[SharedFile]:
     return SharedFile(path, stamp) if all(one == stamp for one in stamps.values()) else None
 
 
-class _Places(NamedTuple):
-    """Where parts are read: the places of those of a file lie beside one another, as the rows of
-    its blocks do in most files; and what errors call the parts."""
-    sessions: 'Inputs'
-    places: List[int]
-    labels: List[str]
+class _Parts:
+    """Parts that are read: the places of those of a file lie beside one another, as the rows of its
+    blocks do in most files. Errors call them by their labels; of ranges of a file it is told how
+    many bytes were read."""
 
-    @classmethod
-    def of(cls, sessions: 'Inputs', parts: Sequence[Union[Range, Source]]) -> '_Places':
-        """The places of parts."""
-        places = [number * sessions.engine.places // len(parts) for number in range(len(parts))]
-        return cls(sessions, places, [part.label for part in parts])
+    def __init__(self, sessions: 'Inputs', labels: List[str], ranges: Sequence[Range] = ()) -> None:
+        self.sessions, self.labels, self._ranges = sessions, labels, ranges
+        self._places = [number * sessions.engine.places // len(labels)
+                        for number in range(len(labels))]
 
     def submit(self, function: Any, *columns: Any) -> List[Any]:
-        """The futures of a task for each part, whose arguments are those of each column."""
-        return [self.sessions.submit(place, label, function, *args)
-                for place, label, args in zip(self.places, self.labels, zip(*columns))]
+        """The futures of a task for each part, whose arguments are those of each column; one that
+        is no list is the argument of all."""
+        args = zip(*(column if isinstance(column, list) else [column] * len(self.labels)
+                     for column in columns))
+        return [self.sessions.submit(place, label, function, *some)
+                for place, label, some in zip(self._places, self.labels, args)]
 
     def new_files(self) -> List[str]:
         """The paths of files for what each part gives; empty where it goes from worker to
         worker."""
-        return [self.sessions.new_file() if self.sessions.spool() is not None else ''
-                for _ in self.places]
+        return [self.sessions.new_file() for _ in self.labels]
 
-    def results(self, futures: Sequence[Any], parts: Sequence[Any]) -> List[Any]:
-        """The results of each part in turn; it is told how many bytes of a file were read."""
+    def results(self, futures: Sequence[Any]) -> List[Any]:
+        """The results of each part in turn."""
         out = []
-        for future, label, part in zip(futures, self.labels, parts):
-            out.append(self.sessions.results([future], [label])[0])
-            if self.sessions.progress is not None and isinstance(part, Range):
-                self.sessions.progress('read', part.end, part.stamp.size)
+        for at, (future, label) in enumerate(zip(futures, self.labels)):
+            out += self.sessions.results([future], [label])
+            if self.sessions.progress is not None and self._ranges:
+                self.sessions.progress('read', self._ranges[at].end, self._ranges[at].stamp.size)
         return out
 
-    def by_blocks(self, split: Sequence[Any], count: int) -> List[List[Any]]:
+    def by_blocks(self, split: List[Any], count: int) -> List[List[Any]]:
         """The lines of each block out of each part: where they lie, which is all that goes from one
         to another, or their futures."""
         if self.sessions.spool() is not None:
             found = self.sessions.results(split, self.labels)
             return [[lines[block] for lines in found] for block in range(count)]
-        return [self.submit(worker_tasks.pick, split, [block] * len(split))
-                for block in range(count)]
+        return [self.submit(worker_tasks.pick, split, block) for block in range(count)]
 
 
 # -- Matrix Market files
@@ -136,17 +133,16 @@ def read_matrix_market(sessions: 'Inputs', source: Any, values: matrix_market.Va
         if cut is None:
             return None
         ranges = file.cut(start, sessions.engine.places)
-        many, places = len(ranges), _Places.of(sessions, ranges)
-        split = places.submit(file_parts.split_range, ranges, [market] * many, [cut] * many,
-                              places.new_files())
-        lines = places.results(places.submit(worker_tasks.pick, split, [-1] * many), ranges)
+        parts = _Parts(sessions, [part.label for part in ranges], ranges)
+        split = parts.submit(file_parts.split_range, ranges, market, cut, parts.new_files())
+        lines = parts.results(parts.submit(worker_tasks.pick, split, -1))
         if min(lines) < 0 or sum(lines) != head.count:
             return None
         shape, bare = (head.nrows, head.ncols), head.kind.is_bare
         futures = [
             sessions.submit(block, cut.label(block), file_parts.make_block, bare, shape, found)
-            for block, found in enumerate(places.by_blocks(split, cut.blocks))]
-        made = sessions.assemble(cut, head.ncols, futures, name).wait()
+            for block, found in enumerate(parts.by_blocks(split, cut.blocks))]
+        made = sessions.assemble(cut, head.ncols, futures, name)
     except Refused:                                # its words are of a text that nobody saw
         return None
     made.notes = head.kind.notes
@@ -182,8 +178,7 @@ def read_list(sessions: 'Inputs', path: Any, request: Request, dup_op: DupOp,
     """The matrix of a list, or of a folder of files; None where it is for the caller's process to
     read."""
     if isinstance(path, (str, os.PathLike)) and os.path.isdir(path):
-        return _read_sources(sessions, _list_folder(os.fspath(path), request), request, dup_op,
-                             name)
+        return _read_folder(sessions, os.fspath(path), request, dup_op, name)
     file, layout = find_shared(sessions, path), request.layout
     converts = layout.scale is not None or layout.nodetype or layout.unit
     if (file is None or converts or request.nodelist is not None
@@ -194,8 +189,10 @@ def read_list(sessions: 'Inputs', path: Any, request: Request, dup_op: DupOp,
         if table is None or (table.question and request.directed is None):
             return None
         start = start_of_line(table.text, table.skipped + 1)
-        sources = [ListRange(part, table.form) for part in file.cut(start, sessions.engine.places)]
-        made = _read_sources(sessions, sources, request, dup_op, name)
+        ranges = file.cut(start, sessions.engine.places)
+        made = _read_parts(_Parts(sessions, [part.label for part in ranges], ranges),
+                           file_parts.read_range, [[part, table.form] for part in ranges], request,
+                           dup_op, name)
     except (Refused, ReadError):                   # whoever reads it line by line names the line
         return None
     if made is not None:
@@ -224,26 +221,30 @@ def _find_table(path: str, request: Request) -> Optional[edge_list_layout.Table]
     return table if table.form.is_by_byte and not is_of_networkx else None
 
 
-def _list_folder(folder: str, request: Request) -> List[WholeFile]:
-    """The files of a folder, by their names; those that begin with a dot or a low line are passed
-    over, as whoever writes such folders has it."""
+def _read_folder(sessions: 'Inputs', folder: str, request: Request, dup_op: DupOp,
+                 name: Optional[str]) -> Optional[BlockMatrix]:
+    """The matrix of the files of a folder, by their names; those that begin with a dot or a low
+    line are passed over, as whoever writes such folders has it."""
     if request.nodelist is not None:
         raise ValueError('nodelist is of a single file, not of a folder')
-    paths = [os.path.abspath(os.path.join(folder, name)) for name in sorted(os.listdir(folder))
-             if not name.startswith(('.', '_'))]
-    found = [WholeFile(path, request) for path in paths if os.path.isfile(path)]
+    paths = [os.path.abspath(os.path.join(folder, file)) for file in sorted(os.listdir(folder))
+             if not file.startswith(('.', '_'))]
+    found = [path for path in paths if os.path.isfile(path)]
     if not found:
         raise ReadError(folder, None, 'a folder without a file')
-    return found
+    return _read_parts(_Parts(sessions, found), file_parts.read_file,
+                       [[path, request] for path in found], request, dup_op, name)
 
 
-def read_frame(sessions: 'Inputs', frame: Any, read: Frame, request: Request, dup_op: DupOp,
-               name: Optional[str]) -> BlockMatrix:
+def read_frame(sessions: 'Inputs', frame: Any, ends: Tuple[Any, Any], value: Any,
+               request: Request, dup_op: DupOp, name: Optional[str]) -> BlockMatrix:
     """The matrix of the partitions of a frame of Dask, each read as one frame is."""
-    read = read._replace(value=choose_value_column(frame.columns, read.ends, read.value))
-    parts = sessions.engine.frames(list(frame.to_delayed()))
-    made = _read_sources(sessions, [read._replace(frame=part) for part in parts], request, dup_op,
-                         name)
+    value = choose_value_column(frame.columns, ends, value)
+    frames = sessions.engine.frames(list(frame.to_delayed()))
+    made = _read_parts(_Parts(sessions, ['a part of the frame'] * len(frames)),
+                       file_parts.read_frame,
+                       [[part, ends, value, request.layout] for part in frames], request, dup_op,
+                       name)
     if made is None:
         raise ValueError('some partitions have whole numbers as names, and others have not: '
                          'convert the columns to one type')
@@ -257,17 +258,14 @@ class _Vertices(NamedTuple):
     places: List[List[Any]]
 
 
-def _read_sources(sessions: 'Inputs', sources: Sequence[Source], request: Request, dup_op: DupOp,
-                  name: Optional[str]) -> Optional[BlockMatrix]:
-    """The matrix of the edges of all parts; None where a part has to be read line by line, or names
-    are of several kinds."""
+def _read_parts(parts: _Parts, read: Callable[..., Any], args: List[List[Any]], request: Request,
+                dup_op: DupOp, name: Optional[str]) -> Optional[BlockMatrix]:
+    """The matrix of the edges of all parts, by a function of `file_parts` and its arguments for
+    each; None where a part has to be read line by line, or names are of several kinds."""
     directed, bipartite = request.directed is not False, request.bipartite
     check_direction(How(directed, None, bipartite))
-    places, many = _Places.of(sessions, sources), len(sources)
-    parts = places.submit(file_parts.read_edges, map(list, sources), map(type, sources),
-                          [bipartite] * many)
-    found = places.results(places.submit(file_parts.tell_names, parts),
-                           [getattr(source, 'range', None) for source in sources])
+    edges = parts.submit(file_parts.read_edges, read, args, bipartite)
+    found = parts.results(parts.submit(file_parts.tell_names, edges))
     vertices = None if None in found else _number_vertices([names for names, *_ in found])
     if vertices is None:
         return None
@@ -277,7 +275,7 @@ def _read_sources(sessions: 'Inputs', sources: Sequence[Source], request: Reques
     first, last = vertices.names[0], vertices.names[-1]
     to = [To(numbers, len(first), len(last), directed, not weighted and op is None)
           for numbers in vertices.places]
-    made = _make_matrix(places, parts, to, vertices, Fold(op, unit, weighted), name)
+    made = _make_matrix(parts, edges, to, vertices, Fold(op, unit, weighted), name)
     left_out = functools.reduce(LeftOut.plus, (part[3] for part in found), LeftOut())
     rows = axis_of(first)
     made.notes = Metadata(None, None, directed, weighted or op is not None,
@@ -303,37 +301,23 @@ def _number_vertices(names: Sequence[List[Any]]) -> Optional[_Vertices]:
     return _Vertices(found, [list(many) for many in zip(*numbers)])
 
 
-def _make_matrix(places: _Places, parts: Sequence[Any], to: Sequence[To], vertices: _Vertices,
-                 fold: Fold, name: Optional[str]) -> BlockMatrix:
+def _make_matrix(parts: _Parts, edges: List[Any], to: List[To], vertices: _Vertices, fold: Fold,
+                 name: Optional[str]) -> BlockMatrix:
     """The matrix of all edges. Those that repeat are folded, or where they have no values count
     once; ReadError names them otherwise."""
-    sessions, many = places.sessions, len(parts)
-    cut = _cut_by_counts(places, parts, to)
-    split = places.submit(file_parts.split_edges, parts, to, [cut] * many, places.new_files())
-    shape, bare = (to[0].nrows, to[0].ncols), to[0].bare
-    works = [
-        Work(block, cut.label(block), file_parts.make_block_of_edges, (bare, shape, lines, fold))
-        for block, lines in enumerate(places.by_blocks(split, cut.blocks))]
+    sessions, nrows, ncols = parts.sessions, *to[0][1:3]
+    cut = sessions.cut_for(nrows, None) or row_partition.cut_by_ranges(
+        nrows, sessions.blocks, lambda rows: sessions.results(
+            parts.submit(file_parts.count_rows, edges, to, tuple(rows)), parts.labels))
+    split = parts.submit(file_parts.split_edges, edges, to, cut, parts.new_files())
+    works = [Work(block, cut.label(block), file_parts.make_block,
+                  (to[0].bare, (nrows, ncols), lines, fold))
+             for block, lines in enumerate(parts.by_blocks(split, cut.blocks))]
     try:
         futures = ([sessions.submit(*work[:3], *work.args) for work in works] if fold.op is None
                    else sessions.submit_batch(works))
-        return sessions.assemble(cut, shape[1], futures, name).wait()
+        return sessions.assemble(cut, ncols, futures, name)
     except Repeated as fault:
         ends = vertices.names[0][fault.row], vertices.names[-1][fault.column]
         raise ReadError('the edges', None, 'the edge between %r and %r is given twice; %s'
                         % (*ends, FOLDS)) from None
-
-
-def _cut_by_counts(places: _Places, parts: Sequence[Any], to: Sequence[To]) -> Cut:
-    """Where to cut, by the entries in ranges of rows."""
-    sessions, nrows = places.sessions, to[0].nrows
-    given = sessions.cut_for(nrows, None)
-    if given is not None or nrows == 0:
-        return given or row_partition.cut_evenly(nrows, sessions.blocks)
-    bins = min(BINS, nrows)
-    edges = [nrows * k // bins for k in range(bins + 1)]
-    counts = sessions.results(places.submit(file_parts.count_rows, parts, to, [edges] * len(parts)),
-                              places.labels)
-    found = row_partition.cut_by_entries([int(sum(many)) for many in zip(*counts)],
-                                         sessions.blocks)
-    return Cut(tuple(edges[bound] for bound in found.bounds))

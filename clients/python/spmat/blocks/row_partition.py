@@ -7,13 +7,17 @@ of some rows are found by halving and are cut out as they are.
 from __future__ import annotations
 
 import bisect
-from typing import Any, Iterable, Iterator, List, NamedTuple, Sequence, Tuple
+import hashlib
+from typing import Any, Callable, Iterable, Iterator, List, NamedTuple, Sequence, Tuple
 
 import numpy
 
 from .. import limits
 from ..errors import refusal
 from ..io import matrix_text
+
+# rows or ranges of rows that are counted, to cut there
+RANGES = 4096
 
 
 class Cut(NamedTuple):
@@ -73,6 +77,15 @@ def cut_by_entries(counts: Sequence[int], blocks: int) -> Cut:
     return Cut((0, *places, len(counts)))
 
 
+def cut_by_ranges(nrows: int, blocks: int, count: Callable[[List[int]], List[Any]]) -> Cut:
+    """A cut by entries at some rows, of which there are 4,096 at most: `count` gives how many
+    entries of each part of a matrix lie in the rows from each of these to below the next."""
+    ranges = max(1, min(RANGES, nrows))
+    edges = [nrows * k // ranges for k in range(ranges + 1)]
+    found = cut_by_entries([int(sum(many)) for many in zip(*count(edges))], blocks)
+    return Cut(tuple(edges[bound] for bound in found.bounds))
+
+
 def _nearest(ends: Any, wanted: float) -> int:
     """The row before which the entries are nearest to so many."""
     at = bisect.bisect_left(ends, wanted)
@@ -125,3 +138,42 @@ def text_of(nrows: int, ncols: int, parts: Sequence[Tuple[bytes, int]]) -> bytes
     if len(first) + size > limits.MOST_TEXT:
         raise refusal('S7', detail='the text has %d bytes' % (len(first) + size))
     return b''.join([first, *(part[0] for part in parts)])
+
+
+# -- texts, and where they lie
+
+class Stored(NamedTuple):
+    """Text of a block, or some of its lines: itself, or where it lies in a file and what tells its
+    content; and the number of entries, where it is lines."""
+    data: bytes
+    entries: int = 0
+    path: str = ''
+    first: int = 0
+    end: int = 0
+
+    def text(self) -> bytes:
+        """The text. ValueError where the file has changed since it was written."""
+        if not self.path:
+            return self.data
+        with open(self.path, 'rb') as file:
+            file.seek(self.first)
+            text = file.read(self.end - self.first)
+        if _digest_of(text) != self.data:
+            raise ValueError('the file %s has changed since it was written' % self.path)
+        return text
+
+
+def write_texts(texts: Sequence[Stored], path: str) -> List[Stored]:
+    """The same texts in a file, one after the other."""
+    out, at = [], 0
+    with open(path, 'wb') as file:
+        for text in texts:
+            file.write(text.data)
+            end = at + len(text.data)
+            out.append(Stored(_digest_of(text.data), text.entries, path, at, end))
+            at = end
+    return out
+
+
+def _digest_of(text: bytes) -> bytes:
+    return hashlib.blake2b(text, digest_size=32).digest()

@@ -1,19 +1,11 @@
-"""Several sessions as one: their life, their budgets, and what one of them says of operators."""
+"""Several sessions as one: their life, and what one of them says of operators."""
 from __future__ import annotations
 
-import contextlib
 import copy
-import dataclasses
-import itertools
 import operator
-import os
-import tempfile
-import threading
-import weakref
-from typing import Any, Callable, Dict, Iterable, List, Optional, Tuple, Union
+from typing import Any, Callable, Dict, Iterable, List, Optional, Union
 
 from ..backends.placeholders import backend_now
-from ..backends.protocol import Budget
 from ..foreign_names import SESSION, missing_attribute
 from ..io import coo
 from ..limits import MOST_STEPS
@@ -23,15 +15,11 @@ from ..wire.connection import checked_settings
 from ..wire.server_program import Program
 from ..wire.transport import checked_seconds
 from . import worker_tasks
-from .backend import BlockHandle, BlocksBackend
-from .errors import AtBlock, VersionMismatch, name_block
-from .executor import Engine, Progress
+from .backend import BlocksBackend
+from .engine import Engine, Progress, Settings
 from .importers import Inputs
 from .row_partition import Cut
-from .shared_budget import Ledger
-from .task_runner import TaskRunner
 from .threads import Threads
-from .worker_store import Settings, agree
 
 # What one session has and blocks don't: why, and what to do instead.
 OF_ONE_SESSION: Dict[str, str] = {
@@ -44,7 +32,7 @@ OF_ONE_SESSION: Dict[str, str] = {
 }
 
 
-class Sessions(TaskRunner, Inputs):
+class Sessions(Inputs):
     """Several sessions that hold matrices in row blocks. Use it in a `with`, or close it.
 
     Parameters
@@ -88,32 +76,15 @@ class Sessions(TaskRunner, Inputs):
                  folder: Optional[str] = None, associative: Iterable[Op] = (), texts: bool = False,
                  progress: Progress = None, patience: Optional[float] = 10) -> None:
         steps, workers = checked_settings(steps, workers)
-        patience = checked_seconds(patience, 'patience')
-        self.engine = engine if isinstance(engine, Engine) else _open_threads(engine)
-        self.blocks = (self.engine.places if blocks is None
-                       else coo.whole(blocks, 'number of blocks'))
+        settings = Settings(steps, workers, program, texts, checked_seconds(patience, 'patience'))
+        engine = engine if isinstance(engine, Engine) else _open_threads(engine)
+        self.blocks = engine.places if blocks is None else coo.whole(blocks, 'number of blocks')
         if self.blocks < 1:
             raise ValueError('1 block at least, not %d' % self.blocks)
-        self.folder, self.progress = folder, progress
-        self._closed = threading.Event()           # copies that cut otherwise share it
-        self._spool: Optional['tempfile.TemporaryDirectory[str]'] = None
-        self._waiting: List['weakref.ref[BlockHandle]'] = []
-        self.files: List[str] = []                 # what was written there
         self.associative = frozenset(find('binary', op) for op in associative)
-        self.turns = itertools.count()             # which place is the next to join a whole
         self.cut: Optional[Cut] = None
         self._backend = BlocksBackend(self)
-        self.ledger = Ledger(steps)
-        settings = Settings(steps, workers, program, texts, patience)
-        self.settings = dataclasses.replace(settings, version=self._version(settings))
-
-    def _version(self, settings: Settings) -> Tuple[str, str]:
-        from .. import __version__
-        version = agree(self.engine.versions(settings))
-        if version[0] != __version__:
-            raise VersionMismatch('the workers have client %s, and this process has %s' %
-                                  (version[0], __version__))
-        return version
+        super().__init__(engine, settings, folder, progress)
 
     def __enter__(self) -> 'Sessions':
         """Open a `with`, at whose end the sessions are closed.
@@ -130,17 +101,6 @@ class Sessions(TaskRunner, Inputs):
 
     def __repr__(self) -> str:
         return '<Sessions of %s, %d blocks>' % (type(self.engine).__name__, self.blocks)
-
-    def close(self) -> None:
-        """Ends the sessions. Their matrices are gone, and so are the files that they wrote into
-        `folder`. What needs a session raises Closed from then on."""
-        self._closed.set()
-        self.engine.close(self.settings)
-        while self.files:
-            with contextlib.suppress(FileNotFoundError):
-                os.remove(self.files.pop())
-        if self._spool is not None:
-            self._spool.cleanup()
 
     @property
     def backend(self) -> Any:
@@ -187,45 +147,6 @@ class Sessions(TaskRunner, Inputs):
             The `workers` of these sessions.
         """
         return self.settings.workers
-
-    def budgets(self) -> Dict[str, Budget]:
-        """What each session has reserved and spent, and what all have left.
-
-        Returns
-        -------
-        dict
-            A Budget by the name of each worker; of workers in one process, which share a session,
-            the first.
-        """
-        workers = self._ask_budgets()
-        left = self.ledger.budget.left
-        return {worker: Budget(left, budget.reserved, budget.spent)
-                for worker, (_, budget) in workers.items()}
-
-    def budget(self) -> Budget:
-        """What all sessions together have left, reserved and spent, as one budget.
-
-        Returns
-        -------
-        Budget
-            What a worker spent that was lost since is in it as far as it was told: by the last time
-            that was asked.
-        """
-        self._ask_budgets()
-        return self.ledger.budget
-
-    def _ask_budgets(self) -> Dict[str, Tuple[str, Budget]]:
-        """The name and the budget of each session, by the first of its workers."""
-        self._check_open()
-        found: Dict[str, Tuple[str, Tuple[str, Budget]]] = {}
-        try:
-            answers = self.engine.everywhere(self.settings, worker_tasks.budget)
-        except AtBlock as at:
-            raise name_block(at.label, at.fault) from None
-        for worker, (session, budget) in answers.items():
-            found.setdefault(session, (worker, (session, budget)))
-        self.ledger.note(dict(both for _, both in found.values()))
-        return dict(found.values())
 
     @property
     def again(self) -> int:

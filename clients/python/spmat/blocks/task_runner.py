@@ -1,45 +1,118 @@
-"""Tasks of several sessions: what workers are handed, what they give, and what it costs."""
+"""Tasks of several sessions: what workers are handed, what they give, and what it costs.
+
+Each session is opened with all of the budget, and the client keeps the books. While far more is
+left than machines spend in a day, jobs go to their blocks at once. Of a smaller budget the jobs of
+a batch, one at each block, are looked at first: by a bound that costs nothing, and where that is
+above what is left by their prices. No server forgets a job that waits, so none is queued for that:
+a session without any step refuses each job, and says its price. Where the prices together are above
+what is left, BudgetExceeded has their sum, and no block was charged.
+"""
 from __future__ import annotations
 
 import contextlib
+import dataclasses
+import itertools
 import os
 import tempfile
 import threading
 import uuid
 import weakref
-from typing import Any, Callable, Iterator, List, Optional, Sequence
+from typing import Any, Callable, Dict, List, Optional, Sequence, Tuple
 
 from ..backends.placeholders import Unforeseen, current_price
-from ..backends.protocol import Budget, JobResult, Run
-from ..errors import BudgetExceeded, Closed, SpmatError
-from . import chunked_input, worker_tasks
+from ..backends.protocol import AMPLE, Budget, JobResult, Run
+from ..errors import BudgetExceeded, Closed, SpmatError, refusal
+from ..limits import MOST_PRICE
+from . import worker_tasks
 from .backend import BlockHandle
-from .errors import AtBlock, add_spent, name_block
-from .executor import Engine, Progress
-from .shared_budget import Ledger, Work
+from .engine import (AtBlock, Engine, Progress, Settings, Version, VersionMismatch, Work,
+                     add_spent, name_block)
+from .row_partition import Stored, write_texts
 from .threads import Threads
-from .worker_store import Piece, Settings
+from .worker_store import Piece, agree
 
 # bytes of a text that goes with its task, where another would lie in a file
 SMALL = 1 << 16
-# results that are noted until those are passed over that are there
-MOST_WAITING = 1024
+
+
+class Ledger:
+    """What all sessions together may spend, and what they have spent, as far as that was told."""
+
+    def __init__(self, steps: int) -> None:
+        self.steps = steps
+        # by sessions, those among them that were lost since
+        self._spent: Dict[str, int] = {}
+        self._reserved = self._granted = 0
+        self._lock = threading.Lock()
+
+    def note(self, budgets: Dict[str, Budget]) -> None:
+        """What the sessions tell, by their names."""
+        with self._lock:
+            for name, budget in budgets.items():
+                self._spent[name] = max(budget.spent, self._spent.get(name, 0))
+            self._reserved, self._granted = sum(budget.reserved for budget in budgets.values()), 0
+
+    @property
+    def budget(self) -> Budget:
+        """What is left, reserved and spent by all sessions."""
+        spent = sum(self._spent.values())
+        return Budget(max(0, self.steps - self._reserved - spent), self._reserved, spent)
+
+    @property
+    def is_ample(self) -> bool:
+        """Whether so much is left that jobs needn't be looked at."""
+        return self.budget.left - self._granted >= AMPLE
+
+    @property
+    def is_granted(self) -> bool:
+        """Whether jobs went to their blocks since the sessions told what they spent."""
+        return self._granted > 0
+
+    def grant(self, jobs: int) -> None:
+        """Takes note of so many jobs that go to their blocks unlooked at."""
+        with self._lock:
+            self._granted += jobs * MOST_PRICE
+
+    def check(self, price: int) -> None:
+        """BudgetExceeded where jobs of this price together are above what is left."""
+        if price > self.budget.left:
+            raise refusal('S8', [price, self.budget.left])
 
 
 class TaskRunner:
     """What gives tasks to the workers of several sessions, and waits for them."""
 
-    engine: Engine
-    settings: Settings
-    ledger: Ledger
-    progress: Progress
-    folder: Optional[str]
-    files: List[str]
-    turns: Iterator[int]
-    budget: Callable[[], Budget]
-    _closed: threading.Event
-    _spool: Optional['tempfile.TemporaryDirectory[str]']
-    _waiting: List['weakref.ref[BlockHandle]']
+    def __init__(self, engine: Engine, settings: Settings, folder: Optional[str],
+                 progress: Progress) -> None:
+        self.engine, self.folder, self.progress = engine, folder, progress
+        self._closed = threading.Event()           # copies that cut otherwise share it
+        self._spool: Optional['tempfile.TemporaryDirectory[str]'] = None
+        self.files: List[str] = []                 # what was written there
+        # results of jobs, for `run`
+        self.waiting: 'weakref.WeakValueDictionary[int, BlockHandle]' = (
+            weakref.WeakValueDictionary())
+        self.turns = itertools.count()             # which place is the next to join a whole
+        self.ledger = Ledger(settings.steps)
+        self.settings = dataclasses.replace(settings, version=self._version(settings))
+
+    def _version(self, settings: Settings) -> Version:
+        from .. import __version__
+        version = agree(self.engine.versions(settings))
+        if version[0] != __version__:
+            raise VersionMismatch('the workers have client %s, and this process has %s' %
+                                  (version[0], __version__))
+        return version
+
+    def close(self) -> None:
+        """Ends the sessions. Their matrices are gone, and so are the files that they wrote into
+        `folder`. What needs a session raises Closed from then on."""
+        self._closed.set()
+        self.engine.close(self.settings)
+        while self.files:
+            with contextlib.suppress(FileNotFoundError):
+                os.remove(self.files.pop())
+        if self._spool is not None:
+            self._spool.cleanup()
 
     def _check_open(self) -> None:
         if self._closed.is_set():
@@ -54,24 +127,13 @@ class TaskRunner:
             Each job with its price and steps at all blocks together. Of a result that nobody holds
             any more nothing is told.
         """
-        waiting, self._waiting[:] = list(self._waiting), []
-        held = [handle for handle in (one() for one in waiting) if handle is not None]
+        held = list(self.waiting.values())
+        self.waiting.clear()
         for handle in held:
             handle.counts()
         return Run(
             [JobResult(next(iter(handle.matrices()), None), handle.form, handle.price or 0,
                        handle.steps or 0) for handle in held])
-
-    def note_result(self, handle: BlockHandle) -> None:
-        """Notes the result of a job, for `run`."""
-        if len(self._waiting) > MOST_WAITING:
-            self._waiting[:] = [one for one in self._waiting if (held := one()) is not None
-                                and held.waits]
-        self._waiting.append(weakref.ref(handle))
-
-    def forget(self, handle: BlockHandle) -> None:
-        """Takes a result from those that `run` waits for."""
-        self._waiting[:] = [one for one in self._waiting if one() not in (None, handle)]
 
     def submit_batch(self, works: Sequence[Work]) -> List[Any]:
         """The futures of tasks, each of which makes one job at its block. Where the budget is
@@ -85,7 +147,12 @@ class TaskRunner:
         price = self._price(works, False)
         if price > self.ledger.budget.left:
             price = self._price(works, True)
-        self._check(price)
+        try:
+            self.ledger.check(price)
+        except BudgetExceeded as refused:
+            fault: Any = refused.with_advice()
+            fault.block, fault.spent_in_all = '', self.ledger.budget.spent
+            raise fault from None
         futures = [self.submit(*work[:3], *work.args) for work in works]
         try:
             self.results(
@@ -107,22 +174,11 @@ class TaskRunner:
             try:
                 found = self.engine.ask(self.settings, works)
             except AtBlock as at:
-                raise name_block(at.label, at.fault) from None
+                raise name_block(at) from None
             if found is not None:
                 self.ledger.grant(len(works))
                 return found
         return self.results(self.submit_batch(works), labels)
-
-    def _check(self, price: int) -> None:
-        """BudgetExceeded where jobs of this price together are above what is left, with what the
-        algorithm wanted that asks for them."""
-        try:
-            self.ledger.check(price)
-        except BudgetExceeded as refused:
-            fault = refused.with_advice()
-            fault.block = ''  # type: ignore[attr-defined]
-            fault.spent_in_all = self.ledger.budget.spent  # type: ignore[attr-defined]
-            raise fault from None
 
     @property
     def is_metered(self) -> bool:
@@ -153,7 +209,7 @@ class TaskRunner:
         try:
             return self.engine.results(self.settings, futures, labels, self.progress)
         except AtBlock as at:
-            fault, cause = name_block(at.label, at.fault), at.fault
+            fault, cause = name_block(at), at.fault
         if isinstance(fault, BudgetExceeded):
             with contextlib.suppress(Exception):   # a worker that is lost meanwhile can't be asked
                 fault = add_spent(fault, self.budget().spent)
@@ -162,6 +218,47 @@ class TaskRunner:
         finally:
             # no circle of exception and frame, which would keep futures
             del fault, cause
+
+    # -- the budget
+
+    def budgets(self) -> Dict[str, Budget]:
+        """What each session has reserved and spent, and what all have left.
+
+        Returns
+        -------
+        dict
+            A Budget by the name of each worker; of workers in one process, which share a session,
+            the first.
+        """
+        workers = self._ask_budgets()
+        left = self.ledger.budget.left
+        return {worker: Budget(left, budget.reserved, budget.spent)
+                for worker, budget in workers.items()}
+
+    def budget(self) -> Budget:
+        """What all sessions together have left, reserved and spent, as one budget.
+
+        Returns
+        -------
+        Budget
+            What a worker spent that was lost since is in it as far as it was told: by the last time
+            that was asked.
+        """
+        self._ask_budgets()
+        return self.ledger.budget
+
+    def _ask_budgets(self) -> Dict[str, Budget]:
+        """The budget of each session, by the first of its workers."""
+        self._check_open()
+        found: Dict[str, Tuple[str, Budget]] = {}
+        try:
+            answers = self.engine.everywhere(self.settings, worker_tasks.budget)
+        except AtBlock as at:
+            raise name_block(at) from None
+        for worker, (session, budget) in answers.items():
+            found.setdefault(session, (worker, budget))
+        self.ledger.note({session: budget for session, (_, budget) in found.items()})
+        return dict(found.values())
 
     # -- texts that workers read
 
@@ -182,19 +279,19 @@ class TaskRunner:
 
     def put(self, block: int, label: str, text: bytes) -> Any:
         """The future of a block that is made of its text."""
-        if (len(text) < SMALL and self.folder is None) or self.spool() is None:
-            return self.submit(block, label, worker_tasks.source, text)
-        path = self.new_file()
-        return self.submit(block, label, worker_tasks.read, path,
-                           chunked_input.write_text(path, text))
+        stored = Stored(text)
+        if self.spool() is not None and (len(text) >= SMALL or self.folder is not None):
+            stored, = write_texts([stored], self.new_file())
+        return self.submit(block, label, worker_tasks.source, stored)
 
     def new_file(self) -> str:
-        """The path of a file in `spool()` that isn't there yet, and that `close` removes."""
+        """The path of a file in `spool()` that isn't there yet, and that `close` removes; empty
+        where the engine keeps texts."""
         folder = self.spool()
-        assert folder is not None
-        path = os.path.join(folder, uuid.uuid4().hex + '.mtx')
-        self.files.append(path)
-        return path
+        if folder is None:
+            return ''
+        self.files.append(os.path.join(folder, uuid.uuid4().hex + '.mtx'))
+        return self.files[-1]
 
 
 def check_queued() -> None:

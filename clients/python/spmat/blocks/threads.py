@@ -5,14 +5,13 @@ import concurrent.futures
 import threading
 import time
 import weakref
-from typing import Any, Callable, Dict, Iterator, List, Sequence, Tuple
+from typing import Any, Callable, Dict, List, Sequence, Tuple
 
 from ..errors import Closed
 from ..io.coo import shown, whole
 from . import worker_tasks
-from .errors import AtBlock
-from .executor import Engine, Progress, Version
-from .worker_store import EndedSession, Piece, Settings, Store, version_of
+from .engine import AtBlock, Engine, Progress, Settings, Version
+from .worker_store import Piece, Store, open_store, version_of
 
 # seconds after which it is looked at what holds results up
 LOOK = 1.0
@@ -69,6 +68,7 @@ class Threads(Engine):
     whose program ends so three times in one task ends as BlockFailed."""
 
     def __init__(self, count: int = 2) -> None:
+        super().__init__()
         count = whole(count, 'number of sessions')
         if not 1 <= count <= 64:
             raise ValueError('1 to 64 sessions, not %s' % shown(count))
@@ -76,7 +76,6 @@ class Threads(Engine):
                        for place in range(count)]
         self._stores: Dict[Tuple[str, int], Store] = {}
         self._again: Dict[str, int] = {}
-        self._reported: Dict[str, int] = {}
         self._lock = threading.Lock()
 
     @property
@@ -88,29 +87,13 @@ class Threads(Engine):
         """Tasks of a place are done one after the other as they come, and a task waits only for
         earlier ones: so none waits for ever."""
         recipe = Recipe(label, function, _map_values(_recipe_of, args))
-        task = Task(recipe, concurrent.futures.Future())
-        self._pools[place].submit(self._perform, _Maker(self, settings, place), task, args)
-        return task
-
-    @staticmethod
-    def _perform(maker: '_Maker', task: Task, args: Any) -> None:
-        if not task.future.set_running_or_notify_cancel():
-            return
-        try:
-            task.future.set_result(maker.run(task.recipe, args))
-        # whoever asks for the result gets it
-        except BaseException as fault:  # pylint: disable=broad-exception-caught
-            task.future.set_exception(fault)
+        return Task(recipe, self._pools[place].submit(self._perform, settings, place, recipe, args))
 
     def store(self, settings: Settings, place: int) -> Store:
-        """The session of a place, opened at its first use, and anew where its program has ended."""
-        held = self._stores.get((settings.token, place))
-        if held is None or held.is_lost():
-            self._stores[settings.token, place] = held = Store(
-                settings, held.ended if held is not None else EndedSession())
-        return held
+        """The session of a place."""
+        return open_store(self._stores, (settings.token, place), settings)
 
-    def count_again(self, settings: Settings) -> None:
+    def _count_again(self, settings: Settings) -> None:
         """One task more was done again."""
         with self._lock:
             self._again[settings.token] = self._again.get(settings.token, 0) + 1
@@ -141,14 +124,11 @@ class Threads(Engine):
         begun = time.monotonic()
         while not task.done():
             concurrent.futures.wait([task.future], LOOK)
-            if (progress is not None
-                and self.again(settings) > self._reported.get(settings.token, 0)):
-                self._reported[settings.token] = self.again(settings)
-                progress('again', self._reported[settings.token], 0)
+            self._report_again(settings, progress)
             if settings.patience is not None and time.monotonic() - begun > settings.patience:
-                for store in [store for (token, _), store in self._stores.items()
-                              if token == settings.token]:
-                    store.end_if_stopped(settings.patience)
+                for (token, _), store in list(self._stores.items()):
+                    if token == settings.token:
+                        store.end_if_stopped(settings.patience)
 
     def everywhere(self, settings: Settings, function: Callable[..., Any], *args: Any) -> Dict[str,
             Any]:
@@ -168,63 +148,56 @@ class Threads(Engine):
                 store.close()
         self._again.pop(settings.token, None)
 
+    # -- in the thread of a place
 
-class _Maker:
-    """Does one task at a place, and what of its operands is lost, before it."""
-
-    def __init__(self, engine: Threads, settings: Settings, place: int) -> None:
-        self._engine, self._settings, self._place = engine, settings, place
-
-    def run(self, recipe: Recipe, args: Any) -> Any:
+    def _perform(self, settings: Settings, place: int, recipe: Recipe, args: Any) -> Any:
         """The result of a recipe with arguments that hold tasks; the recipe keeps those that have
-        their texts."""
+        their texts. What of them is lost is made before it, here."""
+        def find_value(arg: Any) -> Any:
+            if isinstance(arg, Task) and _is_lost(arg.value):
+                arg.again = self._make_again(settings, place, arg.recipe)
+            return arg.value if isinstance(arg, Task) else arg
         for attempt in range(ATTEMPTS):
             try:
-                values = _map_values(self._find_value, args)
+                values = _map_values(find_value, args)
                 recipe.args = _map_values(_shorten, args)
-                return self._make(recipe, values)
+                return self._make(settings, place, recipe, values)
             except AtBlock as at:
                 if not isinstance(at.fault, Closed) or attempt + 1 == ATTEMPTS:
                     raise
-                self._engine.count_again(self._settings)
+                self._count_again(settings)
         raise AssertionError
 
-    def _make(self, recipe: Recipe, values: Any) -> Any:
-        value = worker_tasks.perform(lambda: self._engine.store(self._settings, self._place),
-                                     recipe.label, recipe.function, values)
+    def _make(self, settings: Settings, place: int, recipe: Recipe, values: Any) -> Any:
+        value = worker_tasks.perform(lambda: self.store(settings, place), recipe.label,
+                                     recipe.function, values)
         if isinstance(value, Piece):
             recipe.last = weakref.ref(value)
         return value
 
-    def _find_value(self, arg: Any) -> Any:
-        """The result of a task, or another argument as it is; what is lost is made again, here."""
-        if not isinstance(arg, Task):
-            return arg
-        if _is_lost(arg.value):
-            arg.again = self._make_again(arg.recipe)
-        return arg.value
-
-    def _make_again(self, last: Recipe) -> Any:
+    def _make_again(self, settings: Settings, place: int, last: Recipe) -> Any:
         """What a recipe gives, and before it what it stands on, as far back as that is lost. By a
         list, as a chain may be long."""
         made: Dict[Recipe, Any] = {}
         waiting = [last]
+
+        def note_operand(arg: Any) -> None:
+            if isinstance(arg, Recipe) and arg not in made:
+                value = arg.last()
+                if value is None or _is_lost(value):
+                    waiting.append(arg)
+                else:
+                    made[arg] = value
         while waiting:
             recipe = waiting[-1]
-            for one in _list_values(recipe.args):
-                if isinstance(one, Recipe) and one not in made:
-                    value = one.last()
-                    if value is None or _is_lost(value):
-                        waiting.append(one)
-                    else:
-                        made[one] = value
+            _map_values(note_operand, recipe.args)
             if waiting[-1] is recipe:
                 waiting.pop()
                 if recipe not in made:
-                    self._engine.count_again(self._settings)
+                    self._count_again(settings)
                     values = _map_values(lambda arg: made[arg] if isinstance(arg, Recipe)
                                          else arg, recipe.args)
-                    made[recipe] = self._make(recipe, values)
+                    made[recipe] = self._make(settings, place, recipe, values)
         return made[last]
 
 
@@ -253,12 +226,3 @@ def _map_values(function: Callable[[Any], Any], args: Any) -> Any:
     if type(args) in (list, tuple):
         return type(args)(_map_values(function, one) for one in args)
     return function(args)
-
-
-def _list_values(args: Any) -> Iterator[Any]:
-    """The same arguments, one after the other."""
-    if type(args) in (list, tuple):
-        for one in args:
-            yield from _list_values(one)
-    else:
-        yield args

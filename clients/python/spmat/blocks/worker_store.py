@@ -10,6 +10,7 @@ nothing moves, and a piece is enough to compute on anywhere.
 from __future__ import annotations
 
 import contextlib
+import functools
 import hashlib
 import os
 import shutil
@@ -18,17 +19,19 @@ import threading
 import time
 import uuid
 import weakref
-from dataclasses import dataclass, field, replace
+from dataclasses import replace
 from typing import Any, Dict, Iterator, List, NamedTuple, Optional, Tuple
 
-from ..backends.protocol import Budget
-from ..errors import Closed
-from ..limits import MOST_STEPS
+from ..backends.protocol import Budget, Handle, Job, most_of
+from ..backends.server import ServerBackend
+from ..errors import Closed, refusal
 from ..matrix import Matrix
+from ..session import Session
 from ..wire.server_program import Program, program_words
-from .errors import VersionMismatch
-from .shared_budget import Metered
+from .engine import Settings, Version, VersionMismatch
 
+# of a thread: whether it asks for the `bound` of a job
+asked = threading.local()
 # bytes of a text that is kept with what was made of it
 SHORT = 1 << 20
 # bytes that a piece counts for at least, to engines that move data
@@ -47,47 +50,6 @@ class Counts(NamedTuple):
     nvals: int
     price: int = 0
     steps: int = 0
-
-
-@dataclass(frozen=True)
-class Settings:
-    """How each worker opens its session: the budget of steps of all, its threads, the words that
-    start the program (without them each worker finds its own, as `Session` does), the seconds after
-    which a program that stands still is taken for lost (None: never), and the version that is
-    expected there. With `texts` each result is taken out as text as soon as it is made."""
-    steps: int = MOST_STEPS
-    workers: int = 1
-    program: Optional[Program] = None
-    texts: bool = False
-    patience: Optional[float] = 10
-    version: Optional[Tuple[str, str]] = None
-    token: str = field(default_factory=lambda: uuid.uuid4().hex)
-
-
-def version_of(program: Optional[Program] = None) -> Tuple[str, str]:
-    """What tells a version here: that of this package, and the SHA-256 of the program's file, which
-    says more than the version that the program tells, since two builds of one source may differ as
-    well. Where the program is started by several words (a shell, a wrapper), each word that is a
-    file counts, and each other word as it stands. FileNotFoundError where the first is none."""
-    from .. import __version__
-    said = hashlib.sha256()
-    for number, word in enumerate(program_words(program)):
-        path = shutil.which(word) or word
-        if os.path.isfile(path):
-            said.update(b'file ' + _file_digest(path))
-        elif number == 0:
-            raise FileNotFoundError('no program %s' % word)
-        else:
-            said.update(b'word %d %s' % (len(word), word.encode()))
-    return __version__, said.hexdigest()
-
-
-def _file_digest(path: str) -> bytes:
-    said = hashlib.sha256()
-    with open(path, 'rb') as file:
-        for piece in iter(lambda: file.read(1 << 20), b''):
-            said.update(piece)
-    return said.digest()
 
 
 class Piece:
@@ -141,7 +103,7 @@ class Piece:
 
     def __reduce__(self) -> Any:
         try:
-            return _unpickle_piece, (self.counts, self.text(), self._digest)
+            return Piece, (self.counts, None, self.text(), self._digest)
         except Closed:
             leave()                                # another worker asks for what this one has lost
             raise
@@ -151,28 +113,36 @@ class Piece:
         return LEAST_SIZE + (len(self._text) if self._text is not None else 16 * self.counts.nvals)
 
 
-def _unpickle_piece(counts: Counts, text: bytes, digest: Optional[bytes]) -> Piece:
-    return Piece(counts, text=text, digest=digest)
+class MeteredBackend(ServerBackend):
+    """What submits the jobs of a worker's session, and can be asked what they take at most without
+    queueing them."""
+
+    def submit(self, job: Job, name: Optional[str] = None) -> Handle:
+        if not getattr(asked, 'bound', False):
+            return super().submit(job, name)
+        raise refusal('S8', [most_of(job, sum(map(self.length_of, job.operators))).steps, 0])
 
 
-class EndedSession(NamedTuple):
-    """What is known of a session that has ended here, for the next one: its name, and the steps
-    that it had spent."""
-    name: str = ''
-    spent: int = 0
+class Metered(Session):
+    """A session of a worker."""
+
+    _backend_type = MeteredBackend
 
 
 class Store:
     """One worker's session, and which piece is which matrix in it."""
 
-    def __init__(self, settings: Settings, before: EndedSession = EndedSession()) -> None:
+    def __init__(self, settings: Settings, before: Optional['Store'] = None) -> None:
+        """Opens the session; `before` is one that has ended here, whose name it has, and whose
+        steps stay spent."""
         if settings.version is not None and version_of(settings.program) != settings.version:
             raise VersionMismatch(
                 'this worker has another version than the others: %s, and %s is expected' %
                 (_describe_version(version_of(settings.program)),
                  _describe_version(settings.version)))
-        self.settings, self.name = settings, before.name or uuid.uuid4().hex
-        self.session = Metered(max(0, settings.steps - before.spent), settings.workers,
+        self.settings = settings
+        self.name, self._spent = (uuid.uuid4().hex, 0) if before is None else before.account
+        self.session = Metered(max(0, settings.steps - self._spent), settings.workers,
                                settings.program)
         self._lock = threading.Lock()
         self._here: 'weakref.WeakKeyDictionary[Piece, Matrix]' = weakref.WeakKeyDictionary()
@@ -180,7 +150,6 @@ class Store:
         self.uploads = 0
         # when the program was first seen to have used so much of a processor
         self._seen: Optional[Tuple[float, int]] = None
-        self._known = before.spent
         self._users, self._last_use = 0, time.monotonic()
         self._pieces: 'weakref.WeakSet[Piece]' = weakref.WeakSet()
 
@@ -234,10 +203,10 @@ class Store:
                     and not len(self._pieces))
 
     @property
-    def ended(self) -> EndedSession:
-        """What the next session here has to know of this one: the steps of those before it are in
+    def account(self) -> Tuple[str, int]:
+        """The name, which the next session here has, too, and the steps that were spent under
         it."""
-        return EndedSession(self.name, self._known)
+        return self.name, self._spent
 
     def budget(self) -> Budget:
         """What this session and those before it here have spent, and what this one has reserved and
@@ -252,7 +221,7 @@ class Store:
     def _note_spent(self) -> None:
         left = self.session.backend.queue.left
         if left:
-            self._known = self.settings.steps - left
+            self._spent = self.settings.steps - left
 
     def end_if_stopped(self, patience: float) -> bool:
         """Ends a program that has used no processor for so many seconds while the reply to a
@@ -290,30 +259,33 @@ def _count_ticks(group: int) -> Optional[int]:
     return used
 
 
+# -- the sessions of a process of its own
+
 _stores: Dict[str, Store] = {}
-_ended: Dict[str, EndedSession] = {}                     # sessions that have ended here
 _lock = threading.Lock()
-_sweeper: Optional[threading.Thread] = None
 # seconds after which a session ends of which nobody holds a piece
 ABANDONED = 60.0
 
 
+def open_store(stores: Dict[Any, Store], key: Any, settings: Settings) -> Store:
+    """The store of a key, opened at its first use, and anew where its program has ended."""
+    held = stores.get(key)
+    if held is None or held.is_lost():
+        stores[key] = held = Store(settings, held)
+    return held
+
+
 def store_of(settings: Settings) -> Store:
-    """The store of this process, which is opened at its first use, and anew where its program has
-    ended. What that one held is lost: pieces that have their texts (`texts=True`) are taken in
-    again, others are for the engine to make anew."""
-    global _sweeper  # pylint: disable=global-statement  # one for the process
+    """The store of this process. What one held whose program has ended is lost: pieces that have
+    their texts (`texts=True`) are taken in again, others are for the engine to make anew."""
     with _lock:
-        held = _stores.get(settings.token)
-        if held is None or held.is_lost():
-            if held is not None:
-                _ended[settings.token] = held.ended
-            before = _ended.get(settings.token, EndedSession())
-            _stores[settings.token] = held = Store(settings, before)
-        if _sweeper is None:
-            _sweeper = threading.Thread(target=_sweep, name='spmat-sweeper', daemon=True)
-            _sweeper.start()
-        return held
+        _begin_sweeping()
+        return open_store(_stores, settings.token, settings)
+
+
+@functools.lru_cache(maxsize=None)
+def _begin_sweeping() -> None:
+    threading.Thread(target=_sweep, name='spmat-sweeper', daemon=True).start()
 
 
 def _sweep() -> None:
@@ -323,13 +295,9 @@ def _sweep() -> None:
     while True:
         time.sleep(ABANDONED / 12)
         with _lock:
-            left = [(token, store) for token, store in _stores.items()
-                    if store.is_abandoned(ABANDONED)]
-            for token, store in left:
-                _ended[token] = store.ended
-                del _stores[token]
-        for _, store in left:
-            store.close()
+            for store in _stores.values():
+                if store.is_abandoned(ABANDONED):
+                    store.close()
 
 
 def end_stopped_program(settings: Settings, patience: float) -> bool:
@@ -342,15 +310,35 @@ def close_store(settings: Settings) -> None:
     """Ends the session of this process, where there is one."""
     with _lock:
         store = _stores.pop(settings.token, None)
-        _ended.pop(settings.token, None)
     if store is not None:
         store.close()
 
 
-def agree(versions: Dict[str, Tuple[str, str]]) -> Tuple[str, str]:
+# -- versions
+
+def version_of(program: Optional[Program] = None) -> Version:
+    """What tells a version here: that of this package, and the SHA-256 of the program's file, which
+    says more than the version that the program tells, since two builds of one source may differ as
+    well. Where the program is started by several words (a shell, a wrapper), each word that is a
+    file counts, and each other word as it stands. FileNotFoundError where the first is none."""
+    from .. import __version__
+    said = hashlib.sha256()
+    for number, word in enumerate(program_words(program)):
+        path = shutil.which(word) or word
+        if os.path.isfile(path):
+            with open(path, 'rb') as file:
+                said.update(b'file ' + hashlib.sha256(file.read()).digest())
+        elif number == 0:
+            raise FileNotFoundError('no program %s' % word)
+        else:
+            said.update(b'word %d %s' % (len(word), word.encode()))
+    return __version__, said.hexdigest()
+
+
+def agree(versions: Dict[str, Version]) -> Version:
     """The version that all workers have, by their names. Raises VersionMismatch, which names them,
     where they differ."""
-    told: Dict[Tuple[str, str], List[str]] = {}
+    told: Dict[Version, List[str]] = {}
     for worker, version in versions.items():
         told.setdefault(version, []).append(worker)
     if len(told) > 1:
@@ -360,5 +348,5 @@ def agree(versions: Dict[str, Tuple[str, str]]) -> Tuple[str, str]:
     return next(iter(told))
 
 
-def _describe_version(version: Tuple[str, str]) -> str:
+def _describe_version(version: Version) -> str:
     return 'client %s with program %s' % (version[0], version[1][:16])

@@ -15,16 +15,16 @@ import numpy
 from ..algorithms.traversal import Vector, read_vector
 from ..backends.protocol import Budget
 from ..display import html
-from ..errors import NotMade
+from ..errors import BudgetExceeded, NotMade
 from ..io import coo, matrix_text
 from ..io.matrix_text import Triples
 from ..mask import Mask
 from ..operators import Operator, Semiring
 from ..session import Session
-from . import chunked_input, row_partition
-from .errors import AtBlock
-from .shared_budget import bound_of, price_of
-from .worker_store import Counts, Piece, Store
+from . import row_partition
+from .engine import AtBlock
+from .row_partition import Stored, write_texts
+from .worker_store import Counts, Piece, Store, asked
 
 Lines = Tuple[bytes, int]
 """Lines of entries, and their number."""
@@ -49,37 +49,32 @@ def perform(find: Callable[[], Store], label: str, function: Callable[..., Any],
 
 # -- pieces from nothing, or from texts
 
-def source(store: Store, text: bytes) -> Piece:
+def source(store: Store, text: Stored) -> Piece:
     """A block from its text."""
+    return make_piece(store, text.text())
+
+
+def make_piece(store: Store, text: bytes) -> Piece:
+    """A block from its text, which is here."""
     return store.piece(store.session.from_text(text))
 
 
-def read(store: Store, path: str, digest: bytes) -> Piece:
-    """A block from a file that holds its text. ValueError where the file has changed since it was
-    written."""
-    return source(store, chunked_input.read_text(path, digest))
-
-
-def write(store: Store, piece: Piece, path: str) -> bytes:
-    """Writes a block's text into a file; what `read` wants of it."""
-    return chunked_input.write_text(path, piece.text())
+def take_text(store: Store, piece: Piece, path: str) -> Stored:
+    """A block's text, in a file where a path is given."""
+    text = Stored(piece.text())
+    return write_texts([text], path)[0] if path else text
 
 
 def full(store: Store, first: int, end: int, shape: Tuple[int, int], value: int) -> Piece:
     """The rows from `first` to below `end` of a matrix with one value everywhere."""
     at = coo.full(end - first, shape[1], value)
-    return source(store, matrix_text.write(Triples(at.rows + first, at.columns, at.values, *shape)))
+    return make_piece(store, matrix_text.write(at._replace(rows=at.rows + first, nrows=shape[0])))
 
 
-def identity(store: Store, first: int, end: int, n: int, value: int) -> Piece:
-    """The rows from `first` to below `end` of a square matrix with one value on its diagonal."""
+def identity(store: Store, first: int, end: int, shape: Tuple[int, int], value: int) -> Piece:
+    """The rows from `first` to below `end` of a matrix with one value on its diagonal."""
     rows = coo.indices(end - first) + first
-    return source(store, matrix_text.write(coo.checked(rows, rows, value, n, n)))
-
-
-def fold_repeated(store: Store, triples: Triples, op: Operator) -> List[int]:
-    """The fold of each row of these triples."""
-    return list(store.session.from_coo(*triples).reduce_rowwise(op).to_coo(arrays=False)[2])
+    return make_piece(store, matrix_text.write(coo.checked(rows, rows, value, *shape)))
 
 
 # -- pieces from pieces
@@ -153,7 +148,7 @@ def join_vector(store: Store, blocks: Sequence[Piece]) -> Piece:
 
 def join_lines(store: Store, shape: Tuple[int, int], parts: Sequence[Lines]) -> Piece:
     """A block of lines in any order."""
-    return source(store, row_partition.text_of(*shape, parts))
+    return make_piece(store, row_partition.text_of(*shape, parts))
 
 
 def turn_lines(store: Store, piece: Piece, cut: row_partition.Cut) -> List[Lines]:
@@ -211,6 +206,17 @@ def budget(store: Store) -> Tuple[str, Budget]:
 
 
 def price_job(store: Store, function: Callable[..., Any], args: Sequence[Any], exact: bool) -> int:
-    """The price of the job that a task makes, or the most steps that it could take: the job isn't
-    queued."""
-    return (price_of if exact else bound_of)(function, store, args)
+    """The price of the job that a task makes, or the most steps that it could take, by what is
+    known of its operands: the job isn't queued. The exact price is told by a session without a
+    step, to which the operands are sent, as it refuses the job."""
+    asking = store.without_steps() if exact else store
+    asked.bound = not exact
+    try:
+        function(asking, *args)
+    except BudgetExceeded as fault:
+        return fault.price
+    finally:
+        asked.bound = False
+        if exact:
+            asking.close()
+    return 0

@@ -1,7 +1,7 @@
 """A step that is made until it changes nothing."""
 from __future__ import annotations
 
-from typing import Any, Callable, Dict, Optional, Sequence
+from typing import Callable, Dict, Optional
 
 from ..algorithms.utils import Progress, iterate, tell
 from ..backends.placeholders import current_price
@@ -9,6 +9,7 @@ from ..errors import NotSettled
 from ..io.coo import whole
 from ..matrix import Matrix
 from . import Loop, NotAlike, NotTraced, Until
+from .trips import report_rounds
 
 NOT_SETTLED = (
     'it still changes after %d rounds: most= allows more, such as most=10**6. By default a '
@@ -58,14 +59,10 @@ def fixpoint(matrix: Matrix, step: Callable[[Matrix], Matrix], most: Optional[in
                              {'now': matrix}, limit, min(1, limit))
         return state['now']  # type: ignore[no-any-return]
     made, number = matrix, 0
-
-    def heard(first: int, rounds: Sequence[Any]) -> None:
-        for one in range(first, first + len(rounds)):
-            tell(progress, 'round', one, most or 0)
     loop = _traced(matrix, step)
     try:
         if loop is not None:
-            if loop.rounds(SAME, limit, heard):
+            if loop.rounds(SAME, limit, report_rounds(None, progress, most or 0)):
                 answer: Matrix = loop.state.now
                 return answer
             raise NotSettled(NOT_SETTLED % limit)

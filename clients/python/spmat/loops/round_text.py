@@ -1,24 +1,37 @@
-"""Rounds as text.
+"""Rounds as text, and the results that come to the client in each of them.
 
 Each round's text is made once for the names that it reads and writes. What a round makes gets a
 free name of the loop's, so that nothing is copied where results become the next state; names rotate
 by themselves. `run` stands only before a job that wants a result, so the last jobs of a round share
 a run with the next round's first.
+
+Where the client decides what is next, as in products of a row with a graph, such a product is all
+that the server does in a round. It takes one trip, and its commands are made once, but for the row.
 """
 from __future__ import annotations
 
-from typing import (TYPE_CHECKING, Dict, FrozenSet, List, NamedTuple, Sequence, Set, Tuple, Union)
+from typing import (TYPE_CHECKING, Any, Dict, FrozenSet, List, NamedTuple, Optional, Sequence, Set,
+                    Tuple, Union)
+
+import numpy
 
 from ..backends.names import ServerHandle
 from ..backends.protocol import Handle
 from ..backends.trace import Given, Traced, TracedJob, Value
+from ..io import matrix_text, parse_integers
+from ..io.matrix_text import Triples
 from ..limits import QUEUE
 from ..matrix import Matrix
+from ..operators import Semiring
+from ..wire.commands import CommandBatch
 
 if TYPE_CHECKING:
     from ..backends.server import ServerBackend
+    from ..session import Session
 
 MOST_TEMPLATES = 512                               # which are kept at a time
+NONE = numpy.zeros(0, numpy.int64)
+HEAD = len(matrix_text.BANNER)
 # words of the replies to a job and to a run, and of each line of that
 QUEUED, RAN, LINE = 4, 4, 5
 Source = Union[Matrix, ServerHandle]
@@ -60,25 +73,18 @@ class Pending(NamedTuple):
 
 
 class Template(NamedTuple):
-    """The commands of a round under certain names: text with places for numbers; how many words are
+    """The commands of a round under certain names: text with `%d` for numbers; how many words are
     replied; at which of them the counts of some results stand, and which are shown, in order, each
     with how many rounds ago it was asked for; the state behind it: owners of what jobs make, names
     of what was the state's before, and None for what the step has from outside; and the jobs that
     are left behind it."""
-    pieces: List[bytes]
+    text: bytes
     words: int
     counts: List[Tuple[int, int, Tuple[str, ...]]]
     shows: List[Tuple[int, Tuple[str, ...]]]
     commands: int
     after: Dict[str, Union[ServerHandle, str, None]]
     pending: Tuple[Pending, ...]
-
-    def text(self, numbers: Sequence[int]) -> bytes:
-        """The commands of a round with these numbers."""
-        out = [self.pieces[0]]
-        for number, piece in zip(numbers, self.pieces[1:]):
-            out += [b'%d' % number, piece]
-        return b''.join(out)
 
     def state(self, before: Sources, outside: Dict[str, Matrix]) -> Sources:
         """The state behind a round, of that before it, and of what the step has from outside."""
@@ -131,7 +137,6 @@ class Writing:
         self._renderer, self._state, self._pending = renderer, state, list(pending)
         self._taken = {*keys_of(state), *held, *(job.name for job in pending)}
         self._text: List[bytes] = []
-        self._pieces: List[bytes] = []
         self._made: Dict[int, ServerHandle] = {}
         self._words = self._commands = 0
         self._counts: List[Tuple[int, int, Tuple[str, ...]]] = []
@@ -150,8 +155,8 @@ class Writing:
 
     def _finish(self, after: Dict[str, Union[ServerHandle, str, None]]) -> Template:
         left = tuple(job._replace(back=job.back + 1) for job in self._pending)
-        return Template([*self._pieces, b''.join(self._text)], self._words, self._counts,
-                        self._shows, self._commands, after, left)
+        return Template(b''.join(self._text), self._words, self._counts, self._shows,
+                        self._commands, after, left)
 
     def _find_source(self, value: Value) -> Union[ServerHandle, str, None]:
         return (None if isinstance(value, Handle) else value.name if isinstance(value, Given)
@@ -171,11 +176,9 @@ class Writing:
         owner = self._made[number] = self._renderer.names.free(self._taken)
         self._taken.add(owner.key)
         ops = [self._renderer.backend.upload(op).name for op in job.operators]
-        line = ' '.join([job.form, owner.key, *ops, *operands]).encode()
-        if job.is_numbered:
-            self._pieces.append(b''.join(self._text) + line + b' ')
-            self._text, line = [], b''
-        self._text.append(line + (b' mask ' + mask.encode() if mask is not None else b'') + b'\n')
+        words = [job.form, owner.key, *ops, *operands, *(['%d'] if job.is_numbered else []),
+                 *([] if mask is None else ['mask', mask])]
+        self._text.append(' '.join(words).encode() + b'\n')
         self._words += QUEUED
         self._commands += 1
         shown = not self._renderer.show.isdisjoint(labels)
@@ -195,3 +198,142 @@ class Writing:
                 self._shows.append((job.back, job.results))
                 self._commands += 1
         self._pending = []
+
+
+# -- what comes back
+
+def split_bodies(replies: bytes) -> Tuple[bytes, List[bytes]]:
+    """The replies without the texts that were shown, and these in order."""
+    plain: List[bytes] = []
+    bodies: List[bytes] = []
+    pos = 0
+    while True:
+        at = replies.find(b'ok show ', pos)
+        if at < 0:
+            return b''.join([*plain, replies[pos:]]), bodies
+        line = replies.index(b'\n', at) + 1
+        plain.append(replies[pos:at])
+        pos = line + int(replies[at + 8:line])
+        bodies.append(replies[line:pos])
+
+
+def is_refused(replies: bytes) -> bool:
+    """Whether one of these replies, without texts, is a refusal."""
+    return replies.startswith(b'no ') or b'\nno ' in replies
+
+
+class Entries(NamedTuple):
+    """Entries of rows or columns by round: the round, the place (the column of a row, the row of a
+    column, from 0) and the value of each."""
+    rounds: Any
+    places: Any
+    values: Any
+
+
+class Shown:
+    """What was shown of one result. `rounds`, `places` and `values` are those of all its entries,
+    up to the round that was asked for last."""
+
+    def __init__(self, shape: Tuple[int, int]) -> None:
+        if 1 not in shape:
+            raise ValueError(
+                'show= is of rows and columns, and this is %dx%d: `loop.state` has the matrix, '
+                'or reduce_rowwise() a column of it' % shape)
+        self._field = 0 if shape[1] == 1 else 1
+        self._texts: List[bytes] = []
+        self._numbers: List[int] = []              # of rounds, with how many entries each has
+        self._counts: List[int] = []
+        self._read: List[Entries] = []
+
+    def add(self, number: int, count: int, text: bytes) -> None:
+        """The text of a round, as the server writes it."""
+        if count:
+            self._texts.append(text[text.index(b'\n', HEAD) + 1:])
+            self._numbers.append(number)
+            self._counts.append(count)
+
+    def drain(self, values: bool = True, rounds: bool = True) -> Entries:
+        """The entries that came since this was asked last, and weren't read otherwise; values and
+        rounds where they are wanted."""
+        text, numbers, counts = b''.join(self._texts), self._numbers, self._counts
+        self._texts, self._numbers, self._counts = [], [], []
+        found = parse_integers.fields(text, (self._field, 2) if values else (self._field,))
+        numbers_of = numpy.repeat(numpy.array(numbers, numpy.int64), counts) if rounds else NONE
+        return Entries(numbers_of, found[0] - 1, found[1] if values else NONE)
+
+    def entries(self) -> Entries:
+        """All entries, by ascending rounds and places."""
+        if self._texts or not self._read:
+            self._read.append(self.drain())
+        if len(self._read) > 1:
+            self._read = [Entries(*map(numpy.concatenate, zip(*self._read)))]
+        return self._read[0]
+
+    @property
+    def rounds(self) -> Any:
+        """The round of each entry, from 1."""
+        return self.entries().rounds
+
+    @property
+    def places(self) -> Any:
+        """The place of each entry, from 0."""
+        return self.entries().places
+
+    @property
+    def values(self) -> Any:
+        """The value of each entry."""
+        return self.entries().values
+
+    def __iter__(self) -> Any:
+        return iter(self.entries())
+
+    def __repr__(self) -> str:
+        return '<Shown, %d entries>' % len(self.rounds)
+
+
+class Push:
+    """The product of a row with a graph, over a semiring."""
+
+    def __init__(self, graph: Matrix, ring: Semiring) -> None:
+        session = graph.session
+        self.session, self.graph = session, graph.wait()
+        self._names = OwnNames(session.backend, graph.ncols)
+        row = self._names.free(set()).key
+        made = self._names.free({row}).key.encode()
+        self._row = row.encode()
+        ops = [session.backend.upload(op).name.encode() for op in (ring.add, ring.mul)]
+        self._rest = b'product %s %s %s %s\nrun\nshow %s\nbudget\n' % (made, b' '.join(ops),
+                                                                       self._row,
+                                                                       graph.handle.key.encode(),
+                                                                       made)
+
+    def __call__(self, entries: Triples, values: bool = True) -> Optional[Entries]:
+        """The row that the product is: places, and values where they are wanted. None where the
+        server refuses the job, whatever for."""
+        session = self.session
+        text = matrix_text.write(entries, ones=True)
+        batch = CommandBatch(b'matrix %s %d\n%s\n%s' % (self._row, len(text), text, self._rest), 5)
+        backend = session.backend
+        with backend.lock():
+            flush(session)
+            session.connection.post(batch)
+            backend.queue.runs += 1
+            backend.jobs += 1
+            replies = session.connection.collect(batch)
+            backend.queue.note_budget(*map(int, replies.rsplit(None, 3)[-3:-1]))
+        said, bodies = split_bodies(replies)
+        if not bodies or is_refused(said):
+            return None
+        shown = Shown((1, self.graph.ncols))
+        shown.add(1, 1, bodies[0])
+        return shown.drain(values, rounds=False)
+
+
+def flush(session: 'Session') -> None:
+    """Sends and runs what waits in a session, so that no other run takes it for its own."""
+    queue = session.backend.queue
+    session.backend.poison()
+    if not queue.is_idle:
+        session.run()
+    if session.connection.waiting:
+        session.connection.exchange()

@@ -121,17 +121,6 @@ def results(step: Step, state: State, number: int) -> Dict[str, Any]:
     return out
 
 
-class AlikeRounds(NamedTuple):
-    """Rounds that are alike: one of them, and the slope and the start of each number."""
-    one: RoundJobs
-    lines: List[Tuple[int, int]]
-
-    def round(self, number: int) -> RoundJobs:
-        """A round."""
-        return self.one._replace(numbers=tuple(slope * number + start
-                                               for slope, start in self.lines))
-
-
 # pylint: disable-next=too-many-instance-attributes
 class TracedRounds:
     """The rounds of a step, as it asks for them. Of a step that is known to be `alike` in all
@@ -171,7 +160,7 @@ class TracedRounds:
         if number not in self._ahead and self._fault is None:
             assert number == self._next
             try:
-                self._add(self._alike.round(number) if self._alike is not None
+                self._add(self._alike(number) if self._alike is not None
                           else self._trace(number, self._known))
             except Exception as fault:  # pylint: disable=broad-exception-caught  # as above
                 self._fault = fault
@@ -303,13 +292,15 @@ class TracedRounds:
                 raise ValueError('%s, which is shown, is %dx%d in round 1 and %dx%d in round %d'
                                  % (name, *shape, *here, number))
 
-    def _find_alike(self) -> 'AlikeRounds':
+    def _find_alike(self) -> Callable[[int], RoundJobs]:
+        """What a round asks for, by a line through each number of the first two."""
         self.check(2)
         first, second = self.first, self._ahead[2]
         if first.traced is not second.traced:
             raise NotAlike('a step that is said to be alike in all rounds is not')
-        return AlikeRounds(second, [(b - a, a - (b - a))
-                                    for a, b in zip(first.numbers, second.numbers)])
+        lines = [(b - a, a - (b - a)) for a, b in zip(first.numbers, second.numbers)]
+        return lambda number: second._replace(numbers=tuple(slope * number + start
+                                                            for slope, start in lines))
 
 
 # -- a round that is made by itself

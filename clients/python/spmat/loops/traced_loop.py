@@ -18,7 +18,7 @@ from typing import (TYPE_CHECKING, Any, Callable, Dict, List, Mapping, Optional,
 from ..backends.placeholders import Placeholder, current_price
 from ..errors import NotSettled, Refused
 from ..io.coo import whole
-from .round_results import Shown, read_body
+from .round_text import Shown
 from .rounds import State, TracedRounds, check_state, of_two, results
 from .trips import (Counts, Each, Place, Round, Trips, Until, advance_place, as_until,
                     count_entries, first_met, report_rounds)
@@ -277,7 +277,7 @@ class Loop:
         trips, number = self._trips, self.number + 1
         try:
             got = self._by_step(end) if trips is None else trips.make_one()
-            bodies = {name: read_body(got[name]) for name in self._show}
+            bodies = {name: got[name].to_text() for name in self._show}
         except Refused as fault:
             fault.round = number
             raise

@@ -16,8 +16,8 @@ from ..backends.trace import Given
 from ..matrix import Matrix
 from ..metadata import Metadata
 from ..wire.commands import CommandBatch
-from .round_results import Body, flush, is_refused, split_bodies
-from .round_text import Pending, Renderer, Sources, Template, Writing, keys_of
+from .round_text import (Pending, Renderer, Sources, Template, Writing, flush, is_refused, keys_of,
+                         split_bodies)
 from .rounds import RoundJobs, State, TracedRounds, make_round
 
 if TYPE_CHECKING:
@@ -45,7 +45,7 @@ class Place(NamedTuple):
 class Round(NamedTuple):
     """What is known of a round: numbers of entries, and the texts that were shown."""
     counts: Counts
-    bodies: Dict[str, Body]
+    bodies: Dict[str, bytes]
 
 
 class Until(NamedTuple):
@@ -130,7 +130,7 @@ class Trip(CommandBatch):
     def __init__(self, start: Place, asked: List[RoundJobs], templates: List[Template],
                  state: Sources) -> None:
         numbers = [one.numbers for one in asked] + [()]
-        text = [template.text(some) for template, some in zip(templates, numbers)]
+        text = [template.text % some for template, some in zip(templates, numbers)]
         super().__init__(b''.join([*text, b'budget\n']),
                          1 + sum(template.commands for template in templates))
         self.start, self.asked, self.templates, self.state = start, asked, templates, state
@@ -148,11 +148,10 @@ class Trip(CommandBatch):
         if is_refused(said):
             return None
         out = [Round({}, {}) for _ in self.asked]
-        words, base = said.split(), 0
+        words, base, left = said.split(), 0, iter(bodies)
         for at, template in enumerate(self.templates):
             for back, results in template.shows:
-                body = bodies.popleft()
-                out[at - back].bodies.update((name, body) for name in results)
+                out[at - back].bodies.update(dict.fromkeys(results, next(left)))
             for word, back, results in template.counts:
                 number = int(words[base + word])
                 for name in results:

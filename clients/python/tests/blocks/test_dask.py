@@ -344,7 +344,7 @@ class Dask(unittest.TestCase):
             self.assertEqual(Y.apply('minus', right=3).reduce_scalar('plus'),
                              3 * sum(GRAPH.edges.values()))
             after = self.client.run_on_scheduler(computed_again)
-            self.assertGreater(after.get('spmat_read', 0), again.get('spmat_read', 0))
+            self.assertGreater(after.get('spmat_source', 0), again.get('spmat_source', 0))
             self.assertEqual(after.get('spmat_job', 0), again.get('spmat_job', 0))
         self.assertFalse(os.path.exists(folder))
 
@@ -402,7 +402,7 @@ class Dask(unittest.TestCase):
         """Where no worker comes again, work ends, and says so."""
         from distributed import Client, LocalCluster
         with tempfile.TemporaryDirectory() as folder, \
-                mock.patch.object(blocks.dask_watch, 'WITHOUT', 2), LocalCluster(
+                mock.patch.object(blocks.dask, 'WITHOUT', 2), LocalCluster(
                     n_workers=1, threads_per_worker=1, dashboard_address=None,
                     local_directory=folder, silence_logs=logging.CRITICAL) as cluster, \
                 Client(cluster) as client, blocks.Sessions(blocks.Dask(client), patience=.5) as s:

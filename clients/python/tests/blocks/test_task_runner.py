@@ -13,7 +13,7 @@ import block_pairs
 import spmat
 import support
 from spmat import algorithms, blocks, limits
-from spmat.blocks import shared_budget
+from spmat.blocks import task_runner
 
 PACKAGE = os.path.join(support.TOP, 'clients', 'python')
 # Each form by one method, without a mask; methods of one job and of several under masks of all
@@ -129,7 +129,7 @@ class AsOne(unittest.TestCase):
     def test_an_ample_budget_is_not_looked_at(self):
         """Until so much was granted that it might not be ample any more: then it is asked what was
         spent."""
-        ledger = shared_budget.Ledger(shared_budget.AMPLE + 3 * limits.MOST_PRICE)
+        ledger = task_runner.Ledger(task_runner.AMPLE + 3 * limits.MOST_PRICE)
         self.assertTrue(ledger.is_ample)
         ledger.grant(4)
         self.assertEqual((ledger.is_ample, ledger.is_granted), (False, True))
