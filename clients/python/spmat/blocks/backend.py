@@ -15,7 +15,7 @@ from ..backends.protocol import Backend, Budget, Handle, Job, most_of
 from ..errors import SpmatError
 from ..io import matrix_text
 from ..io.matrix_text import Triples
-from ..operators import Operator, Semiring
+from ..operators import Operator
 from . import jobs, row_partition, worker_tasks
 from .chunked_input import InMemory, Spooled
 from .matrix import BlockMatrix
@@ -23,7 +23,6 @@ from .row_partition import Cut
 from .worker_store import Counts, Piece
 
 if TYPE_CHECKING:
-    from ..algorithms.traversal import Vector
     from .sessions import Sessions
 
 # whole matrices that a result holds, so that it is soon made again
@@ -193,18 +192,13 @@ class BlocksBackend(Backend):
             return False
         return not self.sessions.is_metered
 
-    def step_front(self, graph: Any, transpose: Any, front: 'Vector',
-                   rings: Tuple[Semiring, Semiring], is_large: bool) -> 'Vector':
-        """What comes to each vertex along the edges from those of a front, which the client has.
-        The second of the rings has its MUL turned round."""
-        return jobs.step_front(graph, transpose, front, rings, is_large)
+    step_front = staticmethod(jobs.step_front)
 
     def wait(self, handle: Handle) -> None:
         handle.check_made()
 
-    def flush(self, handle: Handle) -> None:
-        """Waits for the blocks, whose sessions know the prices."""
-        handle.check_made()
+    # the sessions of the blocks know the prices
+    flush = wait
 
     def length_of(self, op: Operator) -> int:
         return self.sessions.dis(op).count('\n')
@@ -232,9 +226,7 @@ class BlocksBackend(Backend):
         return made
 
     def put_text(self, text: bytes, name: Optional[str] = None) -> BlockHandle:
-        handle: Any = self.sessions.from_text(text, name).handle
-        made: BlockHandle = handle
-        return made
+        return self.sessions.from_text(text, name).handle
 
     def read_text(self, handle: Any) -> bytes:
         if isinstance(handle, DeferredBlockHandle):
@@ -257,11 +249,8 @@ class BlocksBackend(Backend):
     def transpose(self, handle: Any) -> Handle:
         """The transpose, by text: each block's lines are turned at its worker, and each block of
         the transpose gets some of each. It is made once, and kept as long as the matrix is."""
-        if handle.turned is None:
-            found = None if handle.transposed is None else handle.transposed()
-            if found is not None:
-                return found  # type: ignore[no-any-return]
-            handle.turned = jobs.transpose_blocks(handle)
-            handle.turned.transposed = weakref.ref(handle)
-        made: Handle = handle.turned
+        made: Optional[Handle] = handle.turned or (handle.transposed and handle.transposed())
+        if made is None:
+            made = handle.turned = jobs.transpose_blocks(handle)
+            made.transposed = weakref.ref(handle)
         return made

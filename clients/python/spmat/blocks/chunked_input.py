@@ -101,14 +101,11 @@ class Spool(Spooled):
     def counts(self) -> Any:
         return self._counts
 
-    def take(self, edges: Iterable[Any]) -> 'Spool':
+    def take(self, edges: Iterable[Any]) -> None:
         """Adds edges of a generator: (row, column, value), or chunks that are arrays with these as
         columns."""
         several = iter(edges)
-        while True:
-            first = next(several, None)
-            if first is None:
-                return self
+        for first in several:
             if isinstance(first, numpy.ndarray) and first.ndim == 2:
                 many: Any = first
             else:

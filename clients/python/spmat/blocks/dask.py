@@ -2,6 +2,7 @@
 from __future__ import annotations
 
 import asyncio
+import collections
 import contextlib
 import functools
 import os
@@ -364,26 +365,21 @@ class Counting:
 
     def __init__(self, scheduler: Any) -> None:
         self._scheduler = scheduler
-        self._seen: Dict[str, Set[str]] = {}
-        self.again: Dict[str, int] = {}
+        self._seen: Set[str] = set()
+        self.again: Dict[str, int] = collections.Counter()
 
     def transition(self, key: Any, start: str, finish: str, *_: Any, **__: Any) -> None:
         """Each task that changes its state, by the scheduler."""
-        if finish not in ('memory', 'forgotten', 'no-worker') or not str(key).startswith(OURS):
+        name = str(key)
+        if not name.startswith(OURS):
             return
         if finish == 'no-worker':
             self._scheduler.set_restrictions({key: ()})
-            return
-        token = str(key).split('-')[1]
-        seen = self._seen.setdefault(token, set())
-        if finish == 'forgotten':
-            seen.discard(str(key))
-            if not seen:
-                del self._seen[token]
-        elif start == 'processing':
-            if str(key) in seen:
-                self.again[token] = self.again.get(token, 0) + 1
-            seen.add(str(key))
+        elif finish == 'forgotten':
+            self._seen.discard(name)
+        elif (start, finish) == ('processing', 'memory'):
+            self.again[name.split('-')[1]] += name in self._seen
+            self._seen.add(name)
 
 
 def begin_counting(dask_scheduler: Any) -> None:
@@ -397,4 +393,4 @@ def begin_counting(dask_scheduler: Any) -> None:
 def count_repeated(token: str, dask_scheduler: Any = None) -> int:
     """How many tasks of some sessions were computed again."""
     found = dask_scheduler.plugins.get(Counting.name)
-    return 0 if found is None else int(found.again.get(token, 0))
+    return 0 if found is None else found.again[token]

@@ -25,7 +25,7 @@ from ..io.columns import Layout
 from ..io.coo import LEAST, MOST
 from ..io.edge_list_layout import Form
 from ..io.edge_sources import edges_of_frame
-from ..io.edges import Edges, LeftOut, number_ascending, number_names
+from ..io.edges import Edges, LeftOut, number_names
 from ..io.matrix_text import Triples
 from ..io.values import Rounding
 from ..operators import Operator
@@ -54,10 +54,15 @@ class Range(NamedTuple):
     first: int
     end: int
 
-    @property
-    def label(self) -> str:
-        """The range in words, as errors name it."""
+    def __str__(self) -> str:
         return 'bytes %d to %d of %s' % (self.first, self.end, self.path)
+
+    def cut(self, first: int, most: int, least: int) -> List[Range]:
+        """Ranges of what is left of it from a byte on: of so many bytes at most, and at least so
+        many of them."""
+        many = max(least, -(-(self.end - first) // most))
+        bounds = [first + (self.end - first) * k // many for k in range(many + 1)]
+        return [self._replace(first=start, end=end) for start, end in zip(bounds, bounds[1:])]
 
 
 def read_stamp(store: Optional[Store], path: str) -> Optional[Stamp]:
@@ -83,14 +88,6 @@ def read_lines(part: Range) -> bytes:
         if text and not text.endswith(b'\n'):
             text += file.readline()
     return text if text.endswith(b'\n') or not text else text + b'\n'
-
-
-def cut_file(path: str, stamp: Stamp, first: int, most: int, least: int) -> List[Range]:
-    """The ranges of a file from a byte on: of so many bytes at most, and at least so many of
-    them."""
-    many = max(least, -(-(stamp.size - first) // most))
-    bounds = [first + (stamp.size - first) * k // many for k in range(many + 1)]
-    return [Range(path, stamp, *both) for both in zip(bounds, bounds[1:])]
 
 
 # -- lines by blocks
@@ -190,36 +187,9 @@ def read_edges(store: Store, read: Callable[..., Optional[Edges]], args: Sequenc
     return EdgePart(codes, names, edges.values, edges.summary, edges.left_out)
 
 
-def tell_names(store: Store, part: Optional[EdgePart]) -> Any:
-    """The names that stand in a part, whether its edges have values, what was taken of it, and what
-    was left out."""
-    return (None if part is None
-            else (part.names, part.values is not None, part.summary, part.left_out))
-
-
-def merge_names(parts: Sequence[Names]) -> Optional[Names]:
-    """The names of all parts; None where some are whole numbers and some aren't."""
-    parts = [names for names in parts if len(names)]
-    if all(isinstance(names, numpy.ndarray) for names in parts):
-        return number_ascending(parts)[1]
-    every = dict.fromkeys(name for names in parts for name in _list_names(names))
-    are_whole = [isinstance(names, numpy.ndarray) or all(type(name) is int for name in names)
-                 for names in parts]
-    if not any(are_whole):
-        return list(every)
-    # some of which are beyond 64 bits
-    return sorted(every) if all(are_whole) else None
-
-
-def _list_names(names: Names) -> List[Any]:
-    return names.tolist() if isinstance(names, numpy.ndarray) else names
-
-
-def number_part(names: Names, all_names: Names, places: Any) -> Any:
-    """The number of each name of a part among all; `places` are theirs where they are a list."""
-    if isinstance(all_names, numpy.ndarray):
-        return numpy.searchsorted(all_names, names).astype(numpy.int32)
-    return numpy.array([places[name] for name in _list_names(names)], numpy.int32)
+def tell_names(store: Store, part: Optional[EdgePart]) -> Optional[EdgePart]:
+    """A part without its edges: its names, and of values whether there are any."""
+    return part and part._replace(codes=[], values=part.values is not None)
 
 
 class To(NamedTuple):

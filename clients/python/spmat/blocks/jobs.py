@@ -63,11 +63,48 @@ def multiply(backend: 'BlocksBackend', job: Job) -> 'BlockHandle':
     It waits until the blocks are made, so that TooLarge is raised here, but for a product with a
     column, which isn't too large. Where the engine forgets what nobody holds it always waits: the
     caller holds then what a lost block is made of again."""
-    _, second = job.operands
-    is_associative = goes_by_blocks(backend, job)
-    made = (_multiply_by_blocks if is_associative else _multiply_by_whole)(backend, job)
-    if second.shape[1] != 1 or is_associative or backend.sessions.engine.forgets:
-        made.counts()
+    operands: Any = job.operands
+    a, b = operands
+    is_associative, mask = goes_by_blocks(backend, job), _mask_of(job, a.cut)
+    blocks = [block for block, (first, end) in enumerate(a.cut.ranges()) if first < end]
+    if is_associative:
+        made, holds = _multiply_by_blocks(backend, job, blocks, mask), b.holds
+    else:
+        # a block that is lost is made again from the whole: so what came before B is not
+        holds = [b.join_whole()]
+        made = _multiply_each(backend, job, blocks, mask, holds[0])
+    futures = _fill_blocks(backend, job, a.cut, dict(zip(blocks, made)))
+    result = backend.result(job, a.cut, futures, [a, mask], holds)
+    if b.shape[1] != 1 or is_associative or backend.sessions.engine.forgets:
+        result.counts()
+    return result
+
+
+def _multiply_each(backend: 'BlocksBackend', job: Job, blocks: Sequence[int],
+                   mask: Optional['BlockHandle'], piece: Any) -> List[Any]:
+    """The futures of the products of some blocks of A with a piece of B."""
+    a: Any = job.operands[0]
+    parts = job.is_by_parts and backend.halves_products
+    return backend.sessions.submit_batch([
+        job_at(a.cut, block, job, [a.futures[block], piece], mask, [Semiring(*job.operators)],
+               parts=parts) for block in blocks])
+
+
+def _multiply_by_blocks(backend: 'BlocksBackend', job: Job, blocks: Sequence[int],
+                        mask: Optional['BlockHandle']) -> List[Any]:
+    """The futures of the products of some blocks of A with one block of B after the other, joined
+    by union with ADD in the order of k. A row of ones goes to B's blocks, and a row comes from
+    each."""
+    operands: Any = job.operands
+    a, b = operands
+    ring = Semiring(*job.operators)
+    terms = (_fold_ones(b, _mask_at(job, mask, blocks[0]), ring) if a.is_ones else
+             [_multiply_each(backend, job, blocks, mask, piece) for piece in b.futures])
+    made = terms[0]
+    for more in terms[1:]:
+        made = backend.sessions.submit_batch([
+            Work(block, a.cut.label(block), worker_tasks.sum_of, (one, other, ring.add))
+            for block, one, other in zip(blocks, made, more)])
     return made
 
 
@@ -84,52 +121,12 @@ def _mask_of(job: Job, cut: Cut) -> Optional['BlockHandle']:
     return found
 
 
-def _multiply_by_whole(backend: 'BlocksBackend', job: Job) -> 'BlockHandle':
-    """Each block of A times the whole of B. The result holds that whole, from which a block that is
-    lost is made again: so what came before B is not."""
-    a, b = _operands(job)
-    mask, whole = _mask_of(job, a.cut), b.join_whole()
-    args, parts = [Semiring(*job.operators)], job.is_by_parts and backend.halves_products
-    blocks = [block for block, (first, end) in enumerate(a.cut.ranges()) if first < end]
-    made = backend.sessions.submit_batch([
-        job_at(a.cut, block, job, [a.futures[block], whole], mask, args, parts=parts)
-        for block in blocks])
-    futures = _fill_blocks(backend, job, a.cut, dict(zip(blocks, made)))
-    return backend.result(job, a.cut, futures, [a, mask], [whole])
-
-
-def _multiply_by_blocks(backend: 'BlocksBackend', job: Job) -> 'BlockHandle':
-    """Each block of A times one block of B after the other, joined by union with ADD in the order
-    of k. A row of ones goes to B's blocks, and a row comes from each."""
-    a, b = _operands(job)
-    mask, ring = _mask_of(job, a.cut), Semiring(*job.operators)
-    blocks = [block for block, (first, end) in enumerate(a.cut.ranges())
-              if first < end or not a.is_ones]
-    terms = _fold_ones(b, _mask_at(job, mask, blocks[0]), ring) if a.is_ones else [
-        backend.sessions.submit_batch([
-            job_at(a.cut, block, job, [a.futures[block], piece], mask, [ring],
-                   parts=job.is_by_parts and backend.halves_products)
-            for block in blocks]) for piece in b.futures]
-    sofar = terms[0]
-    for more in terms[1:]:
-        sofar = backend.sessions.submit_batch([
-            Work(block, a.cut.label(block), worker_tasks.sum_of, (one, other, ring.add))
-            for block, one, other in zip(blocks, sofar, more)])
-    futures = _fill_blocks(backend, job, a.cut, dict(zip(blocks, sofar)))
-    return backend.result(job, a.cut, futures, [a, mask], b.holds)
-
-
 def _fold_ones(b: 'BlockHandle', under: Optional[Tuple[Any, bool, bool]],
                ring: Semiring) -> List[List[Any]]:
     """The products of a row of ones with each block of B, at that block."""
     works = [Work(block, label, worker_tasks.fold_rows, (piece, under, ring))
              for block, (label, piece) in enumerate(zip(b.labels, b.futures))]
     return [[future] for future in b.backend.sessions.submit_batch(works)]
-
-
-def _operands(job: Job) -> Tuple['BlockHandle', 'BlockHandle']:
-    a, b = job.operands
-    return a, b  # type: ignore[return-value]
 
 
 def _fill_blocks(backend: 'BlocksBackend', job: Job, cut: Cut, made: Dict[int, Any]) -> List[Any]:
@@ -199,11 +196,12 @@ def _fold(parts: List[Vector], add: Operator) -> Vector:
 
 
 def step_front(graph: 'BlockMatrix', transpose: Optional['BlockMatrix'], front: Vector,
-               ring: Tuple[Semiring, Semiring], large: bool) -> Vector:
-    """A step of a front by whichever way is shorter; of the ring also with MUL turned round."""
-    if transpose is not None and (large or ring[0].add not in FOLDS):
-        return pull_front(transpose, front, ring[1])
-    return push_front(graph, front, ring[0])
+               rings: Tuple[Semiring, Semiring], is_large: bool) -> Vector:
+    """What comes to each vertex along the edges from those of a front, which the client has, by
+    whichever way is shorter. The second of the rings has its MUL turned round."""
+    if transpose is not None and (is_large or rings[0].add not in FOLDS):
+        return pull_front(transpose, front, rings[1])
+    return push_front(graph, front, rings[0])
 
 
 # -- what goes from one session to another: other cuts, transposes, whole matrices, and texts that

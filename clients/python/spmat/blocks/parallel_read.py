@@ -13,17 +13,17 @@ Whatever is packed, small, unusual or wrong is read by the caller's process, whi
 from __future__ import annotations
 
 import functools
+import itertools
 import os
-from typing import TYPE_CHECKING, Any, Callable, List, NamedTuple, Optional, Sequence, Tuple
+from typing import TYPE_CHECKING, Any, Callable, List, Optional, Sequence, Tuple, Union
 
 import numpy
 
 from .. import limits, units
 from ..errors import ReadError, Refused, refusal
 from ..io import edge_list_layout, matrix_market
-from ..io.columns import Layout
 from ..io.edge_sources import choose_value_column
-from ..io.edges import FOLDS, How, LeftOut, check_direction
+from ..io.edges import FOLDS, How, LeftOut, check_direction, number_ascending
 from ..io.files import packer_of
 from ..io.formats import PARTED, Request, check_format
 from ..io.graph_formats import has_dictionaries
@@ -46,17 +46,7 @@ SAMPLES, SAMPLE = 512, 1 << 9                      # places that are looked at, 
 HEAD = 1 << 21                                     # bytes that tell how a list is written
 
 
-class SharedFile(NamedTuple):
-    """A file that all workers see."""
-    path: str
-    stamp: file_parts.Stamp
-
-    def cut(self, first: int, least: int) -> List[Range]:
-        """Its ranges from a byte on, at least so many."""
-        return file_parts.cut_file(self.path, self.stamp, first, MOST, least)
-
-
-def find_shared(sessions: 'Inputs', source: Any) -> Optional[SharedFile]:
+def find_shared(sessions: 'Inputs', source: Any) -> Optional[Range]:
     """A file that is large, not packed, and the same for all workers; else None."""
     if not isinstance(source, (str, os.PathLike)):
         return None
@@ -68,18 +58,18 @@ def find_shared(sessions: 'Inputs', source: Any) -> Optional[SharedFile]:
         if packer_of(file.read(16)) is not None:
             return None
     stamps = sessions.engine.everywhere(sessions.settings, file_parts.read_stamp, path)
-    return SharedFile(path, stamp) if all(one == stamp for one in stamps.values()) else None
+    is_shared = all(one == stamp for one in stamps.values())
+    return Range(path, stamp, 0, stamp.size) if is_shared else None
 
 
 class _Parts:
-    """Parts that are read: the places of those of a file lie beside one another, as the rows of its
-    blocks do in most files. Errors call them by their labels; of ranges of a file it is told how
-    many bytes were read."""
+    """Parts that are read, ranges of a file or what errors call others: the places of those of a
+    file lie beside one another, as the rows of its blocks do in most files."""
 
-    def __init__(self, sessions: 'Inputs', labels: List[str], ranges: Sequence[Range] = ()) -> None:
-        self.sessions, self.labels, self._ranges = sessions, labels, ranges
-        self._places = [number * sessions.engine.places // len(labels)
-                        for number in range(len(labels))]
+    def __init__(self, sessions: 'Inputs', parts: Sequence[Union[Range, str]]) -> None:
+        self.sessions, self.parts, self.labels = sessions, parts, list(map(str, parts))
+        self._places = [number * sessions.engine.places // len(parts)
+                        for number in range(len(parts))]
 
     def submit(self, function: Any, *columns: Any) -> List[Any]:
         """The futures of a task for each part, whose arguments are those of each column; one that
@@ -95,21 +85,28 @@ class _Parts:
         return [self.sessions.new_file() for _ in self.labels]
 
     def results(self, futures: Sequence[Any]) -> List[Any]:
-        """The results of each part in turn."""
+        """The results of each part in turn; it is told how many bytes of a file were read."""
         out = []
-        for at, (future, label) in enumerate(zip(futures, self.labels)):
+        for future, label, part in zip(futures, self.labels, self.parts):
             out += self.sessions.results([future], [label])
-            if self.sessions.progress is not None and self._ranges:
-                self.sessions.progress('read', self._ranges[at].end, self._ranges[at].stamp.size)
+            if self.sessions.progress is not None and isinstance(part, Range):
+                self.sessions.progress('read', part.end, part.stamp.size)
         return out
 
-    def by_blocks(self, split: List[Any], count: int) -> List[List[Any]]:
-        """The lines of each block out of each part: where they lie, which is all that goes from one
-        to another, or their futures."""
-        if self.sessions.spool() is not None:
-            found = self.sessions.results(split, self.labels)
-            return [[lines[block] for lines in found] for block in range(count)]
-        return [self.submit(worker_tasks.pick, split, block) for block in range(count)]
+    def make_matrix(self, split: List[Any], bare: bool, shape: Tuple[int, int], cut: Cut,
+                    name: Optional[str], fold: Optional[Fold] = None) -> BlockMatrix:
+        """The matrix of the lines of each block out of each part. Where they lie in files, that is
+        all that goes from one to another."""
+        sessions = self.sessions
+        if sessions.spool() is None:
+            lines = [self.submit(worker_tasks.pick, split, block) for block in range(cut.blocks)]
+        else:
+            lines = list(zip(*sessions.results(split, self.labels)))
+        works = [Work(block, cut.label(block), file_parts.make_block,
+                      (bare, shape, lines[block], fold)) for block in range(cut.blocks)]
+        futures = (sessions.submit_batch(works) if fold is not None and fold.op is not None
+                   else [sessions.submit(*work[:3], *work.args) for work in works])
+        return sessions.assemble(cut, shape[1], futures, name)
 
 
 # -- Matrix Market files
@@ -129,33 +126,29 @@ def read_matrix_market(sessions: 'Inputs', source: Any, values: matrix_market.Va
                 return None
             market = Market(head.kind, head.nrows, head.ncols)
             cut = (sessions.cut_for(head.nrows, given)
-                   or _cut_by_samples(opened, file, market, sessions.blocks))
+                   or _cut_by_samples(opened, file.end, market, sessions.blocks))
         if cut is None:
             return None
-        ranges = file.cut(start, sessions.engine.places)
-        parts = _Parts(sessions, [part.label for part in ranges], ranges)
+        ranges = file.cut(start, MOST, sessions.engine.places)
+        parts = _Parts(sessions, ranges)
         split = parts.submit(file_parts.split_range, ranges, market, cut, parts.new_files())
         lines = parts.results(parts.submit(worker_tasks.pick, split, -1))
         if min(lines) < 0 or sum(lines) != head.count:
             return None
-        shape, bare = (head.nrows, head.ncols), head.kind.is_bare
-        futures = [
-            sessions.submit(block, cut.label(block), file_parts.make_block, bare, shape, found)
-            for block, found in enumerate(parts.by_blocks(split, cut.blocks))]
-        made = sessions.assemble(cut, head.ncols, futures, name)
+        made = parts.make_matrix(split, head.kind.is_bare, market[1:], cut, name)
     except Refused:                                # its words are of a text that nobody saw
         return None
     made.notes = head.kind.notes
     return made
 
 
-def _cut_by_samples(opened: Any, file: SharedFile, market: Market, blocks: int) -> Optional[Cut]:
+def _cut_by_samples(opened: Any, size: int, market: Market, blocks: int) -> Optional[Cut]:
     """A cut by the rows of some lines; None where a line is unusual."""
     rows: List[int] = []
     both = market.kind.symmetry != 'general'
     start = opened.tell()
     for place in range(SAMPLES):
-        opened.seek(start + (file.stamp.size - start) * place // SAMPLES)
+        opened.seek(start + (size - start) * place // SAMPLES)
         lines = opened.read(SAMPLE).split(b'\n')[1:-1]
         try:
             for line in lines:
@@ -188,11 +181,10 @@ def read_list(sessions: 'Inputs', path: Any, request: Request, dup_op: DupOp,
         table = _find_table(file.path, request)
         if table is None or (table.question and request.directed is None):
             return None
-        start = start_of_line(table.text, table.skipped + 1)
-        ranges = file.cut(start, sessions.engine.places)
-        made = _read_parts(_Parts(sessions, [part.label for part in ranges], ranges),
-                           file_parts.read_range, [[part, table.form] for part in ranges], request,
-                           dup_op, name)
+        ranges = file.cut(start_of_line(table.text, table.skipped + 1), MOST,
+                          sessions.engine.places)
+        made = _read_parts(_Parts(sessions, ranges), file_parts.read_range,
+                           [[part, table.form] for part in ranges], request, dup_op, name)
     except (Refused, ReadError):                   # whoever reads it line by line names the line
         return None
     if made is not None:
@@ -201,24 +193,19 @@ def read_list(sessions: 'Inputs', path: Any, request: Request, dup_op: DupOp,
     return made
 
 
-def _part_fields(request: Request) -> Layout:
-    """How a list is written, where its format says what parts the fields."""
-    layout = request.layout
-    return layout if layout.delimiter else layout._replace(
-        delimiter=PARTED.get(request.format or ''))
-
-
 def _find_table(path: str, request: Request) -> Optional[edge_list_layout.Table]:
     """How a list is written; None where the file is of another format, or parted by more than one
     byte."""
     with open(path, 'rb') as file:
         head = file.read(HEAD)
     head = head[:head.rfind(b'\n') + 1] if len(head) == HEAD else head
-    if check_format(path, head, request.format) not in ('edges', 'csv', 'tsv'):
+    layout = request.layout
+    if (check_format(path, head, request.format) not in ('edges', 'csv', 'tsv')
+        or has_dictionaries(head, layout)):
         return None
-    table = edge_list_layout.lay_out(path, head, _part_fields(request))
-    is_of_networkx = has_dictionaries(head, request.layout)
-    return table if table.form.is_by_byte and not is_of_networkx else None
+    delimiter = layout.delimiter or PARTED.get(request.format or '')
+    table = edge_list_layout.lay_out(path, head, layout._replace(delimiter=delimiter))
+    return table if table.form.is_by_byte else None
 
 
 def _read_folder(sessions: 'Inputs', folder: str, request: Request, dup_op: DupOp,
@@ -251,13 +238,6 @@ def read_frame(sessions: 'Inputs', frame: Any, ends: Tuple[Any, Any], value: Any
     return made
 
 
-class _Vertices(NamedTuple):
-    """The names of rows and columns, which are one list unless they are of two kinds, and the
-    numbers of each part's names."""
-    names: List[Nodes]
-    places: List[List[Any]]
-
-
 def _read_parts(parts: _Parts, read: Callable[..., Any], args: List[List[Any]], request: Request,
                 dup_op: DupOp, name: Optional[str]) -> Optional[BlockMatrix]:
     """The matrix of the edges of all parts, by a function of `file_parts` and its arguments for
@@ -266,58 +246,59 @@ def _read_parts(parts: _Parts, read: Callable[..., Any], args: List[List[Any]], 
     check_direction(How(directed, None, bipartite))
     edges = parts.submit(file_parts.read_edges, read, args, bipartite)
     found = parts.results(parts.submit(file_parts.tell_names, edges))
-    vertices = None if None in found else _number_vertices([names for names, *_ in found])
-    if vertices is None:
+    axes = [] if None in found else [_number_vertices(column)
+                                     for column in zip(*(part.names for part in found))]
+    if not axes or None in axes:
         return None
-    weighted = any(valued for _, valued, *_ in found)
+    first, last = axes[0][0], axes[-1][0]
+    weighted = any(part.values for part in found)
     layout, op = request.layout, None if dup_op is None else find('binary', dup_op)
     unit = units.of_read(layout.scale, dup_op, layout.unit) if weighted else 1
-    first, last = vertices.names[0], vertices.names[-1]
-    to = [To(numbers, len(first), len(last), directed, not weighted and op is None)
-          for numbers in vertices.places]
-    made = _make_matrix(parts, edges, to, vertices, Fold(op, unit, weighted), name)
-    left_out = functools.reduce(LeftOut.plus, (part[3] for part in found), LeftOut())
+    to = [To(list(numbers), len(first), len(last), directed, not weighted and op is None)
+          for numbers in zip(*(numbers for _, numbers in axes))]
+    try:
+        made = _make_matrix(parts, edges, to, Fold(op, unit, weighted), name)
+    except Repeated as fault:
+        ends = first[fault.row], last[fault.column]
+        raise ReadError('the edges', None, 'the edge between %r and %r is given twice; %s'
+                        % (*ends, FOLDS)) from None
+    left_out = functools.reduce(LeftOut.plus, (part.left_out for part in found), LeftOut())
     rows = axis_of(first)
-    made.notes = Metadata(None, None, directed, weighted or op is not None,
-                       left_out.added_to(found[0][2]), unit, sides=int(bipartite)).with_axes(
-                           rows, rows if last is first else axis_of(last))
+    notes = Metadata(None, None, directed, weighted or op is not None,
+                     left_out.added_to(found[0].summary), unit, sides=int(bipartite))
+    made.notes = notes.with_axes(rows, rows if last is first else axis_of(last))
     return made
 
 
-def _number_vertices(names: Sequence[List[Any]]) -> Optional[_Vertices]:
-    """All names, and the numbers of those of each part; None where they are of several kinds."""
-    found, numbers = [], []
-    for column in zip(*names):
-        every = file_parts.merge_names(column)
-        if every is None:
-            return None
-        if len(every) > limits.MOST_SIDE:
-            raise refusal('M4', detail='%d vertices' % len(every))
-        is_whole = isinstance(every, numpy.ndarray)
-        nodes = Nodes(every.tolist() if is_whole else every)
-        found.append(nodes)
-        numbers.append([file_parts.number_part(one, every, None if is_whole else nodes.places)
-                        for one in column])
-    return _Vertices(found, [list(many) for many in zip(*numbers)])
+def _number_vertices(parts: Sequence[file_parts.Names]) -> Any:
+    """All names of rows or columns, and the numbers of those of each part; None where some are
+    whole numbers and some aren't."""
+    are_whole = [isinstance(names, numpy.ndarray) or all(type(name) is int for name in names)
+                 for names in parts if len(names)]
+    if any(are_whole) and not all(are_whole):
+        return None
+    if all(isinstance(names, numpy.ndarray) for names in parts):
+        numbers, every = number_ascending(list(parts))
+        nodes = Nodes(every.tolist())
+    else:
+        lists = [list(names) for names in parts]
+        found = dict.fromkeys(itertools.chain(*lists))
+        # whole numbers, of which some are beyond 64 bits
+        nodes = Nodes(sorted(map(int, found)) if all(are_whole) else found)
+        numbers = [numpy.array([nodes.places[name] for name in names], numpy.int64)
+                   for names in lists]
+    if len(nodes) > limits.MOST_SIDE:
+        raise refusal('M4', detail='%d vertices' % len(nodes))
+    return nodes, [some.astype(numpy.int32) for some in numbers]
 
 
-def _make_matrix(parts: _Parts, edges: List[Any], to: List[To], vertices: _Vertices, fold: Fold,
+def _make_matrix(parts: _Parts, edges: List[Any], to: List[To], fold: Fold,
                  name: Optional[str]) -> BlockMatrix:
     """The matrix of all edges. Those that repeat are folded, or where they have no values count
-    once; ReadError names them otherwise."""
-    sessions, nrows, ncols = parts.sessions, *to[0][1:3]
-    cut = sessions.cut_for(nrows, None) or row_partition.cut_by_ranges(
-        nrows, sessions.blocks, lambda rows: sessions.results(
+    once."""
+    sessions, shape = parts.sessions, (to[0].nrows, to[0].ncols)
+    cut = sessions.cut_for(shape[0], None) or row_partition.cut_by_ranges(
+        shape[0], sessions.blocks, lambda rows: sessions.results(
             parts.submit(file_parts.count_rows, edges, to, tuple(rows)), parts.labels))
     split = parts.submit(file_parts.split_edges, edges, to, cut, parts.new_files())
-    works = [Work(block, cut.label(block), file_parts.make_block,
-                  (to[0].bare, (nrows, ncols), lines, fold))
-             for block, lines in enumerate(parts.by_blocks(split, cut.blocks))]
-    try:
-        futures = ([sessions.submit(*work[:3], *work.args) for work in works] if fold.op is None
-                   else sessions.submit_batch(works))
-        return sessions.assemble(cut, ncols, futures, name)
-    except Repeated as fault:
-        ends = vertices.names[0][fault.row], vertices.names[-1][fault.column]
-        raise ReadError('the edges', None, 'the edge between %r and %r is given twice; %s'
-                        % (*ends, FOLDS)) from None
+    return parts.make_matrix(split, to[0].bare, shape, cut, name, fold)

@@ -25,8 +25,7 @@ from ..errors import BudgetExceeded, Closed, SpmatError, refusal
 from ..limits import MOST_PRICE
 from . import worker_tasks
 from .backend import BlockHandle
-from .engine import (AtBlock, Engine, Progress, Settings, Version, VersionMismatch, Work,
-                     add_spent, name_block)
+from .engine import AtBlock, Engine, Progress, Settings, Work, add_spent, name_block
 from .row_partition import Stored, write_texts
 from .threads import Threads
 from .worker_store import Piece, agree
@@ -93,15 +92,7 @@ class TaskRunner:
             weakref.WeakValueDictionary())
         self.turns = itertools.count()             # which place is the next to join a whole
         self.ledger = Ledger(settings.steps)
-        self.settings = dataclasses.replace(settings, version=self._version(settings))
-
-    def _version(self, settings: Settings) -> Version:
-        from .. import __version__
-        version = agree(self.engine.versions(settings))
-        if version[0] != __version__:
-            raise VersionMismatch('the workers have client %s, and this process has %s' %
-                                  (version[0], __version__))
-        return version
+        self.settings = dataclasses.replace(settings, version=agree(engine.versions(settings)))
 
     def close(self) -> None:
         """Ends the sessions. Their matrices are gone, and so are the files that they wrote into
@@ -183,11 +174,9 @@ class TaskRunner:
     @property
     def is_metered(self) -> bool:
         """Whether so little is left that each job is looked at."""
-        if not self.ledger.is_ample:
-            if self.ledger.is_granted:
-                self.budget()
-            return not self.ledger.is_ample
-        return False
+        if not self.ledger.is_ample and self.ledger.is_granted:
+            self.budget()
+        return not self.ledger.is_ample
 
     def _price(self, works: Sequence[Work], exact: bool) -> int:
         """The price of jobs together, or a bound of it."""
@@ -280,7 +269,7 @@ class TaskRunner:
     def put(self, block: int, label: str, text: bytes) -> Any:
         """The future of a block that is made of its text."""
         stored = Stored(text)
-        if self.spool() is not None and (len(text) >= SMALL or self.folder is not None):
+        if (len(text) >= SMALL or self.folder is not None) and self.spool() is not None:
             stored, = write_texts([stored], self.new_file())
         return self.submit(block, label, worker_tasks.source, stored)
 

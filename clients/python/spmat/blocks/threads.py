@@ -216,8 +216,7 @@ def _shorten(arg: Any) -> Any:
     if not isinstance(arg, Task):
         return arg
     value = arg.value
-    is_short = isinstance(value, Piece) and value.has_text and value.is_short
-    return value if is_short else arg.recipe
+    return value if isinstance(value, Piece) and value.is_short else arg.recipe
 
 
 def _map_values(function: Callable[[Any], Any], args: Any) -> Any:

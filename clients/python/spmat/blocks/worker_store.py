@@ -69,25 +69,15 @@ class Piece:
         return self.matrix.to_text()
 
     @property
-    def has_text(self) -> bool:
-        """Whether its text is here, so that it is right wherever it goes."""
-        return self._text is not None
-
-    @property
     def is_short(self) -> bool:
-        """Whether it is a vector, or its text is short: it is kept with what was made of it."""
-        return (1 in (self.counts.nrows, self.counts.ncols)
-                or (self._text is not None and len(self._text) < SHORT))
+        """Whether its text is here, so that it is right wherever it goes, and is short or a
+        vector's: it is kept with what was made of it."""
+        return self._text is not None and (1 in self.counts[:2] or len(self._text) < SHORT)
 
     def is_lost(self) -> bool:
         """Whether it has gone with the session that it was in."""
         return (self._text is None and self.matrix is not None
                 and not self.matrix.session.connection.usable())
-
-    def keep_text(self) -> 'Piece':
-        """The same piece, which has its text from now on."""
-        self._text = self.text()
-        return self
 
     def digest(self) -> bytes:
         """What tells contents apart: two pieces of one text have the same."""
@@ -150,7 +140,7 @@ class Store:
         self.uploads = 0
         # when the program was first seen to have used so much of a processor
         self._seen: Optional[Tuple[float, int]] = None
-        self._users, self._last_use = 0, time.monotonic()
+        self._users, self._last_use, self._given_up = 0, time.monotonic(), False
         self._pieces: 'weakref.WeakSet[Piece]' = weakref.WeakSet()
 
     def matrix(self, piece: Piece) -> Matrix:
@@ -172,17 +162,19 @@ class Store:
     def piece(self, matrix: Matrix) -> Piece:
         """A matrix of this session as a piece, once it is made."""
         matrix.wait()
-        self._note_spent()
+        left = self.session.backend.queue.left
+        if left:
+            self._spent = self.settings.steps - left
         counts = Counts(matrix.nrows, matrix.ncols, matrix.nvals, matrix.price or 0, matrix.steps
                         or 0)
-        piece = Piece(counts, matrix)
+        piece = Piece(counts, matrix, matrix.to_text() if self.settings.texts else None)
         self._pieces.add(piece)
-        return piece.keep_text() if self.settings.texts else piece
+        return piece
 
     def is_lost(self) -> bool:
         """Whether the session has ended by itself: its program was killed, or the machine's memory
-        was at its end."""
-        return not self.session.connection.usable()
+        was at its end; or it was given up."""
+        return self._given_up or not self.session.connection.usable()
 
     @contextlib.contextmanager
     def in_use(self) -> Iterator['Store']:
@@ -196,11 +188,13 @@ class Store:
                 self._users -= 1
                 self._last_use = time.monotonic()
 
-    def is_abandoned(self, seconds: float) -> bool:
-        """Whether no task has used this session for so long, and nobody holds a piece of it."""
+    def give_up(self, seconds: float) -> bool:
+        """Gives this session up if no task has used it for so long, and nobody holds a piece of
+        it; whether it is given up."""
         with self._lock:
-            return (not self._users and time.monotonic() - self._last_use > seconds
-                    and not len(self._pieces))
+            self._given_up |= (not self._users and time.monotonic() - self._last_use > seconds
+                               and not len(self._pieces))
+            return self._given_up
 
     @property
     def account(self) -> Tuple[str, int]:
@@ -217,11 +211,6 @@ class Store:
     def without_steps(self) -> 'Store':
         """Another session that can't take a step, for whoever closes it."""
         return Store(replace(self.settings, steps=0, texts=False, version=None))
-
-    def _note_spent(self) -> None:
-        left = self.session.backend.queue.left
-        if left:
-            self._spent = self.settings.steps - left
 
     def end_if_stopped(self, patience: float) -> bool:
         """Ends a program that has used no processor for so many seconds while the reply to a
@@ -295,9 +284,9 @@ def _sweep() -> None:
     while True:
         time.sleep(ABANDONED / 12)
         with _lock:
-            for store in _stores.values():
-                if store.is_abandoned(ABANDONED):
-                    store.close()
+            left = [store for store in _stores.values() if store.give_up(ABANDONED)]
+        for store in left:
+            store.close()
 
 
 def end_stopped_program(settings: Settings, patience: float) -> bool:
@@ -336,8 +325,9 @@ def version_of(program: Optional[Program] = None) -> Version:
 
 
 def agree(versions: Dict[str, Version]) -> Version:
-    """The version that all workers have, by their names. Raises VersionMismatch, which names them,
-    where they differ."""
+    """The version that all workers have, by their names, and this process, too. Raises
+    VersionMismatch, which names them, where they differ."""
+    from .. import __version__
     told: Dict[Version, List[str]] = {}
     for worker, version in versions.items():
         told.setdefault(version, []).append(worker)
@@ -345,7 +335,11 @@ def agree(versions: Dict[str, Version]) -> Version:
         parts = ['%s has %s' % (', '.join(sorted(workers)), _describe_version(version))
                  for version, workers in sorted(told.items())]
         raise VersionMismatch('workers have different versions of spmat: ' + '; '.join(parts))
-    return next(iter(told))
+    version = next(iter(told))
+    if version[0] != __version__:
+        raise VersionMismatch('the workers have client %s, and this process has %s' %
+                              (version[0], __version__))
+    return version
 
 
 def _describe_version(version: Version) -> str:

@@ -143,16 +143,14 @@ class TracedRounds:
         # the shapes of what is shown
         self.shown = {name: self._shape_of(self.first.traced, name, 1) for name in show}
         self._add(self.first)
-        try:
-            self._add(self._trace(2, self._known))
-        except (NotTraced, NotAlike):
-            raise
-        except Exception as fault:  # pylint: disable=broad-exception-caught
-            # it is raised if the loop comes to that round
-            self._fault = fault
+        self._alike: Optional[Callable[[int], RoundJobs]] = None
+        self.ask(2)
+        if isinstance(self._fault, (NotTraced, NotAlike)):
+            raise self._fault
         # sums of decimals grow from round to round
         is_whole = all(notes.unit == 1 for notes in self.first.notes.values())
-        self._alike = self._find_alike() if alike and is_whole else None
+        if alike and is_whole:
+            self._alike = self._find_alike()
 
     def ask(self, number: int) -> Optional[RoundJobs]:
         """What a round asks for; rounds are asked for in order. None where the step ends in an
@@ -162,7 +160,8 @@ class TracedRounds:
             try:
                 self._add(self._alike(number) if self._alike is not None
                           else self._trace(number, self._known))
-            except Exception as fault:  # pylint: disable=broad-exception-caught  # as above
+            except Exception as fault:  # pylint: disable=broad-exception-caught
+                # it is raised if the loop comes to that round
                 self._fault = fault
         return self._ahead.get(number)
 
@@ -332,18 +331,15 @@ def submit_traced(session: 'Session', job: TracedJob, operands: List[Matrix],
                   mask: Optional[Matrix], thunk: Optional[int]) -> Matrix:
     """A job of a round, by parts where the step asks for it so. Where it is too large, the refusal
     says how large it is."""
-    under, others = (None if mask is None else mask.handle,
-                     [operand.handle for operand in operands[1:]])
+    whole = Job(job.form, job.operators, tuple(operand.handle for operand in operands), job.shape,
+                thunk, None if mask is None else mask.handle)
 
     def submit(first: Matrix) -> Matrix:
-        return Matrix(session,
-                      session.backend.submit(Job(job.form, job.operators, (first.handle, *others),
-                                                 job.shape, thunk, under)))
+        part = whole._replace(operands=(first.handle, *whole.operands[1:]))
+        return Matrix(session, session.backend.submit(part))
     try:
         return (oversized_jobs.in_parts(operands[0], submit) if job.is_by_parts
                 else submit(operands[0]))
     except TooLarge as fault:
-        whole = Job(job.form, job.operators, tuple(operand.handle for operand in operands),
-                    job.shape, thunk, under)
         raise oversized_jobs.explained(fault, whole,
                                        operands if mask is None else [*operands, mask]) from None

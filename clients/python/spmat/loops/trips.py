@@ -213,10 +213,9 @@ class Trips:
         """The commands of rounds; at their end all is run."""
         last = self.under_way[-1] if self.under_way else None
         start = self.place if last is None else Place(last.number, last.state, {}, {})
-        names = {*keys_of(self.place.state), *keys_of(start.state)}
-        for trip in self.under_way:
-            names.update(keys_of(trip.state))
-        held, state = frozenset(names), start.state
+        held = frozenset().union(keys_of(self.place.state),
+                                 *(keys_of(trip.state) for trip in self.under_way))
+        state = start.state
         templates: List[Template] = []
         pending: Tuple[Pending, ...] = ()
         for one in asked:

@@ -173,7 +173,7 @@ class Files(unittest.TestCase):
     def test_a_file_that_changes_meanwhile(self):
         self.write(a_text(random.Random(4), n=50))
         stamp = file_parts.read_stamp(None, self.path)
-        part = file_parts.cut_file(self.path, stamp, 80, 1000, 2)[0]
+        part = file_parts.Range(self.path, stamp, 0, stamp.size).cut(80, 1000, 2)[0]
         self.write(a_text(random.Random(5), n=50))
         with self.assertRaisesRegex(ValueError, 'has changed while it was read'):
             file_parts.read_lines(part)
@@ -185,8 +185,9 @@ class Files(unittest.TestCase):
             lines = [b'x' * chance.randrange(9) + b'\n' for _ in range(chance.randrange(1, 20))]
             text = b''.join(lines)[:-1 if chance.random() < .3 else None]
             self.write(b'head\n' + text)
-            parts = file_parts.cut_file(self.path, file_parts.read_stamp(None, self.path), 5,
-                                         chance.randrange(1, 40), chance.randrange(1, 5))
+            stamp = file_parts.read_stamp(None, self.path)
+            whole = file_parts.Range(self.path, stamp, 0, stamp.size)
+            parts = whole.cut(5, chance.randrange(1, 40), chance.randrange(1, 5))
             found = b''.join(map(file_parts.read_lines, parts))
             self.assertEqual(found, text if text.endswith(b'\n') or not text else text + b'\n')
 
