@@ -238,8 +238,10 @@ class BlocksBackend(Backend):
         """The head of the text, and the lines of each block: one block's are held at a time."""
         nrows, ncols = handle.shape
         yield row_partition.head(nrows, ncols, self.count(handle))
-        for lines, _ in jobs.iterate_lines(handle):
-            yield lines
+        for block, label in enumerate(handle.labels):
+            future = self.sessions.submit(block, label, worker_tasks.lines, handle.futures[block],
+                                          0, nrows)
+            yield self.sessions.results([future], [label])[0][0]
 
     def read(self, handle: Handle) -> Triples:
         if isinstance(handle, DeferredBlockHandle):

@@ -187,9 +187,9 @@ def spool_file(source: Any, values: matrix_market.Values = matrix_market.Values(
                           else triples)
             spool.notes = reader.kind.notes
             failing.pop_all()
-            return spool
     except Refused as fault:
         raise fault.of_file(name_of(source)) from None
+    return spool
 
 
 # -- positions that repeat: a session names the line of a text that nobody but it saw

@@ -393,4 +393,4 @@ def begin_counting(dask_scheduler: Any) -> None:
 def count_repeated(token: str, dask_scheduler: Any = None) -> int:
     """How many tasks of some sessions were computed again."""
     found = dask_scheduler.plugins.get(Counting.name)
-    return 0 if found is None else found.again[token]
+    return 0 if found is None else int(found.again[token])

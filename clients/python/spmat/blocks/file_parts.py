@@ -62,7 +62,7 @@ class Range(NamedTuple):
         many of them."""
         many = max(least, -(-(self.end - first) // most))
         bounds = [first + (self.end - first) * k // many for k in range(many + 1)]
-        return [self._replace(first=start, end=end) for start, end in zip(bounds, bounds[1:])]
+        return [Range(self.path, self.stamp, *both) for both in zip(bounds, bounds[1:])]
 
 
 def read_stamp(store: Optional[Store], path: str) -> Optional[Stamp]:

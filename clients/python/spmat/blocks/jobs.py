@@ -2,7 +2,7 @@
 searches, and what goes from one session to another."""
 from __future__ import annotations
 
-from typing import TYPE_CHECKING, Any, Dict, Iterable, Iterator, List, Optional, Sequence, Tuple
+from typing import TYPE_CHECKING, Any, Dict, Iterable, List, Optional, Sequence, Tuple
 
 import numpy
 
@@ -211,13 +211,6 @@ def _submit_lines(matrix: 'BlockHandle', block: int, first: int, end: int) -> An
     """The future of the lines of some rows of a block."""
     label, future = matrix.cut.label(block), matrix.futures[block]
     return matrix.backend.sessions.submit(block, label, worker_tasks.lines, future, first, end)
-
-
-def iterate_lines(matrix: 'BlockHandle') -> Iterator[worker_tasks.Lines]:
-    """The lines of each block, in order, one at a time."""
-    for block, rows in enumerate(matrix.cut.ranges()):
-        future = _submit_lines(matrix, block, *rows)
-        yield matrix.backend.sessions.results([future], [matrix.cut.label(block)])[0]
 
 
 def read_lines(matrix: 'BlockHandle') -> List[worker_tasks.Lines]:

@@ -98,6 +98,7 @@ class _Parts:
         """The matrix of the lines of each block out of each part. Where they lie in files, that is
         all that goes from one to another."""
         sessions = self.sessions
+        lines: List[Any]
         if sessions.spool() is None:
             lines = [self.submit(worker_tasks.pick, split, block) for block in range(cut.blocks)]
         else:

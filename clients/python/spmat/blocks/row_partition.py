@@ -6,7 +6,6 @@ of some rows are found by halving and are cut out as they are.
 """
 from __future__ import annotations
 
-import bisect
 import hashlib
 from typing import Any, Callable, Iterable, Iterator, List, NamedTuple, Sequence, Tuple
 
@@ -73,8 +72,12 @@ def cut_by_entries(counts: Sequence[int], blocks: int) -> Cut:
     total = int(ends[-1]) if len(ends) else 0
     if not total:
         return cut_evenly(len(counts), blocks)
-    places = [_nearest(ends, total * k / blocks) for k in range(1, blocks)]
-    return Cut((0, *places, len(counts)))
+    wanted = total * numpy.arange(1, blocks) / blocks
+    at: Any = numpy.searchsorted(ends, wanted)
+    before = numpy.where(at > 0, ends[at - 1], 0)
+    # a cut is where the entries before it are nearest to so many
+    at += wanted - before > ends[at] - wanted
+    return Cut((0, *at.tolist(), len(counts)))
 
 
 def cut_by_ranges(nrows: int, blocks: int, count: Callable[[List[int]], List[Any]]) -> Cut:
@@ -84,13 +87,6 @@ def cut_by_ranges(nrows: int, blocks: int, count: Callable[[List[int]], List[Any
     edges = [nrows * k // ranges for k in range(ranges + 1)]
     found = cut_by_entries([int(sum(many)) for many in zip(*count(edges))], blocks)
     return Cut(tuple(edges[bound] for bound in found.bounds))
-
-
-def _nearest(ends: Any, wanted: float) -> int:
-    """The row before which the entries are nearest to so many."""
-    at = bisect.bisect_left(ends, wanted)
-    before = int(ends[at - 1]) if at else 0
-    return at if wanted - before <= int(ends[at]) - wanted else at + 1
 
 
 def cut_evenly(nrows: int, blocks: int) -> Cut:

@@ -270,7 +270,7 @@ class TaskRunner:
         """The future of a block that is made of its text."""
         stored = Stored(text)
         if (len(text) >= SMALL or self.folder is not None) and self.spool() is not None:
-            stored, = write_texts([stored], self.new_file())
+            stored = write_texts([stored], self.new_file())[0]
         return self.submit(block, label, worker_tasks.source, stored)
 
     def new_file(self) -> str:

@@ -240,30 +240,28 @@ class Shown:
                 'show= is of rows and columns, and this is %dx%d: `loop.state` has the matrix, '
                 'or reduce_rowwise() a column of it' % shape)
         self._field = 0 if shape[1] == 1 else 1
-        self._texts: List[bytes] = []
-        self._numbers: List[int] = []              # of rounds, with how many entries each has
-        self._counts: List[int] = []
+        # of rounds: their numbers, how many entries each has, and these
+        self._new: List[Tuple[int, int, bytes]] = []
         self._read: List[Entries] = []
 
     def add(self, number: int, count: int, text: bytes) -> None:
         """The text of a round, as the server writes it."""
         if count:
-            self._texts.append(text[text.index(b'\n', HEAD) + 1:])
-            self._numbers.append(number)
-            self._counts.append(count)
+            self._new.append((number, count, text[text.index(b'\n', HEAD) + 1:]))
 
     def drain(self, values: bool = True, rounds: bool = True) -> Entries:
         """The entries that came since this was asked last, and weren't read otherwise; values and
         rounds where they are wanted."""
-        text, numbers, counts = b''.join(self._texts), self._numbers, self._counts
-        self._texts, self._numbers, self._counts = [], [], []
+        new, self._new = self._new, []
+        text = b''.join(lines for _, _, lines in new)
         found = parse_integers.fields(text, (self._field, 2) if values else (self._field,))
-        numbers_of = numpy.repeat(numpy.array(numbers, numpy.int64), counts) if rounds else NONE
+        numbers_of = numpy.repeat(numpy.array([number for number, _, _ in new], numpy.int64),
+                                  [count for _, count, _ in new]) if rounds else NONE
         return Entries(numbers_of, found[0] - 1, found[1] if values else NONE)
 
     def entries(self) -> Entries:
         """All entries, by ascending rounds and places."""
-        if self._texts or not self._read:
+        if self._new or not self._read:
             self._read.append(self.drain())
         if len(self._read) > 1:
             self._read = [Entries(*map(numpy.concatenate, zip(*self._read)))]

@@ -7,8 +7,8 @@ Where something in a trip is refused, that state is there as it was.
 from __future__ import annotations
 
 import collections
-from typing import (TYPE_CHECKING, Any, Callable, Deque, Dict, List, Mapping, NamedTuple, Optional,
-                    Sequence, Tuple, Union)
+from typing import (TYPE_CHECKING, Any, Callable, Deque, Dict, FrozenSet, List, Mapping, NamedTuple,
+                    Optional, Sequence, Tuple, Union)
 
 from ..backends.names import ServerHandle
 from ..backends.protocol import AMPLE
@@ -213,8 +213,8 @@ class Trips:
         """The commands of rounds; at their end all is run."""
         last = self.under_way[-1] if self.under_way else None
         start = self.place if last is None else Place(last.number, last.state, {}, {})
-        held = frozenset().union(keys_of(self.place.state),
-                                 *(keys_of(trip.state) for trip in self.under_way))
+        held: FrozenSet[str] = frozenset().union(
+            keys_of(self.place.state), *(keys_of(trip.state) for trip in self.under_way))
         state = start.state
         templates: List[Template] = []
         pending: Tuple[Pending, ...] = ()
