@@ -198,9 +198,8 @@ def find_positional(function: Function) -> Tuple[List[str], int, int]:
     is wanted without a default, no number of operands is enough."""
     if type(function) is types.FunctionType and not vars(function):
         # at each use of a function that was compiled before, and `signature` takes 10 us
-        code = function.__code__
-        if not code.co_flags & inspect.CO_VARARGS and not code.co_kwonlyargcount:
-            plain = list(code.co_varnames[:code.co_argcount])
+        plain, variable, _ = inspect.getargs(function.__code__)
+        if variable is None and not function.__code__.co_kwonlyargcount:
             return plain, len(plain) - len(function.__defaults__ or ()), len(plain)
     try:
         found = list(inspect.signature(function).parameters.values())
