@@ -2,17 +2,16 @@
 settle."""
 from __future__ import annotations
 
-import collections
 import copy
-from typing import Deque, Dict, Iterable, List, Optional, Tuple
+from typing import Dict, List, Mapping, Optional, Tuple
 
 from ..errors import BudgetExceeded, Refused, SpmatError
-from ..limits import MOST_PRICE, MOST_SIDE, QUEUE
+from ..limits import MOST_PRICE, MOST_SIDE
 from ..wire.commands import Command, Reply
 from ..wire.connection import Connection
-from ..wire.reply_checks import ExpectedJob, check_number, check_run
+from ..wire.reply_checks import Limits, check_number, raise_fault
 from .names import SMALL, ServerHandle
-from .protocol import AMPLE, Handle, JobResult, Most, Run
+from .protocol import AMPLE, JobResult, Most, Run
 
 
 class Queue:
@@ -24,22 +23,20 @@ class Queue:
     somebody wants that."""
 
     def __init__(self, connection: Connection, shared: bool) -> None:
-        self._connection, self.shared = connection, shared
-        self._waiting: Dict[str, ServerHandle] = {}
-        # in the order in which they will be answered
-        self._running: Deque[List[ServerHandle]] = collections.deque()
+        self.connection, self.shared = connection, shared
+        self.waiting: Dict[str, ServerHandle] = {}
+        # runs that aren't answered yet
+        self.running = 0
         # entries, at most, of results that aren't known yet
-        self._unknown = 0
+        self.unknown = 0
         # jobs that the server has queued since its last run, as its replies say
-        self._queued_there = 0
-        # the entries and steps of each job of the run that is answered
-        self._run_lines: List[Tuple[int, int]] = []
+        self.queued_there = 0
         self.left = self.ceiling = 0
         self.runs = 0
         self.report: Optional[Run] = None
 
     def __len__(self) -> int:
-        return len(self._waiting)
+        return len(self.waiting)
 
     def note_budget(self, left: int, reserved: int) -> None:
         """What the server says of the budget, whoever reserved it. What is spent doesn't come
@@ -49,129 +46,163 @@ class Queue:
     @property
     def is_idle(self) -> bool:
         """Whether no job waits, neither for a run nor in one that wasn't sent."""
-        return not self._waiting and not self._running
+        return not self.waiting and not self.running
 
-    def run_before(self, handles: Iterable[Handle]) -> None:
-        """A run before a job on these, where one of them is a result that waits for a run, or the
-        queue is full."""
-        waiting = self._waiting
-        if waiting and (len(waiting) >= QUEUE or any(handle.key in waiting for handle in handles)):
-            self.run_later()
+    def add(self, job: ServerHandle, line: str, most: Most) -> bool:
+        """Hands a job in. One that can be refused by nothing but want of memory isn't sent at once.
+        Whether what waits was sent then: it was much, or its results could hold so much memory that
+        they are better looked at."""
+        is_sure = (most.steps <= MOST_PRICE and most.terms <= MOST_SIDE
+                   and self.left - most.steps >= (AMPLE if self.shared else 0))
+        if not is_sure:
+            self._add_now(job, line)
+            return False
+        connection = self.connection
+        connection.put(QueuedJob(self, job, line, True))
+        self.unknown += job.most
+        if not connection.is_full and self.unknown <= MOST_SIDE:
+            return False
+        connection.exchange()
+        return True
 
-    # -- handing in
-
-    def is_sure(self, most: Most) -> bool:
-        """Whether a job can be refused by nothing but want of memory, so that it needn't be sent at
-        once."""
-        return (self.left - most.steps >= (AMPLE if self.shared else 0) and most.terms <= MOST_SIDE
-                and most.steps <= MOST_PRICE)
-
-    def add_later(self, job: ServerHandle, line: str) -> bool:
-        """Hands a job in without sending it. Whether it is time to send what waits: it is much, or
-        its results could hold so much memory that they are better looked at."""
-        self._note_waiting(job)
-        self._unknown += job.most
-        self._connection.put(Command(line, done=lambda reply: self._queued(job, reply),
-                                     lost=lambda cause: self._unqueued(job, cause), matters=True,
-                                     check=lambda reply: self._check_queued(job, reply)))
-        return self._connection.is_full or self._unknown > MOST_SIDE
-
-    def add_now(self, job: ServerHandle, line: str) -> None:
-        """Hands a job in. A budget that is too small while jobs wait gets back what these don't
-        take, and the job is sent once more. Where that is interrupted, the job may be queued all
-        the same."""
+    def _add_now(self, job: ServerHandle, line: str) -> None:
+        """Hands a job in, and sends it. A budget that is too small while jobs wait gets back what
+        these don't take, and the job is sent once more. Where that is interrupted, the job may be
+        queued all the same."""
+        connection = self.connection
         try:
-            self._submit_line(job, line)
-        except BudgetExceeded:
-            if not self._waiting:
-                raise
-            self.run_later()
-            self._connection.exchange()
-            if self._connection.refused is not None:
-                raise self._connection.refused from None
-            self._submit_line(job, line)
+            try:
+                connection.exchange(QueuedJob(self, job, line))
+            except BudgetExceeded:
+                if not self.waiting:
+                    raise
+                self.run_later()
+                connection.exchange()
+                if connection.refused is not None:
+                    raise connection.refused from None
+                connection.exchange(QueuedJob(self, job, line))
+        except BudgetExceeded as fault:
+            raise fault.with_advice() from None
 
-    def _submit_line(self, job: ServerHandle, line: str) -> None:
-        self._connection.exchange(Command(line, done=lambda reply: self._note_submitted(job, reply),
-                                          check=lambda reply: self._check_queued(job, reply)))
-
-    def _note_submitted(self, job: ServerHandle, reply: Reply) -> None:
-        self._note_waiting(job)
-        self._queued(job, reply)
-
-    def _note_waiting(self, job: ServerHandle) -> None:
-        self._waiting[job.key] = job
+    def note_waiting(self, job: ServerHandle) -> None:
+        """A job waits for a run."""
+        self.waiting[job.key] = job
         self.left -= job.most_steps
 
-    def _check_queued(self, job: ServerHandle, reply: Reply) -> None:
-        """ProtocolError where the server says another position than the next, or a price that the
-        job can't have."""
-        position = self._queued_there = self._queued_there + 1
-        if int(reply.words[1]) != position or int(reply.words[2]) > job.most_steps:
-            # one of the two is wrong, and raises
-            words = ['ok', *reply.words]
-            check_number('POSITION', words[2], (position, position), job.form, words)
-            check_number('PRICE', words[3], (0, job.most_steps), job.form, words)
-
-    def _queued(self, job: ServerHandle, reply: Reply) -> None:
-        price = job.price = int(reply.words[2])
-        self.left += job.most_steps - price
-        if self._connection.refused is not None:
-            _lose(job, self._connection.refused)
-
-    def _unqueued(self, job: ServerHandle, cause: BaseException) -> None:
-        job.is_refused = True
-        self.left += job.most_steps
-        self._waiting.pop(job.key, None)
-        _lose(job, cause)
-
-    # -- running
-
     def run_later(self) -> None:
-        """A run of what waits, not sent yet."""
-        if self._waiting:
-            jobs = list(self._waiting.values())
-            self._waiting.clear()
-            self._running.append(jobs)
+        """A run of what waits, not sent yet. What was sent before and interrupted is answered
+        first, as it may wait, too."""
+        if self.connection.owes:
+            self.connection.settle()
+        if self.waiting:
+            self.connection.put(QueuedRun(self, list(self.waiting.values())))
+            self.waiting.clear()
+            self.running += 1
             self.runs += 1
-            self._connection.put(Command('run', done=lambda _: self._settle_run(jobs),
-                                         lost=lambda cause: self._not_run(jobs, cause),
-                                         matters=True, jobs=len(jobs),
-                                         check=lambda reply: self._check_run(jobs, reply)))
 
-    def _check_run(self, jobs: List[ServerHandle], reply: Reply) -> None:
-        """ProtocolError where the lines of a run aren't those of its jobs."""
-        expected = [ExpectedJob(job.key, job.shape, min(job.most, MOST_SIDE), job.price or 0)
-                    for job in jobs if not job.is_refused]
-        self._run_lines = check_run(reply.words, reply.lines, expected)
 
-    def _settle_run(self, jobs: List[ServerHandle]) -> None:
-        self._done(jobs)
-        jobs = [job for job in jobs if not job.is_refused]
-        for job, (entries, steps) in zip(jobs, self._run_lines):
+class QueuedJob(Command):
+    """The command of a job. It waits for a run from now on, or where it is sent at once, and
+    doesn't `matter` to others, from its reply on."""
+
+    __slots__ = ('queue', 'job')
+
+    # the line is one of ours
+    # pylint: disable-next=super-init-not-called
+    def __init__(self, queue: Queue, job: ServerHandle, line: str, matters: bool = False) -> None:
+        self.line, self.word, self.body, self.near = line, job.form, None, None
+        self.matters, self.runs, self.answer = matters, False, None
+        self.queue, self.job = queue, job
+        if matters:
+            queue.note_waiting(job)
+
+    def limits(self) -> Mapping[str, Limits]:
+        """The next position, and the prices that the job can have."""
+        position = self.queue.queued_there + 1
+        return {'POSITION': (position, position),
+                'PRICE': (0, min(self.job.most_steps, MOST_PRICE))}
+
+    def done(self, reply: Reply) -> None:
+        queue, job, (queue.queued_there, price) = self.queue, self.job, reply.numbers
+        job.price = price
+        if not self.matters:
+            queue.note_waiting(job)
+        queue.left += job.most_steps - price
+        if queue.connection.refused is not None:
+            _lose(job, queue.connection.refused)
+
+    def lost(self, cause: BaseException) -> None:
+        if self.matters:
+            self.job.is_refused = True
+            self.queue.left += self.job.most_steps
+            self.queue.waiting.pop(self.job.key, None)
+            _lose(self.job, cause)
+
+
+class QueuedRun(Command):
+    """The command that runs these jobs."""
+
+    __slots__ = ('_queue', '_jobs', '_counts')
+
+    def __init__(self, queue: Queue, jobs: List[ServerHandle]) -> None:
+        super().__init__('run', matters=True)
+        self._queue, self._jobs = queue, jobs
+        self._counts: List[Tuple[int, int]] = []
+
+    @property
+    def jobs(self) -> int:  # type: ignore[override]
+        """How many jobs it runs."""
+        return len(self._jobs)
+
+    def check(self, reply: Reply) -> None:
+        """ProtocolError where the lines of a run aren't those of its jobs, or where their steps
+        don't add up to what was spent."""
+        jobs, spent = [job for job in self._jobs if not job.is_refused], 0
+        if len(reply.lines) != len(jobs):
+            raise_fault('run', '%d lines, one for each job' % len(jobs),
+                        ['%d lines' % len(reply.lines)])
+        for line, job in zip(reply.lines, jobs):
+            said = line.split()
+            start = [job.key, *map(str, job.shape)]
+            if len(said) != 5 or said[:3] != start:
+                raise_fault('run', '`%s ENTRIES STEPS`' % ' '.join(start), said)
+            most = job.most if job.most < MOST_SIDE else MOST_SIDE
+            entries = check_number('ENTRIES', said[3], (0, most), 'run', said)
+            steps = check_number('STEPS', said[4], (0, job.price or 0), 'run', said)
+            self._counts.append((entries, steps))
+            spent += steps
+        if spent != reply.numbers[1]:
+            raise_fault('run', 'STEPS of %d, the sum of its lines' % spent, ['ok', *reply.words])
+
+    def done(self, reply: Reply) -> None:
+        queue = self._queue
+        self._end()
+        jobs = [job for job in self._jobs if not job.is_refused]
+        for job, (entries, steps) in zip(jobs, self._counts):
             assert job.price is not None
-            self.left += job.price - steps
-            self.ceiling -= steps
+            queue.left += job.price - steps
+            queue.ceiling -= steps
             if job.shape[0] + entries > SMALL:     # a new name stands for what is small
                 job.note_size(job.shape[0], entries)
             if job.lost is None:
                 job.nvals, job.most, job.steps = entries, entries, steps
-        if self.report is not None:
-            self.report[:] = [JobResult(next(iter(job.matrices()), None), job.form, job.price or 0,
-                                        job.steps or 0) for job in jobs]
+        if queue.report is not None:
+            queue.report[:] = [JobResult(next(iter(job.matrices()), None), job.form, job.price or 0,
+                                         job.steps or 0) for job in jobs]
 
-    def _not_run(self, jobs: List[ServerHandle], cause: BaseException) -> None:
+    def lost(self, cause: BaseException) -> None:
         if isinstance(cause, Refused):             # which doesn't say what was spent
-            self.left = 0
-        for job in jobs:
+            self._queue.left = 0
+        for job in self._jobs:
             _lose(job, cause)
-        self._done(jobs)
+        self._end()
 
-    def _done(self, jobs: List[ServerHandle]) -> None:
-        self._queued_there = 0
-        self._running.popleft()
+    def _end(self) -> None:
+        queue = self._queue
+        queue.queued_there = 0
+        queue.running -= 1
         # of those that were handed in at once, none was added
-        self._unknown = max(0, self._unknown - sum(job.most for job in jobs))
+        queue.unknown = max(0, queue.unknown - sum([job.most for job in self._jobs]))
 
 
 def _lose(job: ServerHandle, cause: BaseException) -> None:

@@ -7,12 +7,12 @@ from __future__ import annotations
 
 import itertools
 import re
-from typing import TYPE_CHECKING, Any, Dict, List, Mapping, NamedTuple, Optional
+from typing import TYPE_CHECKING, Any, Dict, List, Mapping, NamedTuple, Optional, Tuple
 
-from ..errors import BudgetExceeded, OperatorRefused, Refused, refusal
+from ..errors import OperatorRefused, Refused, refusal
 from ..io import matrix_text
 from ..io.matrix_text import Triples
-from ..limits import MOST_OPERATOR, MOST_SIDE, MOST_TEXT
+from ..limits import MOST_OPERATOR, MOST_SIDE, MOST_TEXT, QUEUE
 from ..operators import Operator, diagnostics
 from ..wire.commands import Command, Reply
 from ..wire.connection import Connection
@@ -20,7 +20,7 @@ from ..wire.reply_checks import NOTHING, Limits, check_text, longest_text, sizes
 from ..wire.session_lock import SessionLock
 from .job_queue import Queue, without_frames
 from .names import DeferredHandle, ServerNames, ServerHandle
-from .protocol import Backend, Budget, Handle, Job, Most, Run, most_of
+from .protocol import Backend, Budget, Handle, Job, Run, most_of
 
 if TYPE_CHECKING:
     from ..session import Session
@@ -32,6 +32,39 @@ class Uploaded(NamedTuple):
     instructions: int
 
 
+class SentMatrix(Command):
+    """The command that sends the entries of a matrix that the client has."""
+
+    __slots__ = ('_handle',)
+
+    def __init__(self, handle: DeferredHandle, text: bytes, sizes: Mapping[str, Limits]) -> None:
+        super().__init__('matrix ' + handle.key, text, within=sizes, matters=True)
+        self._handle = handle
+
+    def lost(self, cause: BaseException) -> None:
+        self._handle.lost = without_frames(cause)
+
+
+class ShownMatrix(Command):
+    """The command that gets the text of a matrix. The session ends where it is another's.
+    `entries` are those of a short text, all of which was looked at."""
+
+    __slots__ = ('_handle', 'entries')
+
+    def __init__(self, handle: Handle) -> None:
+        super().__init__('show ' + handle.key)
+        self._handle = handle
+        self.entries: Optional[Triples] = None
+
+    def limits(self) -> Mapping[str, Limits]:
+        handle = self._handle
+        most = handle.nvals if handle.nvals is not None else min(handle.most, MOST_SIDE)
+        return {'BYTES': (0, longest_text(most))}
+
+    def check(self, reply: Reply) -> None:
+        self.entries = check_text(self.line, reply.body, self._handle.shape, self._handle.nvals)
+
+
 class ServerBackend(Backend):
     """One session's operators, jobs and matrices at the server. `jobs` counts those that were
     submitted."""
@@ -41,7 +74,7 @@ class ServerBackend(Backend):
         self.names = ServerNames()
         self.queue = Queue(connection, shared)
         self.jobs = 0
-        self._lock = SessionLock(connection)
+        self._lock = connection.lock
         self._operators: Dict[Operator, Uploaded] = {}
 
     @property
@@ -82,7 +115,7 @@ class ServerBackend(Backend):
     def budget(self) -> Budget:
         """What the budget holds. No run."""
         with self._lock:
-            budget = Budget(*map(int, self.command('budget').words[1:4]))
+            budget = Budget(*self.command('budget').numbers)
             self.queue.note_budget(budget.left, budget.reserved)
             return budget
 
@@ -96,16 +129,13 @@ class ServerBackend(Backend):
     def send(self, entries: Triples, handle: DeferredHandle) -> None:
         """Sends the entries of a matrix that the client has, with the next command, under a name
         that its handle takes."""
-        def lost(cause: BaseException) -> None:
-            handle.lost = without_frames(cause)
         with self._lock:
             self.poison()
             text = matrix_text.write(entries, ones=True)
             handle.key = self.names.take(handle)
             sizes = {'ROWS': entries.nrows, 'COLUMNS': entries.ncols, 'ENTRIES': len(entries.rows)}
-            self.connection.put(Command('matrix ' + handle.key, text, lost=lost, matters=True,
-                                        within={name: (size, size)
-                                                for name, size in sizes.items()}))
+            self.connection.put(SentMatrix(handle, text, {name: (size, size)
+                                                          for name, size in sizes.items()}))
             handle.note_size(entries.nrows, len(entries.rows))
             if self.connection.is_full:
                 self.connection.exchange()
@@ -119,7 +149,7 @@ class ServerBackend(Backend):
             reply = self.command('matrix ' + handle.key, text,
                                  lambda rule, at: matrix_text.line_at(text, at),
                                  sizes_of_text(text))
-            nrows, ncols, nvals = map(int, reply.words[1:4])
+            nrows, ncols, nvals = reply.numbers
             handle.shape = nrows, ncols
             handle.nvals = handle.most = nvals
             handle.note_size(nrows, nvals)
@@ -129,43 +159,38 @@ class ServerBackend(Backend):
         """The canonical text of a matrix. Runs the queue where it waits."""
         if isinstance(handle, DeferredHandle):
             return matrix_text.write(handle.entries)
-        with self._lock:
-            self.connection.check_open()
-            handle.check_made()
-            if handle.waits:
-                self.queue.run_later()
-            try:
-                body = self._read_text(handle)
-            except Refused as refused:
-                raise self.connection.refused or refused
-            if self.connection.refused is not None:
-                raise self.connection.refused
-            return body
-
-    def _read_text(self, handle: Handle) -> bytes:
-        """The text of a matrix. ProtocolError, and the session is ended, where it isn't that of
-        this matrix."""
-        self.sweep()
-        most = handle.nvals if handle.nvals is not None else min(handle.most, MOST_SIDE)
-        command = 'show ' + handle.key
-        reply = self.connection.exchange(Command(command, within={'BYTES': (0, longest_text(most))},
-                                                 check=lambda reply: check_text(command, reply.body,
-                                                                                handle.shape,
-                                                                                handle.nvals)))
-        assert reply is not None
-        return reply.body
+        return self._show(handle)[0].body
 
     def read(self, handle: Handle) -> Triples:
         if isinstance(handle, DeferredHandle):
             return matrix_text.as_arrays(handle.entries)
-        return matrix_text.read(self.read_text(handle), True)
+        reply, entries = self._show(handle)
+        return matrix_text.read(reply.body) if entries is None else entries
+
+    def _show(self, handle: Handle) -> Tuple[Reply, Optional[Triples]]:
+        """The reply with a matrix, and its entries where they were looked at. Runs the queue where
+        it waits."""
+        with self._lock:
+            handle.check_made()
+            if handle.nvals is None:
+                self.queue.run_later()
+            self.sweep()
+            command = ShownMatrix(handle)
+            try:
+                reply = self.connection.exchange(command)
+            except Refused as refused:
+                raise self.connection.refused or refused
+            if self.connection.refused is not None:
+                raise self.connection.refused
+            assert reply is not None
+            return reply, command.entries
 
     def wait(self, handle: Handle) -> None:
         """Runs the queue where a matrix waits. Raises Closed where the session has ended, and
         NotMade where the run was refused."""
         self.connection.check_open()
         handle.check_made()
-        if handle.waits:
+        if handle.nvals is None:
             self._run()
             handle.check_made()
 
@@ -189,7 +214,7 @@ class ServerBackend(Backend):
                                                    op.kind), op.body, op.line_at)
             except OperatorRefused as refused:
                 raise diagnostics.explain_refusal(op, refused) from None
-            self._operators[op] = Uploaded(name, int(reply.words[-1]))
+            self._operators[op] = Uploaded(name, reply.numbers[-1])
         return self._operators[op]
 
     def length_of(self, op: Operator) -> int:
@@ -215,42 +240,34 @@ class ServerBackend(Backend):
         entries tells, is sent with the next command that needs an answer, and so is the run before
         it; any other at once."""
         with self._lock:
-            operands, mask = job.operands, job.mask
-            needed = operands if mask is None else (*operands, mask)
-            words, length = [], 0
+            words, length = [job.form, ''], 0
             for op in job.operators:
                 uploaded = self._operators.get(op) or self._uploaded(op)
                 words.append(uploaded.name)
                 length += uploaded.instructions
-            for handle in needed:
-                if handle.lost is not None:
-                    handle.check_made()
-            words += [handle.key for handle in operands]
+            queue, mask = self.queue, job.mask
+            must_run = len(queue.waiting) >= QUEUE
+            for handle in job.operands if mask is None else (*job.operands, mask):
+                handle.check_made()
+                key = handle.key
+                must_run = must_run or key in queue.waiting
+                words.append(key)
             if job.thunk is not None:
-                words.append(str(job.thunk))
+                words.insert(len(words) - (mask is not None), str(job.thunk))
             if mask is not None:
-                words += ['mask', mask.key]
-            self.queue.run_before(needed)
+                words.insert(-1, 'mask')
+            if must_run:
+                queue.run_later()
             if self.names.poisons:
                 self.sweep()
             most = most_of(job, length)
             made = ServerHandle(self, job.shape, None, most.entries, name)
-            made.form, made.most_steps = job.form, most.steps
-            self._submit_line(made, '%s %s %s' % (job.form, made.key, ' '.join(words)), most)
+            made.form, made.most_steps, words[1] = job.form, most.steps, made.key
+            if queue.add(made, ' '.join(words), most):
+                # so that a loop of jobs uses the names of what nobody holds again
+                self.sweep()
             self.jobs += 1
             return made
-
-    def _submit_line(self, made: ServerHandle, line: str, most: Most) -> None:
-        """Hands a job in, now or with the next command."""
-        if not self.queue.is_sure(most):
-            try:
-                self.queue.add_now(made, line)
-            except BudgetExceeded as fault:
-                raise fault.with_advice() from None
-        elif self.queue.add_later(made, line):
-            self.connection.exchange()
-            # so that a loop of jobs uses the names of what nobody holds again
-            self.sweep()
 
     def run(self) -> Run:
         report = Run()
@@ -260,11 +277,9 @@ class ServerBackend(Backend):
     def _run(self, report: Optional[Run] = None) -> None:
         """Runs the jobs that wait; what the run settled goes into the report, if one is wanted."""
         with self._lock:
-            if self.connection.owes:
-                self.connection.settle()
+            self.queue.run_later()
             if self.queue.is_idle:
                 return
-            self.queue.run_later()
             self.sweep()
             self.queue.report = report
             try:

@@ -6,11 +6,11 @@ Bytes that came stay here until a reply is there whole. So whatever comes while 
 """
 from __future__ import annotations
 
-from typing import Any, Callable, List, Mapping, NamedTuple, Optional, Tuple, Union
+from typing import Callable, List, Mapping, NamedTuple, Optional, Union
 
-from ..errors import Closed, ProtocolError, Refused, refusal
+from ..errors import ProtocolError, Refused, refusal
 from ..refusal_rules import OF_GATEWAY, is_placed
-from .protocol import COMMANDS, WORDS_WITH_BODY, Behind, brought
+from .protocol import COMMANDS, WORDS_WITH_BODY, Behind
 from .reply_checks import NOTHING, Limits, check_first_line
 
 PIECE = 1 << 20
@@ -23,19 +23,17 @@ Near = Callable[[str, int], str]
 
 
 class Reply(NamedTuple):
-    """An `ok` reply: the words behind `ok`, and the lines or the bytes that it brings: those of
-    `run`, `dis` and `types`, and of `show`."""
+    """An `ok` reply: the words behind `ok`, which of them are numbers, and the lines or the bytes
+    that it brings: those of `run`, `dis` and `types`, and of `show`."""
     words: List[str]
+    numbers: List[int]
     lines: List[str]
     body: bytes
 
 
-def _ignore(_: object) -> None:
-    pass
-
-
 class Command:
-    """A command, and what is done with its reply.
+    """A command, of which nothing is done with the reply but that it is kept. A class of its own
+    says otherwise of jobs, of runs, and of texts.
 
     Parameters
     ----------
@@ -45,62 +43,56 @@ class Command:
         The bytes that come behind the line, where it has some.
     near
         Gives the line that stands at a place of the body, for the words of a refusal.
-    done
-        Gets the reply.
-    lost
-        Gets the reason where there is no reply: a refusal, or the end of the session.
-    matters
-        Whether a refusal makes everything behind it doubtful.
-    jobs
-        How many jobs it runs.
     within
         Limits of the reply's numbers, by their names, that the client knows.
-    check
-        Raises ProtocolError of a reply that says anything else that it can't.
 
     Attributes
     ----------
     answer
         The reply, or the refusal, once it is there.
+    matters
+        Whether a refusal makes everything behind it doubtful.
+    runs
+        Whether the server may take as long as its jobs do.
+    jobs
+        How many jobs it runs.
     """
 
-    __slots__ = ('line', 'word', 'body', 'near', 'done', 'lost', 'matters', 'jobs', 'within',
-                 'check', 'answer')
+    __slots__ = ('line', 'word', 'body', 'near', 'within', 'matters', 'runs', 'answer')
+    jobs = 0
 
-    def __init__(self, line: str, body: Optional[bytes] = None, near: Optional[Near] = None, *,
-                 done: Callable[[Reply], Any] = _ignore,
-                 lost: Callable[[BaseException], Any] = _ignore, matters: bool = False,
-                 jobs: int = 0, within: Mapping[str, Limits] = NOTHING,
-                 check: Callable[[Reply], Any] = _ignore) -> None:
+    def __init__(self, line: str, body: Optional[bytes] = None, near: Optional[Near] = None,
+                 within: Mapping[str, Limits] = NOTHING, matters: bool = False) -> None:
         words = line.split(None, 1)
         if '\n' in line or not words:
             raise ValueError('a command is one line with words')
         self.line, self.word, self.body, self.near = line, words[0], body, near
         if (self.word in WORDS_WITH_BODY) != (body is not None):
             raise ValueError('`matrix`, `asm` and `op` have a body, and no other command')
-        self.done, self.lost, self.matters, self.jobs = done, lost, matters, jobs
-        self.within, self.check = within, check
+        self.within, self.matters, self.runs = within, matters, self.word == 'run'
         self.answer: Union[Reply, Refused, None] = None
 
-    @property
-    def runs(self) -> bool:
-        """Whether the server may take as long as its jobs do."""
-        return self.word == 'run'
+    def limits(self) -> Mapping[str, Limits]:
+        """Limits of the reply's numbers that the client knows, as the reply is read."""
+        return self.within
 
     def read(self, incoming: Incoming) -> Union[Reply, str]:
         """The next reply, or the line of a refusal. ProtocolError where it doesn't answer this
         command."""
-        words, rest = incoming.next(self)
-        if words[0] != 'ok':
-            return ' '.join(words)
-        if not rest:
-            reply = Reply(words[1:], [], b'')
-        elif brought(words) is Behind.BYTES:
-            reply = Reply(words[1:], [], rest)
-        else:
-            reply = Reply(words[1:], rest.decode('ascii', 'replace').split('\n')[:-1], b'')
-        self.check(reply)
+        reply = incoming.next(self)
+        if isinstance(reply, Reply):
+            self.check(reply)
+            self.answer = reply
         return reply
+
+    def check(self, reply: Reply) -> None:
+        """Raises ProtocolError of a reply that says anything else that it can't."""
+
+    def done(self, reply: Reply) -> None:
+        """Notes what the reply says."""
+
+    def lost(self, cause: BaseException) -> None:
+        """There is no reply: it was a refusal, or the session has ended."""
 
 
 class CommandBatch:
@@ -108,6 +100,7 @@ class CommandBatch:
     are there; `most` is how many bytes they can have."""
 
     runs = True                                    # the server may take as long as its jobs do
+    matters = False
 
     def __init__(self, text: bytes, commands: int, most: int = MOST_REPLIES) -> None:
         self.text, self.commands, self.most = text, commands, most
@@ -117,38 +110,43 @@ class CommandBatch:
         """All replies, up to that of `budget`. ProtocolError where they are longer than `most`."""
         return incoming.through(b'ok budget ', self.most)
 
+    def done(self, replies: bytes) -> None:
+        """Keeps the replies."""
+        self.replies = replies
+
     def lost(self, _: BaseException) -> None:
         """They never come. Whoever collects them hears that the session has ended."""
 
 
 class Incoming:
-    """What has come and was not taken. `fill` appends what comes next, and answers whether anything
-    did; `fault` says why nothing does; `tell(done, of)` is called as a long reply comes."""
+    """What has come and was not taken. `receive` gives what comes next, and raises Closed where
+    nothing does; `tell(done, of)` is called as a long reply comes."""
 
-    def __init__(self, fill: Callable[[bytearray], bool], fault: Callable[[], str],
-                 tell: Callable[[int, int], None]) -> None:
+    def __init__(self, receive: Callable[[], bytes], tell: Callable[[int, int], None]) -> None:
         self._bytes = bytearray()
-        self._fill, self._fault, self._tell = fill, fault, tell
+        self._receive, self._tell = receive, tell
         # of a reply with lines: how many ended before the place that was looked at
         self._lines_seen, self._looked = 0, 0
         self.received = 0
 
-    def next(self, command: Command) -> Tuple[List[str], bytes]:
-        """The words of the next reply's first line, and what comes behind it, once it is there
-        whole. Closed where it can't come any more. The words are checked before more is awaited:
-        ProtocolError where they don't answer the command."""
-        start = self._line_end()
+    def next(self, command: Command) -> Union[Reply, str]:
+        """The next reply with all that it brings, or the line of a refusal, once it is there whole.
+        Closed where it can't come any more. The first line is checked before more is awaited:
+        ProtocolError where it doesn't answer the command."""
+        start = end = self._bytes.find(b'\n', 0, LONGEST_LINE) + 1 or self._await_line()
         words = self._bytes[:start].decode('ascii', 'replace').split()
-        check_first_line(words, command.word, command.line, command.within)
-        brings, end = brought(words), start
-        if brings is Behind.BYTES:
-            end = self._bytes_until(start + int(words[2]), int(words[2]))
-        elif brings is Behind.LINES:
-            end = self._lines_until(start, int(words[2]))
-        rest = bytes(memoryview(self._bytes)[start:end]) if end > start else b''
+        numbers = check_first_line(words, command.word, command.line, command.limits())
+        brings = COMMANDS[command.word].brings if numbers is not None else None
+        body, lines = b'', []  # type: bytes, List[str]
+        if numbers and brings is not None:
+            end = (self._bytes_until(start + numbers[0], numbers[0]) if brings is Behind.BYTES
+                   else self._lines_until(start, numbers[0]))
+            body = bytes(memoryview(self._bytes)[start:end])
+            self._lines_seen = self._looked = 0
+            if brings is Behind.LINES:
+                body, lines = b'', body.decode('ascii', 'replace').split('\n')[:-1]
         del self._bytes[:end]
-        self._lines_seen = self._looked = 0
-        return words, rest
+        return ' '.join(words) if numbers is None else Reply(words[1:], numbers, lines, body)
 
     def through(self, mark: bytes, most: int) -> bytes:
         """All that comes up to the end of the line with a mark, which stands in no other reply,
@@ -169,16 +167,16 @@ class Incoming:
             self._looked = max(0, len(self._bytes) - len(mark)) if at < 0 else at
             self._more()
 
-    def _line_end(self) -> int:
-        """The place behind the first line."""
-        while True:
-            end = self._bytes.find(b'\n', 0, LONGEST_LINE)
-            if end >= 0:
-                return end + 1
+    def _await_line(self) -> int:
+        """The place behind the first line, once it is there."""
+        end = 0
+        while not end:
             if len(self._bytes) >= LONGEST_LINE:
                 raise ProtocolError('the reply is none of spmat: `%s`'
                                     % self._bytes[:200].decode('ascii', 'replace'))
             self._more()
+            end = self._bytes.find(b'\n', 0, LONGEST_LINE) + 1
+        return end
 
     def _bytes_until(self, end: int, size: int) -> int:
         while len(self._bytes) < end:
@@ -203,10 +201,9 @@ class Incoming:
         return self._looked
 
     def _more(self) -> None:
-        before = len(self._bytes)
-        if not self._fill(self._bytes):
-            raise Closed(self._fault())
-        self.received += len(self._bytes) - before
+        piece = self._receive()
+        self._bytes += piece
+        self.received += len(piece)
 
 
 def read_refusal(reply: str, command: Command) -> Refused:

@@ -15,12 +15,11 @@ nothing cancels a batch.
 from __future__ import annotations
 
 import collections
-import contextlib
 import os
 import socket
 import threading
 import weakref
-from typing import Callable, Deque, Iterable, Iterator, List, Mapping, Optional, Tuple, Union
+from typing import Any, Callable, Deque, Iterable, Iterator, List, Mapping, Optional, Tuple, Union
 
 from ..errors import Closed, Refused, SpmatError
 from ..io.coo import shown, whole
@@ -30,7 +29,7 @@ from .commands import PIECE, Command, CommandBatch, Incoming, Near, Reply, read_
 from .protocol import WORDS_WITH_BODY
 from .reply_checks import NOTHING, Limits
 from .server_program import Program, program_words
-from .session_lock import InterruptGuard
+from .session_lock import SessionLock
 from .transport import Address, Channel, Child, Socket, Timeouts
 
 ENDS = ('S5', 'S6', 'S7', 'busy', *OF_GATEWAY)
@@ -60,12 +59,13 @@ class Connection:
     until another has its reply."""
 
     def __init__(self, channel: Channel, progress: Optional[Progress] = None) -> None:
-        self.lock = threading.RLock()
+        # what a session ends by alone: all else takes the lock, which takes the turn as well
+        self.turn = threading.RLock()
+        self.lock = SessionLock(self)
         self.progress = progress
         self.commands, self.sent = 0, 0
-        self.guard = InterruptGuard()
         self._channel = channel
-        self.incoming = Incoming(self._fill, self._fault,
+        self.incoming = Incoming(self._receive,
                                  lambda done, of: self.tell('received', done, of))
         # the first refusal of the last exchange that mattered
         self.refused: Optional[Refused] = None
@@ -119,8 +119,8 @@ class Connection:
     def check_open(self) -> None:
         """Raises Closed where the session has ended, and in a process that was forked off the
         session's."""
-        if self._ended is None and not self._last.alive:
-            # which closed the channel before whoever asks now
+        if self._ended is None and self._channel.is_closed:
+            # by `_last`, before whoever asks now
             self._ended = 'the interpreter ends'
         if self._ended is not None:
             raise Closed('the session has ended: ' + self._ended)
@@ -134,7 +134,7 @@ class Connection:
         Raises Refused for `no ..` and Closed where the session has ended. `near` gives the line
         that stands at a place of the body, for the refusal's words, and `within` the limits of the
         reply's numbers that the client knows."""
-        reply = self.exchange(Command(line, body, near, within=within))
+        reply = self.exchange(Command(line, body, near, within))
         assert reply is not None
         return reply
 
@@ -163,16 +163,18 @@ class Connection:
         """Sends what waits and one command more in one go, and reads the reply of each; that of the
         last. Raises what the last is refused by, and Closed where the session ends before all are
         answered. KeyboardInterrupt while replies are awaited leaves what isn't answered pending."""
-        with self.lock, self.guard:
-            if last is None and not self._waiting and not self._pending:
-                return None
-            jobs = sum(command.jobs for command in self._waiting)
+        if last is None and not self._waiting and not self._pending:
+            return None
+        with self.lock:
+            jobs = sum(command.jobs for command in self._waiting) if self.progress else 0
             if jobs:
                 self.tell('jobs', 0, jobs)
-            with self._amid_command():
+            self._begin()
+            try:
                 self.refused = None
-                self._read_pending()
-                self.check_open()
+                if self._pending:
+                    self._read_pending()
+                    self.check_open()
                 sent = self._take_waiting()
                 if last is not None:
                     sent.append(last)
@@ -180,6 +182,8 @@ class Connection:
                 self._pending.extend(sent)
                 self._send(self._pieces_of(sent))
                 self._read_pending()
+            finally:
+                self._amid = False
             if self._ended is not None and any(command.answer is None for command in sent):
                 self.check_open()
             answer = last.answer if last is not None else None
@@ -193,35 +197,32 @@ class Connection:
         """Sends commands whose replies nobody waits for: `collect` takes them, or whoever sends
         next. Replies of any length may come; two such at a time, of half a pipe's bytes each, never
         make both sides wait."""
-        with self._amid_command():
-            self.commands += batch.commands
-            self._pending.append(batch)
-            self._send([batch.text])
+        with self.lock:
+            self._begin()
+            try:
+                self.commands += batch.commands
+                self._pending.append(batch)
+                self._send([batch.text])
+            finally:
+                self._amid = False
 
     def collect(self, batch: CommandBatch) -> bytes:
         """The replies to commands that were posted. KeyboardInterrupt leaves them pending. Closed
         where they never come."""
-        with self.lock, self.guard:
-            while batch.replies is None:
-                with self._amid_command():
-                    self._read_first()
-            return batch.replies
+        if batch.replies is None:
+            self._settle(lambda: batch.replies is not None)
+        assert batch.replies is not None
+        return batch.replies
 
-    @contextlib.contextmanager
-    def _amid_command(self) -> Iterator[None]:
-        """A command begins and ends, one at a time, and no Ctrl-C amid. Raises Closed where the
-        session has ended, and SpmatError amid another command."""
-        with self.lock, self.guard:
-            self.check_open()
-            if self._amid:
-                raise SpmatError(
-                    'a session can not be used from within its own command, such as by a progress '
-                    'callback')
-            self._amid = True
-            try:
-                yield
-            finally:
-                self._amid = False
+    def _begin(self) -> None:
+        """A command begins, one at a time, and no Ctrl-C amid. Raises Closed where the session has
+        ended, and SpmatError amid another command."""
+        self.check_open()
+        if self._amid:
+            raise SpmatError(
+                'a session can not be used from within its own command, such as by a progress '
+                'callback')
+        self._amid = True
 
     @property
     def owes(self) -> bool:
@@ -236,10 +237,17 @@ class Connection:
     def settle(self) -> None:
         """Waits for the replies of commands that were interrupted or posted, where any are
         pending. Raises Closed where the session has ended."""
-        self.check_open()
-        if self._pending:
-            with self._amid_command():
-                self._read_pending()
+        self._settle(lambda: not self._pending)
+
+    def _settle(self, is_done: Callable[[], bool]) -> None:
+        """Reads pending replies until it is done."""
+        with self.lock:
+            while not is_done():
+                self._begin()
+                try:
+                    self._read_first()
+                finally:
+                    self._amid = False
 
     def _read_pending(self) -> None:
         """Reads the replies to all that is pending, in order, and does what they say."""
@@ -249,8 +257,9 @@ class Connection:
     def _read_first(self) -> None:
         """The same of what is pending first. KeyboardInterrupt leaves it so; what else comes ends
         the session."""
-        first = self._pending[0]
-        self._channel.deadline.begin(first.runs)
+        # which knows what its own reply is
+        first: Any = self._pending[0]
+        self._channel.begin(first.runs)
         try:
             reply = first.read(self.incoming)
         except KeyboardInterrupt:
@@ -262,45 +271,34 @@ class Connection:
             return
         self._pending.popleft()
         try:
-            self._note(first, reply)
+            if isinstance(reply, str):
+                self._note_refusal(first, reply)
+            else:
+                first.done(reply)
         except BaseException:
             # of a signal's handler, say: what stands behind it isn't noted
             self.end('an exception came while its replies were noted', kill=True)
             raise
 
-    def _note(self, first: Union[Command, CommandBatch], reply: Union[Reply, str, bytes]) -> None:
-        """Does what a reply says."""
-        if isinstance(first, CommandBatch):
-            first.replies = reply if isinstance(reply, bytes) else b''
-        elif isinstance(reply, Reply):
-            first.answer = reply
-            first.done(reply)
-        elif isinstance(reply, str):
-            refused = first.answer = self._refused(reply, first)
-            first.lost(refused)
-            if first.matters and self.refused is None:
-                self.refused = refused
-
-    def _fill(self, into: bytearray) -> bool:
-        """Appends what comes next; whether anything did."""
+    def _receive(self) -> bytes:
+        """What comes next. Closed where nothing does."""
+        channel = self._channel
         try:
-            with self.guard.waiting():
-                self._channel.wait()
-            piece = self._channel.receive()
+            self.lock.await_bytes(channel.wait)
+            piece = channel.receive()
         except socket.timeout:
             raise
         except OSError as fault:
-            raise Closed('%s (%s)' % (self._fault(), fault)) from fault
-        into += piece
-        return bool(piece)
-
-    def _fault(self) -> str:
-        return self._channel.fault(self.incoming.received > 0)
+            why = channel.fault(self.incoming.received > 0)
+            raise Closed('%s (%s)' % (why, fault)) from fault
+        if not piece:
+            raise Closed(channel.fault(self.incoming.received > 0))
+        return piece
 
     def end(self, why: str, kill: bool = False, cause: Optional[BaseException] = None) -> None:
         """Marks the session as ended, and closes its channel. What is pending is lost, by this
         cause."""
-        with self.lock:
+        with self.turn:
             if self._ended is None:
                 self._ended = why
                 self._last.detach()
@@ -312,7 +310,7 @@ class Connection:
     def quit(self) -> None:
         """Ends the session in good order, or at once where a reply is owed; nothing where it has
         ended already."""
-        with self.lock:
+        with self.turn:
             self._take_waiting()                   # which isn't sent any more
             if self._pending:
                 self.end('it was closed while a reply was awaited', kill=True)
@@ -347,7 +345,7 @@ class Connection:
     def _send(self, pieces: Iterable[Union[bytes, memoryview]]) -> None:
         """Sends what is pending from now on. What comes meanwhile ends the session; but where the
         server has ended it, its last reply says why, and is read next."""
-        self._channel.deadline.begin(False)
+        self._channel.begin(False)
         try:
             for piece in pieces:
                 self._channel.write(piece)
@@ -363,15 +361,18 @@ class Connection:
         if self.progress is not None:
             self.progress(what, done, of)
 
-    def _refused(self, reply: str, command: Command) -> Refused:
-        refused = read_refusal(reply, command)
+    def _note_refusal(self, command: Command, reply: str) -> None:
+        """Does what a refusal says."""
+        refused = command.answer = read_refusal(reply, command)
         words = command.line.split()
         # a body may stand behind a line that was refused for its words, and be taken for commands
         is_out_of_step = (refused.rule == 'S2'
                           and len(words) != WORDS_WITH_BODY.get(words[0], len(words)))
         if refused.rule in ENDS or is_out_of_step:
             self.end('it was answered `%s`' % reply, cause=refused)
-        return refused
+        command.lost(refused)
+        if command.matters and self.refused is None:
+            self.refused = refused
 
 
 def _words_of(fault: BaseException) -> str:

@@ -6,7 +6,7 @@ have from here.
 from __future__ import annotations
 
 import enum
-from typing import Dict, NamedTuple, Optional, Sequence, Tuple
+from typing import Dict, NamedTuple, Optional, Tuple
 
 
 class Places(enum.Enum):
@@ -85,9 +85,3 @@ COMMANDS: Dict[str, Syntax] = {
 WORDS_WITH_BODY = {name: len(syntax.words.split()) for name, syntax in COMMANDS.items()
                    if syntax.has_body}
 """The commands that have a body, with how many words stand before its length."""
-
-
-def brought(words: Sequence[str]) -> Optional[Behind]:
-    """What comes behind a reply's first line, by its words; None where nothing does."""
-    return (COMMANDS[words[1]].brings if len(words) > 1 and words[0] == 'ok'
-            and words[1] in COMMANDS else None)

@@ -9,10 +9,11 @@ from __future__ import annotations
 
 import re
 from types import MappingProxyType
-from typing import Dict, List, Mapping, NamedTuple, NoReturn, Optional, Sequence, Tuple
+from typing import Dict, List, Mapping, NoReturn, Optional, Sequence, Tuple
 
 from ..errors import ProtocolError
-from ..io import parse_integers
+from ..io import matrix_text
+from ..io.matrix_text import BANNER, Triples
 from ..limits import MOST_PRICE, MOST_SIDE, MOST_SLOTS, MOST_STEPS, QUEUE
 from ..refusal_rules import OF_GATEWAY
 from .protocol import COMMANDS
@@ -27,7 +28,7 @@ LONGEST_ENTRY = 8 + 1 + 8 + 1 + 20 + 1
 # values that have 64 bits for sure
 _ALL_ENTRIES = re.compile(rb'(?:\d{1,8} \d{1,8} -?\d{1,18}\n)*')
 _ENTRY = re.compile(rb'(\d{1,8}) (\d{1,8}) (-?\d{1,19})')
-BANNER = b'%%MatrixMarket matrix coordinate integer general\n'
+_HEAD = re.compile(rb'%s(\d{1,8}) (\d{1,8}) (\d{1,8})\n' % re.escape(BANNER))
 BANNER_LETTERS = BANNER.translate(None, b'0123456789- \n')
 _REFUSAL = re.compile(
     r'no (?:(?:[ASVMJ]\d{1,2}|busy|memory|thread|stuck)(?: [A-Z]?\d{1,20}){0,3}|(?:%s)(?: '
@@ -54,8 +55,8 @@ REPLIES: Dict[str, Tuple[str, Tuple[str, ...]]] = {
 
 
 def check_first_line(words: Sequence[str], word: str, command: str,
-                     within: Mapping[str, Limits] = NOTHING) -> None:
-    """Raises ProtocolError where the first line of a reply doesn't answer a command.
+                     within: Mapping[str, Limits] = NOTHING) -> Optional[List[int]]:
+    """The numbers of the first line of an `ok` reply; None of a refusal.
 
     Parameters
     ----------
@@ -66,20 +67,25 @@ def check_first_line(words: Sequence[str], word: str, command: str,
     within
         Limits of numbers of the reply by their names, where the client knows narrower ones than
         the protocol's.
+
+    Raises
+    ------
+    ProtocolError
+        Where the line doesn't answer the command.
     """
-    if words[:1] != ['ok']:
+    if not words or words[0] != 'ok':
         if not _REFUSAL.fullmatch(' '.join(words)):
             raise ProtocolError('the reply to `%.80s` is none of spmat: `%.200s`'
                                 % (command, ' '.join(words)))
-        return
+        return None
     if word not in REPLIES:
         # a command of a session script, which only a refusal can answer
         raise_fault(command, 'a refusal, since there is no such command', words)
-    first, numbers = REPLIES[word]
-    if len(words) != 2 + len(numbers) or words[1] != first:
+    first, names = REPLIES[word]
+    if len(words) != 2 + len(names) or words[1] != first:
         raise_fault(command, '`ok %s`' % COMMANDS[word].reply, words)
-    for name, number in zip(numbers, words[2:]):
-        check_number(name, number, within.get(name) or LIMITS[name], command, words)
+    return [check_number(name, number, within.get(name) or LIMITS[name], command, words)
+            for name, number in zip(names, words[2:])]
 
 
 def check_number(name: str, word: str, limits: Limits, command: str, words: Sequence[str]) -> int:
@@ -89,35 +95,6 @@ def check_number(name: str, word: str, limits: Limits, command: str, words: Sequ
         asked = '%d to %d' % (limits[0], limits[1]) if limits[0] != limits[1] else '%d' % limits[0]
         raise_fault(command, '%s of %s' % (name, asked), words)
     return int(word)
-
-
-class ExpectedJob(NamedTuple):
-    """What the line of a job in the reply to `run` has to say: the name of its result, its shape,
-    and the most entries and steps."""
-    name: str
-    shape: Tuple[int, int]
-    entries: int
-    steps: int
-
-
-def check_run(words: Sequence[str], lines: Sequence[str],
-              jobs: Sequence[ExpectedJob]) -> List[Tuple[int, int]]:
-    """The entries and the steps of each job of a run. ProtocolError where the lines of its reply
-    aren't those of these jobs, or where their steps don't add up to what was spent."""
-    if len(lines) != len(jobs):
-        raise_fault('run', '%d lines, one for each job' % len(jobs), ['%d lines' % len(lines)])
-    found: List[Tuple[int, int]] = []
-    for line, job in zip(lines, jobs):
-        said = line.split()
-        start = [job.name, *map(str, job.shape)]
-        if len(said) != 5 or said[:3] != start:
-            raise_fault('run', '`%s ENTRIES STEPS`' % ' '.join(start), said)
-        found.append((check_number('ENTRIES', said[3], (0, job.entries), 'run', said),
-                      check_number('STEPS', said[4], (0, job.steps), 'run', said)))
-    if sum(steps for _, steps in found) != int(words[-1]):
-        raise_fault('run', 'STEPS of %d, the sum of its lines' % sum(steps for _, steps in found),
-                    ['ok', *words])
-    return found
 
 
 def sizes_of_text(text: bytes) -> Mapping[str, Limits]:
@@ -146,10 +123,12 @@ def longest_text(entries: int) -> int:
     return LONGEST_HEAD + entries * LONGEST_ENTRY
 
 
-def check_text(command: str, text: bytes, shape: Tuple[int, int], entries: Optional[int]) -> None:
+def check_text(command: str, text: bytes, shape: Tuple[int, int],
+               entries: Optional[int]) -> Optional[Triples]:
     """ProtocolError where a text isn't that of a matrix of this shape: its head, its number of
-    lines, and its characters are looked at. `entries` is how many it has, where that is known."""
-    head = re.compile(rb'%s(\d{1,8}) (\d{1,8}) (\d{1,8})\n' % re.escape(BANNER)).match(text)
+    lines, and its characters are looked at. `entries` is how many it has, where that is known. Of a
+    short text all entries are looked at; they are given back, but for some of 19 digits."""
+    head = _HEAD.match(text)
     if head is None:
         raise_fault(command,
                     'a text that begins with `%s` and three sizes' % BANNER.decode().strip(),
@@ -164,15 +143,18 @@ def check_text(command: str, text: bytes, shape: Tuple[int, int], entries: Optio
         None, b'0123456789- \n') != BANNER_LETTERS:
         raise_fault(command, 'a text with %d lines of three numbers' % count,
                     ['%d lines' % (text.count(b'\n') - 2)])
-    if len(text) <= LOOKED_AT_WHOLE:
+    if len(text) > LOOKED_AT_WHOLE:
+        return None
+    is_plain = _ALL_ENTRIES.fullmatch(text, head.end()) is not None
+    found = matrix_text.read(text) if is_plain else None
+    if found is None or not _are_ascending(found):
         _check_entries(command, text[head.end():], shape)
+    return found
 
 
 def _check_entries(command: str, lines: bytes, shape: Tuple[int, int]) -> None:
     """ProtocolError where an entry lies outside of a shape, doesn't follow the one before, or has a
     value beyond 64 bits."""
-    if _ALL_ENTRIES.fullmatch(lines) is not None and _are_ascending(lines, shape):
-        return
     before = (0, 0)
     for line in lines.splitlines():
         found = _ENTRY.fullmatch(line)
@@ -185,14 +167,13 @@ def _check_entries(command: str, lines: bytes, shape: Tuple[int, int]) -> None:
         before = row, column
 
 
-def _are_ascending(lines: bytes, shape: Tuple[int, int]) -> bool:
-    """Whether well-formed entries lie within a shape, by ascending rows and columns."""
-    rows, columns = parse_integers.fields(lines, (0, 1))
+def _are_ascending(entries: Triples) -> bool:
+    """Whether entries lie within their shape, by ascending rows and columns."""
+    rows, columns, _, nrows, ncols = entries
     if not len(rows):
         return True
-    inside = (rows[0] >= 1 and rows[-1] <= shape[0] and columns.min() >= 1
-              and columns.max() <= shape[1])
-    places = rows * (shape[1] + 1) + columns
+    inside = (rows[0] >= 0 and rows[-1] < nrows and columns.min() >= 0 and columns.max() < ncols)
+    places = rows * ncols + columns
     return bool(inside and (places[1:] > places[:-1]).all())
 
 

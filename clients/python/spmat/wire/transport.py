@@ -30,14 +30,6 @@ WATCHER = 'read -r _; kill -9 "$0"'
 MOST_SECONDS = ((1 << 31) - 1) // 1000             # poll counts milliseconds in 32 bits
 
 
-def _poll_of(file: int) -> 'select.poll':
-    """What tells when something of a file can be read. A session has one, as to make one takes
-    longer than to ask it."""
-    poll = select.poll()
-    poll.register(file, select.POLLIN)
-    return poll
-
-
 class Timeouts(NamedTuple):
     """How many seconds a command and its whole reply may take, and one that runs jobs; None without
     end."""
@@ -55,12 +47,21 @@ def checked_seconds(seconds: Optional[float], what: str = 'timeout') -> Optional
     return found
 
 
-class Deadline:
-    """When what is sent or awaited has to be done."""
+class Awaited:
+    """What bytes are awaited of, and when what is sent or awaited has to be done."""
+
+    is_closed = False
+    _poll: select.poll
 
     def __init__(self, timeouts: Timeouts) -> None:
         self.timeouts = Timeouts(*map(checked_seconds, timeouts))
         self._until: Optional[float] = None        # by the monotonic clock
+
+    def _watch(self, file: int) -> None:
+        """What tells when something of a file can be read. A session has one, as to make one takes
+        longer than to ask it."""
+        self._poll = select.poll()
+        self._poll.register(file, select.POLLIN)
 
     def begin(self, runs: bool) -> None:
         """A command begins, or its reply is awaited; `runs` where the server may take as long as
@@ -68,7 +69,7 @@ class Deadline:
         seconds = self.timeouts.run if runs else self.timeouts.command
         self._until = None if seconds is None else time.monotonic() + seconds
 
-    def left(self) -> Optional[float]:
+    def seconds_left(self) -> Optional[float]:
         """How many seconds are left, None without end. socket.timeout where none are."""
         if self._until is None:
             return None
@@ -77,10 +78,11 @@ class Deadline:
             raise socket.timeout(TIMED_OUT)
         return left
 
-    def await_bytes(self, poll: 'select.poll') -> None:
-        """Waits until something can be read. socket.timeout where that takes too long."""
-        seconds = self.left()
-        if not poll.poll(None if seconds is None else 1000 * seconds):
+    def wait(self) -> None:
+        """Waits until `receive` has something. socket.timeout where that takes longer than the
+        deadline says."""
+        seconds = self.seconds_left()
+        if not self._poll.poll(None if seconds is None else 1000 * seconds):
             raise socket.timeout(TIMED_OUT)
 
 
@@ -112,12 +114,12 @@ class Watcher:
             os.close(self._held)
 
 
-class Child:
+class Child(Awaited):
     """The bytes of a process `spmat run`. It has a process group of its own, so a Ctrl-C at a
     terminal doesn't reach it."""
 
     def __init__(self, words: Sequence[str]) -> None:
-        self.deadline = Deadline(Timeouts())
+        super().__init__(Timeouts())
         self._owner = os.getpid()
         self._said = tempfile.TemporaryFile()
         try:
@@ -129,13 +131,8 @@ class Child:
             raise
         assert self.process.stdout is not None
         self._output = self.process.stdout.fileno()
-        self._poll = _poll_of(self._output)
+        self._watch(self._output)
         self._watcher = Watcher(self.process.pid)
-
-    def wait(self) -> None:
-        """Waits until `receive` has something. socket.timeout where that takes longer than the
-        deadline says."""
-        self.deadline.await_bytes(self._poll)
 
     def receive(self) -> bytes:
         """What came; nothing at the end."""
@@ -159,7 +156,7 @@ class Child:
 
     def close(self, kill: bool = False) -> None:
         """Ends the process and waits for it. In a process that was forked off nothing is ended."""
-        mine = os.getpid() == self._owner
+        self.is_closed, mine = True, os.getpid() == self._owner
         if mine:
             self._watcher.stop()
         if kill and mine:
@@ -257,33 +254,31 @@ class Address(NamedTuple):
             raise
 
 
-class Socket:
+class Socket(Awaited):
     """The bytes of a connection to a server, or to what stands in front of it."""
 
     def __init__(self, address: Address, timeouts: Timeouts) -> None:
-        self.deadline = Deadline(timeouts)
+        super().__init__(timeouts)
         self._has_tls = address.tls is not None
-        self._socket = address.connected(self.deadline.timeouts.command)
-        self._poll = _poll_of(self._socket.fileno())
+        self._socket = address.connected(self.timeouts.command)
+        self._watch(self._socket.fileno())
         if address.login:
             self._socket.sendall(address.login)
 
     def wait(self) -> None:
-        """Waits until `receive` has something. socket.timeout where that takes longer than the
-        deadline says."""
-        if getattr(self._socket, 'pending', int)():
-            return                                 # TLS has taken it in already
-        self.deadline.await_bytes(self._poll)
+        # TLS may have taken it in already
+        if not (self._has_tls and self._socket.pending()):  # type: ignore[attr-defined]
+            super().wait()
 
     def receive(self) -> bytes:
         """What came; nothing at the end. socket.timeout where a piece of TLS doesn't come whole in
         time."""
-        self._socket.settimeout(self.deadline.left())
+        self._socket.settimeout(self.seconds_left())
         return self._socket.recv(PIECE)
 
     def write(self, piece: Union[bytes, memoryview]) -> None:
         """Writes a piece. socket.timeout where that takes longer than the deadline says."""
-        self._socket.settimeout(self.deadline.left())
+        self._socket.settimeout(self.seconds_left())
         self._socket.sendall(piece)
 
     def fault(self, answered: bool) -> str:
@@ -302,6 +297,7 @@ class Socket:
     def close(self, kill: bool = False) -> None:
         """Closes the connection; unless `kill`, once the server has: it gives the session's seat to
         others before."""
+        self.is_closed = True
         if not kill:
             try:
                 self._socket.settimeout(SECONDS_TO_QUIT)

@@ -320,11 +320,12 @@ class Interrupts(unittest.TestCase):
     def test_exception_while_replies_are_noted(self):
         """One that a handler of another signal raises ends the session, as what stands behind it
         was never noted."""
-        def noted(_):
-            raise TimeoutError('an alarm')
+        class Noted(Command):
+            def done(self, reply):
+                raise TimeoutError('an alarm')
         with spmat.Session() as s:
             B = s.full(2, 2).apply('ainv')
-            s.connection.put(Command('budget', done=noted))
+            s.connection.put(Noted('budget'))
             with self.assertRaisesRegex(TimeoutError, 'an alarm'):
                 s.budget()
             for ask in (s.budget, s.run, lambda: B.nvals):
