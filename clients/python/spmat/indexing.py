@@ -1,7 +1,7 @@
 """What an index means: which rows or columns a name, a number, a list, a slice or a filter asks
 for.
 
-`submatrices` takes these out of a matrix, or sets them.
+`structure` takes these out of a matrix, and `updates` sets them.
 """
 from __future__ import annotations
 

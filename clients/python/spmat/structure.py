@@ -2,17 +2,22 @@
 shapes."""
 from __future__ import annotations
 
-from typing import Any, List, Optional, TypeVar, cast
+from typing import Any, List, Optional, Sequence, Tuple, TypeVar, Union, cast
 
-from . import submatrices, units
+from . import units
 from .backends.placeholders import reading
-from .io.coo import side, whole
+from .errors import refusal
+from .indexing import WHAT, check_once, choose_places, pair_of
+from .io.coo import shown, side, whole, whole_list
+from .mask import Mask
 from .matrix_base import MatrixBase
 from .matrix_jobs import Jobs
-from .metadata import BY_POSITIONS, COLUMNS, ROWS
+from .metadata import BY_POSITIONS, COLUMNS, ROWS, Axis, Unnamed, even
 from .result_metadata import on_diagonal
-from .submatrices import Sizes
+from .submatrices import BOTH, move, take, value_of
 
+Sizes = Union[int, Sequence[int]]
+ORDERS = {'rowwise': True, 'C': True, 'columnwise': False, 'F': False}     # numpy's letters too
 C = TypeVar('C', bound='Structure')
 
 
@@ -60,7 +65,21 @@ class Structure(Jobs):
         1 job for the rows and 1 for the columns that are chosen, and 1 run where both are; a value
         comes with 1 run more. In the GraphBLAS GrB_extract.
         """
-        return submatrices.extract(self, at)  # type: ignore[arg-type]
+        matrix: Any = self
+        if isinstance(at, Mask):
+            return matrix.dup(mask=at)
+        chosen = [choose_places(matrix, index, axis) for axis, index in enumerate(pair_of(at))]
+        for axis in BOTH:
+            check_once(matrix, chosen[axis], axis)
+        part = matrix
+        for axis in BOTH:
+            places = chosen[axis].places
+            part = part if places is None else take(part, axis, places)
+        if all(one.one for one in chosen):
+            return value_of(part)
+        if chosen[ROWS].places is not None and chosen[ROWS].places == chosen[COLUMNS].places:
+            part.notes = part.notes._replace(directed=even(matrix.notes))
+        return part
 
     def get(self, row: Any, column: Any = None, default: Any = None) -> Any:
         """The value of one entry, or a default where there is none.
@@ -155,7 +174,7 @@ class Structure(Jobs):
         if k:
             first = max(-k, 0)
             length = max(0, min(self.nrows - first, self.ncols - max(k, 0)))
-            column = submatrices.take(column, ROWS, range(first, first + length), name)
+            column = take(column, ROWS, range(first, first + length), name)
             column.notes = BY_POSITIONS._replace(unit=self.unit)
         return cast(C, column)
 
@@ -186,7 +205,9 @@ class Structure(Jobs):
         -----
         2 jobs and 1 run a part. In python-graphblas `ss.split`.
         """
-        return cast(List[List[C]], submatrices.split(cast(Any, self), row_sizes, column_sizes))
+        bounds = [_find_bounds(self.shape[axis], sizes, axis)
+                  for axis, sizes in enumerate((row_sizes, column_sizes))]
+        return [[_take_part(self, rows, columns) for columns in bounds[1]] for rows in bounds[0]]
 
     def resize(self: C, nrows: int, ncols: int, *, name: Optional[str] = None) -> C:
         """A new matrix of other sizes.
@@ -216,7 +237,14 @@ class Structure(Jobs):
         -----
         2 jobs and 1 run. In the GraphBLAS GrB_Matrix_resize, which changes the matrix itself.
         """
-        return submatrices.resize(self, nrows, ncols, name)  # type: ignore[arg-type, return-value]
+        shape, made = (side(nrows, 0, 'nrows'), side(ncols, 0, 'ncols')), cast(Any, self)
+        for axis, size in enumerate(shape):
+            stay = range(min(size, self.shape[axis]))
+            if size != self.shape[axis]:
+                made = move(made, axis, stay, stay, size, _resize_axis(self, axis, size))
+        made = made.dup(name=name) if made is self or name is not None else made
+        _note_directed(self, made, shape[ROWS] == shape[COLUMNS])
+        return cast(C, made)
 
     def reshape(self: C, nrows: int, ncols: int, order: str = 'rowwise', *,
                 name: Optional[str] = None) -> C:
@@ -251,4 +279,68 @@ class Structure(Jobs):
         No job: the client makes it, like `T`. In the GraphBLAS GxB_Matrix_reshape, in numpy
         `reshape`.
         """
-        return cast(C, submatrices.reshape(cast(Any, self), nrows, ncols, order, name))
+        nrows, ncols = _fill_size(self, nrows, ncols), _fill_size(self, ncols, nrows)
+        if order not in ORDERS:
+            raise ValueError('order is "rowwise" or "columnwise", not %r' % (order,))
+        if nrows * ncols != self.nrows * self.ncols:
+            raise refusal('J5', detail='%dx%d has %d places, and %dx%d has %d' % (
+                *self.shape, self.nrows * self.ncols, nrows, ncols, nrows * ncols))
+        rows, columns, values = self.entries()
+        by_rows = ORDERS[order]
+        width, new = (self.ncols, ncols) if by_rows else (self.nrows, nrows)
+        at = rows * width + columns if by_rows else columns * width + rows
+        first, second = at // max(new, 1), at % max(new, 1)
+        made: Any = self.session.from_coo(first if by_rows else second,
+                                          second if by_rows else first, values, nrows, ncols,
+                                          name=name)
+        made.notes = BY_POSITIONS._replace(unit=self.unit)
+        return cast(C, made)
+
+
+def _take_part(matrix: Any, *bounds: Tuple[int, int]) -> Any:
+    """A part by positions, whatever rows and columns are called."""
+    part = matrix
+    for axis in BOTH:
+        if bounds[axis] != (0, matrix.shape[axis]):
+            part = take(part, axis, range(*bounds[axis]))
+    if part is not matrix:
+        _note_directed(matrix, part, bounds[ROWS] == bounds[COLUMNS])
+    return part
+
+
+def _note_directed(matrix: MatrixBase, part: Any, is_corner: bool) -> None:
+    """Notes of a part that it is undirected where it `is_corner`, with the same rows and columns,
+    of a matrix that is."""
+    part.notes = part.notes._replace(directed=even(matrix.notes) if is_corner else None)
+
+
+def _find_bounds(count: int, sizes: Optional[Sizes], axis: int) -> List[Tuple[int, int]]:
+    """Where the parts of so many rows or columns begin and end: of some sizes, or of one, of which
+    the last is what is left."""
+    if sizes is None:
+        return [(0, count)]
+    if hasattr(sizes, '__index__'):
+        size = whole(sizes, 'size')
+        if size < 1:
+            raise ValueError('a part has 1 %s or more, not %s' % (WHAT[axis], shown(size)))
+        return [(first, min(first + size, count)) for first in range(0, count, size)] or [(0, 0)]
+    many = whole_list(sizes, 'size')
+    if any(size < 0 for size in many) or sum(many) != count:
+        raise ValueError('parts of %s %ss are %s together, and there are %d' % (
+            ' and '.join(map(shown, many)), WHAT[axis], shown(sum(many)), count))
+    return [(sum(many[:at]), sum(many[:at + 1])) for at in range(len(many))]
+
+
+def _resize_axis(matrix: MatrixBase, axis: int, size: int) -> Axis:
+    """What rows or columns are called that were cut off, or have grown in number, which gives new
+    ones no names."""
+    old = matrix.notes.axis(axis)
+    if size <= matrix.shape[axis]:
+        return old.part(range(size)) if size < matrix.shape[axis] else old
+    return old.alone() if old.names is None else Axis(None, Unnamed.POSITIONS)
+
+
+def _fill_size(matrix: MatrixBase, size: int, other: int) -> int:
+    """A size, which may be -1 for what is left beside the other, as in numpy."""
+    size, other = whole(size, 'size'), whole(other, 'size')
+    return matrix.nrows * matrix.ncols // max(other, 1) if size == -1 else side(size, 0, 'size')

@@ -1,5 +1,5 @@
-"""Parts of matrices, taken out and put together: `A[rows, columns]`, tiles, other sizes and shapes,
-the graph of a bipartite matrix.
+"""Rows and columns that are moved, and what is made of that: parts, tiles put together, the graph of
+a bipartite matrix.
 
 A product with a matrix of ones moves rows or columns, as GrB_extract does: P A has the rows of A
 that P names, A Q the columns. All that keeps entries at the server is made of such products.
@@ -8,23 +8,20 @@ from __future__ import annotations
 
 import itertools
 from collections import Counter
-from typing import TYPE_CHECKING, Any, List, Optional, Sequence, Tuple, Union
+from typing import TYPE_CHECKING, Any, Optional, Sequence
 
 import numpy
 
 from . import result_metadata, units
 from .errors import refusal
-from .indexing import WHAT, check_once, choose_places, pair_of
-from .io import coo
-from .mask import Mask, warn_user
+from .indexing import WHAT
+from .mask import warn_user
 from .matrix_base import MatrixBase
-from .metadata import (BY_POSITIONS, COLUMNS, NOTHING, ROWS, Axis, Nodes, Unnamed, axis_of, even,
-                       joined)
+from .metadata import COLUMNS, NOTHING, ROWS, Axis, Nodes, Unnamed, axis_of, joined
 
 if TYPE_CHECKING:
     from .matrix import Matrix
 
-Sizes = Union[int, Sequence[int]]
 BOTH = (ROWS, COLUMNS)
 
 
@@ -51,24 +48,6 @@ def take(matrix: 'Matrix', axis: int, places: Sequence[int],
     taken twice."""
     return move(matrix, axis, places, range(len(places)), len(places),
                 matrix.notes.axis(axis).part(places), name=name)
-
-
-def extract(matrix: 'Matrix', at: Any) -> Any:
-    """See `Structure.__getitem__`."""
-    if isinstance(at, Mask):
-        return matrix.dup(mask=at)
-    chosen = [choose_places(matrix, index, axis) for axis, index in enumerate(pair_of(at))]
-    for axis in BOTH:
-        check_once(matrix, chosen[axis], axis)
-    part = matrix
-    for axis in BOTH:
-        places = chosen[axis].places
-        part = part if places is None else take(part, axis, places)
-    if all(one.one for one in chosen):
-        return value_of(part)
-    if chosen[ROWS].places is not None and chosen[ROWS].places == chosen[COLUMNS].places:
-        part.notes = part.notes._replace(directed=even(matrix.notes))
-    return part
 
 
 def value_of(cell: 'Matrix') -> Any:
@@ -188,96 +167,6 @@ def _place_tile(tile: 'Matrix', at: Sequence[int], shape: Sequence[int]) -> 'Mat
         targets = range(at[axis], at[axis] + count)
         tile = move(tile, axis, range(count), targets, shape[axis], Axis())
     return tile
-
-
-def split(matrix: 'Matrix', row_sizes: Sizes,
-             column_sizes: Optional[Sizes]) -> List[List['Matrix']]:
-    """See `Structure.split`."""
-    bounds = [_find_bounds(matrix.shape[axis], sizes, axis)
-              for axis, sizes in enumerate((row_sizes, column_sizes))]
-    return [[_take_part(matrix, rows, columns) for columns in bounds[1]] for rows in bounds[0]]
-
-
-def _take_part(matrix: 'Matrix', *bounds: Tuple[int, int]) -> 'Matrix':
-    """A part by positions, whatever rows and columns are called."""
-    part = matrix
-    for axis in BOTH:
-        if bounds[axis] != (0, matrix.shape[axis]):
-            part = take(part, axis, range(*bounds[axis]))
-    return part if part is matrix else _note_directed(matrix, part, bounds[ROWS] == bounds[COLUMNS])
-
-
-def _note_directed(matrix: 'Matrix', part: 'Matrix', is_corner: bool) -> 'Matrix':
-    """A part, which is undirected where it `is_corner`, with the same rows and columns, of a matrix
-    that is."""
-    part.notes = part.notes._replace(directed=even(matrix.notes) if is_corner else None)
-    return part
-
-
-def _find_bounds(count: int, sizes: Optional[Sizes], axis: int) -> List[Tuple[int, int]]:
-    """Where the parts of so many rows or columns begin and end: of some sizes, or of one, of which
-    the last is what is left."""
-    if sizes is None:
-        return [(0, count)]
-    if hasattr(sizes, '__index__'):
-        size = coo.whole(sizes, 'size')
-        if size < 1:
-            raise ValueError('a part has 1 %s or more, not %s' % (WHAT[axis], coo.shown(size)))
-        return [(first, min(first + size, count)) for first in range(0, count, size)] or [(0, 0)]
-    many = coo.whole_list(sizes, 'size')
-    if any(size < 0 for size in many) or sum(many) != count:
-        raise ValueError('parts of %s %ss are %s together, and there are %d' % (
-            ' and '.join(map(coo.shown, many)), WHAT[axis], coo.shown(sum(many)), count))
-    return [(sum(many[:at]), sum(many[:at + 1])) for at in range(len(many))]
-
-
-def resize(matrix: 'Matrix', nrows: int, ncols: int, name: Optional[str]) -> 'Matrix':
-    """See `Structure.resize`."""
-    shape = coo.side(nrows, 0, 'nrows'), coo.side(ncols, 0, 'ncols')
-    made = matrix
-    for axis, size in enumerate(shape):
-        stay = range(min(size, matrix.shape[axis]))
-        if size != matrix.shape[axis]:
-            made = move(made, axis, stay, stay, size, _resize_axis(matrix, axis, size))
-    made = made.dup(name=name) if made is matrix or name is not None else made
-    return _note_directed(matrix, made, shape[ROWS] == shape[COLUMNS])
-
-
-def _resize_axis(matrix: 'Matrix', axis: int, size: int) -> Axis:
-    """What rows or columns are called that were cut off, or have grown in number, which gives new
-    ones no names."""
-    old = matrix.notes.axis(axis)
-    if size <= matrix.shape[axis]:
-        return old.part(range(size)) if size < matrix.shape[axis] else old
-    return old.alone() if old.names is None else Axis(None, Unnamed.POSITIONS)
-
-
-ORDERS = {'rowwise': True, 'C': True, 'columnwise': False, 'F': False}     # numpy's letters too
-
-
-def reshape(matrix: 'Matrix', nrows: int, ncols: int, order: str, name: Optional[str]) -> 'Matrix':
-    """See `Structure.reshape`."""
-    nrows, ncols = _fill_size(matrix, nrows, ncols), _fill_size(matrix, ncols, nrows)
-    if order not in ORDERS:
-        raise ValueError('order is "rowwise" or "columnwise", not %r' % (order,))
-    if nrows * ncols != matrix.nrows * matrix.ncols:
-        raise refusal('J5', detail='%dx%d has %d places, and %dx%d has %d' % (
-            *matrix.shape, matrix.nrows * matrix.ncols, nrows, ncols, nrows * ncols))
-    rows, columns, values = matrix.entries()
-    by_rows = ORDERS[order]
-    width, new = (matrix.ncols, ncols) if by_rows else (matrix.nrows, nrows)
-    at = rows * width + columns if by_rows else columns * width + rows
-    first, second = at // max(new, 1), at % max(new, 1)
-    made = matrix.session.from_coo(first if by_rows else second, second if by_rows else first,
-                                   values, nrows, ncols, name=name)
-    made.notes = BY_POSITIONS._replace(unit=matrix.unit)
-    return made
-
-
-def _fill_size(matrix: 'Matrix', size: int, other: int) -> int:
-    """A size, which may be -1 for what is left beside the other, as in numpy."""
-    size, other = coo.whole(size, 'size'), coo.whole(other, 'size')
-    return matrix.nrows * matrix.ncols // max(other, 1) if size == -1 else coo.side(size, 0, 'size')
 
 
 def bipartite(B: Matrix) -> Matrix:
