@@ -78,9 +78,10 @@ class Elementwise(Jobs):
         sent = applied(op, right, left, self.notes.unit)
         notes = result_metadata.of_applied(self.notes, sent.op, sent.even, sent.unit)
         span = None if sent.unit == 1 else overflow.of_applied(self, sent)
-        made = self._queue(Job('apply', (sent.op,), (self.handle,), self.handle.shape, sent.thunk),
-                           (self,), notes, mask, name)
-        return overflow.note_span(made, span)
+        job = Job('apply', (sent.op,), (self.handle,), self.handle.shape, sent.thunk)
+        made = self._queue(job, (self,), notes, mask, name)
+        overflow.note_span(made, span)
+        return made
 
     def select(self, op: Op, thunk: Number = 0, *, mask: MaskLike = None,
                name: Optional[str] = None) -> 'Matrix':

@@ -2,9 +2,10 @@
 from __future__ import annotations
 
 import datetime
+import functools
 from decimal import Decimal
 from fractions import Fraction
-from typing import Any, Dict, NamedTuple, NoReturn, Optional, Tuple, Union
+from typing import Any, Dict, FrozenSet, NamedTuple, NoReturn, Optional, Tuple, Union
 
 import numpy
 
@@ -33,62 +34,83 @@ class Applied(NamedTuple):
     is_left: bool = False
 
 
+# What is found by names of ready operators: of one by its kind, of the two of a product by their
+# joined name, of `apply` where there is no number nor a unit. Other names may get another meaning.
+_BY_NAME: Dict[Tuple[str, str], Operator] = {}
+_RINGS: Dict[str, Tuple[Operator, Operator]] = {}
+_APPLIED: Dict[str, Applied] = {}
+
+
+@functools.lru_cache(maxsize=None)
+def _ready_names(kind: str) -> FrozenSet[str]:
+    return frozenset(READY[kind].ready())
+
+
+def _find(kind: str, op: Op) -> Operator:
+    """What `operators.find` does, once for each ready name."""
+    found = _BY_NAME.get((kind, op)) if type(op) is str else None
+    if found is None:
+        found = find(kind, op)
+        if type(op) is str and op in _ready_names(kind):
+            _BY_NAME[kind, op] = found
+    return found
+
+
 def of_form(form: str, op: Op) -> Operator:
     """An operator as a form of job takes it that takes those of one kind. DomainMismatch where it
     is of another."""
     kind, = FORMS[form].kinds
-    found = find(kind, op)
+    found = _find(kind, op)
     if found.kind != kind:
         raise refusal('J4', command=form, detail='expected %s, got %r' % (kind, found))
     return found
 
 
-# by names, as they are looked up
-_RINGS: Dict[str, Tuple[Semiring, Tuple[Operator, Operator]]] = {}
-
-
-def ring_of(op: Ring) -> Tuple[Semiring, Tuple[Operator, Operator]]:
-    """A semiring, and its two operators as a product takes them."""
-    found = _RINGS.get(op) if isinstance(op, str) else None
+def ring_of(op: Ring) -> Tuple[Operator, Operator]:
+    """The two operators of a semiring as a product takes them."""
+    found = _RINGS.get(op) if type(op) is str else None
     if found is None:
         ring = find_semiring(op)
-        found = ring, (of_form('product', ring.add), of_form('product', ring.mul))
-        if isinstance(op, str):
+        found = of_form('product', ring.add), of_form('product', ring.mul)
+        if type(op) is str and _ready_names('binary').issuperset(op.split('_')):
             _RINGS[op] = found
     return found
 
 
 def applied(op: Op, right: Optional[Number], left: Optional[Number], unit: Unit) -> Applied:
     """What `apply` sends of a matrix with this unit."""
+    bound = right is not None or left is not None
+    if not bound and type(op) is str and unit == 1 and op in _APPLIED:
+        return _APPLIED[op]
     if right is not None and left is not None:
         raise TypeError('right= or left=, not both')
-    bound = right is not None or left is not None
-    if not bound and isinstance(op, Operator) and op.kind == 'unary':
-        return Applied(op, None, True, unit if unit == 1 else of_unary(op, unit), op)
-    kinds = ('binary', 'index') if bound else ('unary', 'index')
-    found = find(_kind_of(op, kinds, bound), op)
+    found = op if isinstance(op, Operator) else _find(_kind_of(op, bound), op)
     number = left if left is not None else right if right is not None else 0
     if found.kind == 'index' and left is None:
-        sent = of_index(found, number, unit, 'right=')
-        return Applied(sent.op, sent.thunk, False, sent.unit, sent.op)
+        by, stored, unit = of_index(found, number, unit, 'right=')
+        return Applied(by, stored, False, unit, by)
     if found.kind == 'binary' and bound:
-        sent = of_bound(found, number, left is not None, unit)
-        op = sent.op.bind_right() if right is not None else sent.op.bind_left()
-        return Applied(op, sent.thunk, True, sent.unit, sent.op, left is not None)
+        by, stored, unit = of_bound(found, number, left is not None, unit)
+        sent = by.bind_right() if right is not None else by.bind_left()
+        return Applied(sent, stored, True, unit, by, left is not None)
     if found.kind == 'unary' and not bound:
-        return Applied(found, None, True, of_unary(found, unit), found)
+        alone = Applied(found, None, True, of_unary(found, unit), found)
+        if unit == 1 and type(op) is str and op in _ready_names('unary'):
+            _APPLIED[op] = alone
+        return alone
     how = ' with %s=' % ('right' if right is not None else 'left') if bound else ''
     raise refusal('J4', command='apply',
                   detail='expected a unary or index operator, or a binary one with right= or '
                   'left=, got %r%s' % (found, how))
 
 
-def _kind_of(op: Op, kinds: Tuple[str, str], bound: bool) -> str:
+def _kind_of(op: Op, bound: bool) -> str:
     """As which kind `apply` looks for an operator that is given by name or as a function."""
-    if callable(op) and not isinstance(op, Operator):
+    if callable(op):
         from .operators.compiler import kind_of
         return kind_of(op, bound)
-    return kinds[1] if op not in READY[kinds[0]] and op in READY[kinds[1]] else kinds[0]
+    kind = 'binary' if bound else 'unary'
+    return 'index' if op not in READY[kind] and op in READY['index'] else kind
 
 
 # -- the numbers beside operators, and the units of what they give
@@ -98,11 +120,8 @@ def _is_function(op: Operator) -> bool:
     return hasattr(op, 'function')
 
 
-class Bound(NamedTuple):
-    """An operator, the whole number that is sent beside it, and the unit of its result."""
-    op: Operator
-    thunk: int
-    unit: Unit
+Bound = Tuple[Operator, int, Unit]
+"""An operator, the whole number that is sent beside it, and the unit of its result."""
 
 
 def of_unary(op: Operator, unit: Unit) -> Unit:
@@ -120,31 +139,31 @@ def of_index(op: Operator, thunk: Any, unit: Unit,
     """The same of an index operator, with the number beside it: a value stands for itself, what the
     caller's own operators get is a stored number."""
     if unit == 1 and _is_stored(thunk):
-        return Bound(op, thunk, 1)
+        return op, thunk, 1
     meaning = meaning_of(op)
     if meaning == COMPARE and not _is_function(op):
-        return Bound(*compared(op, thunk, unit), 1)
-    return Bound(op, _whole(thunk, what, 'is'), unit if meaning == KEEP else 1)
+        return (*compared(op, thunk, unit), 1)
+    return op, _whole(thunk, what, 'is'), unit if meaning == KEEP else 1
 
 
 def of_bound(op: Operator, number: Any, is_left: bool, unit: Unit) -> Bound:
     """The same of a binary operator, one of whose operands is a number: where it meets the values
     it is one of these, by times and division it is a factor."""
     if unit == 1 and _is_stored(number):
-        return Bound(op, number, 1)
+        return op, number, 1
     meaning, what = meaning_of(op), 'left=' if is_left else 'right='
     if not _is_function(op):
         if meaning == COMPARE:
-            return Bound(*compared(op, number, unit, is_left), 1)
+            return (*compared(op, number, unit, is_left), 1)
         if meaning in (MEET, FIRST, SECOND):
-            return Bound(op, to_stored(number, unit, what), unit)
+            return op, to_stored(number, unit, what), unit
     divides = meaning in (OVER, UNDER) and is_left != (meaning == OVER)
     if meaning in (OVER, UNDER) and not divides and not is_whole(unit):
         _refuse_inverse(op, number, unit)
     if meaning == TIMES or divides:
         _check_factor(op, number, is_left, unit)
     stored = _whole(number, what, 'of "%s" is' % name_of(op))
-    return Bound(op, stored, _own(meaning, is_left, unit))
+    return op, stored, _own(meaning, is_left, unit)
 
 
 def _is_stored(number: Any) -> bool:

@@ -3,7 +3,8 @@ subject in `elementwise`, `products`, `reductions`, `updates` and `structure`; `
 `io.exporters` and `io.writers` hand out what a matrix holds."""
 from __future__ import annotations
 
-from typing import TYPE_CHECKING, Any, Iterator, Optional, Sequence, Tuple, TypeVar
+import functools
+from typing import TYPE_CHECKING, Any, Optional, Sequence, Type, TypeVar
 
 from . import metadata, overflow, oversized_jobs, result_metadata
 from .backends.protocol import Handle, Job
@@ -197,7 +198,7 @@ class Matrix(Elementwise, Products, Reductions, Updates, Structure, ArrayExports
             if operand.session is not session:
                 session = common_session(session, operand.session)
             if operand.is_vector:
-                is_vector = 1 in job.shape and (job.shape == operand.shape or job.shape != (1, 1))
+                is_vector = 1 in job.shape and (job.shape != (1, 1) or operand.shape == (1, 1))
         backend = session.backend
         span = (None if notes.unit == 1 or job.form == 'apply'
                 else overflow.of_job(backend, job, operands))
@@ -207,9 +208,7 @@ class Matrix(Elementwise, Products, Reductions, Updates, Structure, ArrayExports
             if job.is_by_parts:
                 raise
             raise oversized_jobs.explained(fault, job, operands) from None
-        made = (backend.matrix_type or Matrix)(session, handle, name)
-        made.notes = notes
-        return overflow.note_span(_as_vector(made) if is_vector else made, span)
+        return make_matrix(session, handle, notes, span, is_vector, name)
 
     # -- what it holds
 
@@ -230,36 +229,28 @@ class Matrix(Elementwise, Products, Reductions, Updates, Structure, ArrayExports
         again costs nothing.
         """
         backend = self.session.backend
-        made = (backend.matrix_type or Matrix)(self.session, backend.transpose(self.handle))
-        made.notes = result_metadata.of_transpose(self.notes)
-        return overflow.note_span(_as_vector(made) if self.is_vector else made,
-                                  self.kept.get(overflow.KEY))
-
-    def to_text(self) -> bytes:
-        """The canonical Matrix Market text.
-
-        Returns
-        -------
-        bytes
-            Coordinate integer general, entries by ascending row and column.
-
-        Notes
-        -----
-        Runs the queue where this matrix waits, as all else does that tells what it holds.
-        """
-        return self.session.backend.read_text(self.handle)
-
-    def _texts(self) -> Iterator[bytes]:
-        """The text by pieces."""
-        return self.session.backend.texts(self.handle)
-
-    def _read_stored(self, arrays: bool) -> Tuple[Any, Any, Any]:
-        """Rows, columns and stored values."""
-        rows, columns, values = self.session.backend.read(self.handle)[:3]
-        return ((rows, columns, values) if arrays else (rows.tolist(), columns.tolist(),
-                                                        values.tolist()))
+        return make_matrix(self.session, backend.transpose(self.handle),
+                           result_metadata.of_transpose(self.notes), self.kept.get(overflow.KEY),
+                           self.is_vector)
 
 
-def _as_vector(column: Matrix) -> Matrix:
-    from .vector import as_vector                  # which is made of matrices
-    return as_vector(column)  # type: ignore[no-any-return]
+@functools.lru_cache(maxsize=None)
+def vector_type(kind: Type[Matrix]) -> Type[Matrix]:
+    """The class of vectors that are matrices of a class."""
+    from .vector import Vector                     # which is a matrix
+    return Vector if kind is Matrix else type(kind.__name__, (Vector, kind), {
+        '__doc__': kind.__doc__, '__module__': kind.__module__})
+
+
+# pylint: disable-next=too-many-arguments
+def make_matrix(session: 'Session', handle: Handle, notes: metadata.Metadata,
+                span: Optional[overflow.Span] = None, is_vector: bool = False,
+                name: Optional[str] = None) -> Matrix:
+    """The matrix that callers have of a handle, of the class that its backend wants. `notes` and
+    `span` say what is known of it beside."""
+    kind = session.backend.matrix_type or Matrix
+    made = object.__new__(vector_type(kind) if is_vector else kind)
+    kind.__init__(made, session, handle, name)
+    made.notes = notes
+    overflow.note_span(made, span)
+    return made

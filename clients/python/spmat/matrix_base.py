@@ -3,8 +3,7 @@ What is made of the entries is in `io.array_exporters`, `io.exporters` and `io.w
 from __future__ import annotations
 
 import difflib
-from typing import (TYPE_CHECKING, Any, Callable, Iterable, Iterator, List, Optional, Sequence,
-                    Tuple, TypeVar)
+from typing import TYPE_CHECKING, Any, Iterable, Iterator, List, Optional, Sequence, Tuple, TypeVar
 
 from .errors import refusal
 from .io.coo import shown
@@ -13,6 +12,7 @@ from .metadata import (COLUMNS, NOTHING, ROWS, Metadata, Nodes, axes_of, given_a
 from .units import Unit, are_decimals, as_unit, is_whole, rescaled, to_decimals
 
 if TYPE_CHECKING:
+    from .backends.protocol import Handle
     from .session import Session
 
 Self = TypeVar('Self', bound='MatrixBase')
@@ -24,6 +24,7 @@ class MatrixBase:
     """What every matrix is: two sizes, entries, and what is known of them beside."""
 
     session: 'Session'
+    handle: 'Handle'
     nrows: int
     ncols: int
     notes: Metadata = NOTHING
@@ -31,11 +32,6 @@ class MatrixBase:
     dtype = 'INT64'
     is_named = True                                # whether its name may be one that a caller gave
     is_vector = False                              # whether it is a Vector
-
-    if TYPE_CHECKING:                              # what a matrix reads from its session
-        to_text: Callable[[], bytes]
-        _texts: Callable[[], Iterator[bytes]]
-        _read_stored: Callable[[bool], Tuple[Any, Any, Any]]
 
     # -- what it is
 
@@ -227,6 +223,30 @@ class MatrixBase:
         return int(node)
 
     # -- what it holds
+
+    def to_text(self) -> bytes:
+        """The canonical Matrix Market text.
+
+        Returns
+        -------
+        bytes
+            Coordinate integer general, entries by ascending row and column.
+
+        Notes
+        -----
+        Runs the queue where this matrix waits, as all else does that tells what it holds.
+        """
+        return self.session.backend.read_text(self.handle)
+
+    def _texts(self) -> Iterator[bytes]:
+        """The text by pieces."""
+        return self.session.backend.texts(self.handle)
+
+    def _read_stored(self, arrays: bool) -> Tuple[Any, Any, Any]:
+        """Rows, columns and stored values."""
+        rows, columns, values = self.session.backend.read(self.handle)[:3]
+        return ((rows, columns, values) if arrays
+                else (rows.tolist(), columns.tolist(), values.tolist()))
 
     def entries(self, *, arrays: Optional[bool] = None, dtype: Any = None) -> Tuple[Any, Any, Any]:
         """Rows, columns and values, as `Matrix.to_coo` has them, also of a vector.

@@ -4,7 +4,7 @@ from __future__ import annotations
 from typing import TYPE_CHECKING, Any, Callable, Optional, Sequence, Tuple, Union, cast
 
 from . import metadata, result_metadata
-from .backends.protocol import Handle, Job, OneVisit
+from .backends.protocol import Job, OneVisit
 from .errors import refusal
 from .job_operators import of_form
 from .mask import Mask, as_mask, structure
@@ -20,8 +20,6 @@ MaskLike = Union['Matrix', Mask, None]
 
 class Jobs(MatrixBase):
     """What the methods that ask for jobs share."""
-
-    handle: Handle
 
     if TYPE_CHECKING:                              # what a matrix has beside
         apply: Callable[..., Any]

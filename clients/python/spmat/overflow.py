@@ -9,8 +9,7 @@ from __future__ import annotations
 
 import math
 from fractions import Fraction
-from typing import (TYPE_CHECKING, Any, Callable, Dict, List, NamedTuple, Optional, Sequence,
-                    TypeVar, cast)
+from typing import TYPE_CHECKING, Any, Callable, Dict, List, NamedTuple, Optional, Sequence
 
 import numpy
 
@@ -26,7 +25,6 @@ if TYPE_CHECKING:
     from .backends.protocol import Backend, Job
     from .job_operators import Applied
 
-M = TypeVar('M')
 KEY, ROW, COLUMN = 'span', 'greatest row', 'greatest column'    # facts of matrices
 # folds that can be as large as all terms together
 SUMS = ('plus', 'minus', 'rminus', 'absdiff')
@@ -97,11 +95,10 @@ def note(matrix: Any, values: Any) -> None:
                                 True)
 
 
-def note_span(matrix: M, span: Optional[Span]) -> M:
-    """A matrix, of whose values is noted what they can be, where that is known."""
+def note_span(matrix: Any, span: Optional[Span]) -> None:
+    """Notes what the values of a matrix can be, where that is known."""
     if span is not None:
-        cast(Any, matrix).kept[KEY] = span
-    return matrix
+        matrix.kept[KEY] = span
 
 
 def folded(fold: Callable[[Triples, Optional[Op]], Triples], triples: Triples, dup_op: Optional[Op],

@@ -97,7 +97,7 @@ class Products(Jobs):
         if is_positional(op):
             return cast('Matrix', multiply_positions(self, other, op, mask, name, parts=parts,
                                                      associative=associative))
-        operators = ring_of(op)[1]
+        operators = ring_of(op)
         notes = self._derive('product', operators, other)
         job = Job('product', operators, (self.handle, other.handle), (self.nrows, other.ncols),
                   None, None, parts, associative)
@@ -224,7 +224,7 @@ class Products(Jobs):
             raise ValueError('a power is 0 or more, not %d' % n)
         if n == 0:
             return self._make_neutral(op, name)
-        units.check_power(self.unit, n, ring_of(op)[0].mul)
+        units.check_power(self.unit, n, ring_of(op)[1])
         # a product is typed as a Matrix, whatever class its operands are of
         made, square = cast(Any, None), cast(Any, self)
         while n:
@@ -324,11 +324,6 @@ def multiply_positions(first: Any, second: Any, op: Any, mask: Any, name: Option
     place of its values."""
     add, mul = op.split('_', 1) if isinstance(op, str) else op
     of_second, index, shift = POSITIONAL[mul]
-    if not isinstance(second, type(first)):
-        raise not_a_matrix(second)
-    if first.ncols != second.nrows:
-        raise refusal('J5', command='product',
-                      detail='%dx%d and %dx%d' % (*first.shape, *second.shape))
     ring = (add, 'second' if of_second else 'first')
     left, right = ((first, second.apply(index, right=shift)) if of_second
                    else (first.apply(index, right=shift), second))

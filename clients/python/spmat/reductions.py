@@ -72,9 +72,11 @@ STATISTICS = {'median': 'median', 'var': 'var', 'variance': 'var', 'std': 'std',
 def is_aggregator(op: Any) -> bool:
     """Whether a fold is named that no ready or registered operator makes alone. ValueError for a
     name that no fold has."""
-    if isinstance(op, str) and op not in NAMES and op not in binary:
+    if not isinstance(op, str) or op in binary:
+        return False
+    if op not in NAMES:
         _refuse_name(op)
-    return isinstance(op, str) and op in NAMES and op not in binary
+    return True
 
 
 def _refuse_name(name: str) -> NoReturn:

@@ -4,8 +4,7 @@ from __future__ import annotations
 # some methods raise, so none gives what Python wants of it
 # pylint: disable=invalid-length-returned,non-iterator-returned
 
-import functools
-from typing import Any, Optional, Tuple, Type
+from typing import Any, Optional, Tuple
 
 import numpy
 
@@ -13,7 +12,7 @@ from .backends.placeholders import reading
 from .errors import refusal
 from .indexing import choose_places
 from .mask import Mask
-from .matrix import Matrix
+from .matrix import Matrix, vector_type
 from .operands import alias
 from .submatrices import take, value_of
 from .unsupported_syntax import refusing
@@ -183,17 +182,8 @@ def as_vector(column: Any) -> Any:
     if not isinstance(column, Matrix) or column.is_vector or 1 not in column.shape:
         return column
     made = alias(column, column.notes)
-    made.__class__ = _vector_type(type(column))
+    made.__class__ = vector_type(type(column))
     return made
-
-
-@functools.lru_cache(maxsize=None)
-def _vector_type(kind: Type[Matrix]) -> Type[Matrix]:
-    """The class of vectors that are matrices of a class."""
-    if kind is Matrix:
-        return Vector
-    return type(kind.__name__, (Vector, kind),
-                {'__doc__': kind.__doc__, '__module__': kind.__module__})
 
 
 def as_matrix(one: Any) -> Any:
