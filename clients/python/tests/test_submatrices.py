@@ -1,15 +1,13 @@
-"""Tiles, sizes and shapes, beside plain models."""
-import itertools
+"""Tiles, beside plain models."""
 import random
 import warnings
 
-import model
 import spmat
 from model import some
 from support import OfCells
 
 
-class Shapes(OfCells):
+class Tiles(OfCells):
     def test_tiles(self):
         for seed in range(8):
             random_ = random.Random(seed)
@@ -71,31 +69,3 @@ class Shapes(OfCells):
         with self.assertRaisesRegex(ValueError,
                                     'the rows of the tiles of row 0 have different names'):
             spmat.concat([[W, V]])
-
-    def test_sizes(self):
-        a = some(random.Random(9), 3, 4)
-        A = self.made(a, 3, 4)
-        for nrows, ncols in itertools.product((0, 2, 3, 5), (0, 3, 4, 6)):
-            got = A.resize(nrows, ncols)
-            self.assertEqual((got.shape, got.to_dict()),
-                             ((nrows, ncols),
-                              model.cut(a, lambda at: at[0] < nrows and at[1] < ncols)))
-        for nrows, ncols in ((3, 4), (4, 3), (1, 12), (12, 1), (2, 6), (-1, 6), (2, -1)):
-            shape = (nrows if nrows > 0 else 12 // ncols, ncols if ncols > 0 else 12 // nrows)
-            for order in ('rowwise', 'columnwise', 'C', 'F'):
-                got = A.reshape(nrows, ncols, order)
-                by_rows = order in ('rowwise', 'C')
-                at = {i * 4 + j if by_rows else j * 3 + i: x for (i, j), x in a.items()}
-                want = {(divmod(p, shape[1]) if by_rows else divmod(p, shape[0])[::-1]): x
-                        for p, x in at.items()}
-                self.assertEqual((got.shape, got.to_dict()), (shape, want))
-        for call, words in ((lambda: A.reshape(5, 2), '3x4 has 12 places, and 5x2 has 10'),
-                            (lambda: A.reshape(-1, 5), 'places')):
-            with self.assertRaisesRegex(spmat.DimensionMismatch, words):
-                call()
-        with self.assertRaisesRegex(ValueError, 'rowwise'):
-            A.reshape(4, 3, 'Z')
-        W = self.s.from_edgelist([('a', 'b', 1), ('b', 'c', 2)])
-        self.assertEqual((W.resize(2, 3).row_nodes, W.resize(5, 3).row_nodes,
-                          W.resize(5, 3).column_nodes), (['a', 'b'], None, ['a', 'b', 'c']))
-        self.assertEqual(self.made({}, 0, 3).reshape(3, 0).shape, (3, 0))
