@@ -148,8 +148,18 @@ class Mask(NamedTuple):
         -------
         bool
             Whether both go by the same entries.
+
+        Raises
+        ------
+        TypeError
+            Of two matrices, whose entries == doesn't look at.
         """
-        return _is_same(self, other)
+        if isinstance(other, Mask) and self.matrix is other.matrix:
+            return tuple(self[1:]) == tuple(other[1:])
+        raise TypeError(
+            'a mask has no ==: write A.isequal(B) for two matrices, A.select("valueeq", 3) for '
+            'some entries, A.ewise_mult(B, "eq") entry by entry, or (A.S ^ B.S).matrix.nvals == 0 '
+            'for where two masks are')
 
     def __ne__(self, other: object) -> bool:
         """Whether this is another mask of the same matrix.
@@ -164,7 +174,7 @@ class Mask(NamedTuple):
         bool
             Whether both go by other entries.
         """
-        return not _is_same(self, other)
+        return not self == other
 
     def __hash__(self) -> int:
         return hash((id(self.matrix), self.value, self.complement))
@@ -179,17 +189,6 @@ class Mask(NamedTuple):
 def structure(mask: Mask) -> Any:
     """A matrix whose structure is this mask's, whether it is complemented or not."""
     return mask.matrix.select('nonzero') if mask.value else mask.matrix
-
-
-def _is_same(mask: Mask, other: object) -> bool:
-    """Whether two masks of one matrix are the same. TypeError where there are two matrices, whose
-    entries == doesn't look at."""
-    if isinstance(other, Mask) and mask.matrix is other.matrix:
-        return tuple(mask[1:]) == tuple(other[1:])
-    raise TypeError(
-        'a mask has no ==: write A.isequal(B) for two matrices, A.select("valueeq", 3) for some '
-        'entries, A.ewise_mult(B, "eq") entry by entry, or (A.S ^ B.S).matrix.nvals == 0 for '
-        'where two masks are')
 
 
 def _as_operand(other: Any) -> Mask:

@@ -248,9 +248,9 @@ def make_matrix(session: 'Session', handle: Handle, notes: metadata.Metadata,
                 name: Optional[str] = None) -> Matrix:
     """The matrix that callers have of a handle, of the class that its backend wants. `notes` and
     `span` say what is known of it beside."""
-    kind = session.backend.matrix_type or Matrix
-    made = object.__new__(vector_type(kind) if is_vector else kind)
-    kind.__init__(made, session, handle, name)
+    made = (session.backend.matrix_type or Matrix)(session, handle, name)
+    if is_vector:
+        made.__class__ = vector_type(type(made))
     made.notes = notes
     overflow.note_span(made, span)
     return made

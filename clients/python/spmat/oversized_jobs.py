@@ -7,7 +7,7 @@ of its left operand, their halves, and so on.
 from __future__ import annotations
 
 import contextlib
-from typing import TYPE_CHECKING, Callable, List, Optional, Sequence
+from typing import TYPE_CHECKING, Callable, Optional, Sequence
 
 from .backends.protocol import Job
 from .errors import Refused, SpmatError, TooLarge
@@ -63,30 +63,22 @@ def _words(rule: str, job: Job, calls: Optional[int]) -> str:
         reckoned, format(MOST_PRICE, ','), way)
 
 
-def in_parts(first: Matrix, job: Callable[[Matrix], Matrix]) -> Matrix:
-    """What a job gives, which makes each row of its result of the same row of `first`; where that
-    is too large, by halves of the rows, joined by a union. TooLarge where one row is too dear, or
-    the whole result has more entries than a matrix may have."""
+def in_parts(first: Matrix, job: Callable[[Matrix], Matrix], start: int = 0,
+             end: Optional[int] = None) -> Matrix:
+    """What a job gives, which makes each row of its result of the same row of `first`, that has
+    entries from row `start` on up to `end`. Where that is too large, it is made by halves of the
+    rows, joined by a union; TooLarge where one row is too dear, or the whole result has more
+    entries than a matrix may have.
+
+    Halves are joined at once: each part has 8 bytes for every row of the whole, and so no more
+    parts are held at a time than halvings lead to one."""
+    end = first.nrows if end is None else end
     try:
         return job(first)
     except TooLarge as fault:
-        if fault.rule not in ('J7', 'J8') or first.nrows < 2:
+        if fault.rule not in ('J7', 'J8') or end - start < 2:
             raise
-    return _join_halves(first, job, 0, first.nrows)
-
-
-def _join_halves(first: Matrix, job: Callable[[Matrix], Matrix], start: int, end: int) -> Matrix:
-    """Both halves, each by its halves where it is too large. They are joined at once: each part has
-    8 bytes for every row of the whole, and so no more parts are held at a time than halvings lead
-    to one."""
     middle = (start + end) // 2
-    parts: List[Matrix] = []
-    for op, low, high in ((indexunary.rowle, start, middle), (indexunary.rowgt, middle, end)):
-        rows = first.select(op, middle - 1)
-        try:
-            parts.append(job(rows))
-        except TooLarge as fault:
-            if fault.rule not in ('J7', 'J8') or high - low <= 1:
-                raise
-            parts.append(_join_halves(rows, job, low, high))
-    return parts[0].ewise_add(parts[1], 'first')
+    upper = in_parts(first.select(indexunary.rowle, middle - 1), job, start, middle)
+    lower = in_parts(first.select(indexunary.rowgt, middle - 1), job, middle, end)
+    return upper.ewise_add(lower, 'first')

@@ -1,5 +1,5 @@
-"""Rows and columns that are moved, and what is made of that: parts, tiles put together, the graph of
-a bipartite matrix.
+"""Rows and columns that are moved, and what is made of that: parts, tiles put together, the graph
+of a bipartite matrix.
 
 A product with a matrix of ones moves rows or columns, as GrB_extract does: P A has the rows of A
 that P names, A Q the columns. All that keeps entries at the server is made of such products.

@@ -225,40 +225,35 @@ class Updates(Jobs):
         columns as well; with one 2 to 3 jobs. A mask adds what `update` takes in jobs. In the
         GraphBLAS GrB_assign, in python-graphblas `C(mask, accum)[rows, columns] << what`.
         """
-        return cast(C, _assign(self, what, (rows, columns), accum, mask, replace, name))
+        matrix: Any = self
+        where = as_mask(mask)
+        for other in (what, None if where is None else where.matrix):
+            if isinstance(other, MatrixBase):
+                common_session(matrix.session, other.session)
+        if where is not None and where.matrix.shape != matrix.shape:
+            raise refusal('J9', detail='the matrix is %dx%d, the mask %dx%d'
+                          % (*matrix.shape, *where.matrix.shape))
+        if rows is None and columns is None and isinstance(what, MatrixBase):
+            return cast(C, matrix.update(what, accum, where, replace, name=name))
+        part = [_choose_once(matrix, index, axis) for axis, index in enumerate((rows, columns))]
+        if isinstance(what, MatrixBase):
+            given = _spread_part(matrix, _fit_part(what, part, matrix.shape), part)
+        else:
+            stored = units.to_stored(what, matrix.unit, 'value ')
+            given = (_repeat_number(matrix, stored, part) if where is None or where.complement
+                     else _keep_part(fill(structure(where), stored, matrix.unit), part))
+        last = name if where is None else None
+        if accum is not None:
+            whole = matrix.ewise_add(given, accum, name=last)
+        elif all(one.places is None for one in part):
+            whole = given
+        else:
+            whole = matrix.without(_keep_part(matrix, part).S).ewise_add(given, 'first', name=last)
+        return cast(C, whole if where is None
+                    else matrix.update(whole, None, where, replace, name=name))
 
 
 # -- a part that is set, as GrB_assign has it
-
-def _assign(matrix: Any, what: Any, chosen: Tuple[Any, Any], accum: Optional[Op], mask: MaskLike,
-            replace: bool, name: Optional[str]) -> 'Matrix':
-    """See `Updates.assign`."""
-    where = as_mask(mask)
-    for other in (what, None if where is None else where.matrix):
-        if isinstance(other, MatrixBase):
-            common_session(matrix.session, other.session)
-    if where is not None and where.matrix.shape != matrix.shape:
-        raise refusal('J9', detail='the matrix is %dx%d, the mask %dx%d'
-                      % (*matrix.shape, *where.matrix.shape))
-    if chosen == (None, None) and isinstance(what, MatrixBase):
-        return cast('Matrix', matrix.update(what, accum, where, replace, name=name))
-    part = [_choose_once(matrix, index, axis) for axis, index in enumerate(chosen)]
-    if isinstance(what, MatrixBase):
-        given = _spread_part(matrix, _fit_part(what, part, matrix.shape), part)
-    else:
-        stored = units.to_stored(what, matrix.unit, 'value ')
-        given = (_repeat_number(matrix, stored, part) if where is None or where.complement
-                 else _keep_part(fill(structure(where), stored, matrix.unit), part))
-    last = name if where is None else None
-    if accum is not None:
-        whole = matrix.ewise_add(given, accum, name=last)
-    elif all(one.places is None for one in part):
-        whole = given
-    else:
-        whole = matrix.without(_keep_part(matrix, part).S).ewise_add(given, 'first', name=last)
-    return cast('Matrix', whole if where is None
-                else matrix.update(whole, None, where, replace, name=name))
-
 
 def _choose_once(matrix: 'Matrix', index: Any, axis: int) -> Chosen:
     """The rows or columns that are set. ValueError where one is given twice."""

@@ -123,11 +123,11 @@ class QueuedJob(Command):
                 'PRICE': (0, min(self.job.most_steps, MOST_PRICE))}
 
     def done(self, reply: Reply) -> None:
-        queue, job, (queue.queued_there, price) = self.queue, self.job, reply.numbers
-        job.price = price
+        queue, job = self.queue, self.job
+        queue.queued_there, job.price = reply.numbers
         if not self.matters:
             queue.note_waiting(job)
-        queue.left += job.most_steps - price
+        queue.left += job.most_steps - job.price
         if queue.connection.refused is not None:
             _lose(job, queue.connection.refused)
 
@@ -202,7 +202,7 @@ class QueuedRun(Command):
         queue.queued_there = 0
         queue.running -= 1
         # of those that were handed in at once, none was added
-        queue.unknown = max(0, queue.unknown - sum([job.most for job in self._jobs]))
+        queue.unknown = max(0, queue.unknown - sum(job.most for job in self._jobs))
 
 
 def _lose(job: ServerHandle, cause: BaseException) -> None:

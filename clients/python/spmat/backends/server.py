@@ -258,8 +258,7 @@ class ServerBackend(Backend):
                 words.insert(-1, 'mask')
             if must_run:
                 queue.run_later()
-            if self.names.poisons:
-                self.sweep()
+            self.poison()
             most = most_of(job, length)
             made = ServerHandle(self, job.shape, None, most.entries, name)
             made.form, made.most_steps, words[1] = job.form, most.steps, made.key
