@@ -1,5 +1,5 @@
 """What `spmat.price` tells of whole calls: no less than is spent, and not far more; of all
-algorithms on all kinds of graphs, and of what is put together of several."""
+algorithms on all kinds of graphs, also by sizes alone, and of what is put together of several."""
 import itertools
 import random
 import unittest
@@ -13,6 +13,7 @@ from algorithm_calls import OPTIONS, arguments
 from spmat import algorithms
 from spmat.algorithms import step_bounds, strong_components
 from spmat.algorithms.registry import ALGORITHMS
+from spmat.pricing import simulation
 
 
 def _random_pairs(seed, count, many, skewed=False):
@@ -87,10 +88,13 @@ class Algorithms(support.InSession):
         except ValueError:                         # the call's own
             self.assertFalse(called(self.s, lambda: getattr(algorithms, name)(G, **named))[1])
             return
+        with mock.patch.object(simulation, 'MOST_WALKED', -1):
+            by_sizes = spmat.price(lambda: getattr(algorithms, name)(G, **named))
         self.assertEqual((self.s.budget(), self.s.jobs), before)
         spent, ended = called(self.s, lambda: getattr(algorithms, name)(G, **named))
         self.assertIsNotNone(priced.most)
         self.assertLessEqual(spent, priced.most)
+        self.assertLessEqual(spent, by_sizes.most)
         self.assertGreaterEqual(priced.steps, priced.most)
         if ended:
             self.assertLessEqual(priced.least, spent)
@@ -179,6 +183,7 @@ class StrongComponents(support.InSession):
                   'turned': [(3 * k + 3, 3 * k) for k in range(19)],
                   'loops': [(i, i) for i in range(0, 60, 2)], 'random': _random_pairs(3, 60, 80)}
         with mock.patch.multiple(step_bounds, FEW_EDGES=4, MOST_EDGES_READ=8), \
+                mock.patch.object(simulation, 'MOST_WALKED', -1), \
                 mock.patch.multiple(strong_components, AT_ONCE=4, SMALL=8), \
                 mock.patch.object(strong_components, '_search_around'):
             for name, more in others.items():

@@ -45,7 +45,6 @@ from .eigenvector_and_hits import eigenvector as eigenvector, hits as hits
 from .independent_set import maximal_independent_set as maximal_independent_set
 from .katz_centrality import katz as katz
 from .louvain_method import louvain as louvain
-from .modelled_bounds import with_model
 from .neighbour_similarity import (common_neighbours as common_neighbours, jaccard as jaccard,
                                    shared_neighbours as shared_neighbours, squares as squares)
 from .page_rank import pagerank as pagerank
@@ -72,7 +71,6 @@ _NAMES = sorted([*TYPES, *ALGORITHMS], key=str.lower)
 __doc__ = '%s\n%s\n' % (__doc__, '\n'.join(table()))
 # each algorithm looks at the budget before its first job, and says what its values mean; type
 # checkers know the imports above
-ALGORITHMS.update((name, with_model(one)) for name, one in list(ALGORITHMS.items()))
 globals().update({name: guarded(name_values(one, keep_units(one)), checks_arguments(one.function))
                   for name, one in ALGORITHMS.items()}, __all__=_NAMES)
 

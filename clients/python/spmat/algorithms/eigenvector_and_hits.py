@@ -244,22 +244,6 @@ def eigenvector(G: Matrix, GT: Optional[Matrix] = None, tolerance: Optional[floa
     if not G.nvals:
         raise ValueError('the graph has no edge: each number is an eigenvector of it')
     steps = find_steps(G, GT, weighted, check)
-
-    def show(last: Settled, kept: float) -> Centrality:
-        unit = last.numbers / norm_of(last.numbers)
-        return as_centrality(put_numbers(G, unit, scale), scale, last.moved, CHANGE, tolerance=kept,
-                             rounds=last.rounds)
-    settled, product, kept = find_eigenvector(steps, tolerance, (rounds, progress), show)
-    found, norm = settled.numbers, norm_of(settled.numbers)
-    value = float(found.astype(float) @ product.astype(float)) / norm ** 2
-    residual = norm_of(product / value - found) / norm if value else math.inf
-    return as_centrality(put_numbers(G, found / norm, scale), scale, residual, RESIDUAL,
-                         tolerance=kept, rounds=settled.rounds)
-
-
-def find_eigenvector(steps: Steps, tolerance: Optional[float], most: Tuple[int, Progress],
-                     show: Callable[[Settled, float], Any]) -> Tuple[Settled, Array, float]:
-    """The numbers, what one more product makes of them, and the tolerance that is kept."""
     ones = steps.fill(1)
     weights = steps.comes(ones)
     bits = _bits(greatest_of(weights))
@@ -267,13 +251,23 @@ def find_eigenvector(steps: Steps, tolerance: Optional[float], most: Tuple[int, 
     everywhere = bool(weights.all()) or (steps.is_mutual and not steps.lines.is_full)
     # where nothing comes to a vertex its number is 0 in the end, and nothing comes from it
     first = numpy.where(weights > 0, ones + weights, 0) if steps.is_mutual else ones + weights
-    tell(most[1], 'round', 1)
-    rounds = Rounds(steps, ones, _scale(first, bits), 1)
-    settled = _settle(rounds, Room(bits, 1 + greatest_of(weights)),
-                      lambda scale: Grown(scale, everywhere), (kept * steps.count, 0), most,
-                      lambda last: show(last, kept))
-    with keep_partial(lambda: show(settled, kept)):
-        return settled, rounds.product(), kept
+    tell(progress, 'round', 1)
+    made = Rounds(steps, ones, _scale(first, bits), 1)
+
+    def show(last: Settled) -> Centrality:
+        unit = last.numbers / norm_of(last.numbers)
+        return as_centrality(put_numbers(G, unit, scale), scale, last.moved, CHANGE, tolerance=kept,
+                             rounds=last.rounds)
+    settled = _settle(made, Room(bits, 1 + greatest_of(weights)),
+                      lambda factor: Grown(factor, everywhere), (kept * steps.count, 0),
+                      (rounds, progress), show)
+    with keep_partial(lambda: show(settled)):
+        product = made.product()
+    found, norm = settled.numbers, norm_of(settled.numbers)
+    value = float(found.astype(float) @ product.astype(float)) / norm ** 2
+    residual = norm_of(product / value - found) / norm if value else math.inf
+    return as_centrality(put_numbers(G, found / norm, scale), scale, residual, RESIDUAL,
+                         tolerance=kept, rounds=settled.rounds)
 
 
 def sum_of(numbers: Array) -> float:
@@ -348,20 +342,6 @@ def hits(G: Matrix, GT: Optional[Matrix] = None, tolerance: Optional[float] = No
     if not G.nvals:
         raise ValueError('the graph has no edge: it has neither hubs nor authorities')
     steps = find_steps(G, GT, weighted, check)
-
-    def show(last: Settled, authorities: Array, kept: float) -> Tuple[Centrality, Centrality]:
-        hubs, others = (as_centrality(
-            put_numbers(G, kind / max(1.0, sum_of(kind)), scale), scale, last.moved, CHANGE,
-            tolerance=max(kept, last.moved), rounds=last.rounds)
-            for kind in (last.numbers, authorities))
-        return hubs, others
-    kinds: Tuple[Centrality, Centrality] = find_hubs(steps, tolerance, (rounds, progress), show)
-    return kinds
-
-
-def find_hubs(steps: Steps, tolerance: Optional[float], most: Tuple[int, Progress],
-              show: Callable[[Settled, Array, float], Any]) -> Any:
-    """What `show` makes of hubs, authorities, and the tolerance that is kept."""
     ones = steps.fill(1)
     weights = steps.comes(ones)
     leaving = weights if steps.goes_both_ways else steps.leads(ones)
@@ -374,11 +354,18 @@ def find_hubs(steps: Steps, tolerance: Optional[float], most: Tuple[int, Progres
     has_gaps = not (weights.all() and leaving.all())
     zeros = steps.lines.fill(0) if steps.lines.is_full and has_gaps else None
     start = steps.fill(1 << bits)
-    rounds = Rounds(steps, start, start, 0)
-    rounding = 8 * steps.count / (1 << bits) if tolerance is None else 0
-    settled = _settle(rounds, Room(bits, ends[0] * ends[1] / 2.0 ** shift, ends[1]),
-                      lambda scale: Mutual(scale, shift, zeros), (kept, rounding), most,
-                      lambda last: show(last._replace(numbers=rounds.last('now')),
-                                        rounds.last('came'), kept))
-    with keep_partial(lambda: show(settled, rounds.last('came'), kept)):
-        return show(settled, rounds.product(), kept)
+    made = Rounds(steps, start, start, 0)
+
+    def show(last: Settled, authorities: Array) -> Tuple[Centrality, Centrality]:
+        hubs, others = (as_centrality(
+            put_numbers(G, kind / max(1.0, sum_of(kind)), scale), scale, last.moved, CHANGE,
+            tolerance=max(kept, last.moved), rounds=last.rounds)
+            for kind in (last.numbers, authorities))
+        return hubs, others
+    settled = _settle(made, Room(bits, ends[0] * ends[1] / 2.0 ** shift, ends[1]),
+                      lambda factor: Mutual(factor, shift, zeros),
+                      (kept, 8 * steps.count / (1 << bits) if tolerance is None else 0),
+                      (rounds, progress),
+                      lambda last: show(last._replace(numbers=made.last('now')), made.last('came')))
+    with keep_partial(lambda: show(settled, made.last('came'))):
+        return show(settled, made.product())

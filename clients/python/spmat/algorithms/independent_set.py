@@ -8,6 +8,7 @@ import numpy
 
 from ..matrix import Matrix
 from ..operators import Semiring, asm, binary
+from ..operators.evaluation import evaluate
 from . import step_bounds
 from .cached_properties import check_undirected
 from .types import Array
@@ -68,13 +69,11 @@ def draw_numbers(vector: Matrix, seed: Seed) -> Matrix:
 
 def draw_on_paper(count: int, seed: int) -> Array:
     """The same numbers, made by the client."""
-    low = (1 << 32) - 1
     thunk = generator_of(seed).getrandbits(62) | 1
-    numbers = numpy.arange(1, count + 1, dtype=numpy.uint64)
-    for shift, factor in ((16, thunk & low), (15, thunk >> 32 | 1), (16, 739982445)):
-        numbers = numbers * numpy.uint64(factor) & numpy.uint64(low)
-        numbers ^= numbers >> numpy.uint64(shift)
-    return numbers.astype(numpy.int64)
+    places = numpy.arange(count)
+    drawn: Array = evaluate(_MIXED, places, places, numpy.zeros_like(places),
+                            numpy.full_like(places, thunk))
+    return drawn
 
 
 @algorithm('vertices of which no two are neighbours', 'seed', wanted=BOTH_WAYS,

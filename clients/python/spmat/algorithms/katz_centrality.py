@@ -9,6 +9,7 @@ import numpy
 
 from ..matrix import Matrix
 from ..operators import Operator, Semiring, asm, binary
+from ..operators.evaluation import evaluate
 from ..units import exact_number, with_unit
 from . import step_bounds
 from .eigenvector_and_hits import (BITS, LEAST_BITS, ONE, ROUNDS, Settled, check_options,
@@ -86,16 +87,7 @@ class Handed(NamedTuple):
 
     def share_of(self, sums: Array) -> Array:
         """What sums make of numbers, at the client."""
-        if self.bits == HALF:
-            low, high = self.parts
-            above, below = sums >> HALF, sums & ((1 << HALF) - 1)
-            middle = above * low + below * high + (below * low >> HALF)
-            shares: Array = above * high + (middle >> HALF)
-        else:
-            shares = numpy.zeros_like(sums)
-            for part in self.parts:
-                shares = shares + sums * part >> self.bits
-        shares += self.unit + self.whole * sums
+        shares: Array = evaluate(self.operator, numpy.full_like(sums, self.unit), sums)
         return shares
 
     def of_numbers(self, steps: Steps, numbers: Array) -> Dict[str, Array]:

@@ -12,7 +12,7 @@ from ..operators import Semiring, binary
 from . import step_bounds
 from .cached_properties import check_weights, found, is_both_ways
 from .types import Array
-from .rank_rounds import Damping, Rounds, System, Units, Watch, damping_of, solve
+from .rank_rounds import Damping, Rounds, System, Watch, damping_of, solve
 from .registry import algorithm
 from .results import Centrality, as_centrality, keep_partial
 from .traversal import (Traversal, Vector, find_flow, put_all, put_column, read_column, vector_of)
@@ -58,18 +58,12 @@ def out_weights(lines: Traversal, weighted: bool) -> Matrix:
     return made
 
 
-def scale_for(count: int, tolerance: float) -> int:
-    """The units of a rank of 1 in which so many ranks can be told within a tolerance: 2^40, or as
-    many more bits as they want, up to 52."""
-    wanted = math.ceil(math.log2(2 * max(1, count) / tolerance))
-    return 1 << max(ONE.bit_length() - 1, min(MOST_SCALE, wanted))
-
-
 class Aim(NamedTuple):
-    """How far ranks may be from the true ones, all together; and how much of that rounding takes.
-    """
+    """How far ranks may be from the true ones, all together; how much of that rounding takes; and
+    the units of a rank of 1 that are told."""
     tolerance: float
     rounding: float
+    scale: int
 
     @property
     def rest(self) -> float:
@@ -77,23 +71,21 @@ class Aim(NamedTuple):
         return self.tolerance - self.rounding
 
 
-def rounded_flows(units: Units, count: int, weight: int) -> float:
-    """What rounding takes of all ranks, in as many rounds as there may be."""
-    return 2 * units.rounding(count, weight) / (1 - units.damping.value) + FLOATS
-
-
-def usual_tolerance(weight: int, flows: float) -> float:
-    """The tolerance where none is given: 1e-6, or the least that can be kept. ValueError where that
-    says nothing."""
-    tolerance = max(TOLERANCE, 4.1 * flows)
-    if tolerance >= MOST_TOLERANCE:
-        raise ValueError('weights that add up to %d leave ranks no digits: divide the weights'
-                         % weight)
-    return tolerance
-
-
-def kept_tolerance(count: int, weight: int, flows: float, tolerance: float, scale: int) -> Aim:
-    """A tolerance, with what rounding takes of it. ValueError where that is more than half."""
+def find_aim(system: System, weight: int, tolerance: Optional[float], scale: Optional[int]) -> Aim:
+    """What is aimed at: where no tolerance is given 1e-6, or the least that can be kept; and where
+    no scale is, 2^40, or as many more bits as ranks want to be told within the tolerance, up to 52.
+    ValueError where rounding takes more than half of a tolerance, or the least says nothing."""
+    count = system.lines.count
+    # in as many rounds as there may be
+    flows = 2 * system.rounding(count, weight) / (1 - system.damping.value) + FLOATS
+    if tolerance is None:
+        tolerance = max(TOLERANCE, 4.1 * flows)
+        if tolerance >= MOST_TOLERANCE:
+            raise ValueError('weights that add up to %d leave ranks no digits: divide the weights'
+                             % weight)
+    wanted = math.ceil(math.log2(2 * max(1, count) / tolerance))
+    if scale is None:
+        scale = 1 << max(ONE.bit_length() - 1, min(MOST_SCALE, wanted))
     result = count / (2.0 * scale)
     if flows > tolerance / 4:
         raise ValueError('a tolerance of %g can not be kept: rounding takes up to %.2g, by %d '
@@ -101,10 +93,9 @@ def kept_tolerance(count: int, weight: int, flows: float, tolerance: float, scal
                          'is for it: give a tolerance of %.2g or more, or smaller weights'
                          % (tolerance, flows, count, weight, 4.1 * flows))
     if result > tolerance / 4:
-        least = math.ceil(math.log2(2 * count / tolerance))
         raise ValueError('a tolerance of %g wants ranks in smaller units: scale=2**%d, or more%s'
-                         % (tolerance, least, '' if least <= 52 else ', which is above 2^52'))
-    return Aim(tolerance, flows + result)
+                         % (tolerance, wanted, '' if wanted <= 52 else ', which is above 2^52'))
+    return Aim(tolerance, flows + result, scale)
 
 
 @algorithm('the PageRank of each vertex', 'damping', 'tolerance', scale=ONE, ranked=True,
@@ -195,33 +186,30 @@ def pagerank(G: Matrix, GT: Optional[Matrix] = None, damping: float = 0.85,
     out = out_weights(lines, weighted)
     weight = _weight(G, out, weighted, check)
     system = System(lines, out, weighted, parts)
-    flows = rounded_flows(system, count, weight)
-    wanted = usual_tolerance(weight, flows) if tolerance is None else tolerance
-    scale = scale_for(count, wanted) if scale is None else scale
-    aim = kept_tolerance(count, weight, flows, wanted, scale)
+    aim = find_aim(system, weight, tolerance, scale)
     unit, begun = 1 << system.bits, []  # type: int, List[Rounds]
-    with keep_partial(lambda: last_round(G, begun, scale or ONE, aim)
+    with keep_partial(lambda: last_round(G, begun, aim)
                       if begun and dangling is None else None):
         begun.append(Rounds(system, given_by(G, personalization, unit),
                             Watch(parts, aim.rest, progress)))
         ranks = solve(begun[0])
     if dangling is None or ranks.total > 1 - 1e-9:
-        return _column(G, ranks.ranks, scale, aim.rounding + ranks.distance, wanted, ranks.rounds)
+        return _column(G, ranks.ranks, aim, aim.rounding + ranks.distance, ranks.rounds)
     others = solve(Rounds(system, given_by(G, dangling, unit), Watch(parts, aim.rest, progress)))
     lost, again = _lost(ranks.total, parts), _lost(others.total, parts)
     share = parts.value * lost / (1 - parts.value - parts.value * again)
-    return _column(G, ranks.ranks + share * others.ranks, scale, wanted, wanted,
+    return _column(G, ranks.ranks + share * others.ranks, aim, aim.tolerance,
                    ranks.rounds + others.rounds)
 
 
-def last_round(G: Matrix, begun: List[Rounds], scale: int, aim: Aim) -> Centrality:
+def last_round(G: Matrix, begun: List[Rounds], aim: Aim) -> Centrality:
     """The ranks of the last round, with how far they may be from the true ones."""
     rounds = begun[0]
     flow, bound = rounds.flow()
     ranks = rounds.ranks(flow)
     total = float(ranks.sum()) / 2.0 ** rounds.system.bits
     distance = bound * (1 if total > 1 - 1e-9 else 2 / total)
-    return _column(G, ranks, scale, aim.rounding + distance, aim.tolerance, rounds.watch.number)
+    return _column(G, ranks, aim, aim.rounding + distance, rounds.watch.number)
 
 
 def _lost(total: float, damping: Damping) -> float:
@@ -240,9 +228,8 @@ def _weight(G: Matrix, out: Matrix, weighted: bool, check: bool) -> int:
     return out.reduce_scalar('plus') or 0
 
 
-def _column(G: Matrix, ranks: Array, scale: int, error: float, tolerance: float,
-            rounds: int) -> Centrality:
+def _column(G: Matrix, ranks: Array, aim: Aim, error: float, rounds: int) -> Centrality:
     """Ranks that add up to one, in units of 1/scale."""
-    shares = numpy.rint(ranks * (scale / float(ranks.sum()))).astype(numpy.int64)
-    return as_centrality(beside(G, put_all(G, shares)), scale, error, tolerance=tolerance,
+    shares = numpy.rint(ranks * (aim.scale / float(ranks.sum()))).astype(numpy.int64)
+    return as_centrality(beside(G, put_all(G, shares)), aim.scale, error, tolerance=aim.tolerance,
                          rounds=rounds)

@@ -28,18 +28,8 @@ def _search(g: CallSizes, edge: int, vertex: int, loop: Tuple[int, int],
             steps += g.check_both_ways
         if g.both_ways is not False:
             looped = max(edge, loop[0]) * g.entries + loop[1] * g.vertices
-            steps = max(steps, g.check_both_ways + found + looped
-                        + level * _large_levels_of_long(g))
+            steps = max(steps, g.check_both_ways + found + looped + level * large_levels(g))
     return g.check_transpose() + steps
-
-
-def _large_levels_of_long(g: CallSizes) -> int:
-    """The most large levels of a search before it is a loop at the server. There are LONG levels by
-    then, and one to go on from; each has a vertex, so few are left for large ones where these have
-    many."""
-    least = -(-g.vertices * g.vertices // (4 * max(1, g.entries)))  # vertices of a large front
-    spare = (g.vertices - LONG - 1) // (least - 1) if least > 1 else LONG
-    return min(large_levels(g), LONG, spare)
 
 
 def bfs_levels(g: CallSizes) -> int:
@@ -192,10 +182,10 @@ def k_hop(g: CallSizes) -> int:
     each level, and where each edge leads both ways that of the last two."""
     sources, depth = g.sources('sources'), int(g.given['k'])
     steps, depth = g.check_both_ways, min(depth, g.vertices + LONG)
-    for one in sources if g.degrees is not None else sources[:1]:
+    for one in sources if g.reads else sources[:1]:
         vertices, edges = g.within([one], depth)
         near = 2 * vertices if g.both_ways else vertices * max(1, depth)
-        alike = 1 if g.degrees is not None else len(sources)
+        alike = 1 if g.reads else len(sources)
         steps += (17 * edges + 6 * vertices + 8 * near) * alike
     return steps
 

@@ -12,7 +12,6 @@ the damping.
 """
 from __future__ import annotations
 
-import abc
 import math
 from typing import Any, Dict, List, NamedTuple, Optional, Tuple
 
@@ -108,31 +107,15 @@ def damping_of(damping: float) -> Damping:
                      % (DIGITS[-1], damping))
 
 
-class Units:
-    """In which units ranks are told, and what rounding takes of them."""
-
-    def __init__(self, damping: Damping, extrapolates: bool) -> None:
-        self.damping, self.extrapolates = damping, extrapolates and damping.weight >= .1
-        self.bits = damping.bits(self.extrapolates)
-
-    def rounding(self, count: int, weight: int) -> float:
-        """What rounding may take of all ranks together in one round, where edges weigh so much."""
-        damping = self.damping.value
-        return (damping * (SHARE_ROUNDING * weight + count) + count) / 2.0 ** self.bits
-
-    def rank(self, flow: float) -> float:
-        """The ranks of flows, as shares of all."""
-        return flow * self.damping.value / 2.0 ** self.bits
-
-
-class System(Units):
+class System:
     """A graph along whose edges ranks flow: each vertex gives each edge that leaves it the share of
     its rank that the edge has of the weight of all. Ranks of vertices that no edge leaves are lost.
-    """
+    `bits` are the units of ranks."""
 
     def __init__(self, lines: Traversal, out: Matrix, weighted: bool, damping: Damping) -> None:
-        super().__init__(damping, _is_symmetric(lines.graph, weighted))
-        self.lines, self.weighted = lines, weighted
+        self.damping, self.lines, self.weighted = damping, lines, weighted
+        self.extrapolates = _is_symmetric(lines.graph, weighted) and damping.weight >= .1
+        self.bits = damping.bits(self.extrapolates)
         self.fills = lines.wants_full(out)         # then all vertices have shares
         self._out = out
         self._ring = Semiring(binary.plus, binary.times if weighted else binary.first)
@@ -148,6 +131,15 @@ class System(Units):
     def flow(self, shares: Matrix) -> Matrix:
         """What comes to each vertex."""
         return self.lines.step(shares, self._ring)
+
+    def rounding(self, count: int, weight: int) -> float:
+        """What rounding may take of all ranks together in one round, where edges weigh so much."""
+        damping = self.damping.value
+        return (damping * (SHARE_ROUNDING * weight + count) + count) / 2.0 ** self.bits
+
+    def rank(self, flow: float) -> float:
+        """The ranks of flows, as shares of all."""
+        return flow * self.damping.value / 2.0 ** self.bits
 
 
 def _is_symmetric(graph: Matrix, weighted: bool) -> bool:
@@ -209,53 +201,11 @@ class Watch:
         return self.rate is not None and LONGER * fewer + 1 < self._rounds_at(self.rate)
 
 
-class Looks(abc.ABC):
-    """Rounds with looks between them, after which they may extrapolate. `state` has the flow that
-    the last round made, the one that it began with, and the one that the round before began with;
-    `given` is what all vertices are given anew."""
-
-    def __init__(self, units: Units, watch: Watch, state: Any, given: int) -> None:
-        self.units, self.watch, self.extrapolates = units, watch, False
-        self._given = given
-        self._look = self._state = state
-        self._looked = watch.bound, watch.number   # at the last look
-        watch.tick(False)
-
-    @abc.abstractmethod
-    def advance(self) -> None:
-        """Rounds up to the next look."""
-
-    @abc.abstractmethod
-    def apart(self, one: str, other: str) -> int:
-        """How far two flows of the state are apart."""
-
-    @abc.abstractmethod
-    def sum(self) -> int:
-        """What all flows of the last round add up to."""
-
-    def look(self) -> bool:
-        """Whether the ranks are near enough. Where they aren't, and rounds that extrapolate would
-        be fewer, the next ones do; if that doesn't take them as far as others, they go on from
-        where they were, without."""
-        watch, units = self.watch, self.units
-        change, now = units.rank(self.apart('flow', 'before')), self.extrapolates
-        if watch.rate is None and units.extrapolates and watch.number > 2:
-            watch.rate = change / max(units.rank(self.apart('before', 'older')), 1e-300)
-        if watch.look(change, units.rank(self.sum() + self._given)):
-            return True
-        bound, number = self._looked
-        if now and watch.bound > bound * units.damping.value ** (watch.number - number):
-            self._state, watch.bound = self._look, bound
-            self.extrapolates = units.extrapolates = False
-        elif units.extrapolates and not now:
-            self.extrapolates = watch.would_gain()
-        self._look, self._looked = self._state, (watch.bound, watch.number)
-        return False
-
-
-class Rounds(Looks):
+class Rounds:
     """Rounds of a system, where each vertex is given so much in all. Those between two looks are a
-    loop that stays at the server."""
+    loop that stays at the server; after a look they may extrapolate. The state has the flow that
+    the last round made, the one that it began with, and the one that the round before began
+    with."""
 
     def __init__(self, system: System, given: Vector, watch: Watch) -> None:
         damping = system.damping
@@ -264,8 +214,10 @@ class Rounds(Looks):
         self._column: Optional[Matrix] = None
         ranks = system.lines.put(scaled(given, damping.whole, damping.parts))
         flow = system.flow(ranks.ewise_mult(system.reciprocals, SHARE_OF_ALL))
-        super().__init__(system, watch, State({'flow': flow, 'before': flow, 'older': flow}),
-                         int(self.anew.values.sum()))
+        self.watch, self.extrapolates = watch, False
+        self._look = self._state = State({'flow': flow, 'before': flow, 'older': flow})
+        self._looked = watch.bound, watch.number   # at the last look
+        watch.tick(False)
         self._turn = self._turn_of(flow)
         self._loop: Optional[Loop] = None
         self._extrapolated = False                 # by the loop
@@ -309,12 +261,30 @@ class Rounds(Looks):
             return {'flow': self._next(begin), 'before': begin, 'older': s.before}
         return Loop(step, self._state, alike=True)
 
-    def apart(self, one: str, other: str) -> int:
-        apart = self._state[one].ewise_mult(self._state[other], 'absdiff')
-        return apart.reduce_scalar('plus') or 0
+    def look(self) -> bool:
+        """Whether the ranks are near enough. Where they aren't, and rounds that extrapolate would
+        be fewer, the next ones do; if that doesn't take them as far as others, they go on from
+        where they were, without."""
+        watch, system, now = self.watch, self.system, self.extrapolates
+        change = self._change('flow', 'before')
+        if watch.rate is None and system.extrapolates and watch.number > 2:
+            watch.rate = change / max(self._change('before', 'older'), 1e-300)
+        total = (self._state.flow.reduce_scalar('plus') or 0) + int(self.anew.values.sum())
+        if watch.look(change, system.rank(total)):
+            return True
+        bound, number = self._looked
+        if now and watch.bound > bound * system.damping.value ** (watch.number - number):
+            self._state, watch.bound = self._look, bound
+            self.extrapolates = system.extrapolates = False
+        elif system.extrapolates and not now:
+            self.extrapolates = watch.would_gain()
+        self._look, self._looked = self._state, (watch.bound, watch.number)
+        return False
 
-    def sum(self) -> int:
-        return self._state.flow.reduce_scalar('plus') or 0
+    def _change(self, one: str, other: str) -> float:
+        """How far two flows of the state are apart."""
+        apart = self._state[one].ewise_mult(self._state[other], 'absdiff')
+        return self.system.rank(apart.reduce_scalar('plus') or 0)
 
     def flow(self) -> Tuple[Matrix, float]:
         """The flow of the last round whose distance from the true one is known, and that."""
@@ -355,16 +325,11 @@ class Solved(NamedTuple):
     rounds: int
 
 
-def settle(rounds: Looks) -> None:
-    """Rounds and looks until the ranks are near enough."""
-    rounds.advance()
-    while not rounds.look():
-        rounds.advance()
-
-
 def solve(rounds: Rounds) -> Solved:
     """The ranks, once they are near enough."""
     watch = rounds.watch
-    settle(rounds)
+    rounds.advance()
+    while not rounds.look():
+        rounds.advance()
     ranks = rounds.ranks(rounds.flow()[0])
     return Solved(ranks, watch.total, watch.distance, watch.number)

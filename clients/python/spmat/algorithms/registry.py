@@ -19,8 +19,7 @@ import numpy
 
 from ..backends.placeholders import Placeholder
 from ..io.coo import real, shown, whole
-from ..pricing.call_price import Bound
-from ..pricing.call_sizes import CallSizes
+from ..pricing.call_sizes import Bound, CallSizes
 
 F = TypeVar('F', bound=Callable[..., Any])
 

@@ -7,11 +7,9 @@ from typing import Dict, Iterable, List, Optional, Set, Tuple
 import numpy
 
 from ..io.coo import whole
-from ..io.matrix_text import Triples
 from ..matrix import Matrix
 from . import path_bounds
 from .cached_properties import transpose_of
-from .graph_model import GraphModel
 from .registry import algorithm
 from .shortest_path_trees import (LENGTHEN, NoPath, Path, find_distances, index_by_vertex,
                                   make_path)
@@ -32,17 +30,25 @@ class Spurs:
     def __init__(self, lines: Traversal, target: Place, home: Vector, weighted: bool) -> None:
         self.target, self.home = target, index_by_vertex(home)
         self._lines, self._weighted = lines, weighted
+        self._entries = lines.graph.entries() if lines.graph.nvals <= AT_ONCE else None
         self._rows: Dict[Place, List[Tuple[Place, int]]] = {}
 
     def near(self, i: Place) -> List[Tuple[Place, int]]:
         """Where the edges of a vertex lead, and how long they are; those alone from where the
         target is reached. 1 run, once."""
         if i not in self._rows:
-            got = self._lines.push(vector_of([i], [0]), LENGTHEN)
+            got = self._read_row(int(i))
             far = got.values if self._weighted else numpy.ones_like(got.at)
             self._rows[i] = [(j, edge) for j, edge in zip(map(Place, got.at.tolist()), far.tolist())
                              if j in self.home]
         return self._rows[i]
+
+    def _read_row(self, i: int) -> Vector:
+        if self._entries is None:
+            return self._lines.push(vector_of([i], [0]), LENGTHEN)
+        rows, columns, values = self._entries[:3]
+        part = slice(*numpy.searchsorted(rows, (i, i + 1)))
+        return Vector(columns[part], values[part])
 
     def search(self, start: Place, barred: Set[Place], not_first: Set[Place]) -> Optional[Route]:
         """The shortest path that enters no barred vertex, and leaves the start for none of some;
@@ -130,8 +136,6 @@ def k_shortest_paths(G: Matrix, source: Vertex, target: Vertex, k: int, GT: Opti
     back = transpose_of(G, GT, check, values=weighted)
     home = find_distances(back, end, G, weighted, Query(check=check))
     lines = find_vectors(G, back, False, weighted)
-    if G.nvals <= AT_ONCE:
-        lines = GraphModel(G, Triples(*G.to_coo(), *G.shape))
     spurs = Spurs(lines, end, home, weighted)
     if start not in spurs.home:
         raise NoPath('no path leads from %r to %r' % (source, target))

@@ -2,7 +2,7 @@
 from __future__ import annotations
 
 import functools
-from typing import Callable, List, NamedTuple, Optional, Tuple
+from typing import Callable, List, NamedTuple, Optional
 
 import numpy
 
@@ -257,16 +257,6 @@ def _advance(lengths: Lengths, rounds: Rounds, heaviest: Optional[int]) -> None:
         lengths.advance(rounds)
     else:
         tell(progress, 'round', rounds.number)
-
-
-def count_rounds(lines: Traversal, source: Place, extremes_: Tuple[int, int],
-                 cutoff: Optional[int], target: Optional[Place]) -> int:
-    """The rounds of a search along lines whose pushes alone matter, where no length can wrap."""
-    least, most = extremes_
-    bounds = Bounds(cutoff, target, least >= 0, _width(lines.graph, least, most))
-    rounds = Rounds(None, lines.count, 0)
-    _advance(Lengths(lines, source, bounds, numpy.full(lines.count, UNREACHED)), rounds, None)
-    return rounds.number
 
 
 @algorithm('lengths of shortest paths from a vertex', 'source', values=True, lengths=True,

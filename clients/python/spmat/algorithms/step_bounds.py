@@ -1,5 +1,6 @@
 """The most steps of each algorithm's call, by the sizes of its graph and its arguments: what
-`spmat.price` tells. Those of searches and of paths are in `path_bounds`.
+`spmat.price` tells where the call isn't run at the client (`pricing.simulation`). Those of searches
+and of paths are in `path_bounds`.
 
 A step is an instruction. A bound adds up what jobs reserve: the length of their operators for each
 entry, pair or term that a job looks at. Where jobs under a mask reserve far more than they take,
@@ -9,10 +10,11 @@ from __future__ import annotations
 
 from typing import Tuple
 
+import numpy
+
 from ..limits import MOST_SIDE
 from ..operands import is_same
-from ..pricing.call_price import Bound
-from ..pricing.call_sizes import CallSizes, rounds_to
+from ..pricing.call_sizes import Bound, CallSizes, rounds_to
 from .path_bounds import LONG, extremes_of, large_levels, whole_search
 
 # edges of a graph, and of what is left of a larger one, whose strong components the client finds
@@ -45,8 +47,8 @@ def degrees(g: CallSizes) -> int:
 def triangle_count(g: CallSizes) -> Bound:
     """The lower triangle, its square under itself, and the sum. The square reserves five steps for
     each path of two edges."""
-    rest = g.check_undirected(True) + 7 * g.entries + 8 * g.vertices + g.halved(g.lower_paths, 5)
-    return Bound(rest + 5 * g.lower_triangles, rest + 5 * g.lower_paths)
+    rest = g.check_undirected(True) + 7 * g.entries + 8 * g.vertices + g.halved(g.paths, 5)
+    return Bound(rest + 5 * g.triangles, rest + 5 * g.paths)
 
 
 def _triangles(g: CallSizes, rest: int) -> Bound:
@@ -110,10 +112,7 @@ def squares(g: CallSizes) -> int:
 def k_truss(g: CallSizes) -> Bound:
     """Triangles are counted; each that falls is taken away once. Where a fifth of the edges fall,
     all are counted anew; else all edges that are left are looked at, and two fall at least."""
-    anew, left = 0, g.entries
-    while left:
-        anew += 5 * min(g.triangles, int(left ** 1.5) + 1) + 8 * left
-        left = left * 4 // 5
+    anew = 5 * (5 * g.triangles + 8 * g.entries)
     rounds = g.entries // 2 if g.given['k'] > 2 else 0
     rest = g.check_undirected() + anew + 2 * g.halved(g.paths, 5)
     rest += 5 * g.entries + 17 * g.entries * rounds // 2
@@ -183,8 +182,8 @@ def _ordered(g: CallSizes, edge: int, vertex: int) -> int:
     """Each edge is taken away once. A vertex waits in each level between those of its first and its
     last edge that comes in: one with a single edge never does."""
     n, m = g.vertices, g.entries
-    waits = sum(1 for many in g.degrees.entering if many > 1) if g.degrees else n
-    levels = min(n, g.rows, sum(map(bool, g.degrees.entering)) if g.degrees else n) + 1
+    waits = numpy.count_nonzero(g.counts[1] > 1) if g.counts else n
+    levels = min(n, g.rows, g.columns) + 1
     return 5 * m + 12 * n + edge * m + vertex * (m + waits * levels)
 
 
@@ -207,15 +206,12 @@ def maximal_independent_set(g: CallSizes) -> int:
 
 
 def minimum_spanning_forest(g: CallSizes) -> int:
-    """Rounds in each of which half of the vertices are left at the most, and the lightest edge
-    between each two."""
+    """Rounds in each of which half of the vertices are left at the most, and an edge between each
+    two."""
     n, m = g.vertices, g.entries
     steps = (g.check_undirected(True) + g.once('values both ways', 43 * m + 10 * n)
-             if g.given['check'] else 0) + g.find_extremes + 18 * m
-    while n > 1:
-        steps, m = steps + 21 * m, min(m, (n // 2) ** 2)
-        n //= 2
-    return steps + 21 * m
+             if g.given['check'] else 0) + g.find_extremes
+    return steps + (18 + 21 * n.bit_length()) * m
 
 
 # -- ranks and communities
@@ -225,7 +221,7 @@ def pagerank(g: CallSizes) -> Bound:
     up to one look may be made in vain, where what was expected of them didn't come."""
     damping, tolerance = float(g.given['damping']), float(g.given['tolerance'] or 1e-6)
     n, m, edge = g.vertices, g.entries, 6 if g.given['weighted'] else 5
-    lost = g.degrees is None or g.rows < n
+    lost = not g.reads or g.rows < n
     aim = tolerance / 4 * ((1 - damping) / 2 if lost else 1)
     rounds = rounds_to(aim, damping) + 16
     solved = edge * m + (edge * m + 43 * n) * rounds + 30 * n
@@ -266,9 +262,8 @@ def katz(g: CallSizes) -> Bound:
     grow beyond their room, and all is done again with more."""
     rounds, tolerance = 4 * int(g.given['rounds']), float(g.given['tolerance'] or 1e-9)
     heaviest = 1 if not g.given['weighted'] else max(0, extremes_of(g)[1])
-    entering = max(g.degrees.entering, default=0) if g.degrees else g.vertices
-    rate = float(g.given['alpha']) * (g.degrees.heaviest if g.degrees and g.given['weighted']
-                                      else heaviest * entering)
+    entering = int(g.counts[1].max(initial=0)) if g.counts else g.vertices
+    rate = float(g.given['alpha']) * heaviest * entering
     if 0 < rate < .99 and not (g.given['weighted'] and getattr(g.graph, 'unit', 1) != 1):
         rounds = min(int(g.given['rounds']), rounds_to(tolerance * (1 - rate) / 8, rate) + 10)
     return _flow(g, 1 if rate == 0 else rounds, (1, 19), 2, 20 if heaviest * entering >> 20 else 0)

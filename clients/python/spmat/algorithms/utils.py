@@ -69,7 +69,7 @@ def find_sources(graph: Matrix, sources: Optional[Vertices]) -> List[Place]:
 def warn_of_repeated(graph: Matrix, rows: List[Place]) -> None:
     """Warns where a vertex that has a name is given twice: each would have a row of its name, and
     no two rows have one name, so that none has. A price says nothing: the call itself does."""
-    if (current_price() is None and graph.notes.axis(metadata.ROWS).has_names
+    if (not graph.session.backend.is_estimate and graph.notes.axis(metadata.ROWS).has_names
         and len(set(rows)) < len(rows)):
         twice = next(row for at, row in enumerate(rows) if row in rows[:at])
         warnings.warn('the vertex %r is given twice, and no two rows have one name: the rows of '

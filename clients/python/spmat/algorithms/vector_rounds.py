@@ -4,7 +4,7 @@ hubs and authorities.
 Where one session has the graph, the rounds between two looks are a loop that stays at the server. A
 look brings the numbers of the last two rounds to the client. From these it knows how near they are,
 when to look next, and by which factor to scale each round until then, so that no sum passes a word.
-In blocks, and for a price, the client makes the same rounds, with the same numbers.
+In blocks the client makes the same rounds, with the same numbers.
 """
 from __future__ import annotations
 
@@ -47,7 +47,7 @@ class Steps:
     def in_session(self) -> bool:
         """Whether the session makes the rounds. In blocks the client does: a round is a trip then,
         and as jobs it would be one for each."""
-        return self.lines.has_matrices and self.graph.in_one_place
+        return self.graph.in_one_place
 
     def fill(self, value: int) -> Array:
         """The same number for each vertex."""

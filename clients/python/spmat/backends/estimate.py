@@ -9,7 +9,8 @@ what can be foreseen (`Unforeseen`).
 from __future__ import annotations
 
 import functools
-from typing import TYPE_CHECKING, Any, Callable, Dict, List, NamedTuple, Optional, Sequence, Tuple
+from typing import (TYPE_CHECKING, Any, Callable, Dict, List, NamedTuple, Optional, Sequence, Tuple,
+                    Type)
 
 import numpy
 
@@ -66,7 +67,7 @@ class EstimateBackend(Backend):
     as operators, is the session's own."""
 
     is_estimate = True
-    matrix_type = EstimateMatrix
+    matrix_type: Type[Matrix] = EstimateMatrix
 
     def __init__(self, own: Backend, price: 'Price') -> None:
         self.own, self.price, self.session = own, price, own.session
@@ -250,22 +251,26 @@ def _countable(handle: Optional[Handle]) -> Optional[Handle]:
     return handle if isinstance(handle, ServerHandle) else None
 
 
+def read_entries(handle: Handle) -> Triples:
+    """The entries of a matrix that is there; kept with it."""
+    if 'entries' not in handle.facts:
+        if handle.waits:
+            raise Unforeseen()
+        handle.facts['entries'] = handle.backend.read(handle)
+    found: Triples = handle.facts['entries']
+    return found
+
+
 def counted(handle: Handle) -> Tuple[Any, Any]:
-    """The entries of each row and column of a matrix that is there, or of the transpose of one;
-    kept with it."""
+    """The entries of each row and column of a matrix that is there, or of the transpose of one."""
     if isinstance(handle, EstimateHandle):
         inner = _countable(handle.turned)
         assert inner is not None
         rows, columns = counted(inner)
         return columns, rows
-    if 'entries by row and column' not in handle.facts:
-        if handle.waits:
-            raise Unforeseen()
-        entries = handle.backend.read(handle)
-        handle.facts['entries by row and column'] = tuple(
-            numpy.bincount(at, minlength=size) for at, size in zip(entries[:2], handle.shape))
-    held: Tuple[Any, Any] = handle.facts['entries by row and column']
-    return held
+    rows, columns = (numpy.bincount(at, minlength=size)
+                     for at, size in zip(read_entries(handle)[:2], handle.shape))
+    return rows, columns
 
 
 def least_taken(job: Job, sizes: Sequence[Size], price: 'Price') -> Least:
@@ -311,7 +316,7 @@ def _least_terms(a: Handle, b: Handle, price: 'Price') -> int:
     y, the sum of x y is known for counted matrices. Else (rows - x)(columns - y) is no less than 0;
     and the sum of x x is least where all are alike."""
     first, second = root(a), root(b)
-    if all(not isinstance(one, EstimateHandle) and 'entries by row and column' in one.facts
+    if all(not isinstance(one, EstimateHandle) and 'entries' in one.facts
            for one in (first, second)):
         return int(counted(first)[1] @ counted(second)[0])
     found = b.shape[1] * least_entries(a) + a.shape[0] * least_entries(

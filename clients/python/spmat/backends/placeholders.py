@@ -19,7 +19,7 @@ _DECIDES = (
 
 _here = threading.local()
 # in whatever thread, so that jobs needn't ask for their thread where it is empty
-all_priced: List['Price'] = []
+all_priced: List[Any] = []
 
 
 class Unforeseen(Exception):
@@ -57,9 +57,9 @@ def reading(method: F) -> F:
 
 
 @contextlib.contextmanager
-def pricing(price: 'Price') -> Iterator[None]:
+def pricing(price: Any) -> Iterator[None]:
     """Jobs of this thread are foreseen in place of queued."""
-    before = current_price()
+    before = getattr(_here, 'price', None)
     _here.price = price
     all_priced.append(price)
     try:
@@ -70,12 +70,13 @@ def pricing(price: 'Price') -> Iterator[None]:
 
 
 def current_price() -> Optional['Price']:
-    """What is priced in this thread, if anything is."""
-    return getattr(_here, 'price', None)
+    """What is priced in this thread, if anything is; none while an algorithm is run for a price."""
+    price: Any = getattr(_here, 'price', None)
+    return None if price is None or price.computes else price
 
 
 def backend_now(own: Any) -> Any:
     """What takes a session's jobs now: its own backend, or while a call is priced what stands in
     its place."""
-    price = current_price() if all_priced else None
+    price = getattr(_here, 'price', None) if all_priced else None
     return own if price is None else price.backend_in_place_of(own)

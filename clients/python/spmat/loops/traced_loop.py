@@ -73,7 +73,8 @@ class Loop:
         self._results: Optional[Set[str]] = None   # of the step, as far as it was called
         self._trips: Optional[Trips] = None
         first = next(iter(begun.values()))
-        if current_price() is None and all(matrix.in_one_place for matrix in begun.values()):
+        self._is_estimate = first.session.backend.is_estimate
+        if not self._is_estimate and all(matrix.in_one_place for matrix in begun.values()):
             rounds = TracedRounds(first.session, self._step, begun, self._show, alike)
             self.shown.update((name, Shown(shape)) for name, shape in rounds.shown.items())
             self._results = set(rounds.first.traced.out)
@@ -205,7 +206,7 @@ class Loop:
             self._foresee(price, most, most if end is None else min(1, most))
             return True
         rests = end is None or self._rests(end)
-        goal, size = self.number + most, FIRST if rests else 1
+        start, goal, size = self._own_place, self.number + most, FIRST if rests else 1
         before = self._place.counts or count_entries(self._matrices())
         while self.number < goal:
             begun, first = time.monotonic(), self.number + 1
@@ -220,6 +221,8 @@ class Loop:
             self._note(first, kept)
             report(first, kept)
             if met is not None:
+                if self._is_estimate:
+                    self._make_in_vain(start, end is not None and end.rests)
                 return True
             size = self._next_size(size, rests, time.monotonic() - begun)
         return False
@@ -271,6 +274,16 @@ class Loop:
             self._end = end
         if end is not None:
             trips.stop()
+
+    def _make_in_vain(self, begun: Place, rests: bool) -> None:
+        """Makes the rounds that trips may make beside those up to an end: these again, and behind
+        it those of a trip, which is as long as all before it, or of two where these rest."""
+        ended, made = self._own_place, self.number - begun.number
+        self._own_place = begun
+        for _ in range(made + (3 * made + 2 * FIRST if rests else made)):
+            if not any(self._by_itself(None)[0].counts.values()):
+                break
+        self._own_place = ended
 
     def _by_itself(self, end: Optional[Until]) -> List[Round]:
         """One round that is made by itself, where there are no trips by the step."""

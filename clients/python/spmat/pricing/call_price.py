@@ -16,7 +16,8 @@ from ..errors import MORE_STEPS, BudgetExceeded, BudgetWarning
 from ..matrix import Matrix
 from ..operators import Operator
 from ..vector import as_matrix, as_vector
-from .call_sizes import CallSizes
+from .call_sizes import Bound, CallSizes
+from .simulation import Simulation
 
 ROUNDS = 64                                        # rounds that are foreseen one by one
 # steps for each entry of a graph, which no call is certain to take
@@ -31,21 +32,14 @@ class Foreseen(NamedTuple):
     steps: int
 
 
-class Bound(NamedTuple):
-    """The most that a call takes: `steps`; what has to be left for that none of its jobs is
-    refused, `reserved`, which is more where jobs under a mask reserve more than they take; and how
-    it comes about, in words."""
-    steps: int
-    reserved: int
-    words: str = ''
-
-
 class Price:
     """What a call costs. It takes `least` steps, or more, and `most`, or fewer; `most` is None
     where no bound is known, as where the caller's own code looks at a result and goes on by it. On
     a budget with `steps` left none of its jobs is refused: that is `most`, but for jobs under a
     mask, which reserve more than they take. `jobs` are those that can be foreseen, and `complete`
     says whether these are all."""
+
+    computes = False                               # no job is made
 
     def __init__(self, sends: bool = True) -> None:
         # whether matrices go to the server, and entries come from there
@@ -62,6 +56,7 @@ class Price:
         self._words: List[str] = []
         self._granted: Dict[str, Any] = {}
         self._backends: Dict[int, EstimateBackend] = {}
+        self._simulation = Simulation()
         # an algorithm, of which no call of its own is looked at
         self.is_inside = False
 
@@ -145,12 +140,11 @@ class Price:
         if name in self._granted:
             return self._granted[name]
         if self.sends and not isinstance(getattr(graph, 'handle', None), EstimateHandle):
-            degrees = CallSizes(graph, {}, self.knows, True).degrees
-            facts = ({} if degrees is None else {
-                'both ways': degrees.both_ways, 'loops': degrees.loops > 0,
-                'extremes': (degrees.least, degrees.greatest)})
-            if name in facts:
-                return facts[name]
+            sizes = CallSizes(graph, {}, self.knows, True)
+            facts = {'both ways': 'both_ways', 'loops': 'loops', 'extremes': 'extremes'}
+            fact = getattr(sizes, facts[name]) if name in facts else None
+            if fact is not None:
+                return fact
         raise Unforeseen()
 
     @contextlib.contextmanager
@@ -173,7 +167,9 @@ class Price:
                                                            self))
         if sizes is None:
             return one.function(*args, **named)
-        bound = None if one.steps is None else bound_of(one.steps, sizes)
+        bound = self._simulation.bound(one.function, sizes)
+        if bound is None and one.steps is not None:
+            bound = bound_of(one.steps, sizes)
         before, jobs, ended = (self.most, self._reserved), len(self.jobs), True
         self.is_inside = True
         try:
@@ -271,11 +267,12 @@ def price(call: Callable[[], Any]) -> Price:
 
     Notes
     -----
-    Of jobs the most is what they can take by their operands' entries. Of an algorithm that looks at
-    results amid its work it is the bound that its docstring names: by the sizes of the graph, which
-    the client reads once, and by the rounds that there can be. What is found out of a graph once is
-    counted where it isn't known. A graph that an algorithm would refuse is taken for one that it
-    takes.
+    Of jobs the most is what they can take by their operands' entries. An algorithm that looks at
+    results amid its work is run at the client on a graph of up to 262,144 entries, which are read
+    once: that takes up to some seconds, and what the call itself takes at the client. Of a larger
+    graph, or where it takes longer, the most is the bound that its docstring names: by the sizes of
+    the graph, and by the rounds that there can be. What is found out of a graph once is counted
+    where it isn't known. A graph that an algorithm would refuse is taken for one that it takes.
 
     The call is priced in this thread; other threads go on. Of matrices in row blocks no entries are
     read, and bounds are as for any graph of so many vertices and edges.

@@ -5,33 +5,25 @@ from __future__ import annotations
 import inspect
 import math
 from functools import cached_property
-from typing import Any, Callable, Dict, List, NamedTuple, Optional, Sequence, Tuple
+from typing import Any, Callable, Dict, List, NamedTuple, Optional, Sequence, Tuple, cast
 
 import numpy
 
-from ..backends.estimate import most_halvings
+from ..backends.estimate import counted, most_halvings, read_entries
 from ..backends.protocol import AMPLE
+from ..io.matrix_text import Triples
 from ..operands import is_same
 
+Array = numpy.ndarray[Any, Any]
 
-class Degrees(NamedTuple):
-    """What a graph's entries tell: the edges that leave and enter each vertex, the least and
-    greatest value, whether each edge leads both ways, how many are loops, and sums over edges:
-    `triangles` of the lesser of the edges that leave the one end and enter the other, `lower` the
-    same below the diagonal, `lower_paths` the paths of two edges there; `ascending` are the values,
-    of edges each once, and `heaviest` is the most that the values of edges that enter a vertex add
-    up to."""
-    leaving: Sequence[int]
-    entering: Sequence[int]
-    least: int
-    greatest: int
-    both_ways: bool
-    loops: int
-    triangles: int
-    lower: int
-    lower_paths: int
-    ascending: Sequence[int]
-    heaviest: int = 0
+
+class Bound(NamedTuple):
+    """The most that a call takes: `steps`; what has to be left for that none of its jobs is
+    refused, `reserved`, which is more where jobs under a mask reserve more than they take; and how
+    it comes about, in words."""
+    steps: int
+    reserved: int
+    words: str = ''
 
 
 class CallSizes:
@@ -42,7 +34,7 @@ class CallSizes:
     def __init__(self, graph: Any, given: Dict[str, Any], knows: Callable[[Any, str], bool],
                  reads: bool) -> None:
         self.graph, self.given, self._knows = graph, given, knows
-        self.reads = ('degrees' in graph.kept or reads and graph.in_one_place and not graph.waits
+        self.reads = ('entries' in graph.kept or reads and graph.in_one_place and not graph.waits
                       and graph.handle.nvals is not None)
         self.vertices: int = graph.nrows
         self.entries: int = graph.handle.most if hasattr(graph, 'handle') else graph.nvals
@@ -60,80 +52,85 @@ class CallSizes:
     # -- what the entries tell
 
     @cached_property
-    def degrees(self) -> Optional[Degrees]:
-        """What the graph's entries tell; None where they aren't read."""
-        if not self.reads:
-            return None
-        if 'degrees' not in self.graph.kept:
-            rows, columns, values = self.graph.to_coo()
-            self.graph.kept['degrees'] = _degrees_of(rows, columns, values, self.vertices)
-        found: Degrees = self.graph.kept['degrees']
-        return found
+    def coo(self) -> Optional[Triples]:
+        """The graph's entries; None where they aren't read."""
+        return read_entries(self.graph.handle) if self.reads else None
+
+    @cached_property
+    def counts(self) -> Optional[Tuple[Array, Array]]:
+        """The edges that leave each vertex, and those that enter it."""
+        return counted(self.graph.handle) if self.reads else None
 
     @property
     def most_leaving(self) -> int:
         """The most edges that leave a vertex."""
-        return (max(self.degrees.leaving, default=0) if self.degrees
+        return (int(self.counts[0].max(initial=0)) if self.counts
                 else min(self.vertices, self.entries))
 
     @property
     def rows(self) -> int:
         """The vertices that an edge leaves."""
-        return (sum(map(bool, self.degrees.leaving)) if self.degrees
+        return (numpy.count_nonzero(self.counts[0]) if self.counts
                 else min(self.vertices, self.entries))
+
+    @property
+    def columns(self) -> int:
+        """The vertices that an edge enters."""
+        return numpy.count_nonzero(self.counts[1]) if self.counts else self.vertices
 
     @property
     def paths(self) -> int:
         """Paths of two edges: the terms of the graph's square."""
-        if self.degrees:
-            return sum(a * b for a, b in zip(self.degrees.leaving, self.degrees.entering))
-        return self.entries * min(self.vertices, self.entries)
+        return (int(self.counts[0] @ self.counts[1]) if self.counts
+                else self.entries * min(self.vertices, self.entries))
 
     @property
     def meetings(self) -> int:
         """Pairs of edges that lead to one vertex, both ways round: the terms of the graph times its
         transpose."""
-        return (sum(a * a for a in self.degrees.entering) if self.degrees
+        return (int(self.counts[1] @ self.counts[1]) if self.counts
                 else self.entries * min(self.vertices, self.entries))
 
-    @property
+    @cached_property
     def triangles(self) -> int:
         """Edges with a third vertex beside them, each as often as triangles have it: six times the
         triangles of an undirected graph, or more. No more than `paths`, of which a product under
-        the graph shows a part."""
+        the graph shows a part; and no more for an edge than leave its one end, and enter the
+        other."""
         most = min(int(self.entries ** 1.5) + 1, self.paths)
-        return min(self.degrees.triangles, most) if self.degrees else most
+        if self.coo is None or self.counts is None:
+            return most
+        (leaving, entering), (rows, columns) = self.counts, self.coo[:2]
+        return min(most, int(numpy.minimum(leaving[rows], entering[columns]).sum()))
 
-    @property
-    def lower_triangles(self) -> int:
-        """Triangles of an undirected graph, or more."""
-        most = min(int((self.entries / 2) ** 1.5) + 1, self.lower_paths)
-        return min(self.degrees.lower, most) if self.degrees else most
-
-    @property
-    def lower_paths(self) -> int:
-        """Paths of two edges below the diagonal."""
-        return self.degrees.lower_paths if self.degrees else self.entries * self.vertices
-
-    @property
+    @cached_property
     def both_ways(self) -> Optional[bool]:
         """Whether each edge leads both ways, None where that isn't known."""
         if self.graph.directed is False:
             return True
-        known: Optional[bool] = self.graph.kept.get('both ways')
-        return self.degrees.both_ways if known is None and self.degrees else known
+        if 'both ways' in self.graph.kept or self.coo is None:
+            return cast(Optional[bool], self.graph.kept.get('both ways'))
+        rows, columns = self.coo[:2]
+        straight, turned = rows * self.vertices + columns, columns * self.vertices + rows
+        return bool(numpy.array_equal(straight, numpy.sort(turned)))
 
     @property
+    def loops(self) -> Optional[bool]:
+        """Whether an edge leads from a vertex to itself, None where that isn't known."""
+        return None if self.coo is None else bool((self.coo.rows == self.coo.columns).any())
+
+    @cached_property
     def extremes(self) -> Optional[Tuple[int, int]]:
         """The least and the greatest value, None where they aren't known."""
-        known: Optional[Tuple[int, int]] = self.graph.kept.get('extremes')
-        return ((self.degrees.least, self.degrees.greatest) if known is None and self.degrees
-                else known)
+        if 'extremes' in self.graph.kept or self.coo is None:
+            return cast(Optional[Tuple[int, int]], self.graph.kept.get('extremes'))
+        values = self.coo.values
+        return (int(values.min()), int(values.max())) if len(values) else (0, 0)
 
     def leaving(self, some: Sequence[int]) -> int:
         """The edges that leave some vertices, by number."""
-        if self.degrees:
-            return sum(self.degrees.leaving[i] for i in some)
+        if self.counts:
+            return int(self.counts[0][list(some)].sum())
         return min(self.entries * max(1, len(some)), len(some) * self.vertices)
 
     def within(self, some: Sequence[int], depth: Optional[int]) -> Tuple[int, int]:
@@ -150,19 +147,9 @@ class CallSizes:
         return min(vertices, self.vertices), min(edges, self.entries)
 
     def edges_within(self, length: int) -> int:
-        """The most edges of a path without a vertex twice that is shorter than `length`: no path
-        has more light edges than there are."""
-        if self.degrees is None:
-            least = self.extremes[0] if self.extremes else 0
-            return min(self.vertices, (max(0, length - 1)) // least + 1 if least > 0
-                       else self.vertices)
-        many = 0
-        for value in self.degrees.ascending:
-            length -= value
-            if length <= 0 or many >= self.vertices:
-                break
-            many += 1
-        return max(1, min(many, self.vertices))
+        """The most edges of a path without a vertex twice that is shorter than `length`."""
+        least = self.extremes[0] if self.extremes else 0
+        return min(self.vertices, max(0, length - 1) // least + 1 if least > 0 else self.vertices)
 
     # -- what is found out once
 
@@ -224,20 +211,3 @@ class CallSizes:
 def rounds_to(aim: float, rate: float) -> int:
     """The rounds after which what becomes less by a rate each time is less than `aim`."""
     return max(1, math.ceil(math.log(aim) / math.log(rate))) if aim < 1 else 1
-
-
-def _degrees_of(rows: Any, columns: Any, values: Any, count: int) -> Degrees:
-    leaving, entering = (numpy.bincount(at, minlength=count) for at in (rows, columns))
-    is_lower = rows > columns
-    low, high = rows[is_lower], columns[is_lower]
-    below, above = numpy.bincount(low, minlength=count), numpy.bincount(high, minlength=count)
-    straight, turned = rows * count + columns, numpy.sort(columns * count + rows)
-    both = bool(numpy.array_equal(numpy.sort(straight), turned))
-    chosen = values[rows < columns] if both else values
-    return Degrees(leaving.tolist(), entering.tolist(), int(values.min()) if len(values) else 0,
-                   int(values.max()) if len(values) else 0, both, int((rows == columns).sum()),
-                   int(numpy.minimum(leaving[rows], entering[columns]).sum()),
-                   int(numpy.minimum(below[low], above[high]).sum()), int((below * above).sum()),
-                   numpy.sort(chosen).tolist(),
-                   math.ceil(numpy.max(numpy.bincount(columns, values.astype(float), count),
-                                       initial=0) * (1 + 1e-9)))

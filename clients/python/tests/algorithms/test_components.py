@@ -5,9 +5,7 @@ import numpy
 
 import graphs
 from spmat import algorithms, blocks
-from spmat.algorithms import graph_model, strong_components, traversal
-from spmat.io.matrix_text import Triples
-from spmat.operators import Semiring, binary
+from spmat.algorithms import strong_components, traversal
 from support import InSession, enter
 
 
@@ -86,37 +84,6 @@ class Parts(InSession):
                 out[i] = label
             self.assertEqual(out, least_of(strong_groups(near), 30))
             self.assertEqual(at.tolist(), sorted({*rows, *columns}))
-
-
-class Models(InSession):
-    """Pushes along entries that the client has are those of the session."""
-
-    def test_pushes(self):
-        rings = [('any', 'first'), ('min', 'first'), ('min', 'plus'), ('plus', 'times'),
-                 ('max', 'second'), ('plus', 'first')]
-        for graph in graphs.ALL:
-            G = graph.matrix(self.session)
-            rows, model = traversal.Rows(G), graph_model.GraphModel(
-                G, Triples(*G.to_coo(), *G.shape))
-            for some in (range(graph.count), range(0, graph.count, 3), []):
-                front = traversal.vector_of(some, [7 * i - 20 for i in some])
-                for add, mul in rings:
-                    ring = Semiring(getattr(binary, add), getattr(binary, mul))
-                    want, got = rows.push(front, ring), model.push(front, ring)
-                    self.assertEqual(got.at.tolist(), want.at.tolist(), graph.name)
-                    if add != 'any':
-                        self.assertEqual(got.values.tolist(), want.values.tolist(), graph.name)
-            self.assertEqual(model.pushes, 3 * len(rings))
-            self.assertGreaterEqual(model.walked, len(rings) * len(graph.edges))
-
-    def test_what_is_too_long_ends(self):
-        G = graphs.UNDIRECTED[3].matrix(self.session)
-        model = graph_model.GraphModel(G, Triples(*G.to_coo(), *G.shape))
-        front = traversal.vector_of(range(34), [1] * 34)
-        with mock.patch.object(graph_model, 'MOST_WALKED', 1000), \
-                self.assertRaises(graph_model.TooLong):
-            for _ in range(9):
-                model.push(front, Semiring(binary.plus, binary.first))
 
 
 class Scans(InSession):

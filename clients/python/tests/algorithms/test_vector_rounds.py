@@ -9,12 +9,10 @@ import numpy
 import graphs
 import support
 from spmat import algorithms
-from spmat.algorithms import eigenvector_and_hits, vector_rounds
+from spmat.algorithms import vector_rounds
 from spmat.algorithms.eigenvector_and_hits import Grown, Mutual
-from spmat.algorithms.graph_model import ModelSteps
 from spmat.algorithms.katz_centrality import handed
 from spmat.algorithms.vector_rounds import MOST_AHEAD, Rounds, Scale, Steps, scale_of
-from spmat.io.matrix_text import Triples
 
 SIDE = 9
 GRID = graphs.undirected('grid', SIDE * SIDE,
@@ -98,15 +96,9 @@ class Shares(support.InSession):
 class Words(support.InSession):
     """What rounds make is the same in integers without an end."""
 
-    def model(self, graph, weighted):
-        triples = sorted((i, j, value) for (i, j), value in graph.edges.items())
-        rows, columns, values = (numpy.array(part, numpy.int64) for part in zip(*triples))
-        return ModelSteps(graph.matrix(self.s), Triples(rows, columns, values, graph.count,
-                                                        graph.count), weighted)
-
     def check(self, graph, weighted):
         """Makes rounds with each sum looked at."""
-        steps = self.model(graph, weighted)
+        G = graph.matrix(self.s)
         into, out = numpy.zeros((graph.count, graph.count),
                                 object), numpy.zeros((graph.count, graph.count), object)
         for (i, j), value in graph.edges.items():
@@ -124,14 +116,14 @@ class Words(support.InSession):
             self.assertEqual([(int(one) >> kind.scale.first) * kind.scale.times >> kind.scale.then
                               for one in sums], made['now'].tolist())
             return made
-        for kind, find in ((Grown, eigenvector_and_hits.find_eigenvector),
-                           (Mutual, eigenvector_and_hits.find_hubs)):
+        for kind, function in ((Grown, algorithms.eigenvector), (Mutual, algorithms.hits)):
             real = kind.of_numbers
-            with mock.patch.object(kind, 'of_numbers',
-                                   lambda kind, steps, numbers, real=real: compare(
-                                       kind, steps, numbers, real)):
+            with mock.patch.object(Steps, 'in_session', False), \
+                    mock.patch.object(kind, 'of_numbers',
+                                      lambda kind, steps, numbers, real=real: compare(
+                                          kind, steps, numbers, real)):
                 try:
-                    find(steps, None, (200, None), lambda *_: None)
+                    function(G, rounds=200, weighted=weighted)
                 except ValueError as fault:
                     self.assertIn('rounds, and numbers still change', str(fault))
         return len(looked)
