@@ -47,8 +47,7 @@ ALGORITHM_MODULES = {
                                     'simple_paths', 'all_pairs_lengths', 'distance_measures'),
     'Components, orders and trees': ('components', 'strong_components', 'independent_set',
                                      'topological_order', 'spanning_forest'),
-    'Centrality': ('page_rank', 'betweenness_centrality', 'closeness_measures',
-                   'eigenvector_and_hits', 'katz_centrality'),
+    'Centrality': ('page_rank', 'path_centralities', 'eigenvector_and_hits', 'katz_centrality'),
     'Communities and dense parts': ('communities', 'louvain_method', 'core_decomposition'),
     'Similarity': ('neighbour_similarity',),
 }

@@ -161,7 +161,7 @@ class Parts(graphs.OnGraphs):
 
     def test_betweenness_in_batches(self):
         graph = graphs.DIRECTED[2]
-        with mock.patch('spmat.algorithms.betweenness_centrality.MOST_AT_ONCE',
+        with mock.patch('spmat.algorithms.path_centralities.MOST_AT_ONCE',
                         7 * len(graph.edges)):
             told = []
             got = algorithms.betweenness(graph.matrix(self.session),

@@ -32,9 +32,7 @@ from ..matrix import Matrix as GraphMatrix
 from ..pricing.call_price import guarded
 from .all_pairs_lengths import (all_pairs as all_pairs, path_lengths as path_lengths,
                                 transitive_closure as transitive_closure)
-from .betweenness_centrality import betweenness as betweenness
 from .bfs import bfs_levels as bfs_levels, bfs_parents as bfs_parents, k_hop as k_hop
-from .closeness_measures import closeness as closeness
 from .communities import label_propagation as label_propagation, modularity as modularity
 from .components import (bipartite_sides as bipartite_sides,
                          connected_components as connected_components)
@@ -48,6 +46,7 @@ from .louvain_method import louvain as louvain
 from .neighbour_similarity import (common_neighbours as common_neighbours, jaccard as jaccard,
                                    shared_neighbours as shared_neighbours, squares as squares)
 from .page_rank import pagerank as pagerank
+from .path_centralities import betweenness as betweenness, closeness as closeness
 from .registry import ALGORITHMS, checks_arguments, table
 from .results import Centrality as Centrality, Communities as Communities, keep_units, name_values
 from .shortest_path_trees import (NoPath as NoPath, Path as Path, PathTree as PathTree,
