@@ -291,51 +291,42 @@ def check_lowered(text: str, version: int) -> None:
                                                     SIGNED, GET))
 
 
-def _find_debug(rest: str) -> str:
-    """Where an instruction comes from, for each that takes its place."""
-    found = DEBUG.search(rest)
-    return found.group(0) if found else ''
+def _join_instructions(instructions: List[str], rest: str) -> str:
+    """The lines of instructions that take the place of one, from which `rest` tells where it comes
+    from."""
+    debug = DEBUG.search(rest)
+    return '\n'.join('  %s%s' % (each, debug.group(0) if debug else '') for each in instructions)
 
 
-def _widen(name: str, word: str, bits: int, how: str, at: str) -> Tuple[List[str], str]:
-    """What makes 64 bits of a word, and the word then."""
-    if bits == 64:
-        return [], word
-    return ['  %s = %s i%d %s to i64%s' % (name, how, bits, word, at)], name
+def _resize(name: str, how: str, word: str, width: str, to: str) -> str:
+    """What makes a word of another number of bits, or of as many."""
+    return '%s = %s i%s %s to i%s' % (name, how if width != to else 'bitcast', width, word, to)
 
 
-def _narrow(name: str, made: str, bits: int, at: str) -> List[str]:
-    """What makes a result of 64 bits that of an instruction of fewer bits."""
-    if bits == 64:
-        return ['  %s = add i64 %s, 0%s' % (name, made, at)]
-    return ['  %s = trunc i64 %s to i%d%s' % (name, made, bits, at)]
-
-
-def _part(name: str, part: str) -> str:
-    """A name beside that of a result."""
-    return '%%"spmat.%s.%s"' % (name[1:], part)
+def _list_parts(name: str) -> Tuple[str, str, str]:
+    """Names beside that of a result, of what it is made of."""
+    x, y, made = ('%%"spmat.%s.%s"' % (name[1:], part) for part in ('x', 'y', 'made'))
+    return x, y, made
 
 
 def _divide(found: Match[str]) -> str:
     name, what, width, first, second, rest = found.groups()
-    bits, at = int(width), _find_debug(rest)
-    left, x = _widen(_part(name, 'x'), first, bits, 'sext', at)
-    right, y = _widen(_part(name, 'y'), second, bits, 'sext', at)
-    made = _part(name, 'made')
-    call = '  %s = call i64 @spmat_%s(i64 %s, i64 %s)%s' % (made, what, x, y, at)
-    return '\n'.join(left + right + [call] + _narrow(name, made, bits, at))
+    x, y, made = _list_parts(name)
+    return _join_instructions([
+        _resize(x, 'sext', first, width, '64'), _resize(y, 'sext', second, width, '64'),
+        '%s = call i64 @spmat_%s(i64 %s, i64 %s)' % (made, what, x, y),
+        _resize(name, 'trunc', made, '64', width)], rest)
 
 
 def _count_zeros(found: Match[str]) -> str:
     """Of a word of fewer bits those before it are taken off, or a bit above them ends the count."""
     name, width, what, word, rest = found.groups()
-    bits, at, made = int(width), _find_debug(rest), _part(name, 'made')
-    lines, x = _widen(_part(name, 'x'), word, bits, 'zext', at)
-    if bits < 64 and what == 'cttz':
-        lines.append('  %s = or i64 %s, %d%s' % (_part(name, 'end'), x, 1 << bits, at))
-        x = _part(name, 'end')
-    lines.append('  %s = call i64 @spmat_%s(i64 %s)%s' % (made, what, x, at))
-    if bits < 64 and what == 'ctlz':
-        lines.append('  %s = sub i64 %s, %d%s' % (_part(name, 'less'), made, 64 - bits, at))
-        made = _part(name, 'less')
-    return '\n'.join(lines + _narrow(name, made, bits, at))
+    x, y, made = _list_parts(name)
+    end = 1 << int(width) if what == 'cttz' and width != '64' else 0
+    before = 64 - int(width) if what == 'ctlz' else 0
+    counted = made[:-1] + '.all"'
+    return _join_instructions([
+        _resize(x, 'zext', word, width, '64'), '%s = or i64 %s, %d' % (y, x, end),
+        '%s = call i64 @spmat_%s(i64 %s)' % (counted, what, y),
+        '%s = sub i64 %s, %d' % (made, counted, before),
+        _resize(name, 'trunc', made, '64', width)], rest)
