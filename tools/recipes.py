@@ -14,7 +14,7 @@ SAMPLES = {
     r"Types\b|'types'|b'types\b|\btypes_text\b",
     'A ready operator': r'\babsdiff\b',
     'An algorithm': r'\bk_core\b',
-    'A file format': r'\b_read_dimacs\b|\bimport dimacs\b',
+    'A file format': r'\bread_dimacs\b',
     'A rule of refusal': r'\bSymmetricNotSquare\b|\bM12\b',
 }
 FOLDERS = ['bench', 'clients', 'crates', 'docs', 'reference', 'tests']

@@ -3,7 +3,7 @@ and what becomes of edges that repeat.
 
 Names that are whole numbers come in ascending order, others as they first stand. Where the names
 are just 0 to n - 1 they are the vertices, and the matrix has no names besides. Edges come from
-files (`tables`, `dimacs`, `graph_formats`), from lists and tables of pandas (`edge_sources`).
+files (`edge_list_reader`, `graph_formats`), from lists and tables of pandas (`edge_sources`).
 """
 from __future__ import annotations
 
@@ -71,7 +71,8 @@ class Edges(NamedTuple):
     """Edges in order: from where, to where (arrays of whole numbers, `Names`, or lists), and their
     values, or None where they have none. `fault(k, words)` is the error of edge k; `summary` says
     what was taken of a file, `left_out` what was not; `question` has to be answered where nobody
-    said which way edges lead."""
+    said which way edges lead. A file of a graph says by itself what its vertices are, `nodes`, and
+    whether its edges lead one way, `directed`."""
     sources: Any
     targets: Any
     values: Any
@@ -79,6 +80,8 @@ class Edges(NamedTuple):
     summary: str = ''
     left_out: LeftOut = LeftOut()
     question: str = ''
+    nodes: Optional[Sequence[Any]] = None
+    directed: Optional[bool] = None
 
 
 class How(NamedTuple):

@@ -7,7 +7,7 @@ import re
 from typing import Callable, Dict, NamedTuple, Optional, Sequence, Tuple
 
 from ..errors import ReadError
-from . import dimacs, edge_list_reader, graph_formats
+from . import edge_list_reader, graph_formats
 from .columns import Layout
 from .edge_sources import check_times
 from .edges import Edges, Graph, How, graph_of
@@ -49,12 +49,7 @@ class GraphFormat(NamedTuple):
     name: str
     called: str
     is_like: Callable[[bytes], bool]
-    read: Callable[[str, bytes, Layout], graph_formats.GraphFile]
-
-
-def _read_dimacs(file: str, text: bytes, layout: Layout) -> graph_formats.GraphFile:
-    edges, problem = dimacs.read(file, text, layout.values, layout.scale)
-    return graph_formats.GraphFile(edges, range(1, problem.vertices + 1), problem.directed)
+    read: Callable[[str, bytes, Layout], Edges]
 
 
 def _by_networkx(name: str, is_like: Callable[[bytes], bool]) -> GraphFormat:
@@ -81,7 +76,7 @@ def _is_gml(text: bytes) -> bool:
 
 
 GRAPH_FORMATS: Dict[str, GraphFormat] = {one.name: one for one in (
-    GraphFormat('dimacs', 'DIMACS', dimacs.is_dimacs, _read_dimacs),
+    GraphFormat('dimacs', 'DIMACS', graph_formats.is_dimacs, graph_formats.read_dimacs),
     _by_networkx('graphml', lambda text: _has_root(text, b'graphml')),
     _by_networkx('gexf', lambda text: _has_root(text, b'gexf')),
     _by_networkx('gml', _is_gml),
@@ -232,10 +227,10 @@ def _read_edges(file: str, text: bytes, format: str, request: Request) -> Tuple[
         if how.bipartite:
             raise ReadError(file, None, '%s has one kind of vertices: bipartite=True is for lists '
                             'and Matrix Market; leave it out' % format)
-        edges, nodes, directed = GRAPH_FORMATS[format].read(file, text, layout)
-        return edges, how._replace(directed=directed if request.directed is None
-                                   else request.directed, nodelist=nodes if how.nodelist is None
-                                   else how.nodelist)
+        edges = GRAPH_FORMATS[format].read(file, text, layout)
+        return edges, how._replace(
+            directed=bool(edges.directed if request.directed is None else request.directed),
+            nodelist=edges.nodes if how.nodelist is None else how.nodelist)
     if format == 'parquet':
         return graph_formats.read_table(file, text, layout), how
     if format == DICTIONARIES:

@@ -1,33 +1,39 @@
-"""Files that other packages read: GraphML, GEXF and GML by networkx, parquet by pandas; and lists
-as networkx writes them, with a dictionary of attributes behind each edge."""
+"""Graphs in files that say by themselves what their vertices are: GraphML, GEXF and GML by networkx,
+and those of the DIMACS challenges. Files of pandas (parquet); and lists as networkx writes them,
+with a dictionary of attributes behind each edge.
+
+DIMACS has shortest paths (`p sp`, arcs `a`), maximum flow (`p max`, arcs `a`), and colouring or
+cliques (`p edge`, `p col`, edges `e`). Vertices count from 1, and are named so. Sources: the ninth
+DIMACS implementation challenge's file formats (.gr); the first's (.max); the second's (.col, .clq).
+"""
 from __future__ import annotations
 
 import ast
 import io
 import re
-from typing import Any, Callable, List, NamedTuple, Optional, Sequence, Tuple
+from typing import Any, Callable, List, NamedTuple, Optional, Tuple
 
-from ..errors import ReadError
+import numpy
+
+from ..errors import ReadError, refusal
 from ..extras import describe_missing, import_extra
+from ..limits import MOST_SIDE
 from .columns import Head, Layout, choose_columns
 from .edge_list_layout import SAMPLE, blank_comments
 from .edge_list_reader import convert_names
 from .edge_sources import ABSENT, convert_values, edges_of_frame
 from .edges import Edges
-from .matrix_text import line_at
+from .matrix_market import Kind, Values, read_quickly
+from .matrix_text import line_at, start_of_line
+from .values import Rounding, whole_values
 
 CALLED = {'graphml': 'GraphML', 'gexf': 'GEXF', 'gml': 'GML'}
 VALUES = ('weight', 'value')                       # attributes of edges, the first that one has
+ARCS = {'sp': b'a', 'max': b'a', 'edge': b'e', 'edges': b'e', 'col': b'e'}
+PASSED = (b'c', b'n', b'x', b'd', b'v')             # comments, and what is told of single vertices
 
 
-class GraphFile(NamedTuple):
-    """The edges of a graph, its vertices in order, and whether its edges lead one way."""
-    edges: Edges
-    nodes: Sequence[Any]
-    directed: bool
-
-
-def read_graph(file: str, text: bytes, format: str, layout: Layout) -> GraphFile:
+def read_graph(file: str, text: bytes, format: str, layout: Layout) -> Edges:
     """The graph of a GraphML, GEXF or GML file. ReadError where networkx isn't there, or takes it
     for none."""
     try:
@@ -43,34 +49,29 @@ def read_graph(file: str, text: bytes, format: str, layout: Layout) -> GraphFile
         raise ReadError(file, None,
                         'no %s that networkx reads (%s: %s)'
                         % (CALLED[format], type(fault).__name__, fault)) from None
-    attribute = _find_attribute([data for _, _, data in many], layout)
 
     def fault_of(at: int, words: str) -> ReadError:
         return ReadError('%s, the edge from %r to %r' % (file, many[at][0], many[at][1]), None,
                          words)
-    values, done = _values_of([data for _, _, data in many], attribute, layout, fault_of)
-    summary = '%s: %s by networkx; %s%s' % (file, CALLED[format], 'no values' if attribute is None
-                                            else 'values=' + attribute, done)
-    edges = Edges([u for u, _, _ in many], [v for _, v, _ in many], values, fault_of, summary)
-    return GraphFile(edges, list(found), bool(found.is_directed()))
+    values, attribute, done = _values_of([data for _, _, data in many], layout, fault_of)
+    summary = '%s: %s by networkx; %s%s' % (file, CALLED[format], 'values=' + attribute if attribute
+                                            else 'no values', done)
+    return Edges([u for u, _, _ in many], [v for _, v, _ in many], values, fault_of, summary,
+                 nodes=list(found), directed=bool(found.is_directed()))
 
 
-def _find_attribute(held: List[Any], layout: Layout) -> Optional[str]:
-    """The attribute of edges that has their values, where one has any."""
-    return (next((name for name in VALUES if any(name in data for data in held)), None)
-            if layout.values else None)
-
-
-def _values_of(held: List[Any], attribute: Optional[str], layout: Layout,
-               fault_of: Callable[[int, str], ReadError]) -> Tuple[Any, str]:
-    """The values of edges by their attributes, and what was done to them. ReadError names the
-    edge."""
+def _values_of(held: List[Any], layout: Layout,
+               fault_of: Callable[[int, str], ReadError]) -> Tuple[Any, str, str]:
+    """The values of edges by their attributes, the attribute that has them, and what was done to
+    them; None and nothing where there is none. ReadError names the edge."""
+    attribute = next((name for name in VALUES if layout.values
+                      and any(name in data for data in held)), None)
     if attribute is None:
-        return None, ''
+        return None, '', ''
     found, done = convert_values(
         [data.get(attribute, ABSENT) for data in held], layout,
         lambda at, why: fault_of(at, 'the attribute %r: %s' % (attribute, why)))
-    return found, '; ' + done if done else ''
+    return found, attribute, '; ' + done if done else ''
 
 
 def _read_gml(networkx: Any, text: bytes) -> Any:
@@ -141,8 +142,7 @@ def read_dictionaries(file: str, text: bytes, layout: Layout) -> Edges:
 
     def fault_of(at: int, words: str) -> ReadError:
         return ReadError(file, numbers[at], words, line_at(text, numbers[at]))
-    attribute = _find_attribute(held, layout)
-    values, done = _values_of(held, attribute, layout, fault_of)
+    values, _, done = _values_of(held, layout, fault_of)
     summary = "%s: networkx' edge list; source=column 0, target=column 1, %s%s" % (
         file, 'no values' if values is None else 'values=weight', done)
     columns = convert_names([source for source, _ in ends], [target for _, target in ends],
@@ -168,3 +168,107 @@ def _split_line(file: str, number: int, line: bytes,
                         "an edge is written as networkx writes it, `1 2 {'weight': 3}`",
                         line_at(line, 1))
     return parts.group(1), parts.group(2), data
+
+
+# -- DIMACS
+
+class Problem(NamedTuple):
+    """The line `p`: the kind of problem, the sizes, and the line's number."""
+    kind: str
+    vertices: int
+    edges: int
+    number: int
+
+    @property
+    def directed(self) -> bool:
+        """Whether an edge leads one way."""
+        return ARCS[self.kind] == b'a'
+
+
+def is_dimacs(text: bytes) -> bool:
+    """Whether a text is one, by its first line that is no comment."""
+    for line in text[:1 << 20].split(b'\n'):
+        if line.split()[:1] not in ([], [b'c']):
+            return re.match(rb'p\s+[a-z]+\s+\d+\s+\d+\s*$', line) is not None
+    return False
+
+
+def read_dimacs(file: str, text: bytes, layout: Layout) -> Edges:
+    """The edges of a graph of DIMACS. ReadError names the line."""
+    problem = problem_of(file, text)
+    wanted = Values(layout.values, layout.scale, Rounding(layout.scale))
+    edges = _read_quickly(file, text, problem, wanted) or _read_slowly(file, text, problem, wanted)
+    if len(edges.sources) != problem.edges:
+        raise _fault(file, text, problem.number, '%d edges stand there, and this line says %d'
+                     % (len(edges.sources), problem.edges))
+    return edges._replace(nodes=range(1, problem.vertices + 1), directed=problem.directed)
+
+
+def problem_of(file: str, text: bytes) -> Problem:
+    """What the line `p` says."""
+    for number, line in enumerate(text.split(b'\n'), 1):
+        words = line.decode('utf-8', 'replace').split()
+        if words and words[0] == 'p':
+            if (len(words) != 4 or words[1] not in ARCS
+                or not (words[2].isdigit() and words[3].isdigit())):
+                raise _fault(file, text, number,
+                             'a line `p` says the kind (%s), the vertices and the edges'
+                             % ', '.join(sorted(ARCS)))
+            if int(words[2]) > MOST_SIDE:
+                raise refusal('M4', detail='%s vertices (line %d of %s)' % (words[2], number, file))
+            return Problem(words[1], int(words[2]), int(words[3]), number)
+        if words and words[0] != 'c':
+            raise _fault(file, text, number,
+                         'no graph of DIMACS: a line `p KIND VERTICES EDGES` comes first')
+    raise ReadError(file, None, 'no graph of DIMACS: it has no line `p KIND VERTICES EDGES`')
+
+
+def _read_quickly(file: str, text: bytes, problem: Problem, wanted: Values) -> Optional[Edges]:
+    """All lines at once, as those of Matrix Market, where nothing but edges stands behind the line
+    `p`."""
+    body = text[start_of_line(text, problem.number + 1):].rstrip() + b'\n'
+    plain, lines = re.subn(rb'(?m)^%s[ \t]+' % ARCS[problem.kind], b'', body)
+    kind = Kind(False, 'real' if problem.directed else 'pattern', 'general', wanted)
+    found = (read_quickly(kind, plain, lines, problem.vertices, problem.vertices)
+             if lines == body.count(b'\n') else None)
+    if found is None:
+        return None
+    return Edges(found.rows + 1, found.columns + 1, None if kind.is_bare else found.values,
+                 lambda at, words: _fault(file, text, problem.number + 1 + at, words),
+                 '' if kind.is_bare else str(wanted.rounding))
+
+
+def _read_slowly(file: str, text: bytes, problem: Problem, wanted: Values) -> Edges:
+    """Line by line, so that whatever is wrong is named."""
+    letter = ARCS[problem.kind]
+    numbers: List[int] = []
+    ends: Tuple[List[int], List[int]] = ([], [])
+    fields: List[str] = []
+    for number, line in enumerate(text.split(b'\n'), 1):
+        words = line.split()
+        if number <= problem.number or not words or words[0] in PASSED:
+            continue
+        if words[0] != letter or len(words) != (4 if problem.directed else 3):
+            raise _fault(file, text, number, 'an edge of this kind is `%s FROM TO%s`' % (
+                letter.decode(), ' VALUE' if problem.directed else ''))
+        for end, word in zip(ends, words[1:3]):
+            if not word.isdigit() or not 1 <= int(word) <= problem.vertices:
+                raise _fault(file, text, number, 'a vertex is 1 to %d, not %s' % (
+                    problem.vertices, word.decode('utf-8', 'replace')))
+            end.append(int(word))
+        numbers.append(number)
+        fields.append(words[-1].decode('utf-8', 'replace'))
+
+    def fault(at: int, words: str) -> ReadError:
+        return _fault(file, text, numbers[at], words)
+    weights: Any = None
+    rounding = Rounding(wanted.scale)
+    if problem.directed and wanted.read:
+        weights = whole_values(fields, fault, rounding)
+    sources, targets = (numpy.array(end, numpy.int64) for end in ends)
+    return Edges(sources, targets, weights, fault, '' if weights is None else str(rounding))
+
+
+def _fault(file: str, text: bytes, number: int, words: str) -> ReadError:
+    """The error of a line."""
+    return ReadError(file, number, words, line_at(text, number))

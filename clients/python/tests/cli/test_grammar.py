@@ -27,9 +27,9 @@ NO_COMMAND = {'Bounds', 'Centrality', 'Communities', 'CycleError', 'GraphMatrix'
 ROADS = 'from,to,km\nann,bob,5\nbob,cid,7\ncid,ann,2\ncid,dee,4\n'
 # Where messages come from that the command line shows, and what in them looks like an argument and
 # isn't one of a call that it makes.
-MODULES = ('io/column*.py', 'io/coo.py', 'io/dimacs.py', 'io/edge*.py',
-           'io/formats.py', 'io/graph_formats.py', 'io/importers.py', 'io/lists.py',
-           'io/matrix_market.py', 'io/tables.py', 'io/values.py', 'io/writers.py',
+MODULES = ('io/column*.py', 'io/coo.py', 'io/edge*.py',
+           'io/formats.py', 'io/graph_formats.py', 'io/importers.py',
+           'io/matrix_market.py', 'io/values.py', 'io/writers.py',
            'wire/transport.py', 'operators/clang.py', 'operators/c.py')
 NEVER = {'source', 'target', 'edge_attr', 'index_col', 'mcpu', 'nodelist', 'nodes', 'nodetype',
          'raw', 'right', 'left', 'run_timeout', 'sep', 'timeout'}

@@ -16,7 +16,8 @@ import numpy
 import support
 import spmat
 from spmat import blocks
-from spmat.io import dimacs, edges, formats, edge_list_layout, edge_list_reader, matrix_market
+from spmat.io import (edge_list_layout, edge_list_reader, edges, formats, graph_formats,
+                      matrix_market)
 from spmat.io.columns import Layout
 
 DATA = os.path.join(os.path.dirname(os.path.dirname(os.path.abspath(__file__))), 'data')
@@ -295,7 +296,7 @@ class Both(Case):
             # so that these texts are looked at by pieces
             got.append(self.outcome(text, layout))
         with mock.patch.object(edge_list_reader, '_read_in_bulk', lambda *_: None), \
-                mock.patch.object(dimacs, '_quickly', lambda *_: None):
+                mock.patch.object(graph_formats, '_read_quickly', lambda *_: None):
             got.append(self.outcome(text, layout))
         self.assertEqual(got[0], got[1], text)
         return got[0]
@@ -423,8 +424,9 @@ class Both(Case):
             table = edge_list_layout.lay_out('f', text, Layout())
             self.assertIsNotNone(edge_list_reader._read_in_bulk(table, 10), text)
         text = b'c\np sp 3 2\na 1 2 5\na 2 3 6\n'
-        self.assertIsNotNone(dimacs._quickly('f', text, dimacs.problem_of('f', text),
-                                             matrix_market.Values()))
+        self.assertIsNotNone(graph_formats._read_quickly('f', text,
+                                                         graph_formats.problem_of('f', text),
+                                                         matrix_market.Values()))
 
 
 
