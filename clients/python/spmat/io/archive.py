@@ -20,7 +20,7 @@ import struct
 import zipfile
 import zlib
 from fractions import Fraction
-from typing import Any, Dict, Generic, Iterator, List, Mapping, NamedTuple, Optional, Tuple
+from typing import Any, Dict, Generic, Iterator, Mapping, Optional, Tuple
 
 import numpy
 
@@ -131,23 +131,11 @@ def write(path: Any, matrices: Mapping[str, MatrixBase]) -> None:
     frozenset of these."""
     contents: Dict[str, Any] = {'spmat': 1, 'matrices': {}}
     for number, (name, matrix) in enumerate(matrices.items()):
-        contents['matrices'][name] = {
-            'entries': '%d.mtx' % number, 'rows': _encode(matrix.notes.rows, name),
-            'columns': 'rows' if matrix.notes.columns is matrix.notes.rows
-            else _encode(matrix.notes.columns, name),
-            'unnamed': [matrix.notes.unnamed_rows.name.lower(),
-                        matrix.notes.unnamed_columns.name.lower()],
-            'directed': matrix.notes.directed, 'weighted': matrix.notes.weighted,
-            'source': matrix.notes.source}
-        if matrix.unit != 1:
-            # a client that knows no units doesn't read the file
-            contents['matrices'][name]['unit'], contents['spmat'] = str(matrix.unit), VERSION
-        if matrix.notes.sides:
-            contents['matrices'][name]['sides'] = matrix.notes.sides
-        if matrix.notes.value_names is not None:
-            vertices = ('rows' if matrix.notes.value_names is matrix.notes.rows
-                        else _encode(matrix.notes.value_names, name))
-            contents['matrices'][name]['values'], contents['spmat'] = vertices, VERSION
+        contents['matrices'][name] = about = _describe(name, matrix.notes)
+        about['entries'] = '%d.mtx' % number
+        if not about.keys().isdisjoint(('unit', 'values')):
+            # a client that knows none of them doesn't read the file
+            contents['spmat'] = VERSION
     with replacing(os.fspath(path)) as part, \
             zipfile.ZipFile(part, 'w', zipfile.ZIP_DEFLATED, compresslevel=1) as file:
         file.writestr(CONTENTS, json.dumps(contents, ensure_ascii=False))
@@ -155,12 +143,20 @@ def write(path: Any, matrices: Mapping[str, MatrixBase]) -> None:
             file.writestr('%d.mtx' % number, matrix.to_text())
 
 
-class Member(NamedTuple):
-    """A matrix of a file: what it is called, which member has its entries, and what is known of
-    it."""
-    name: str
-    entries: str
-    notes: Metadata
+def _describe(name: str, notes: Metadata) -> Dict[str, Any]:
+    """What is known of a matrix, as JSON has it."""
+    def encode(names: Optional[Nodes]) -> Any:
+        return 'rows' if names is notes.rows else _encode(names, name)
+    about = {'rows': _encode(notes.rows, name), 'columns': encode(notes.columns),
+             'unnamed': [notes.unnamed_rows.name.lower(), notes.unnamed_columns.name.lower()],
+             'directed': notes.directed, 'weighted': notes.weighted, 'source': notes.source}
+    if notes.unit != 1:
+        about['unit'] = str(notes.unit)
+    if notes.sides:
+        about['sides'] = notes.sides
+    if notes.value_names is not None:
+        about['values'] = encode(notes.value_names)
+    return about
 
 
 def read(path: Any) -> Iterator[Tuple[str, bytes, Metadata]]:
@@ -169,11 +165,11 @@ def read(path: Any) -> Iterator[Tuple[str, bytes, Metadata]]:
     before the first of them is given."""
     with open(path, 'rb') as plain_file, _faults_of(os.fspath(path)), \
             zipfile.ZipFile(plain_file) as file:
-        for member in list(_list_members(file)):
-            text = file.read(member.entries)
-            if member.notes.value_names is not None:
-                _check_vertices(member, text)
-            yield member.name, text, member.notes
+        for name, entries, notes in list(_list_members(file)):
+            text = file.read(entries)
+            if notes.value_names is not None:
+                _check_vertices(name, text, len(notes.value_names))
+            yield name, text, notes
 
 
 @contextlib.contextmanager
@@ -197,8 +193,9 @@ def _faults_of(file: str) -> Iterator[None]:
                         % fault) from None
 
 
-def _list_members(file: zipfile.ZipFile) -> Iterator[Member]:
-    """What a file says of its matrices, each held against the size of its entries."""
+def _list_members(file: zipfile.ZipFile) -> Iterator[Tuple[str, str, Metadata]]:
+    """What each matrix of a file is called, which member has its entries, and what is known of it,
+    held against their size."""
     _check_packed(file.getinfo(CONTENTS), FEW_CONTENTS)
     contents = _expect(json.loads(file.read(CONTENTS)), dict, CONTENTS)
     if contents.get('spmat') not in (1, VERSION):
@@ -214,7 +211,7 @@ def _list_members(file: zipfile.ZipFile) -> Iterator[Member]:
         _check_packed(info, SMALL)
         with file.open(entries) as text:
             sizes = matrix_market.Reader(io.BytesIO(text.read(HEAD)))
-        yield Member(called, entries, _read_notes(about, (sizes.nrows, sizes.ncols)))
+        yield called, entries, _read_notes(about, (sizes.nrows, sizes.ncols))
 
 
 def _check_packed(info: zipfile.ZipInfo, few: int) -> None:
@@ -223,12 +220,10 @@ def _check_packed(info: zipfile.ZipInfo, few: int) -> None:
         raise ValueError('%s unpacks to more than %d times its length' % (info.filename, RATIO))
 
 
-def _expect(thing: Any, kind: Any, what: str) -> Any:
+def _expect(thing: Any, kind: type, what: str) -> Any:
     """A thing of the kind that it has to be of. ValueError where it isn't."""
     if not isinstance(thing, kind):
-        raise ValueError('%s: expected %s, got %.40r' % (what,
-                                                         getattr(kind, '__name__', 'another kind'),
-                                                         thing))
+        raise ValueError('%s: expected %s, got %.40r' % (what, kind.__name__, thing))
     return thing
 
 
@@ -255,13 +250,12 @@ def _read_notes(about: Dict[str, Any], shape: Tuple[int, int]) -> Metadata:
                  as_unit(unit if unit in UNITS else Fraction(unit)), vertices, first, second, sides)
 
 
-def _check_vertices(member: Member, text: bytes) -> None:
+def _check_vertices(matrix: str, text: bytes, count: int) -> None:
     """ValueError where a value that stands for a vertex is the number of none."""
-    triples, _ = matrix_market.parse(text)
-    count = len(member.notes.value_names or ())
-    if any(not 0 <= value < count for value in triples.values):
+    values = matrix_market.parse(text)[0].values
+    if ((values < 0) | (values >= count)).any():
         raise ValueError('the values of %s are vertices, and there are %d of these'
-                         % (member.name, count))
+                         % (matrix, count))
 
 
 def _encode(names: Optional[Nodes], matrix: str) -> Any:
@@ -284,11 +278,11 @@ def _encode_name(name: Any, matrix: str) -> Any:
     if kind in TIMES and type(name).__module__.partition('.')[0] in ('datetime', 'numpy', 'pandas'):
         if kind == 'datetime64':
             return {kind: str(name), 'unit': name.dtype.str}
-        zone = (getattr(getattr(name, 'tz', None), 'key', None)
-                or getattr(getattr(name, 'tz', None), 'zone', None))
+        zone = next(filter(None, (getattr(getattr(name, 'tz', None), word, None)
+                                  for word in ('key', 'zone'))), None)
         return {kind: name.isoformat(), **({'zone': zone} if zone else {})}
     # a number of numpy
-    name = (name.item() if hasattr(name, 'item') and hasattr(name, 'dtype') else name)
+    name = name.item() if isinstance(name, numpy.generic) else name
     if type(name) not in KINDS:
         raise TypeError(
             "the vertex %r of %s can't be saved: names are text, numbers, dates, or tuples and "
@@ -347,10 +341,9 @@ def choose(named: Mapping[str, MatrixBase],
            given: Mapping[str, MatrixBase]) -> Dict[str, MatrixBase]:
     """The matrices to be saved: those that are given, or those that have a name. TypeError for what
     is no matrix, ValueError where there are none."""
-    wrong: List[str] = [name for name, matrix in given.items()
-                        if not isinstance(matrix, MatrixBase)]
-    if wrong:
-        raise TypeError('%s is no matrix, but %s' % (wrong[0], type(given[wrong[0]]).__name__))
+    for name, matrix in given.items():
+        if not isinstance(matrix, MatrixBase):
+            raise TypeError('%s is no matrix, but %s' % (name, type(matrix).__name__))
     if not given and not named:
         raise ValueError(
             'no matrix has a name: save(path, A=A, B=B) names them here, name="A" where they '

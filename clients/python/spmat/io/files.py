@@ -14,11 +14,12 @@ import importlib
 import io
 import lzma
 import os
+import re
 import secrets
 import struct
 import zipfile
 import zlib
-from typing import IO, Any, Callable, Iterator, List, NamedTuple, Optional
+from typing import IO, Any, Callable, Iterator, NamedTuple, Optional
 
 from ..errors import ReadError
 from ..limits import MOST_TEXT
@@ -59,21 +60,13 @@ def _open_zstd(file: IO[bytes]) -> IO[bytes]:
         'unpack it by `zstd -d`')
 
 
-def _list_members(whole: IO[bytes]) -> List[str]:
-    """The files of a zip archive, but for folders and what macOS adds; none where it isn't one."""
-    try:
-        with zipfile.ZipFile(whole) as archive:
-            return [name for name in archive.namelist() if not name.endswith('/')
-                    and not name.startswith('__MACOSX/')]
-    except DAMAGED_ZIP:
-        return []
-
-
 def _open_zip(file: IO[bytes]) -> IO[bytes]:
-    """The one file of a zip archive, as pandas reads it. Any other archive is given as it is, and
-    refused by what it is."""
-    whole = io.BytesIO(file.read())
-    names = _list_members(whole)
+    """The one file of a zip archive, as pandas reads it, but for folders and what macOS adds. Any
+    other archive is given as it is, and refused by what it is."""
+    whole, names = io.BytesIO(file.read()), []
+    with contextlib.suppress(*DAMAGED_ZIP), zipfile.ZipFile(whole) as archive:
+        names = [name for name in archive.namelist()
+                 if not name.endswith('/') and not name.startswith('__MACOSX/')]
     if len(names) == 1 and not names[0].endswith('.npy'):
         try:
             with zipfile.ZipFile(whole) as archive:
@@ -85,24 +78,21 @@ def _open_zip(file: IO[bytes]) -> IO[bytes]:
     return whole
 
 
-GZIP = Packer('gzip', lambda file: gzip.open(file, 'rb'))  # type: ignore[arg-type, return-value]
-BZIP2 = Packer('bzip2', lambda file: bz2.open(file, 'rb'))
-XZ = Packer('xz', lambda file: lzma.open(file, 'rb'))
-ZSTD = Packer('zstd', _open_zstd)
-ZIP = Packer('zip', _open_zip)
+# What packed a file, by its first bytes.
+PACKERS = (
+    (re.compile(rb'\x1f\x8b'),
+     Packer('gzip', lambda file: gzip.open(file, 'rb'))),  # type: ignore[arg-type, return-value]
+    (re.compile(rb'BZh.(1AY&SY|\x17rE8P\x90)', re.S),
+     Packer('bzip2', lambda file: bz2.open(file, 'rb'))),
+    (re.compile(rb'\xfd7zXZ\0'), Packer('xz', lambda file: lzma.open(file, 'rb'))),
+    (re.compile(rb'PK\x03\x04'), Packer('zip', _open_zip)),
+    (re.compile(rb'\x28\xb5\x2f\xfd'), Packer('zstd', _open_zstd)),
+)
 
 
 def packer_of(start: bytes) -> Optional[Packer]:
     """What packed a file, by its first bytes; None where nothing did."""
-    if start[:2] == b'\x1f\x8b':
-        return GZIP
-    if start[:3] == b'BZh' and start[4:10] in (b'1AY&SY', b'\x17rE8P\x90'):
-        return BZIP2
-    if start[:6] == b'\xfd7zXZ\0':
-        return XZ
-    if start[:4] == b'PK\x03\x04':
-        return ZIP
-    return ZSTD if start[:4] == b'\x28\xb5\x2f\xfd' else None
+    return next((packer for mark, packer in PACKERS if mark.match(start)), None)
 
 
 def name_of(source: Any) -> str:
@@ -280,9 +270,8 @@ def without_mark(text: bytes) -> bytes:
 # -- writing
 
 # A link of this name, or a file, is an error, where the system can tell.
-CREATE_ANEW = os.O_WRONLY | os.O_CREAT | os.O_EXCL | sum(getattr(os, flag, 0)
-                                                         for flag in ('O_NOFOLLOW', 'O_CLOEXEC',
-                                                                      'O_BINARY'))
+CREATE_ANEW = os.O_WRONLY | os.O_CREAT | os.O_EXCL | sum(
+    getattr(os, flag, 0) for flag in ('O_NOFOLLOW', 'O_CLOEXEC', 'O_BINARY'))
 
 
 @contextlib.contextmanager
