@@ -9,7 +9,7 @@ from .. import overflow, units
 from ..matrix_base import MatrixBase
 from ..metadata import NOTHING, Axes, axes_of, sizes_of
 from ..operators import Op
-from . import arrays, coo, matrix_market, networkx_adjacency
+from . import arrays, coo, edge_sources, matrix_market
 from .matrix_text import Triples
 from .values import Rounding, scaled
 
@@ -359,8 +359,8 @@ class ArraySources(abc.ABC, Generic[Made]):
         With `dup_op` 1 job and 1 run, where any edges are parallel. In python-graphblas
         `io.from_networkx`.
         """
-        triples, notes = networkx_adjacency.triples_of(graph, weight, nodelist, dup_op is not None,
-                                                       scale)
+        triples, notes = edge_sources.triples_of_graph(graph, weight, nodelist, dup_op is not None,
+                                                     scale)
         unit = units.of_read(scale, dup_op) if weight is not None else 1
         triples = overflow.folded(self._folded, triples, dup_op, unit)
         made = self._from(triples, name=name)

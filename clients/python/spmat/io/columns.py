@@ -13,7 +13,8 @@ from typing import List, NamedTuple, Optional, Sequence, Tuple, Union
 from ..errors import ReadError
 from .column_names import (MOST_COLUMNS, NO_VALUES, VALUES, WEAK_VALUES, Pair, ask_two_kinds,
                            find_pairs, normalize_name)
-from .values import RAISE, TAKES, TIME_COLUMNS, is_missing, is_number, is_time
+from .coo import shown
+from .values import RAISE, SKIP, TAKES, TIME_COLUMNS, Clock, is_missing, is_number, is_time
 
 Comments = Union[bool, str, Sequence[str], None]
 """True: lines above the first row that begin with # or %. A text or several: whatever stands behind
@@ -21,6 +22,8 @@ one, in any line. None: nothing."""
 Column = Union[int, str]
 
 FEW_COLUMNS = 20                                   # columns that an error shows of many
+# where half of a column are numbers, anything else is a slip
+HALF = 2
 # so many columns a table has at least that is told from a list
 LEAST_TABLE = 3
 ASK_HEADER = (
@@ -49,6 +52,25 @@ class Layout(NamedTuple):
     unit: Optional[str] = None
     date_format: Optional[str] = None
 
+    def check(self) -> None:
+        """ValueError for words that say nothing, or don't go together."""
+        if self.missing not in (RAISE, SKIP, None):
+            raise ValueError('missing is "raise", "skip" or None, which takes nothing for missing; '
+                             'not ' + shown(self.missing))
+        if self.nodetype not in (None, str, int):
+            raise ValueError('nodetype is str or int, or None for whole numbers where all are; '
+                             'not %r' % (self.nodetype,))
+        self.clock()
+
+    def clock(self) -> Optional[Clock]:
+        """What makes numbers of times; None where values are no times. ValueError for words that
+        don't go together."""
+        if self.unit is None and self.date_format is not None:
+            raise ValueError('date_format= says how times are written: unit="s" takes them')
+        if self.unit is not None and self.scale is not None:
+            raise ValueError('values are times (unit=) or numbers (scale=): one of both')
+        return None if self.unit is None else Clock(self.unit, self.date_format)
+
 
 class Head(NamedTuple):
     """The beginning of a list: its file's name, the number and the fields of its first line, the
@@ -63,6 +85,10 @@ class Head(NamedTuple):
     def below(self, at: int) -> List[str]:
         """The fields of a column below the first line, of the lines that have as many."""
         return [fields[at] for fields in self.rest if len(fields) == len(self.first)]
+
+    def fields(self, at: int, header: bool) -> List[str]:
+        """The fields of a column, with that of the first line where it is no header."""
+        return self.below(at) if header else [self.first[at], *self.below(at)]
 
     def fault(self, said: str, line: str = '') -> ReadError:
         """The error of the first line."""
@@ -99,8 +125,8 @@ def ask_direction(head: Head) -> str:
     """What is asked of a list whose column `Type` has the word "Undirected", as Gephi writes it;
     else nothing."""
     for at, field in enumerate(head.first):
-        if normalize_name(field) == 'type' and any(normalize_name(kind) == 'undirected'
-                                                   for kind in head.below(at)):
+        if (normalize_name(field) == 'type'
+            and 'undirected' in map(normalize_name, head.below(at))):
             return ('the column %r has edges that are "Undirected": directed=False takes each one '
                     'both ways, directed=True as it is written' % field)
     return ''
@@ -228,23 +254,17 @@ def _find_column(head: Head, column: Column) -> int:
     return column
 
 
-def _has_numbers(fields: Sequence[str]) -> bool:
-    """Whether a column has numbers: at least one, and nothing else but missing ones."""
-    return (any(map(is_number, fields)) and all(is_number(field) or is_missing(field)
-                                                for field in fields))
-
-
-def _has_mostly_numbers(fields: Sequence[str]) -> bool:
-    """Whether at least half of a column are numbers, but for missing ones: then anything else is a
-    slip."""
+def _has_numbers(fields: Sequence[str], share: int = 1) -> bool:
+    """Whether a column has numbers: at least one, and nothing else but missing ones; or as
+    many as one in `share` of these."""
     numbers = sum(map(is_number, fields))
-    return numbers > 0 and 2 * numbers >= sum(not is_missing(field) for field in fields)
+    return numbers > 0 and share * numbers >= sum(not is_missing(field) for field in fields)
 
 
 def _is_header(head: Head, found: Sequence[Pair]) -> bool:
     """Whether the first line names columns. ReadError where it is as likely an edge."""
     words = [at for at, field in enumerate(head.first) if not is_number(field)
-             and not is_missing(field) and _has_mostly_numbers(head.below(at))]
+             and not is_missing(field) and _has_numbers(head.below(at), HALF)]
     if not any(map(is_number, head.first)):
         if any(_has_numbers(head.below(at)) for at in words):
             return True
@@ -271,7 +291,7 @@ def _choose_pair(head: Head, found: Sequence[Pair], values: bool) -> Tuple[int, 
     """The surest pair. ReadError where others are as sure."""
     best = [(pair.source, pair.target) for pair in found if pair.rank == found[0].rank]
     if len(best) > 1:
-        raise head.fault('several columns may have the names: say %s' % ' or '.join(
+        raise head.fault('several columns may have the names: say ' + ' or '.join(
             _propose(head, ends, values) for ends in best[:2]))
     return best[0]
 
@@ -291,8 +311,8 @@ def _choose_unnamed(head: Head, layout: Layout, header: bool) -> Tuple[int, int]
     if width == 3 and len(values) == 1:
         first, second = (at for at in range(3) if at != values[0])
         return first, second
-    third = [*([] if header else [head.first[2]]), *head.below(2)]
-    has_values = (not third or _has_mostly_numbers(third)
+    third = head.fields(2, header)
+    has_values = (not third or _has_numbers(third, HALF)
                   or (layout.unit is not None
                       and any(is_time(field, layout.date_format) for field in third)))
     if width == 3 and has_values and (not header or layout.header is True):
@@ -361,17 +381,15 @@ def _choose_value(head: Head, ends: Tuple[int, int], header: bool,
 def _find_times(head: Head, others: Sequence[int], header: bool,
                 date_format: Optional[str]) -> List[int]:
     """The columns that have times, or else are called so."""
-    found = [at for at in others
-             if any(is_time(field, date_format)
-                    for field in [*([] if header else [head.first[at]]), *head.below(at)])]
-    return found or [at for at in others
-                     if header and normalize_name(head.first[at]) in TIME_COLUMNS]
+    return [at for at in others if any(is_time(field, date_format)
+                                       for field in head.fields(at, header))] or [
+        at for at in others if header and normalize_name(head.first[at]) in TIME_COLUMNS]
 
 
 def _check_numbers(head: Head, at: int, header: bool) -> int:
     """A column of values. ReadError where it has none in the lines that are looked at; a single
     field that is wrong is named later."""
-    fields = head.below(at) if header else [head.first[at], *head.below(at)]
+    fields = head.fields(at, header)
     if not fields or any(map(is_number, fields)):
         return at
     called = _describe_column(head.first, at, True) if header else str(at)

@@ -16,7 +16,7 @@ from .column_names import find_pairs
 from .columns import Choice, Comments, Head, Layout, ask_direction, choose_columns
 from .edges import LeftOut
 from .matrix_text import line_at
-from .values import check_missing, clock_of, is_number
+from .values import is_number
 
 # What may part the fields. (Where commas are those of decimals, semicolons are in every line.)
 DELIMITERS = (b'\t', b';', b',', b'|')
@@ -219,11 +219,7 @@ def _split_line(line: str, delimiter: Optional[str]) -> List[str]:
 def lay_out(file: str, text: bytes, layout: Layout) -> Table:
     """How a list is written, by what the caller says and by its first lines. ReadError where that
     can't be told."""
-    check_missing(layout.missing)
-    clock_of(layout.unit, layout.date_format, layout.scale)
-    if layout.nodetype not in (None, str, int):
-        raise ValueError('nodetype is str or int, or None for whole numbers where all are; not %r'
-                         % (layout.nodetype,))
+    layout.check()
     plain, left_out = blank_comments(text, layout.comments)
     comments = list(comments_above(text)) if layout.comments is True and left_out.comments else []
     plain, delimiter = _choose_delimiter(plain, comments, layout.delimiter)

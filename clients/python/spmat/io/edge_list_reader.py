@@ -20,7 +20,7 @@ from .edge_list_layout import BLANKS, CALLED, Form, Quoted, Row, Table, ask_comm
 from .edges import WHOLE, Edges, LeftOut, Names, code_names
 from .files import UTF8_MARK
 from .matrix_text import line_at, start_of_line
-from .values import (LONGEST, NO_NAMES, SKIP, SKIPS, TAKES, Rounding, clock_of, is_missing,
+from .values import (LONGEST, NO_NAMES, SKIP, SKIPS, TAKES, Rounding, is_missing,
                      is_number, is_time, scaled_array, whole_values)
 
 VALUELESS = 'the value is missing (%%r): fill it in, or %s; values=False reads no values' % (
@@ -220,7 +220,7 @@ class _Line(NamedTuple):
 def _read_lines(table: Table, layout: Layout) -> Edges:
     """Line by line, so that whatever is wrong is named."""
     lines, left_out = _complete_lines(table, layout)
-    clock = clock_of(layout.unit, layout.date_format, layout.scale)
+    clock = layout.clock()
     rounding = Rounding(layout.scale)
 
     def fault(at: int, words: str) -> ReadError:

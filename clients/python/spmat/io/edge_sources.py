@@ -1,29 +1,37 @@
-"""Edges from lists, as networkx gives and takes them, and from tables of pandas."""
+"""Edges from lists, as networkx gives and takes them, from tables of pandas, and from graphs of
+networkx, which come in whole columns rather than edge by edge."""
 from __future__ import annotations
 
+import bisect
+import itertools
 import operator
-from typing import Any, Callable, Iterable, List, Optional, Sequence, Tuple
+from typing import Any, Callable, Dict, Iterable, List, Optional, Sequence, Tuple
 
+import numpy
+
+from ..errors import refusal
+from ..limits import MOST_SIDE
 from ..mask import warn_user
+from ..metadata import Metadata, Nodes
 from . import coo
 from .arrays import is_frame, is_gap
 from .columns import Layout
 from .edges import Edges, Graph, How, LeftOut, code_names, graph_of
-from .values import (SKIP, SKIPS, TAKES, Rounding, check_missing, clock_of, is_time,
-                     whole_numbers)
+from .matrix_text import Triples
+from .values import SKIP, SKIPS, TAKES, Rounding, is_time, whole_numbers
 
 ABSENT = object()                                  # the value of an edge that has none
+Neighbours = Dict[Any, Any]
 
 
 def graph_of_list(edges: Iterable[Any], how: How, layout: Layout) -> Graph:
     """The matrix of (from, to), (from, to, value) or (from, to, {'weight': value}), as networkx
     gives and takes them."""
-    check_missing(layout.missing)
-    clock_of(layout.unit, layout.date_format, layout.scale)     # of words that don't go together
+    layout.check()
     many = coo.list_edges(edges)
-    lengths = set(map(len, many))
     columns: List[Any] = [[edge[0] for edge in many], [edge[1] for edge in many]]
-    columns += [[_value_of(edge) for edge in many]] if 3 in lengths and layout.values else []
+    if layout.values and any(len(edge) == 3 for edge in many):
+        columns.append([_value_of(edge) for edge in many])
     places, left_out = _complete_edges(columns, layout.missing)
     columns = (columns if len(places) == len(many)
                else [[column[at] for at in places] for column in columns])
@@ -53,17 +61,15 @@ def convert_values(values: Any, layout: Layout,
     as networkx has it, but for times, of which 1 is none."""
     absent = ([at for at, value in enumerate(values) if value is ABSENT]
               if isinstance(values, list) else [])
-    if absent and layout.unit is not None:
+    clock = layout.clock()
+    if absent and clock is not None:
         raise wrong(absent[0], ValueError('it has no time, and values are times: give each edge '
                                           'one, or leave unit= out'))
-    if absent:
-        found, done = convert_values([1 if value is ABSENT else value for value in values], layout,
-                                     wrong)
-        return found, '; '.join(filter(None, (done, describe_absent(len(absent), len(values)))))
-    clock = clock_of(layout.unit, layout.date_format, layout.scale)
     if clock is not None:
         found = clock.read(values, lambda at, words: wrong(at, ValueError(words)))
         return found, str(clock)
+    if absent:
+        values = [1 if value is ABSENT else value for value in values]
 
     def wrong_or_time(at: int, why: Exception) -> Exception:
         value = values[at]
@@ -71,7 +77,12 @@ def convert_values(values: Any, layout: Layout,
             why = TypeError('a value is a whole number, not %r: %s' % (value, TAKES))
         return wrong(at, why)
     rounding = Rounding(layout.scale)
-    return whole_numbers(values, rounding, wrong_or_time), str(rounding)
+    found = whole_numbers(values, rounding, wrong_or_time)
+    return found, _join(str(rounding), describe_absent(len(absent), len(values)))
+
+
+def _join(*words: str) -> str:
+    return '; '.join(filter(None, words))
 
 
 def describe_absent(count: int, of: int, what: str = 'value') -> str:
@@ -84,20 +95,20 @@ def _complete_edges(columns: Sequence[List[Any]],
     """The places of the edges of which no name and no value is missing, and how many others there
     are. ValueError where these aren't to be left out; with `missing` None names aren't looked
     at."""
-    absent: List[List[int]] = [[at for column in some for at in _absent_from(column)]
-                               for some in (columns[:2] if missing is not None else [],
-                                            columns[2:])]
-    for places, what in zip(absent, ('a name', 'the value')):
+    gone = []
+    for some, what in ((columns[:2] if missing is not None else [], 'a name'),
+                       (columns[2:], 'the value')):
+        places = {at for column in some for at in _absent_from(column)}
         if places and missing != SKIP:
             name = ', missing=None takes it for a name' if what == 'a name' else ''
             raise ValueError('edge %d: %s is missing: %s%s' % (min(places), what, SKIPS % 'edge',
                                                                name))
-    nameless, valueless = set(absent[0]), set(absent[1]) - set(absent[0])
-    left = range(len(columns[0]))
-    if not nameless and not valueless:
-        return left, LeftOut()
-    return [at for at in left if at not in nameless
-            and at not in valueless], LeftOut(names=len(nameless), values=len(valueless))
+        gone.append(places)
+    nameless, valueless = gone[0], gone[1] - gone[0]
+    left: Sequence[int] = range(len(columns[0]))
+    if nameless or valueless:
+        left = [at for at in left if at not in nameless and at not in valueless]
+    return left, LeftOut(names=len(nameless), values=len(valueless))
 
 
 def _absent_from(many: Sequence[Any]) -> List[int]:
@@ -163,8 +174,7 @@ def edges_of_frame(frame: Any, ends: Tuple[Any, Any], attribute: Any, layout: La
     if not is_frame(frame):
         raise TypeError('expected a table of pandas, got %s: from_edgelist takes a list of edges, '
                         'read_graph a file' % type(frame).__name__)
-    check_missing(layout.missing)
-    clock_of(layout.unit, layout.date_format, layout.scale)     # of words that don't go together
+    layout.check()
     attribute = choose_value_column(frame.columns, ends, attribute)
     frame, left_out = _complete_rows(frame, ends, attribute, layout.missing)
 
@@ -220,3 +230,97 @@ def _names_of_columns(columns: Sequence[Any]) -> Tuple[Any, Any]:
             return first.tolist(), second.tolist()
         return first.astype('int64', copy=False), second.astype('int64', copy=False)
     return code_names(*(column.astype(object).to_numpy() for column in columns))
+
+
+# -- graphs of networkx
+
+def neighbourhoods(graph: Any) -> Dict[Any, Neighbours]:
+    """The neighbours of each node, in the graph's order. Views of networkx may count others than
+    they give, so what they give is copied."""
+    return {node: many if type(many) is dict else dict(many.items())
+            for node, many in graph.adjacency()}
+
+
+def row_numbers(counts: List[int]) -> Any:
+    """Each row's number, as often as the row has entries."""
+    return numpy.repeat(numpy.arange(len(counts), dtype=numpy.int64), counts)
+
+
+def triples_of_graph(graph: Any, weight: Optional[str], nodelist: Optional[Sequence[Any]],
+               folds: bool = False, scale: Optional[float] = None) -> Tuple[Triples, Metadata]:
+    """The triples of a graph, and its nodes. Entry (i, j) is the edge from node i to node j; an
+    undirected edge stands both ways, a loop once. Edges that leave `nodelist` are left out.
+    Parallel edges are entries of one position where the caller folds them. Weights are multiplied
+    by a scale and rounded. TypeError where it is no graph, or the weight no attribute; ValueError
+    names the edge with parallel ones, or with a weight that isn't whole."""
+    if not hasattr(graph, 'adjacency') or not hasattr(graph, 'is_multigraph'):
+        raise TypeError('expected a graph of networkx, got %s' % type(graph).__name__)
+    if callable(weight):
+        raise TypeError(
+            'weight is the name of an edge attribute, or None for ones; what a function gives '
+            'for each edge has to be put into an attribute first: '
+            'networkx.set_edge_attributes(G, values, "w"), and weight="w"')
+    near = neighbourhoods(graph)
+    nodes = Nodes(near if nodelist is None else nodelist)
+    _check_nodes(nodes, near)
+    blocks = list(near.values())
+    if nodelist is not None:
+        blocks = [{end: held for end, held in near[node].items() if end in nodes.places}
+                  for node in nodes]
+    counts, ends, held = (_list_parallel(blocks, nodes, folds) if graph.is_multigraph() else (
+        list(map(len, blocks)), list(itertools.chain.from_iterable(blocks)),
+        [data for block in blocks for data in block.values()] if weight is not None else []))
+
+    def wrong(at: int, why: Exception) -> Exception:
+        row = bisect.bisect_right(list(itertools.accumulate(counts)), at)
+        return type(why)('the edge from %r to %r: %s' % (nodes[row], ends[at], why))
+    rounding = Rounding(scale)
+    values = (numpy.ones(len(ends), numpy.int64) if weight is None
+              else whole_numbers([data.get(weight, 1) for data in held], rounding, wrong, 'weight'))
+    is_plain = all(type(node) is int for node in nodes) and nodes == list(range(len(nodes)))
+    columns = ends if is_plain else map(nodes.places.__getitem__, ends)
+    triples = Triples(row_numbers(counts), numpy.fromiter(columns, numpy.int64, len(ends)), values,
+                      len(nodes), len(nodes))
+    weighted = weight is not None and any(weight in data for data in held)
+    return triples, Metadata(nodes, nodes, bool(graph.is_directed()), weighted,
+                             _join(str(rounding) if weight is not None else '',
+                                   _describe_absent(held, weight)))
+
+
+def _describe_absent(held: List[Any], weight: Optional[str]) -> str:
+    """How many edges count as 1, as networkx has it, since they lack the attribute that was asked
+    for. An edge that stands both ways has one dictionary."""
+    absent = {id(data) for data in held if weight not in data} if weight is not None else set()
+    return describe_absent(len(absent), len(set(map(id, held))) if absent else 0,
+                           'attribute %r' % weight)
+
+
+def _check_nodes(nodes: Nodes, near: Dict[Any, Neighbours]) -> None:
+    """ValueError for nodes that stand twice, or not in the graph; TooLarge for too many."""
+    if len(nodes.places) != len(nodes):
+        raise ValueError('a node stands twice in nodelist')
+    for node in nodes:
+        if node not in near:
+            raise ValueError('no node of the graph: %r' % (node,))
+    if len(nodes) > MOST_SIDE:
+        raise refusal('M4', detail='%d nodes' % len(nodes))
+
+
+def _list_parallel(blocks: List[Neighbours], nodes: Nodes,
+                   folds: bool) -> Tuple[List[int], List[Any], List[Any]]:
+    """Of each node of a multigraph the number of its edges; where each edge leads, and what it
+    holds. ValueError where there are parallel ones and nobody folds them."""
+    counts: List[int] = []
+    ends: List[Any] = []
+    held: List[Any] = []
+    for node, block in zip(nodes, blocks):
+        before = len(ends)
+        for end, keys in block.items():
+            if len(keys) > 1 and not folds:
+                raise ValueError(
+                    '%d edges lead from %r to %r: dup_op= says how parallel ones are folded, '
+                    'such as "plus", "min" or "first"' % (len(keys), node, end))
+            ends.extend([end] * len(keys))
+            held.extend(keys.values())
+        counts.append(len(ends) - before)
+    return counts, ends, held

@@ -51,14 +51,6 @@ Wrong = Callable[[str], Exception]
 """The error of a value, by what is wrong with it."""
 
 
-def check_missing(missing: Optional[str]) -> None:
-    """ValueError for what says nothing of missing values."""
-    if missing not in (RAISE, SKIP, None):
-        raise ValueError(
-            'missing is "raise", "skip" or None, which takes nothing for missing; not %s'
-            % shown(missing))
-
-
 def is_missing(field: str) -> bool:
     """Whether a field says that a value is missing."""
     return field.strip().lower() in MISSING
@@ -286,19 +278,6 @@ class Clock:
             found.append(number)
         self.count += len(found)
         return numpy.array(found, numpy.int64)
-
-
-def clock_of(unit: Optional[str], date_format: Optional[str],
-             scale: Optional[float]) -> Optional[Clock]:
-    """What makes numbers of times; None where values are no times. ValueError for words that don't
-    go together."""
-    if unit is None:
-        if date_format is not None:
-            raise ValueError('date_format= says how times are written: unit="s" takes them')
-        return None
-    if scale is not None:
-        raise ValueError('values are times (unit=) or numbers (scale=): one of both')
-    return Clock(unit, date_format)
 
 
 def is_time(value: Any, date_format: Optional[str] = None) -> bool:

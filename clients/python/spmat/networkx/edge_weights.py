@@ -17,7 +17,7 @@ import numpy
 
 from ..io import coo
 from ..io.values import Rounding, check_scale, scaled_one
-from ..io.networkx_adjacency import neighbourhoods
+from ..io.edge_sources import neighbourhoods
 from . import process_session
 
 # units are 1 over a divisor of one of these

@@ -9,7 +9,7 @@ import networkx as nx
 import numpy
 
 from .. import algorithms
-from ..io.networkx_adjacency import neighbourhoods, row_numbers
+from ..io.edge_sources import neighbourhoods, row_numbers
 from ..matrix import Matrix
 from ..metadata import Metadata, Nodes
 from . import edge_weights

@@ -32,7 +32,7 @@ MODULES = ('io/column*.py', 'io/coo.py', 'io/edge*.py',
            'io/matrix_market.py', 'io/values.py', 'io/writers.py',
            'wire/transport.py', 'operators/clang.py', 'operators/c.py')
 NEVER = {'source', 'target', 'edge_attr', 'index_col', 'mcpu', 'nodelist', 'nodes', 'nodetype',
-         'raw', 'right', 'left', 'run_timeout', 'sep', 'timeout'}
+         'raw', 'right', 'left', 'run_timeout', 'sep', 'timeout', 'weight'}
 
 
 def commands():

@@ -103,7 +103,6 @@ class Networkx(InSession):
         """Random graphs of each kind, with and without numpy's columns: the entries that networkx
         lists."""
         import networkx
-        from spmat.io import networkx_adjacency
         r = random.Random(4)
         for number in range(60):
             kind = (networkx.Graph, networkx.DiGraph, networkx.MultiGraph,
