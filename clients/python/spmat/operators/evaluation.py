@@ -105,8 +105,7 @@ class _Calls:
             self._send(after + int(line.operands[-1]), jumps)
             self._send(after, here & ~jumps)
         else:
-            target = line.operands[0]
-            value = numpy.broadcast_to(self._value(line), self.shape)
+            target, value = line.operands[0], self._value(line)
             held = self.registers.get(target)
             self.registers[target] = (value if held is None or here.all()
                                       else numpy.where(here, value, held))
@@ -117,7 +116,7 @@ class _Calls:
 
     def _word(self, operand: str) -> Any:
         return (self.registers[operand] if operand.startswith('r')
-                else numpy.int64(assembly.wrap(int(operand))))
+                else numpy.full(self.shape, assembly.wrap(int(operand))))
 
     def _jumps(self, line: assembly.Line) -> Any:
         """Which calls a jump sends on."""

@@ -53,6 +53,16 @@ class Evaluation(support.InSession):
                     self.check(spmat.asm('binary', 'mov64 r0, r1\n%s%s r0, r2\nexit\n'
                                          % (name, width)))
 
+    def test_numbers(self):
+        """With a number in place of the second register."""
+        for name in operators.assembly.OPERATIONS:
+            for number in (0, 7, -3):
+                with self.subTest(name, number=number):
+                    if number or name not in ('div', 'mod', 'sdiv', 'smod'):
+                        number = number % 64 if name in ('lsh', 'rsh', 'arsh') else number
+                        self.check(spmat.asm('binary', 'mov64 r0, r1\n%s64 r0, %d\nexit\n'
+                                             % (name, number)))
+
     def test_jumps(self):
         for name in operators.assembly.CONDITIONS.values():
             with self.subTest(name):
