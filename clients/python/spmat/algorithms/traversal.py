@@ -23,7 +23,7 @@ from typing import Any, Dict, List, NamedTuple, Optional, Sequence, cast
 import numpy
 
 from ..backends.protocol import AMPLE
-from ..io import matrix_text, parse_integers
+from ..io import matrix_text
 from ..io.matrix_text import Triples
 from ..loops.round_text import Push
 from ..matrix import Matrix
@@ -358,7 +358,7 @@ def read_vector(text: bytes, field: int, values: bool = True) -> Vector:
     nrows, ncols, nvals, start = matrix_text.head_of(text)
     is_full = nvals == (ncols if field else nrows)
     wanted = (() if is_full else (field,)) + ((2,) if values else ())
-    numbers = parse_integers.fields(text[start:], wanted) if wanted else []
+    numbers = matrix_text.read_fields(text[start:], wanted) if wanted else []
     at = numpy.arange(nvals) if is_full else numbers[0] - 1
     return Vector(at, numbers[-1] if values else at[:0])
 
@@ -371,7 +371,7 @@ def read_column(matrix: Matrix) -> Vector:
 def read_values(matrix: Matrix) -> Array:
     """The values of a vector whose places are known."""
     text = matrix.to_text()
-    values: Array = parse_integers.fields(text[matrix_text.head_of(text).start:], (2,))[0]
+    values: Array = matrix_text.read_fields(text[matrix_text.head_of(text).start:], (2,))[0]
     return values
 
 

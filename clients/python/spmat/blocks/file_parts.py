@@ -20,7 +20,7 @@ import numpy
 
 from .. import overflow
 from ..errors import ReadError, Refused, TextRefused
-from ..io import edge_list_reader, files, formats, matrix_market, matrix_text, parse_integers
+from ..io import edge_list_reader, files, formats, matrix_market, matrix_text
 from ..io.columns import Layout
 from ..io.coo import LEAST, MOST
 from ..io.edge_list_layout import Form
@@ -264,8 +264,8 @@ def _fold_lines(store: Store, bare: bool, text: bytes, fold: Fold, refused: Refu
     ValueError where a sum is beyond 64 bits."""
     nrows, ncols, _, start = matrix_text.head_of(text)
     # `matrix_text.write` signs each value where one is below 0
-    rows, columns, *values = parse_integers.fields(text[start:].replace(b'+', b'0'),
-                                                   range(2 if bare else 3), 2 if bare else 3)
+    rows, columns, *values = matrix_text.read_fields(text[start:].replace(b'+', b'0'),
+                                                     range(2 if bare else 3), 2 if bare else 3)
     triples = Triples(rows - 1, columns - 1, values[0] if values
                       else numpy.ones(len(rows), numpy.int64), nrows, ncols)
     if fold.op is not None:

@@ -133,7 +133,7 @@ def write(path: Any, matrices: Mapping[str, MatrixBase]) -> None:
     for number, (name, matrix) in enumerate(matrices.items()):
         contents['matrices'][name] = about = _describe(name, matrix.notes)
         about['entries'] = '%d.mtx' % number
-        if not about.keys().isdisjoint(('unit', 'values')):
+        if 'unit' in about or 'values' in about:
             # a client that knows none of them doesn't read the file
             contents['spmat'] = VERSION
     with replacing(os.fspath(path)) as part, \

@@ -195,8 +195,8 @@ def _split_quoted(row: Head, words: str, start: int, delimiter: str) -> Tuple[Li
         else:
             fields.append(plain.strip(' \t\r'))
         if end != delimiter:
-            break
-    return fields, found.end() - end.endswith('\n')
+            return fields, found.end() - end.endswith('\n')
+    return fields, len(words)
 
 
 @functools.lru_cache(maxsize=8)

@@ -1,5 +1,5 @@
 """Lists of edges, read at once where every line is written as the first ones are: whole numbers by
-`parse_integers`, anything else by pandas. What these would take otherwise than it is meant, or
+`matrix_text`, anything else by pandas. What these would take otherwise than it is meant, or
 can't name a line of, is read line by line: missing names, quoted blanks, dates, decimals beyond
 floats, and whatever is wrong."""
 from __future__ import annotations
@@ -14,7 +14,7 @@ import numpy
 
 from ..errors import ReadError
 from ..extras import import_extra
-from . import parse_integers
+from . import matrix_text
 from .columns import MAY_BE_HEADER, Layout
 from .edge_list_layout import BLANKS, CALLED, Form, Quoted, Row, Table, ask_comment, lay_out
 from .edges import WHOLE, Edges, LeftOut, Names, code_names
@@ -83,10 +83,9 @@ def read_plain(body: bytes, form: Form, rounding: Rounding) -> Optional[Tuple[An
         return None
     columns = _read_integers(plain, form)
     if columns is None:
-        frame = _parse(pandas, plain, form) if _are_alike(plain, form) else None
-        if frame is None:
+        columns = _parse(pandas, plain, form) if _are_alike(plain, form) else None
+        if columns is None:
             return None
-        columns = {at: frame[at].to_numpy() for at in form.columns}
     sources, targets = (columns[at] for at in form.ends)
     values = None if form.value is None else scaled_array(columns[form.value], rounding)
     if form.value is not None and values is None:
@@ -101,10 +100,10 @@ def _read_integers(body: bytes, form: Form) -> Optional[Any]:
     """The columns that are read, by their numbers, where all that the lines have is whole numbers,
     each written as Python would write it, parted by one byte; also of no line at all. Else None."""
     columns = form.columns
-    if not body.strip():
+    if not body or body.isspace():
         return dict.fromkeys(columns, numpy.zeros(0, numpy.int64))
     delimiter = (form.delimiter or ('\t' if b'\t' in body[:PIECE] else ' ')).encode()
-    found = parse_integers.read_plain(body if body.endswith(b'\n') else body + b'\n', form.width,
+    found = matrix_text.read_plain(body if body.endswith(b'\n') else body + b'\n', form.width,
                                       delimiter, columns, True)
     return None if found is None else dict(zip(columns, found))
 
@@ -145,12 +144,13 @@ def _are_alike(body: bytes, form: Form) -> bool:
     if len(form.columns) == form.width:
         first = len(body) - len(body.lstrip())
         body = body[first:body.find(b'\n', first) + 1 or None]
-    return parse_integers.count_even_lines(body, form.width, form.delimiter) is not None
+    return matrix_text.count_even_lines(body, form.width, form.delimiter) is not None
 
 
 def _parse(pandas: Any, body: bytes, form: Form) -> Optional[Any]:
-    """The columns that are read, as pandas has them; None where it can't. Names are whole numbers
-    where all are, and are written as such; else they are text as it is written."""
+    """The columns that are read, by their numbers, as pandas has them; None where it can't. Names
+    are whole numbers where all are, and are written as such; else they are text as it is
+    written."""
     def parse(kinds: Any = None) -> Any:
         return pandas.read_csv(
             io.BytesIO(body), sep=form.delimiter or r'\s+', header=None, names=range(form.width),
@@ -160,9 +160,9 @@ def _parse(pandas: Any, body: bytes, form: Form) -> Optional[Any]:
     try:
         frame = parse()
         kinds = {frame[at].dtype.kind for at in form.ends}
-        if kinds == {'O'} or (kinds == {'i'} and _are_as_written(body)):
-            return frame
-        return parse({at: object for at in form.ends})
+        if kinds != {'O'} and not (kinds == {'i'} and _are_as_written(body)):
+            frame = parse({at: object for at in form.ends})
+        return {at: frame[at].to_numpy() for at in form.columns}
     except (ValueError, OverflowError, pandas.errors.ParserError):
         return None
 

@@ -213,14 +213,15 @@ def number_ascending(columns: List[Any]) -> Tuple[List[Any], Any]:
         names, codes = numpy.unique(numpy.concatenate(columns), return_inverse=True)
         return list(numpy.split(codes.reshape(-1),
                                 numpy.cumsum([len(column) for column in columns])[:-1])), names
+    columns = [column - least for column in columns] if least else columns
     seen = numpy.zeros(most - least + 1, bool)
     for column in columns:
-        seen[column - least] = True
+        seen[column] = True
     names = numpy.flatnonzero(seen) + least
     if len(names) == len(seen):
-        return [column - least if least else column for column in columns], names
+        return columns, names
     place = numpy.cumsum(seen) - 1
-    return [place[column - least] for column in columns], names
+    return [place[column] for column in columns], names
 
 
 def _keep_first(triples: Triples, notes: Metadata, edges: Edges,

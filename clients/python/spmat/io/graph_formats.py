@@ -1,6 +1,6 @@
-"""Graphs in files that say by themselves what their vertices are: GraphML, GEXF and GML by networkx,
-and those of the DIMACS challenges. Files of pandas (parquet); and lists as networkx writes them,
-with a dictionary of attributes behind each edge.
+"""Graphs in files that say by themselves what their vertices are: GraphML, GEXF and GML by
+networkx, and those of the DIMACS challenges. Files of pandas (parquet); and lists as networkx
+writes them, with a dictionary of attributes behind each edge.
 
 DIMACS has shortest paths (`p sp`, arcs `a`), maximum flow (`p max`, arcs `a`), and colouring or
 cliques (`p edge`, `p col`, edges `e`). Vertices count from 1, and are named so. Sources: the ninth

@@ -18,10 +18,10 @@ from ..errors import Refused, refusal
 from ..limits import MOST_SIDE
 from ..metadata import BY_POSITIONS, Metadata
 from ..units import as_unit
-from . import files, parse_integers
+from . import files, matrix_text
 from .coo import DUP_OP, LEAST
 from .matrix_text import Triples, line_at
-from .values import NOT_WHOLE, Rounding, check_scale, scaled_array, whole_of
+from .values import NOT_WHOLE, Rounding, check_scale, is_number, scaled_array, whole_of
 
 FIELDS = {'integer': 'integer', 'unsigned-integer': 'integer', 'pattern': 'pattern', 'real': 'real',
           'double': 'real', 'complex': 'complex'}
@@ -315,7 +315,7 @@ def _entry_of(line: Line, kind: Kind, nrows: int, ncols: int) -> Tuple[int, int,
 
 def read_quickly(kind: Kind, body: bytes, count: int, nrows: int, ncols: int) -> Optional[Triples]:
     """All lines at once by numpy; None where something is unusual or wrong."""
-    columns = parse_integers.read_plain(body, kind.width) or _read_numbers(kind, body)
+    columns = matrix_text.read_plain(body, kind.width) or _read_numbers(kind, body)
     if columns is None or len(columns[0]) != count:
         return None
     i, j = (_grid(kind.symmetry, nrows, ncols) if kind.array
@@ -337,27 +337,18 @@ def _read_numbers(kind: Kind, body: bytes) -> Optional[List[Any]]:
     values as floats, which hold small whole numbers alone."""
     width, places = kind.width, 0 if kind.array else 2
     allowed = NUMBERS + (b'.eE' if kind.field in ('real', 'complex') else b'')
-    lines = parse_integers.count_even_lines(body, width)
+    lines = matrix_text.count_even_lines(body, width)
     if body.translate(None, allowed) or not lines:
         return None
     try:
         numbers = numpy.fromstring(body, numpy.float64, sep=' ')
     except (ValueError, DeprecationWarning):       # of what is no number, as numpy will have it
         return None
-    if len(numbers) != width * lines or not _is_number(body.rsplit(None, 1)[-1]):
+    # numpy's reader ends amid the last one without a word, at 2 of `2-1`
+    if len(numbers) != width * lines or not is_number(body.rsplit(None, 1)[-1].decode()):
         return None
     columns = [numbers[at::width] for at in range(width)]
     if any((column != numpy.trunc(column)).any() or (numpy.abs(column) > MOST_SIDE).any()
            for column in columns[:places]):
         return None
     return [column.astype(numpy.int64) for column in columns[:places]] + columns[places:]
-
-
-def _is_number(word: bytes) -> bool:
-    """Whether this is a number: numpy's reader ends amid the last one without a word, at 2 of
-    `2-1`."""
-    try:
-        float(word)
-    except ValueError:
-        return False
-    return True

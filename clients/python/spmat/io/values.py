@@ -104,9 +104,9 @@ class Rounding:
 
 def whole_values(fields: Sequence[str], wrong: Callable[[int, str], Exception],
                  rounding: Rounding) -> Any:
-    """Fields as an array of whole numbers. With a scale each is multiplied by it and rounded to the nearest,
-    halves to the even one; without one 0.5 is an error, and 2.0 is 2. `rounding` has the scale, and
-    notes what it did; `wrong` makes the error of a field, by its number."""
+    """Fields as an array of whole numbers. With a scale each is multiplied by it and rounded to the
+    nearest, halves to the even one; without one 0.5 is an error, and 2.0 is 2. `rounding` has the
+    scale, and notes what it did; `wrong` makes the error of a field, by its number."""
     if rounding.scale is None and not any('_' in field for field in fields):
         with contextlib.suppress(ValueError, OverflowError):     # which are named below
             return numpy.array(list(map(int, fields)), numpy.int64)

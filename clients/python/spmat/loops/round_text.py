@@ -18,7 +18,7 @@ import numpy
 from ..backends.names import ServerHandle
 from ..backends.protocol import Handle
 from ..backends.trace import Given, Traced, TracedJob, Value
-from ..io import matrix_text, parse_integers
+from ..io import matrix_text
 from ..io.matrix_text import Triples
 from ..limits import QUEUE
 from ..matrix import Matrix
@@ -254,7 +254,7 @@ class Shown:
         rounds where they are wanted."""
         new, self._new = self._new, []
         text = b''.join(lines for _, _, lines in new)
-        found = parse_integers.fields(text, (self._field, 2) if values else (self._field,))
+        found = matrix_text.read_fields(text, (self._field, 2) if values else (self._field,))
         numbers_of = numpy.repeat(numpy.array([number for number, _, _ in new], numpy.int64),
                                   [count for _, count, _ in new]) if rounds else NONE
         return Entries(numbers_of, found[0] - 1, found[1] if values else NONE)

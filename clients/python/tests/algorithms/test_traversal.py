@@ -9,7 +9,7 @@ import support
 from spmat import algorithms
 from spmat.algorithms import traversal
 from spmat.algorithms.traversal import Columns, Rows
-from spmat.io import matrix_text, parse_integers
+from spmat.io import matrix_text
 
 MANY = 3072
 PAIRS = [(i, j) for i in range(40) for j in range(40) if i != j and (7 * i + 3 * j) % 5 == 0]
@@ -112,7 +112,7 @@ class Vectors(unittest.TestCase):
         for column in (False, True):
             text = text_of(list(range(MANY)), MANY, column)[0]
             with self.subTest(column=column), \
-                    mock.patch.object(parse_integers, 'fields',
-                                      wraps=parse_integers.fields) as fields:
+                    mock.patch.object(matrix_text, 'read_fields',
+                                      wraps=matrix_text.read_fields) as fields:
                 traversal.read_vector(text, 0 if column else 1)
                 self.assertEqual(fields.call_args.args[1], (2,))

@@ -7,7 +7,7 @@ import numpy
 
 import spmat
 from spmat import blocks
-from spmat.io import matrix_text, parse_integers
+from spmat.io import matrix_text
 from support import InSession
 
 
@@ -24,7 +24,7 @@ class Digits(unittest.TestCase):
                     for k in range(many)]
             text = b''.join(b'%d %d %d\n' % line for line in made)
             for wanted in ((0, 1, 2), (1, 2), (2,), (1,), (0,)):
-                got = parse_integers.fields(text, wanted)
+                got = matrix_text.read_fields(text, wanted)
                 self.assertEqual([one.tolist() for one in got],
                                  [[line[field] for line in made] for field in wanted])
 
@@ -37,13 +37,13 @@ class Digits(unittest.TestCase):
             made = [(random_.randrange(1, 99), random_.choice(odd) if random_.random() < .3
                      else random_.randrange(-99, 99)) for _ in range(random_.randrange(1, 9))]
             fits = all(-1 << 63 <= value < 1 << 63 for line in made for value in line)
-            got = parse_integers.read_plain(b''.join(b'%d %d\n' % line for line in made), 2)
+            got = matrix_text.read_plain(b''.join(b'%d %d\n' % line for line in made), 2)
             self.assertEqual(got is not None, fits, made)
             if got is not None:
                 self.assertEqual(list(zip(*(one.tolist() for one in got))), made)
         for text in (b'1 2', b'1  2\n', b'1 +2\n', b'1 -\n', b'1 2-2\n', b'--1 2\n', b'\n1 2\n',
                      b'1\t2\n', b'1 2 3\n', b'1 00000000000000000012\n', b'-1-2 3\n'):
-            self.assertIsNone(parse_integers.read_plain(text, 2), text)
+            self.assertIsNone(matrix_text.read_plain(text, 2), text)
 
     def test_even_lines(self):
         for text, delimiter, count in ((b'', None, 0), (b'1 2\n', None, 1),
@@ -51,14 +51,14 @@ class Digits(unittest.TestCase):
                                        (b'a,b\n \n,c\n', ',', 2),
                                        (b'a,b\nc\n', ',', None), (b'a\tb\n\t\n', '\t', 2),
                                        (b'a,b,c\n', ',', None)):
-            with mock.patch.object(parse_integers, 'PIECE', 1):
-                self.assertEqual(parse_integers.count_even_lines(text, 2, delimiter), count, text)
+            with mock.patch.object(matrix_text, 'PIECE', 1):
+                self.assertEqual(matrix_text.count_even_lines(text, 2, delimiter), count, text)
 
     def test_short_chunks(self):
         text = b''.join(b'%d %d %d\n' % (k, 7 * k, -k) for k in range(1, 4000))
-        with mock.patch.object(parse_integers, 'CHUNK', 64), \
-                mock.patch.object(parse_integers, 'SHORT', 0):
-            rows, columns, values = parse_integers.fields(text, (0, 1, 2))
+        with mock.patch.object(matrix_text, 'CHUNK', 64), \
+                mock.patch.object(matrix_text, 'SHORT', 0):
+            rows, columns, values = matrix_text.read_fields(text, (0, 1, 2))
         self.assertEqual((rows.sum(), columns.sum(), values.sum()), (7998000, 55986000, -7998000))
 
 
