@@ -191,7 +191,7 @@ def _code(sources: Any, targets: Any, form: Form,
           has_blanks: bool) -> Optional[Tuple[Names, Names]]:
     """Two columns of text as numbers of the names that there are, in the order in which they first
     stand. None where a name may be missing, is a long whole number, or may begin a comment."""
-    coded = code_names(sources, targets)
+    coded = code_names(sources, targets, True)
     names = coded[0].names
     if form.delimiter is not None and has_blanks:
         stripped = [name.strip(BLANKS) for name in names]

@@ -245,12 +245,21 @@ def _keep_first(triples: Triples, notes: Metadata, edges: Edges,
     return once
 
 
-def code_names(sources: Any, targets: Any) -> Tuple[Names, Names]:
+def code_names(sources: Any, targets: Any, are_shared: bool = False) -> Tuple[Names, Names]:
     """Two arrays of objects as numbers of those that there are, in the order in which they first
-    stand. It needs pandas."""
+    stand. Where they `are_shared`, most that are equal are one object, as pandas reads text. It
+    needs pandas."""
     pandas = import_extra('pandas', 'a list of edges')
     both = numpy.empty(2 * len(sources), object)
     both[0::2], both[1::2] = sources, targets
-    codes, unique = pandas.factorize(both)
+    if are_shared and len(both):
+        # Addresses are told apart in less time than texts, of which few are left then.
+        objects, _ = pandas.factorize(numpy.fromiter(map(id, both), numpy.int64, len(both)))
+        first = numpy.empty(int(objects.max()) + 1, numpy.int64)
+        first[objects[::-1]] = numpy.arange(len(both) - 1, -1, -1)
+        codes, unique = pandas.factorize(both[first])
+        codes = codes[objects]
+    else:
+        codes, unique = pandas.factorize(both)
     names = list(unique)
     return Names(codes[0::2], names), Names(codes[1::2], names)

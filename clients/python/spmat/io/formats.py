@@ -2,6 +2,7 @@
 and parquet. (`matrix_market` reads the rest.)"""
 from __future__ import annotations
 
+import functools
 import json
 import re
 from typing import Callable, Dict, NamedTuple, Optional, Sequence, Tuple
@@ -17,6 +18,7 @@ PARTED = {'csv': ',', 'tsv': '\t'}
 OF_LISTS = ('edges', 'csv', 'tsv', 'parquet')     # which have columns
 START = 1 << 16                                    # bytes that are looked at
 GML = re.compile(rb'(creator\s|version\s|comment\s|directed\s|graph\s*\[)', re.I)
+HTML = re.compile(rb'<!doctype\s+html|<html\b', re.I)
 MARKUP = re.compile(rb'<([?!/]|[A-Za-z][\w:.-]*[\s/>])')
 DOT_OR_PAJEK = re.compile(
     rb'(strict\s+)?(di)?graph(\s+[\w"]+)?\s*\{|\*\s*(vertices|network|arcs|edges)\b', re.I)
@@ -52,22 +54,11 @@ class GraphFormat(NamedTuple):
     read: Callable[[str, bytes, Layout], Edges]
 
 
-def _by_networkx(name: str, is_like: Callable[[bytes], bool]) -> GraphFormat:
-    """The row of a format that networkx reads."""
-    return GraphFormat(name, graph_formats.CALLED[name], is_like,
-                       lambda file, text, layout: graph_formats.read_graph(file, text, name,
-                                                                           layout))
-
-
-def _has_root(text: bytes, name: bytes) -> bool:
-    """Whether a text is XML whose root has a name."""
+def _find_root(text: bytes) -> Optional[str]:
+    """The name of the root of a text in XML, where it is GraphML or GEXF."""
     start = text[:START].lstrip()
     root = re.search(rb'<(?:\w+:)?(graphml|gexf)\b', start) if start.startswith(b'<') else None
-    return root is not None and root.group(1) == name and not _is_html(start)
-
-
-def _is_html(start: bytes) -> bool:
-    return re.search(rb'<!doctype\s+html|<html\b', start[:4096], re.I) is not None
+    return root.group(1).decode() if root is not None and not HTML.search(start[:4096]) else None
 
 
 def _is_gml(text: bytes) -> bool:
@@ -77,9 +68,10 @@ def _is_gml(text: bytes) -> bool:
 
 GRAPH_FORMATS: Dict[str, GraphFormat] = {one.name: one for one in (
     GraphFormat('dimacs', 'DIMACS', graph_formats.is_dimacs, graph_formats.read_dimacs),
-    _by_networkx('graphml', lambda text: _has_root(text, b'graphml')),
-    _by_networkx('gexf', lambda text: _has_root(text, b'gexf')),
-    _by_networkx('gml', _is_gml),
+    *(GraphFormat(name, called, is_like, functools.partial(graph_formats.read_graph, name))
+      for (name, called), is_like in zip(graph_formats.CALLED.items(), (
+          lambda text: _find_root(text) == 'graphml', lambda text: _find_root(text) == 'gexf',
+          _is_gml))),
 )}
 FORMATS = ('mtx', 'edges', 'csv', 'tsv', *GRAPH_FORMATS, 'parquet')
 # what a sentence lists that says what can be read
@@ -114,7 +106,7 @@ def describe_other(text: bytes) -> Optional[str]:
     start = start.lstrip()
     if MARKUP.match(start):
         return EXPECTED + ('a page in HTML, perhaps in place of the file that was asked for'
-                           if _is_html(start) else 'XML that is neither GraphML nor GEXF')
+                           if HTML.search(start[:4096]) else 'XML that is neither GraphML nor GEXF')
     if start[:1] in (b'{', b'[') and _is_json(start, len(text) > START):
         return (EXPECTED + 'JSON: json.load reads it, and from_edgelist takes its edges, or '
                 'networkx.node_link_graph and from_networkx')
@@ -196,8 +188,8 @@ def read(file: str, text: bytes, request: Request, tell: Optional[Progress] = No
     tell = tell if tell is not None else lambda what, done, of: None
     tell('reading', 0, len(text))
     edges, how = edges_of(file, text, request)
-    tell('reading', len(text), len(text))
     count = len(edges.sources)
+    tell('reading', len(text), len(text))
     tell('names', 0, count)
     graph = graph_of(edges, how)
     tell('names', count, count)

@@ -33,7 +33,7 @@ ARCS = {'sp': b'a', 'max': b'a', 'edge': b'e', 'edges': b'e', 'col': b'e'}
 PASSED = (b'c', b'n', b'x', b'd', b'v')             # comments, and what is told of single vertices
 
 
-def read_graph(file: str, text: bytes, format: str, layout: Layout) -> Edges:
+def read_graph(format: str, file: str, text: bytes, layout: Layout) -> Edges:
     """The graph of a GraphML, GEXF or GML file. ReadError where networkx isn't there, or takes it
     for none."""
     try:
