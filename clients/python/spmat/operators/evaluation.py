@@ -21,7 +21,7 @@ def _unsigned(words: Any) -> Any:
 
 
 def _quotient(a: Any, b: Any) -> Any:
-    divided = _unsigned(a) // numpy.maximum(_unsigned(b), 1)
+    divided = _unsigned(a) // numpy.maximum(_unsigned(b), numpy.uint64(1))
     return numpy.where(b == 0, 0, divided.view(numpy.int64))
 
 

@@ -49,9 +49,10 @@ class Evaluation(support.InSession):
             for width in ('64', '32'):
                 if width == '32' and name in ('arsh', 'lsh', 'rsh', 'sdiv', 'smod'):
                     continue
-                with self.subTest(name + width):
-                    self.check(spmat.asm('binary', 'mov64 r0, r1\n%s%s r0, r2\nexit\n'
-                                         % (name, width)))
+                for right in ('r2', '10', '-3', '0'):
+                    with self.subTest(name + width, right=right):
+                        self.check(spmat.asm('binary', 'mov64 r0, r1\n%s%s r0, %s\nexit\n'
+                                             % (name, width, right)))
 
     def test_numbers(self):
         """With a number in place of the second register."""
