@@ -155,7 +155,7 @@ class Mask(NamedTuple):
             Of two matrices, whose entries == doesn't look at.
         """
         if isinstance(other, Mask) and self.matrix is other.matrix:
-            return tuple(self[1:]) == tuple(other[1:])
+            return (self.value, self.complement) == (other.value, other.complement)
         raise TypeError(
             'a mask has no ==: write A.isequal(B) for two matrices, A.select("valueeq", 3) for '
             'some entries, A.ewise_mult(B, "eq") entry by entry, or (A.S ^ B.S).matrix.nvals == 0 '

@@ -147,7 +147,8 @@ class QueuedRun(Command):
     def __init__(self, queue: Queue, jobs: List[ServerHandle]) -> None:
         super().__init__('run', matters=True)
         self._queue, self._jobs = queue, jobs
-        self._counts: List[Tuple[int, int]] = []
+        # of each job that was queued the entries and the steps, as the reply says
+        self._counts: List[Tuple[ServerHandle, int, int]] = []
 
     @property
     def jobs(self) -> int:  # type: ignore[override]
@@ -169,7 +170,7 @@ class QueuedRun(Command):
             most = job.most if job.most < MOST_SIDE else MOST_SIDE
             entries = check_number('ENTRIES', said[3], (0, most), 'run', said)
             steps = check_number('STEPS', said[4], (0, job.price or 0), 'run', said)
-            self._counts.append((entries, steps))
+            self._counts.append((job, entries, steps))
             spent += steps
         if spent != reply.numbers[1]:
             raise_fault('run', 'STEPS of %d, the sum of its lines' % spent, ['ok', *reply.words])
@@ -177,8 +178,7 @@ class QueuedRun(Command):
     def done(self, reply: Reply) -> None:
         queue = self._queue
         self._end()
-        jobs = [job for job in self._jobs if not job.is_refused]
-        for job, (entries, steps) in zip(jobs, self._counts):
+        for job, entries, steps in self._counts:
             assert job.price is not None
             queue.left += job.price - steps
             queue.ceiling -= steps
@@ -188,7 +188,7 @@ class QueuedRun(Command):
                 job.nvals, job.most, job.steps = entries, entries, steps
         if queue.report is not None:
             queue.report[:] = [JobResult(next(iter(job.matrices()), None), job.form, job.price or 0,
-                                         job.steps or 0) for job in jobs]
+                                         job.steps or 0) for job, _, _ in self._counts]
 
     def lost(self, cause: BaseException) -> None:
         if isinstance(cause, Refused):             # which doesn't say what was spent

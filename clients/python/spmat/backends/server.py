@@ -188,11 +188,11 @@ class ServerBackend(Backend):
     def wait(self, handle: Handle) -> None:
         """Runs the queue where a matrix waits. Raises Closed where the session has ended, and
         NotMade where the run was refused."""
-        self.connection.check_open()
-        handle.check_made()
-        if handle.nvals is None:
+        if handle.waits:
             self._run()
-            handle.check_made()
+        else:
+            self.connection.check_open()
+        handle.check_made()
 
     # -- operators
 
