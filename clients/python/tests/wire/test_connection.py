@@ -245,6 +245,36 @@ class Interrupts(unittest.TestCase):
                 self.assertEqual((B.nvals, C.steps, A.to_coo(arrays=False)[2]), (1, 2, [5]))
                 self.assertNotIn(C.handle.key, [name for name in jobs if name != C.handle.key])
 
+    def test_amid_a_job(self):
+        """A job whose reply is owed is among those of the next run, also where another job asks for
+        that run."""
+        late, jobs, slow = threading.Event(), [], []
+
+        def answer(words, body):
+            if words[0] == 'apply':
+                if slow:
+                    slow.clear()
+                    os.kill(os.getpid(), signal.SIGINT)
+                    late.wait(10)
+                jobs.append(words[1])
+                return b'ok queued %d 3\n' % len(jobs)
+            if words[0] == 'run':
+                lines = [b'%s 1 1 1 2\n' % name.encode() for name in jobs]
+                jobs.clear()
+                return b'ok run %d %d\n' % (len(lines), 2 * len(lines)) + b''.join(lines)
+            return {'matrix': b'ok matrix 1 1 1\n', 'asm': b'ok op 3 3\n',
+                    'budget': b'ok budget 9 0 0\n', 'quit': b'ok quit\n'}[words[0]]
+        with support.Scripted(answer) as server, spmat.Session.connect(port=server.port) as s:
+            A = s.full(1, 1)
+            B = A.apply('abs')
+            slow.append(True)
+            with self.assertRaises(KeyboardInterrupt):
+                A.apply('ainv')
+            late.set()
+            C = B.apply('abs')
+            self.assertEqual((s.runs, B.nvals, C.nvals, s.runs, s.connection.ended),
+                             (1, 1, 1, 2, None))
+
     def test_amid_sending(self):
         """Put off until the command stands; what is sent whole is answered."""
         def answer(words, body):
