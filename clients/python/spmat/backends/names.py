@@ -77,13 +77,6 @@ class DeferredHandle(ServerHandle):
         self._key = key
 
 
-class NamedReference(weakref.ref):  # type: ignore[type-arg]
-    """A reference to the owner of a name. (`weakref.KeyedRef` takes as long as half a job.)"""
-
-    __slots__ = ('name',)
-    name: str
-
-
 class ServerNames:
     """The names of one session.
 
@@ -102,7 +95,7 @@ class ServerNames:
         self._free: Deque[str] = collections.deque()
         # rows and entries of what a name stands for, where that is large
         self._large: Set[str] = set()
-        self._owners: Dict[str, NamedReference] = {}
+        self._owners: Dict[str, 'weakref.KeyedRef[str, Handle]'] = {}
         self._count = 0
 
     def take(self, owner: Handle, wished: Optional[str] = None) -> str:
@@ -118,8 +111,8 @@ class ServerNames:
         else:
             self._count += 1
             name = '_%d' % self._count
-        reference = self._owners[name] = NamedReference(owner, self._collected)
-        reference.name = name
+        # the callback gets the reference, whatever typeshed says
+        self._owners[name] = weakref.KeyedRef(owner, self._collected, name)  # type: ignore
         return name
 
     def named(self) -> Dict[str, Any]:
@@ -134,11 +127,11 @@ class ServerNames:
                     found[matrix.name] = matrix
         return found
 
-    def _collected(self, reference: Any) -> None:
+    def _collected(self, reference: 'weakref.KeyedRef[str, Handle]') -> None:
         # a name that was given back may have another owner by now
-        if self._owners.get(reference.name) is reference:
-            del self._owners[reference.name]
-            self.dropped.append(reference.name)
+        if self._owners.get(reference.key) is reference:
+            del self._owners[reference.key]
+            self.dropped.append(reference.key)
 
     def note_size(self, name: str, size: int) -> None:
         """How many rows and entries a name stands for now."""
