@@ -96,7 +96,8 @@ class Needs(unittest.TestCase):
         self.assertEqual({name for name, needed in needs.items() if not needed}, UNKNOWN)
         known, _ = self.on(TRIANGLES, facts)
         self.assertLessEqual({name for name, needed in known.items() if not needed},
-                             UNKNOWN | {'diameter', 'k_hop', 'k_shortest_paths', 'sssp'})
+                             UNKNOWN | {'core_numbers', 'diameter', 'k_core', 'k_hop',
+                                        'k_shortest_paths', 'sssp'})
 
     def test_directed(self):
         needs, _ = self.on(FORWARD)

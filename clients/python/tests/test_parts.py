@@ -8,6 +8,7 @@ from unittest import mock
 import graphs
 import support
 from spmat import algorithms
+from spmat.algorithms import spanning_forest
 
 try:
     import networkx
@@ -74,8 +75,13 @@ class Parts(graphs.OnGraphs):
         def look(graph, near, G):
             for edges in (graph.edges,
                           {place: value % 3 - 1 for place, value in graph.edges.items()}):
-                found = algorithms.minimum_spanning_forest(
-                    graph._replace(edges=edges).matrix(self.session))
+                W = graph._replace(edges=edges).matrix(self.session)
+                found = algorithms.minimum_spanning_forest(W)
+                # the client takes over amid the rounds, and when all is done
+                for most in (len(edges) // 3, 0):
+                    with mock.patch.object(spanning_forest, 'AT_ONCE', most):
+                        self.assertEqual(algorithms.minimum_spanning_forest(W).to_triples(),
+                                         found.to_triples())
                 forest = found.to_dict()
                 self.assertEqual(found.to_triples(), self.session.from_coo(
                     *found.to_coo(), *found.shape).to_triples())

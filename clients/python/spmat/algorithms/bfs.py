@@ -1,7 +1,7 @@
 """Breadth-first search from one vertex, or from many at once with a row for each."""
 from __future__ import annotations
 
-from typing import Dict, List, NamedTuple, Optional, Tuple
+from typing import Callable, Dict, List, NamedTuple, Optional, Tuple
 
 import numpy
 
@@ -41,25 +41,6 @@ class Search(NamedTuple):
         if level == self.depth:
             return True
         return self.target is not None and int(numbers[int(self.target)]) != NONE
-
-
-def read_search(G: Matrix, source: Vertices, depth: Optional[int], target: Optional[Vertex],
-                progress: Progress) -> Search:
-    """The search that a caller asks for. ValueError where a source or the target is no vertex, or
-    the depth is below 0."""
-    many = find_places(G, source)
-    if depth is not None and (isinstance(depth, bool) or not isinstance(depth, int) or depth < 0):
-        raise ValueError('a depth is a number of edges, 0 or more, not %r' % (depth,))
-    if not many:
-        raise ValueError('a search wants a vertex to begin with')
-    end = None if target is None else find_place(G, target)
-    return Search(sorted(set(many)), depth, end, progress)
-
-
-def find_levels(G: Matrix, search: Search, GT: Optional[Matrix] = None,
-                check: bool = False) -> Matrix:
-    """`bfs_levels` from rows, for functions within; the column has no names."""
-    return put_known(G, run_search(find_traversal(G, GT, check), search, False), NONE)
 
 
 def run_search(lines: Traversal, search: Search, parents: bool,
@@ -107,16 +88,33 @@ def _next_front(lines: Traversal, numbers: Array, front: Array, matrix: Optional
     return Vector(got.at[keep], got.values[keep] if parents else got.values), None
 
 
-def _column_of(G: Matrix, search: Search, GT: Optional[Matrix], check: bool,
-               parents: bool) -> Matrix:
-    """The column of a search; of one that is refused amid its work that of the levels before."""
-    numbers = numpy.full(G.nrows, NONE)
+def make_column(G: Matrix, missing: int, search: Callable[[Array], object]) -> Matrix:
+    """The column of what a search notes of each vertex, where that isn't `missing`; of one that is
+    refused amid its work that of what was known before."""
+    numbers = numpy.full(G.nrows, missing)
 
     def column() -> Matrix:
-        return beside(G, put_known(G, numbers, NONE))
+        return beside(G, put_known(G, numbers, missing))
     with keep_partial(lambda: unless_empty(column())):
-        run_search(find_traversal(G, GT, check), search, parents, numbers)
+        search(numbers)
     return column()
+
+
+def _search_column(G: Matrix, source: Vertices, GT: Optional[Matrix], progress: Progress,
+                   depth: Optional[int], target: Optional[Vertex], check: bool,
+                   parents: bool) -> Matrix:
+    """The column of the search that a caller asks for. ValueError where a source or the target is
+    no vertex, or the depth is below 0."""
+    order(G, GT)
+    many = find_places(G, source)
+    if depth is not None and (isinstance(depth, bool) or not isinstance(depth, int) or depth < 0):
+        raise ValueError('a depth is a number of edges, 0 or more, not %r' % (depth,))
+    if not many:
+        raise ValueError('a search wants a vertex to begin with')
+    end = None if target is None else find_place(G, target)
+    search = Search(sorted(set(many)), depth, end, progress)
+    return make_column(G, NONE, lambda numbers: run_search(find_traversal(G, GT, check), search,
+                                                           parents, numbers))
 
 
 @algorithm('edges from a vertex to each other one', 'source', plot='levels',
@@ -176,8 +174,7 @@ def bfs_levels(G: Matrix, source: Vertices, GT: Optional[Matrix] = None, progres
     >>> bfs_levels(G, 0).to_list()
     [0, 1, 1, 2, 3, 3]
     """
-    order(G, GT)
-    return _column_of(G, read_search(G, source, depth, target, progress), GT, check, False)
+    return _search_column(G, source, GT, progress, depth, target, check, False)
 
 
 @algorithm('the tree of a breadth-first search', 'source', are_vertices=True,
@@ -233,8 +230,7 @@ def bfs_parents(G: Matrix, source: Vertices, GT: Optional[Matrix] = None,
     >>> bfs_parents(G, 0).to_list()
     [0, 0, 0, 2, 3, 3]
     """
-    order(G, GT)
-    return _column_of(G, read_search(G, source, depth, target, progress), GT, check, True)
+    return _search_column(G, source, GT, progress, depth, target, check, True)
 
 
 @algorithm('the vertices within k edges of some', 'k', 'sources', says='Which vertices lie within '

@@ -9,11 +9,11 @@ from ..matrix import Matrix
 from ..operands import is_same
 from ..operators import Semiring, asm, binary
 from . import step_bounds
-from .bfs import Search, find_levels
-from .cached_properties import check_undirected, transpose_of
+from .bfs import Search, run_search
+from .cached_properties import check_undirected, is_both_ways, transpose_of
 from .registry import algorithm
-from .traversal import (Columns, Traversal, Vector, find_both_directions, find_pushes, put_all,
-                        read_values)
+from .traversal import (Columns, Traversal, Vector, find_traversal, find_vectors, is_ample,
+                        put_all, read_values)
 from .types import Array, Place
 from .utils import (Progress, beside, column, mark_rows, name_of, nothing, order, rows_of, tell)
 
@@ -23,7 +23,7 @@ LEAST = Semiring(binary.min, binary.first)
 LARGE = 1 << 14
 FEW_OTHERS = 8                                     # few are left where that is one of so many
 FEW_PAIRS = 4                                      # pairs of labels are few where that is
-IS_ODD = asm('unary', 'mov64 r0, r1\nand64 r0, 1\nexit\n', 'is_odd')
+PAIRED = asm('binary', 'mov64 r0, r1\nlsh64 r0, 32\nor64 r0, r2\nexit\n', 'paired')
 
 
 class Labels:
@@ -64,12 +64,12 @@ class Labels:
 
     def _settle(self) -> None:
         """Each vertex gets the label at the end of its chain. Labels only go down, so there is an
-        end; a chain is halved each time."""
+        end; a chain is quartered each time."""
         while True:
             ends = self.of.take(self.of)
+            self.of = ends.take(ends)
             if numpy.array_equal(ends, self.of):
                 return
-            self.of = ends
 
     def others(self) -> Array:
         """The vertices outside the greatest component, but for those without a neighbour."""
@@ -84,27 +84,29 @@ class Neighbours:
     directions. Each answer is vertices, and a vertex that each is to be joined with."""
 
     def __init__(self, graph: Matrix, transpose: Optional[Matrix], check: bool) -> None:
-        self.graph, self.push = graph, find_pushes(graph)
         self.ways: List[Traversal] = [Columns(graph)]
         if transpose is not None and is_same(transpose, graph):
             check_undirected(graph, check, loops=True)
-        else:
-            self.ways = find_both_directions(graph, transpose, check)
+        elif not is_both_ways(graph):
+            self.ways.append(find_vectors(graph, transpose, check))
 
     def all(self) -> Iterator[List[Vector]]:
         """The least ones of all vertices, and then the greatest ones. Of a small graph one run
         makes both, of a large one each has its own, when it is asked for."""
-        least = self._look_from_all(LEAST)
-        greatest = self._look_from_all(GREATEST) if self.graph.nrows < LARGE else None
-        got = [lines.read(made) for lines, made in zip(self.ways, least)]
-        yield got
-        greatest = greatest or self._look_from_all(GREATEST)
-        yield [Vector(one.at, read_values(made)) for one, made in zip(got, greatest)]
-
-    def _look_from_all(self, ring: Semiring) -> List[Matrix]:
-        """What comes to all vertices along the edges that leave them, and, where these lead one way
-        alone, along those that lead to them."""
-        return [lines.step(lines.numbers(), ring) for lines in self.ways]
+        if self.ways[0].count >= LARGE:
+            least_ones = [lines.read(lines.step(lines.numbers(), LEAST)) for lines in self.ways]
+            yield least_ones
+            yield [Vector(one.at, read_values(lines.step(lines.numbers(), GREATEST)))
+                   for lines, one in zip(self.ways, least_ones)]
+        elif len(self.ways) == 1 and is_ample(self.ways[0].graph):
+            lines = self.ways[0]                   # both are read as one where nobody counts steps
+            least, greatest = (lines.step(lines.numbers(), ring) for ring in (LEAST, GREATEST))
+            at, pairs = lines.read(least.ewise_mult(greatest, PAIRED))
+            yield [Vector(at, pairs >> 32), Vector(at, pairs & 0xffffffff)]
+        else:
+            made = [[lines.step(lines.numbers(), ring) for ring in (LEAST, GREATEST)]
+                    for lines in self.ways]
+            yield [one for lines, both in zip(self.ways, made) for one in _read_alike(lines, both)]
 
     def join(self, some: Array, labels: Labels) -> bool:
         """Joins some vertices with what has another label among their neighbours; whether there was
@@ -113,12 +115,13 @@ class Neighbours:
             every = Vector(numpy.arange(len(labels.of)), labels.of)
             return _join([got for lines in self.ways
                           for got in _look_from(some, lines, lines.put(every))], labels)
-        front = self.push.put(Vector(some, labels.of[some]))
-        pushed = [self.push.step(front, ring) for ring in (LEAST, GREATEST)]
-        near = _read_alike(self.push, pushed)
+        columns, graph = self.ways[0], self.ways[0].graph
+        push = find_vectors(graph, graph, False)
+        front = push.put(Vector(some, labels.of[some]))
+        near = _read_alike(push, [push.step(front, ring) for ring in (LEAST, GREATEST)])
         if not _join(near, labels):
             return False
-        columns, at = self.ways[0], near[0].at
+        at = near[0].at
         around = columns.put(Vector(at, labels.of[at]))
         _join(_look_from(some, columns, around), labels)
         return True
@@ -183,7 +186,7 @@ def connected_components(G: Matrix, GT: Optional[Matrix] = None, progress: Progr
     vertices, however long the paths are.
 
     Runs: 2 a round, and 3; 1 more for such a large graph, and 1 for a directed one. Steps: up to 10
-    an edge and 2 a vertex; in later rounds 20 an edge of the vertices outside the greatest
+    an edge and 6 a vertex; in later rounds 20 an edge of the vertices outside the greatest
     component, and for a directed graph 10 an edge. Whether each edge leads both ways is found out
     once, by 2 jobs (13 steps an edge and 5 a vertex), and kept with the matrix.
 
@@ -257,7 +260,8 @@ def bipartite_sides(G: Matrix, GT: Optional[Matrix] = None, progress: Progress =
     own = column(G, 0).apply('rowindex', right=0)
     least = connected_components(near, near, progress, check=False)
     firsts = rows_of(least.ewise_mult(own, 'eq').select('nonzero'))
-    side = find_levels(near, Search(firsts), near).apply(IS_ODD)
+    levels = run_search(find_traversal(near, near, False), Search(firsts), False)
+    side = put_all(G, levels & 1)
     low, high = near.mxv(side, 'min_second'), near.mxv(side, 'max_second')
     for among in (low, high):
         wrong = among.ewise_mult(side, 'eq').select('nonzero')

@@ -1,7 +1,7 @@
 """Cores: parts of a graph in which each vertex has so many neighbours."""
 from __future__ import annotations
 
-from typing import Any, Dict, List, Optional, Set
+from typing import Any, Dict, Iterator, List, Optional, Set
 
 import numpy
 
@@ -19,30 +19,35 @@ from .registry import WITHOUT_LOOPS, algorithm
 from .results import Result, as_result, keep_partial
 from .server_loops import hear
 from .traversal import (Vector, find_traversal, is_ample, put_all, put_column, put_known, put_row,
-                        read_column)
+                        read_column, read_edges, spread)
 from .triangle_counts import degrees
 from .utils import Progress, beside, contract, order, tell
 
 COUNTS = Semiring(binary.plus, binary.first)
+GONE = UNKNOWN = -1
 # y less x, and x and y, where what the least gap is counts from 0 on
 LOWERED = Semiring(binary.any, asm('binary', 'mov64 r0, r2\njsle64 r1, 0, 1\nsub64 r0, r1\nexit\n'))
 RAISED = asm('binary', 'mov64 r0, r1\njsle64 r2, 0, 1\nadd64 r0, r2\nexit\n')
-GONE = UNKNOWN = -1
 # vertices that are left where a loop at the server does the rest
 HANDED_OVER = 1 << 12
+AT_ONCE = step_bounds.FEW_EDGES                    # edges that the client looks at by itself
 
 
 class Peeling:
     """The vertices that are left of a graph, with their degrees there. Those that fall push one
-    each along their edges: their neighbours lose so much, and nobody else is looked at."""
+    each along their edges: their neighbours lose so much, and nobody else is looked at. The client
+    has the edges of a small graph."""
 
     def __init__(self, G: Matrix, progress: Progress) -> None:
-        self.lines, self.progress = find_traversal(G, G, False), progress
-        self.left: Array = numpy.zeros(G.nrows, numpy.int64)
-        self.alive, had = read_column(degrees(G))
-        self.left[self.alive] = had
-        self.many = len(self.alive)                # that are left
-        self.number = 0
+        self.lines, self.progress, self.number = find_traversal(G, G, False), progress, 0
+        self._heads: List[Array] = []              # where the edges of each vertex lead
+        if max(G.nrows, G.nvals) <= AT_ONCE:
+            rows, heads = read_edges(G)
+            self.left = numpy.bincount(rows, minlength=G.nrows)
+            self._heads = numpy.split(heads, numpy.cumsum(self.left)[:-1])
+        else:
+            self.left = spread(read_column(degrees(G)), G.nrows)
+        self.alive = numpy.flatnonzero(self.left)
 
     def least(self) -> Optional[int]:
         """The least degree among those that are left, None where nobody is. Vertices of degree 0
@@ -55,29 +60,38 @@ class Peeling:
         rest: Array = self.alive[self.left[self.alive] > 0]
         return rest
 
-    def peel(self, k: int) -> List[Array]:
+    def may_loop(self) -> bool:
+        """Whether a loop at the server does the rest in less time."""
+        return not self._heads and len(self.alive) <= HANDED_OVER and is_ample(self.lines.graph)
+
+    def peel(self, k: int) -> Iterator[Array]:
         """Takes away those with fewer than k neighbours, until none is left; who they were, by
         rounds. A vertex whose last neighbour falls is left with degree 0, and falls, too."""
-        degrees_now, out = self.left[self.alive], []
-        fallen = self.alive[(degrees_now > 0) & (degrees_now < k)]
+        had = self.left[self.alive]
+        fallen, many = self.alive[(had > 0) & (had < k)], int((had > 0).sum())
         while len(fallen):
-            out.append(fallen)
             self.left[fallen] = GONE
-            self.many -= len(fallen)
-            ones = Vector(fallen, numpy.ones_like(fallen))
+            many -= len(fallen)
+            yield fallen
             # nobody looks at the edges of the last ones
-            fallen = self._lose(self.lines.push(ones, COUNTS), k) if self.many else fallen[:0]
+            fallen = self._lose(fallen, k) if many else fallen[:0]
             self.number += 1
             tell(self.progress, 'round', self.number)
-        return out
 
-    def _lose(self, came: Vector, k: int) -> Array:
-        """Vertices lose neighbours; those that fall by it."""
+    def _lose(self, fallen: Array, k: int) -> Array:
+        """The neighbours of those that fall lose them; who falls by it."""
+        if self._heads:
+            heads = numpy.concatenate([self._heads[at] for at in fallen.tolist()])
+            lost = numpy.bincount(heads, minlength=len(self.left))
+            at = numpy.flatnonzero(lost) if len(fallen) > 1 else heads
+            came = Vector(at, lost[at])
+        else:
+            came = self.lines.push(Vector(fallen, numpy.ones_like(fallen)), COUNTS)
         stays = self.left[came.at] != GONE
         at = came.at[stays]
         self.left[at] -= came.values[stays]
-        fallen: Array = at[self.left[at] < k]
-        return fallen
+        falls: Array = at[self.left[at] < k]
+        return falls
 
 
 class Core(Result):
@@ -131,7 +145,8 @@ def k_core(G: Matrix, k: int, progress: Progress = None, *, check: bool = True) 
     In each round those fall that have too few neighbours left, and push that along their edges: no
     other vertex is looked at.
 
-    Runs: 1 a round, and 2. Steps: up to 5 an edge.
+    Runs: 1 a round, and 2; 1 for a graph of up to 32,768 edges, which the client peels by itself.
+    Steps: up to 5 an edge; none for such a graph.
 
     GraphBLAS: `vxm` over plus and first of those that fell. LAGraph: `LAGraph_KCore`. networkx:
     `k_core`.
@@ -147,10 +162,9 @@ def k_core(G: Matrix, k: int, progress: Progress = None, *, check: bool = True) 
         raise ValueError('a k-core has k of 0 or above, not %s' % shown(k))
     check_undirected(G, check)
     peeling = Peeling(G, progress)
-    if k == 0:
-        return as_result(Core, beside(G, put_all(G, peeling.left)), graph=G)
-    peeling.peel(k)
-    at = peeling.rest()
+    for _ in peeling.peel(k):
+        pass
+    at = numpy.flatnonzero(peeling.left >= k)
     return as_result(Core, beside(G, put_column(G, Vector(at, peeling.left[at]))), graph=G)
 
 
@@ -183,9 +197,10 @@ def core_numbers(G: Matrix, progress: Progress = None, *, check: bool = True) ->
 
     Notes
     -----
-    The graph is peeled once, for all k, and each vertex pushes once, when it falls. Once 4,096
-    vertices are left, and on a budget of more than 2^56 steps, the rest is a loop that stays at the
-    server.
+    The graph is peeled once, for all k, and each vertex pushes once, when it falls; the client
+    reads a graph of 32,768 edges and vertices or fewer, and peels it by itself. Once 4,096 vertices
+    of a larger one are left, and on a budget of more than 2^56 steps, the rest is a loop that stays
+    at the server.
 
     Runs: 1 a round, and 2; in the loop 4 a round, and 4. Steps: up to 10 an edge; in the loop 20
     for each vertex that is left, a round, and 20 an edge among them.
@@ -205,7 +220,7 @@ def core_numbers(G: Matrix, progress: Progress = None, *, check: bool = True) ->
     with keep_partial(lambda: beside(G, put_known(G, cores, UNKNOWN))):
         k = peeling.least()
         while k is not None:
-            if len(peeling.alive) <= HANDED_OVER and is_ample(G):
+            if peeling.may_loop():
                 _peel_by_loop(peeling, k, cores)
                 break
             for fallen in peeling.peel(k + 1):

@@ -1,7 +1,7 @@
 """Shortest paths as the vertices that they go through: to one vertex, and to all as a tree."""
 from __future__ import annotations
 
-from typing import Any, Dict, Iterable, List, Optional, Tuple
+from typing import Any, Iterable, List, Optional, Tuple
 
 import numpy
 
@@ -10,14 +10,14 @@ from ..matrix import Matrix
 from ..operators import Operator, Semiring, asm, binary
 from ..units import Unit, to_decimals
 from . import path_bounds
-from .bfs import LEAST, NONE, Search, find_levels, run_search
+from .bfs import LEAST, NONE, Search, run_search
 from .cached_properties import extremes
 from .types import Array, Place, Vertex
 from .registry import algorithm
 from .results import of_vertices
-from .single_source_paths import Query, find_lengths
-from .traversal import (Columns, Traversal, Vector, find_traversal, find_vectors, keep, put_column,
-                        put_known, vector_of)
+from .single_source_paths import UNREACHED, Query, find_lengths
+from .traversal import (Traversal, Vector, find_traversal, find_vectors, keep, put_known,
+                        select_known)
 from .utils import Progress, beside, find_place, name_of, order, product
 
 # what a length above the number of a vertex stays below
@@ -90,15 +90,14 @@ class PathTree:
         A column with the vertex before each on its path: at the source itself.
     """
 
-    def __init__(self, graph: Matrix, source: Place, lengths: Vector, parents: Array) -> None:
-        self._graph, self._from, self._parents = graph, source, parents
-        self._far = index_by_vertex(lengths)
+    def __init__(self, graph: Matrix, source: Place, far: Array, parents: Array) -> None:
+        self._graph, self._from, self._far, self._parents = graph, source, far, parents
         self.source = name_of(graph, source)
-        self.lengths = beside(graph, put_column(graph, lengths))
+        self.lengths = beside(graph, put_known(graph, far, UNREACHED))
         self.predecessors = of_vertices(beside(graph, put_known(graph, parents, NONE)))
 
     def __repr__(self) -> str:
-        return '<PathTree from %r to %d vertices>' % (self.source, len(self._far))
+        return '<PathTree from %r to %d vertices>' % (self.source, len(self))
 
     def __contains__(self, target: Vertex) -> bool:
         """Whether a path leads to a vertex.
@@ -113,7 +112,7 @@ class PathTree:
         bool
             Whether the source reaches it. ValueError where there is no such vertex.
         """
-        return find_place(self._graph, target) in self._far
+        return bool(self._far[int(find_place(self._graph, target))] != UNREACHED)
 
     def __len__(self) -> int:
         """How many vertices the source reaches.
@@ -123,7 +122,7 @@ class PathTree:
         int
             Their number, with the source.
         """
-        return len(self._far)
+        return int(numpy.count_nonzero(self._far != UNREACHED))
 
     def path(self, target: Vertex) -> Path:
         """The path to a vertex, of which nothing is asked of the server.
@@ -146,9 +145,9 @@ class PathTree:
             Where there is no such vertex.
         """
         at = find_place(self._graph, target)
-        if at not in self._far:
+        if target not in self:
             raise NoPath('no path leads from %r to %r' % (self.source, target))
-        found = make_path(self._graph, _follow(self._parents, self._from, at), self._far)
+        found = _make_path(self._graph, _follow(self._parents, self._from, at), self._far)
         found.set_unit(self.lengths.unit)
         return found
 
@@ -163,10 +162,6 @@ class PathTree:
         self.lengths.unit = unit
 
 
-def index_by_vertex(vector: Vector) -> Dict[Place, int]:
-    return dict(zip(map(Place, vector.at.tolist()), vector.values.tolist()))
-
-
 def _follow(parents: Array, source: Place, target: Place) -> List[Place]:
     """The path to a vertex, from the vertices before each."""
     found = [target]
@@ -177,27 +172,30 @@ def _follow(parents: Array, source: Place, target: Place) -> List[Place]:
     return found[::-1]
 
 
-def make_path(graph: Matrix, vertices: List[Place], far: Dict[Place, int]) -> Path:
-    return Path([name_of(graph, at) for at in vertices], [far[at] for at in vertices])
+def _make_path(graph: Matrix, vertices: List[Place], far: Array) -> Path:
+    return Path([name_of(graph, at) for at in vertices], [int(far[int(at)]) for at in vertices])
 
 
 def find_distances(G: Matrix, source: Place, GT: Optional[Matrix], weighted: bool,
-             query: Query) -> Vector:
-    """How far the vertices are that the source reaches, by edges or by their values."""
+                   query: Query) -> Array:
+    """How far each vertex is from the source, by edges or by their values; UNREACHED where none
+    leads there."""
     cutoff, target, check, progress = query
-    if not weighted and cutoff is not None and cutoff < 0:
-        return vector_of([], [])                   # the source is farther
-    found = (find_lengths(G, source, GT, query) if weighted else
-             find_levels(G, Search([source], cutoff, target, progress), GT, check))
-    rows, _, values = found.to_coo()
-    return Vector(rows, values)
+    if weighted:
+        return find_lengths(G, source, GT, query)
+    levels: Array = numpy.full(G.nrows, NONE)
+    if cutoff is None or cutoff >= 0:              # else the source is farther
+        search = Search([source], cutoff, target, progress)
+        run_search(find_traversal(G, GT, check), search, False, levels)
+    levels[levels == NONE] = UNREACHED
+    return levels
 
 
-def _parents(lines: Traversal, source: Place, lengths: Vector, weighted: bool) -> Array:
+def _parents(lines: Traversal, source: Place, far: Array, weighted: bool) -> Array:
     """The vertex before each on a shortest path to it, of several the least; where edges are 0
     long, or less, or lengths leave no room for the number of a vertex in a word, one on a path of
     as few edges as any of the shortest."""
-    parents = numpy.full(lines.count, NONE)
+    parents, lengths = numpy.full(lines.count, NONE), select_known(far, UNREACHED)
     if not len(lengths.at):
         return parents
     least, most = extremes(lines.graph) if weighted else (1, 1)
@@ -206,12 +204,10 @@ def _parents(lines: Traversal, source: Place, lengths: Vector, weighted: bool) -
     if least <= 0 or longest << bits >= WORD:
         tight = find_vectors(_select_tight(lines.graph, lengths), None, False)
         return run_search(tight, Search([source]), True)
-    ring = Semiring(binary.min, _lengthen(bits, isinstance(lines, Columns))) if weighted else LEAST
+    ring = Semiring(binary.min, _lengthen(bits, lines.is_column)) if weighted else LEAST
     words = lengths.values << bits | lengths.at
     at, values = lines.read(lines.step(lines.put(Vector(lengths.at, words)), ring))
-    reached = numpy.zeros(lines.count, bool)       # with a cutoff an edge may lead to what isn't
-    reached[lengths.at] = True
-    inside = reached[at]
+    inside = far[at] != UNREACHED                  # with a cutoff an edge may lead to what isn't
     parents[at[inside]] = values[inside] & ((1 << bits) - 1)
     parents[int(source)] = int(source)
     return parents
@@ -288,13 +284,12 @@ def shortest_path(G: Matrix, source: Vertex, target: Vertex, GT: Optional[Matrix
         if parents[int(end)] == NONE:
             raise NoPath('no path leads from %r to %r' % (source, target))
         vertices = _follow(parents, start, end)
-        return make_path(G, vertices, {at: edges for edges, at in enumerate(vertices)})
-    lengths = find_distances(G, start, GT, True, Query(None, end, check, progress))
-    far = index_by_vertex(lengths)
-    if end not in far:
+        return Path([name_of(G, at) for at in vertices], range(len(vertices)))
+    far = find_distances(G, start, GT, True, Query(None, end, check, progress))
+    if far[int(end)] == UNREACHED:
         raise NoPath('no path leads from %r to %r' % (source, target))
-    parents = _parents(find_vectors(G, GT, check, True), start, lengths, True)
-    return make_path(G, _follow(parents, start, end), far)
+    parents = _parents(find_vectors(G, GT, check, True), start, far, True)
+    return _make_path(G, _follow(parents, start, end), far)
 
 
 @algorithm('a shortest path to each vertex, as a tree', 'source', 'weighted',
@@ -347,9 +342,8 @@ def shortest_paths(G: Matrix, source: Vertex, GT: Optional[Matrix] = None,
     """
     order(G, GT)
     at = find_place(G, source)
-    lengths = find_distances(G, at, GT, weighted, Query(cutoff, None, check, progress))
-    return PathTree(G, at, lengths,
-                    _parents(find_vectors(G, GT, check, weighted), at, lengths, weighted))
+    far = find_distances(G, at, GT, weighted, Query(cutoff, None, check, progress))
+    return PathTree(G, at, far, _parents(find_vectors(G, GT, check, weighted), at, far, weighted))
 
 
 @algorithm('whether a path leads from one vertex to another', 'source', 'target',

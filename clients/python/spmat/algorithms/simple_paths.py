@@ -11,15 +11,15 @@ from ..matrix import Matrix
 from . import path_bounds
 from .cached_properties import transpose_of
 from .registry import algorithm
-from .shortest_path_trees import (LENGTHEN, NoPath, Path, find_distances, index_by_vertex,
-                                  make_path)
-from .single_source_paths import Query
+from .shortest_path_trees import LENGTHEN, NoPath, Path, find_distances
+from .single_source_paths import UNREACHED, Query
 from .traversal import Traversal, Vector, find_vectors, vector_of
-from .types import Place, Vertex
-from .utils import find_place, order
+from .types import Array, Place, Vertex
+from .utils import find_place, name_of, order
 
 AT_ONCE = 1 << 16              # edges of a graph that the client reads at once
-Route = Tuple[int, List[Place]]                    # the length of a path, and its vertices
+# the length of a path, its vertices, and how far along it they are
+Route = Tuple[int, List[Place], List[int]]
 
 
 class Spurs:
@@ -27,8 +27,8 @@ class Spurs:
     are fetched as they are met, and lengths to the target that leave out what is barred say where
     to look first (A*)."""
 
-    def __init__(self, lines: Traversal, target: Place, home: Vector, weighted: bool) -> None:
-        self.target, self.home = target, index_by_vertex(home)
+    def __init__(self, lines: Traversal, target: Place, home: Array, weighted: bool) -> None:
+        self.target, self.home = target, home.tolist()
         self._lines, self._weighted = lines, weighted
         self._entries = lines.graph.entries() if lines.graph.nvals <= AT_ONCE else None
         self._rows: Dict[Place, List[Tuple[Place, int]]] = {}
@@ -40,7 +40,7 @@ class Spurs:
             got = self._read_row(int(i))
             far = got.values if self._weighted else numpy.ones_like(got.at)
             self._rows[i] = [(j, edge) for j, edge in zip(map(Place, got.at.tolist()), far.tolist())
-                             if j in self.home]
+                             if self.home[int(j)] != UNREACHED]
         return self._rows[i]
 
     def _read_row(self, i: int) -> Vector:
@@ -51,19 +51,19 @@ class Spurs:
         return Vector(columns[part], values[part])
 
     def search(self, start: Place, barred: Set[Place], not_first: Set[Place]) -> Optional[Route]:
-        """The shortest path that enters no barred vertex, and leaves the start for none of some;
-        with its length. None where there is none."""
+        """The shortest path that enters no barred vertex, and leaves the start for none of some.
+        None where there is none."""
         far: Dict[Place, int] = {start: 0}
         before: Dict[Place, Place] = {}
         done: Set[Place] = set()
-        heap = [(self.home[start], self.home[start], start)]
+        heap = [(self.home[int(start)], self.home[int(start)], start)]
         while heap:
             _, _, i = heapq.heappop(heap)
             if i == self.target:
                 found = [i]
                 while found[-1] != start:
                     found.append(before[found[-1]])
-                return far[i], found[::-1]
+                return far[i], found[::-1], [far[one] for one in found[::-1]]
             if i in done:
                 continue
             done.add(i)
@@ -72,7 +72,8 @@ class Spurs:
                     continue
                 if j not in far or far[i] + edge < far[j]:
                     far[j], before[j] = far[i] + edge, i
-                    heapq.heappush(heap, (far[j] + self.home[j], self.home[j], j))
+                    home = self.home[int(j)]
+                    heapq.heappush(heap, (far[j] + home, home, j))
         return None
 
 
@@ -137,7 +138,7 @@ def k_shortest_paths(G: Matrix, source: Vertex, target: Vertex, k: int, GT: Opti
     home = find_distances(back, end, G, weighted, Query(check=check))
     lines = find_vectors(G, back, False, weighted)
     spurs = Spurs(lines, end, home, weighted)
-    if start not in spurs.home:
+    if home[int(start)] == UNREACHED:
         raise NoPath('no path leads from %r to %r' % (source, target))
     first = spurs.search(start, set(), set())
     assert first is not None
@@ -151,25 +152,18 @@ def k_shortest_paths(G: Matrix, source: Vertex, target: Vertex, k: int, GT: Opti
         if not waiting:
             break
         found.append(heapq.heappop(waiting))
-    return [make_path(G, vertices, _measure_path(spurs, vertices)) for _, vertices in found]
-
-
-def _measure_path(spurs: Spurs, vertices: List[Place]) -> Dict[Place, int]:
-    """How far along a path its vertices are."""
-    far = {vertices[0]: 0}
-    for i, j in zip(vertices, vertices[1:]):
-        far[j] = far[i] + dict(spurs.near(i))[j]
-    return far
+    return [Path([name_of(G, at) for at in vertices], far) for _, vertices, far in found]
 
 
 def _find_deviations(spurs: Spurs, found: List[Route]) -> Iterable[Route]:
     """The shortest paths that leave the last one that was found at each of its vertices, and go
     where none did."""
-    last = found[-1][1]
-    far = _measure_path(spurs, last)
+    _, last, far = found[-1]
     for at in range(len(last) - 1):
         root = last[:at + 1]
-        taken = {path[at + 1] for _, path in found if path[:at + 1] == root}
+        taken = {path[at + 1] for _, path, _ in found if path[:at + 1] == root}
         tail = spurs.search(root[-1], set(root[:-1]), taken)
         if tail is not None:
-            yield far[root[-1]] + tail[0], root[:-1] + tail[1]
+            length, vertices, further = tail
+            yield (far[at] + length, root[:-1] + vertices,
+                   far[:at] + [far[at] + one for one in further])

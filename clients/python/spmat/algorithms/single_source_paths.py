@@ -2,19 +2,19 @@
 from __future__ import annotations
 
 import functools
-from typing import Callable, List, NamedTuple, Optional
+from typing import Callable, List, NamedTuple, Optional, Tuple
 
 import numpy
 
 from ..matrix import Matrix
 from ..operators import Semiring, asm, binary
 from . import path_bounds, server_loops
+from .bfs import make_column
 from .cached_properties import extremes
 from .types import Array, Place, Vertex
 from .registry import algorithm
-from .results import keep_partial, unless_empty
-from .traversal import (Traversal, Vector, find_traversal, is_ample, join, put_known, vector_of)
-from .utils import Progress, beside, find_place, nothing, order, tell
+from .traversal import (Traversal, Vector, find_traversal, is_ample, join, select_known, vector_of)
+from .utils import Progress, find_place, order, tell
 
 CYCLE = 'a cycle of negative length: paths along it have no least length'
 WRAPS = ('a path is longer than 2^63 - 1, and its length would wrap: divide the values '
@@ -55,59 +55,94 @@ BACK = 8                       # rounds with a small front before the client tak
 WIDE = 8
 
 
-class Bounds(NamedTuple):
-    """What a search may use: how long paths may be, the target, whether no edge is negative, and
-    how wide the band of lengths is whose vertices are taken at a time (0: all)."""
-    cutoff: Optional[int]
-    target: Optional[Place]
-    ascending: bool
-    width: int
+class Query(NamedTuple):
+    """What else a caller asks of a search for lengths: how long paths may be, at which vertex it
+    may end, whether lengths that could wrap are looked for, and who is told."""
+    cutoff: Optional[int] = None
+    target: Optional[Place] = None
+    check: bool = True
+    progress: Progress = None
 
 
 class Lengths:
-    """The lengths that are known, and the vertices whose length changed and that weren't taken
-    since. The client has them, or for large fronts on an ample budget the session. Those within the
-    band are the front; the others wait as `far`, where a vertex may stand several times."""
+    """The lengths that are `known`, and the vertices whose length changed and that weren't taken
+    since. The client has them, or for large fronts on an ample budget the session. Those within a
+    band, up to its `end`, are the front; others wait as `far`, where a vertex may stand several
+    times. Where an edge is negative, or a path could be too long, the band has no end."""
 
-    def __init__(self, lines: Traversal, source: Place, bounds: Bounds, known: Array) -> None:
-        self.lines, self.bounds, self.known = lines, bounds, known
+    def __init__(self, lines: Traversal, source: Place, query: Query, known: Array) -> None:
+        self.lines, self.query, self.known = lines, query, known
         self.known[int(source)] = 0
         self.front = vector_of([source], [0])
-        self.end = bounds.width
         self.far: List[Array] = []
+        least, self.heaviest = _extremes(lines.graph, query)
+        self.ascends = least >= 0
+        self.may_stay = query.cutoff is None and query.target is None and server_loops.can_double(
+            least, self.heaviest, lines.count)
+        graph, self.width, self.end = lines.graph, 0, MOST
+        if self.ascends and self.heaviest * lines.count < MOST:
+            wide = WIDE * self.heaviest * graph.nrows // max(1, graph.nvals)
+            self.width = self.end = min(MOST, max(1, wide))
+        # no length is farther from 0 than the one, no edge longer than the other
+        self.longest, self.edge = 0, max(abs(least), abs(self.heaviest)) if query.check else 0
+        self.number = 0
+
+    def search(self) -> None:
+        """Rounds until no length changes. They may become a loop at the server."""
+        lines, progress = self.lines, self.query.progress
+        while len(self.front.at):
+            # large fronts stay in the session: less to write and to read, and some more steps
+            if lines.pays_scan(len(self.front.at), BY_JOBS) and is_ample(lines.graph):
+                self.advance_by_jobs()
+            elif self.may_stay and self.number >= server_loops.LONG and lines.may_loop():
+                if self.number:
+                    tell(progress, 'round', self.number)
+                server_loops.continue_lengths(lines.graph, self.known, self.open(), self.heaviest,
+                                              progress, self.number)
+                return
+            else:
+                self.advance()
+        tell(progress, 'round', self.number)
+
+    def begin_round(self, read_front: Callable[[], Vector]) -> None:
+        """Says to who waits that a round has ended, and refuses what wraps or goes on for ever."""
+        if self.longest + self.edge >= MOST:
+            front = read_front()
+            self.longest = max(-int(front.values.min()), int(front.values.max()))
+            if self.longest + self.edge >= MOST and self.lines.push(front, TOO_LONG).values.any():
+                raise ValueError(WRAPS)
+        if self.number > self.lines.count:
+            raise ValueError(CYCLE)
+        if self.number:
+            tell(self.query.progress, 'round', self.number)
+        self.number += 1
+        self.longest += self.edge
 
     def limit(self) -> int:
         """No path longer than this is of any use; only where no edge is negative."""
-        if not self.bounds.ascending:
+        cutoff, target = self.query.cutoff, self.query.target
+        if not self.ascends:
             return MOST
-        target = self.bounds.target
-        limit = MOST if self.bounds.cutoff is None else min(MOST, self.bounds.cutoff)
+        limit = MOST if cutoff is None else min(MOST, cutoff)
         return limit if target is None else min(limit, int(self.known[int(target)]))
 
-    def advance(self, rounds: 'Rounds') -> None:
+    def advance(self) -> None:
         """Lengthens the front by an edge, and keeps those that are shorter than what was known."""
-        longest = _longest(self.front.values)
-        rounds.begin(longest, lambda: self.lines.push(self.front, TOO_LONG))
+        self.begin_round(lambda: self.front)
         at, values = self.lines.push(self.front, SHORTEST)
         shorter = (values < self.known[at]) & (values <= self.limit())
         at, values = at[shorter], values[shorter]
         self.known[at] = values
-        if self.bounds.width:
-            near = values < self.end
-            if not near.all():
-                self.far.append(at[~near])
-                at, values = at[near], values[near]
-        self.front = Vector(at, values)
-        if not len(at) and self.far:
+        self.divide(Vector(at, values))
+        if not len(self.front.at) and self.far:
             self.take(self.waiting())
 
-    def open(self, heaviest: int) -> server_loops.Waiting:
-        """The vertices that wait, and those whose lengths could be looked at again, in an
-        undirected graph."""
-        waiting = join([self.front.at, *([self.waiting().at] if self.far else [])]).at
-        least = int(self.known[waiting].min()) - heaviest
-        near = numpy.flatnonzero((self.known >= least) & (self.known != UNREACHED))
-        return server_loops.Waiting(waiting, numpy.setdiff1d(near, waiting, assume_unique=True))
+    def divide(self, changed: Vector) -> None:
+        """Those within the band are the front; the others wait."""
+        near = changed.values < self.end
+        self.front = Vector(changed.at[near], changed.values[near])
+        if len(self.front.at) < len(near):
+            self.far.append(changed.at[~near])
 
     def waiting(self) -> Vector:
         """The vertices that wait behind the band, with their lengths. Those that came into it since
@@ -119,144 +154,63 @@ class Lengths:
 
     def take(self, waiting: Vector) -> None:
         """The next band: from the least length on of vertices that wait."""
-        self.front, self.far = waiting, []
-        if self.bounds.width and len(waiting.at):
-            self.end = min(MOST, int(waiting.values.min()) + self.bounds.width)
-            near = waiting.values < self.end
-            self.front = Vector(waiting.at[near], waiting.values[near])
-            self.far = [] if near.all() else [waiting.at[~near]]
+        self.far = []
+        self.end = min(MOST, int(waiting.values.min(initial=MOST - self.width)) + self.width)
+        self.divide(waiting)
 
-    def advance_by_jobs(self, rounds: 'Rounds') -> None:
+    def open(self) -> server_loops.Waiting:
+        """The vertices that wait, and those whose lengths could be looked at again, in an
+        undirected graph."""
+        waiting = join([self.front.at, *([self.waiting().at] if self.far else [])]).at
+        least = int(self.known[waiting].min()) - self.heaviest
+        near = numpy.flatnonzero((self.known >= least) & (self.known != UNREACHED))
+        return server_loops.Waiting(waiting, numpy.setdiff1d(near, waiting, assume_unique=True))
+
+    def advance_by_jobs(self) -> None:
         """Rounds with known lengths in the session, until none changes or fronts have become
         small."""
-        lines, small, longest = self.lines, 0, _longest(self.front.values)
-        known, front = lines.put(_reached(self.known)), lines.put(self.front)
+        lines, small, cutoff = self.lines, 0, self.query.cutoff
+        known, front = lines.put(select_known(self.known, UNREACHED)), lines.put(self.front)
         while front.nvals and small < BACK:
-            rounds.begin(longest, functools.partial(self._find_wraps, front))
+            self.begin_round(functools.partial(lines.read, front))
             reached = lines.step(front, SHORTEST)
-            if self.bounds.ascending and self.bounds.cutoff is not None:
-                reached = reached.select('valuele', self.bounds.cutoff)
+            if self.ascends and cutoff is not None:
+                reached = reached.select('valuele', cutoff)
             shorter = reached.ewise_add(known, LESS, mask=reached.S)
             known = known.ewise_add(reached, 'min')
-            front = (shorter.select(NEARER, self.end) if self.bounds.width
-                     else shorter.select('valuene', NOT_LESS))
-            longest += rounds.heaviest
-            if longest + rounds.heaviest >= MOST:
-                longest = _longest(lines.read(front).values)
-            if self.bounds.width and not front.nvals:
-                front = self._next_band(known)
+            front = shorter.select(NEARER, self.end)
+            if self.width and not front.nvals:     # the next band: all else that changed was taken
+                front = known.select('valuege', self.end)
+                least = front.reduce_scalar('min')
+                if least is not None:
+                    self.end = min(MOST, least + self.width)
+                    front = front.select('valuelt', self.end)
             small = 0 if lines.pays_scan(front.nvals, BY_JOBS) else small + 1
-        self._fetch(known, front)
-
-    def _find_wraps(self, front: Matrix) -> Vector:
-        """Where lengths wrap that an edge from a front makes."""
-        return self.lines.read(self.lines.step(front, TOO_LONG))
-
-    def _next_band(self, known: Matrix) -> Matrix:
-        """As `take`, by jobs. What is behind the band waits: all else that changed was taken."""
-        waiting = known.select('valuege', self.end)
-        least = waiting.reduce_scalar('min')
-        if least is None:
-            return waiting
-        self.end = min(MOST, least + self.bounds.width)
-        return waiting.select('valuelt', self.end)
-
-    def _fetch(self, known: Matrix, front: Matrix) -> None:
-        """The client takes over what jobs kept."""
-        lengths, self.front = self.lines.read(known), self.lines.read(front)
+        lengths, self.front = lines.read(known), lines.read(front)
         self.known[lengths.at] = lengths.values
-        later = lengths.at[lengths.values >= self.end] if self.bounds.width else lengths.at[:0]
-        self.far = [later] if len(later) else []
-        if not len(self.front.at) and self.far:
+        self.far = [lengths.at[lengths.values >= self.end]]
+        if not len(self.front.at):
             self.take(self.waiting())
 
 
-class Rounds:
-    """Counts rounds: says to who waits that one has ended, and refuses what could wrap or goes on
-    for ever."""
-
-    def __init__(self, progress: Progress, most: int, heaviest: int) -> None:
-        self.progress, self.most, self.heaviest, self.number = progress, most, heaviest, 0
-
-    def begin(self, longest: int, wraps: Callable[[], Vector]) -> None:
-        """A round begins, with lengths of up to `longest`. Where an edge could make one wrap, it is
-        looked whether any does."""
-        if longest + self.heaviest >= MOST and wraps().values.any():
-            raise ValueError(WRAPS)
-        if self.number > self.most:
-            raise ValueError(CYCLE)
-        if self.number:
-            tell(self.progress, 'round', self.number)
-        self.number += 1
-
-
-def _longest(values: Array) -> int:
-    """The greatest distance from 0."""
-    return max(abs(int(values.min())), abs(int(values.max()))) if len(values) else 0
-
-
-def _reached(known: Array) -> Vector:
-    """The lengths that are known, of all vertices that were reached."""
-    at = numpy.flatnonzero(known != UNREACHED)
-    return Vector(at, known[at])
-
-
-def _width(W: Matrix, least: int, most: int) -> int:
-    """How wide a band is: so many times the greatest length of an edge as edges leave eight
-    vertices, or less. 0 where an edge is negative, or a path could be too long."""
-    if least < 0 or most * W.nrows >= MOST:
-        return 0
-    return min(MOST, max(1, WIDE * most * W.nrows // max(1, W.nvals)))
-
-
-class Query(NamedTuple):
-    """What else a caller asks of a search for lengths: how long paths may be, at which vertex it
-    may end, whether lengths that could wrap are looked for, and who is told."""
-    cutoff: Optional[int] = None
-    target: Optional[Place] = None
-    check: bool = True
-    progress: Progress = None
+def _extremes(graph: Matrix, query: Query) -> Tuple[int, int]:
+    """The least and the greatest length of an edge, where a search looks at them."""
+    looks = query.check or query.cutoff is not None or query.target is not None
+    return extremes(graph) if looks else (-1, 0)
 
 
 def find_lengths(W: Matrix, source: Place, WT: Optional[Matrix], query: Query,
-                 known: Optional[Array] = None) -> Matrix:
-    """`sssp` from a row, for functions within; the column has no names. Lengths are noted in
-    `known`, where that is given."""
-    cutoff, target, check, progress = query
-    count = W.nrows
-    looks = check or cutoff is not None or target is not None
-    least, most = extremes(W) if looks else (-1, 0)
-    bounds = Bounds(cutoff, target, least >= 0, _width(W, least, most))
-    if cutoff is not None and cutoff < 0 and bounds.ascending:
-        return nothing(W)                          # the source is farther
-    if known is None:
-        known = numpy.full(count, UNREACHED)
-    lines = find_traversal(W, WT, check, values=True)
-    rounds = Rounds(progress, count, max(abs(least), abs(most)) if check else 0)
-    may_stay = cutoff is None and target is None and server_loops.can_double(least, most, count)
-    _advance(Lengths(lines, source, bounds, known), rounds, most if may_stay else None)
-    found = put_known(W, known, UNREACHED)
-    return found if cutoff is None or least >= 0 else found.select('valuele', cutoff)
-
-
-def _advance(lengths: Lengths, rounds: Rounds, heaviest: Optional[int]) -> None:
-    """Rounds until no length changes. With the heaviest edge they may become a loop at the
-    server."""
-    lines, progress = lengths.lines, rounds.progress
-    while len(lengths.front.at):
-        # large fronts stay in the session: less to write and to read, and some more steps
-        if lines.pays_scan(len(lengths.front.at), BY_JOBS) and is_ample(lines.graph):
-            lengths.advance_by_jobs(rounds)
-            continue
-        if heaviest is not None and rounds.number >= server_loops.LONG and lines.may_loop():
-            if rounds.number:
-                tell(progress, 'round', rounds.number)
-            server_loops.continue_lengths(lines.graph, lengths.known, lengths.open(heaviest),
-                                          heaviest, progress, rounds.number)
-            break
-        lengths.advance(rounds)
-    else:
-        tell(progress, 'round', rounds.number)
+                 known: Optional[Array] = None) -> Array:
+    """`sssp` from a row, for functions within: the length of each vertex, or UNREACHED. They are
+    noted in `known`, where that is given."""
+    known = numpy.full(W.nrows, UNREACHED) if known is None else known
+    cutoff, least = query.cutoff, _extremes(W, query)[0]
+    if cutoff is not None and cutoff < 0 <= least:
+        return known                               # the source is farther
+    Lengths(find_traversal(W, WT, query.check, values=True), source, query, known).search()
+    if cutoff is not None and least < 0:
+        known[known > cutoff] = UNREACHED
+    return known
 
 
 @algorithm('lengths of shortest paths from a vertex', 'source', values=True, lengths=True,
@@ -322,6 +276,5 @@ def sssp(W: Matrix, source: Vertex, WT: Optional[Matrix] = None, progress: Progr
     """
     order(W, WT)
     until = None if target is None else find_place(W, target)
-    known, at = numpy.full(W.nrows, UNREACHED), find_place(W, source)
-    with keep_partial(lambda: unless_empty(beside(W, put_known(W, known, UNREACHED)))):
-        return beside(W, find_lengths(W, at, WT, Query(cutoff, until, check, progress), known))
+    query, at = Query(cutoff, until, check, progress), find_place(W, source)
+    return make_column(W, UNREACHED, lambda known: find_lengths(W, at, WT, query, known))

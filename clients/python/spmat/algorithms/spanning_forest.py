@@ -11,15 +11,18 @@ from ..metadata import of_copy
 from ..operators import asm
 from . import step_bounds
 from .cached_properties import check_undirected, extremes, found, is_transpose
+from .components import Labels
 from .types import Array
 from .registry import BOTH_WAYS, algorithm
-from .traversal import keep, read_column
+from .traversal import keep, read_column, read_values
 from .utils import Progress, contract, order, tell
+
+AT_ONCE = step_bounds.FEW_EDGES                    # edges that the client looks at by itself
 
 
 class Code(NamedTuple):
     """Edges as one number each, which ascends with their weights: (weight - least) * count^2 +
-    i * count + j."""
+    i * count + j. It is the same for both directions of an edge."""
     least: int
     vertices: int
 
@@ -33,22 +36,73 @@ class Code(NamedTuple):
         weights: Array = words // self.vertices ** 2 + self.least
         return weights
 
+    def words(self, rows: Array, columns: Array, weights: Array) -> Array:
+        """The number of each edge."""
+        i, j = numpy.minimum(rows, columns), numpy.maximum(rows, columns)
+        numbers: Array = ((weights - self.least) * self.vertices + i) * self.vertices + j
+        return numbers
 
-class Chosen(NamedTuple):
-    """The lightest edge of each component that has one: the components, ascending, the edges, and
-    the components at their other ends."""
-    rows: Array
-    words: Array
-    others: Array
+    def encode(self, W: Matrix) -> Matrix:
+        """The numbers of the edges of a graph."""
+        text = ('wide r5, %d\nsub64 r1, r5\nmov64 r0, r1\nwide r5, %d\nmul64 r0, r5\n'
+                'jsle64 r2, r3, 3\nmov64 r5, r2\nmov64 r2, r3\nmov64 r3, r5\n'
+                'mul64 r2, %d\nadd64 r0, r2\nadd64 r0, r3\nexit\n'
+                % (self.least, self.vertices ** 2, self.vertices))
+        return W.apply(asm('index', text), right=0)
 
 
-def _encode(W: Matrix, code: Code) -> Matrix:
-    """Each edge as its number, the same for both of its directions."""
-    text = ('wide r5, %d\nsub64 r1, r5\nmov64 r0, r1\nwide r5, %d\nmul64 r0, r5\n'
-            'jsle64 r2, r3, 3\nmov64 r5, r2\nmov64 r2, r3\nmov64 r3, r5\n'
-            'mul64 r2, %d\nadd64 r0, r2\nadd64 r0, r3\nexit\n'
-            % (code.least, code.vertices ** 2, code.vertices))
-    return W.apply(asm('index', text), right=0)
+class Forest:
+    """The edges that were taken, by their numbers, and the components that they join."""
+
+    def __init__(self, code: Code, progress: Progress) -> None:
+        self.code, self.progress = code, progress
+        self.labels = Labels(code.vertices)
+        self.taken: List[Array] = []
+
+    def take(self, words: Array) -> None:
+        """A round is over, which takes these edges."""
+        self.labels.join(*self.code.ends(words))
+        self.taken.append(words)
+        tell(self.progress, 'round', len(self.taken))
+
+    def shrink(self, left: Matrix) -> Array:
+        """Rounds by jobs on all edges, until few are left: their numbers."""
+        roots: Array = numpy.arange(left.nrows)    # the least vertex of each row's component
+        while left.nvals > AT_ONCE:
+            rows, words = read_column(left.reduce_rowwise('min'))
+            self.take(words)
+            ends, is_root = self.labels.of[roots[rows]], numpy.zeros(self.code.vertices, bool)
+            is_root[ends] = True
+            roots = numpy.flatnonzero(is_root)
+            numbers = numpy.cumsum(is_root) - 1    # numpy.unique sorts, for six times as long
+            # one vertex for each component, and the lightest edge between each two
+            left = contract(left, (rows, numbers[ends]), len(roots), 'min').select('offdiag', 0)
+        return read_values(left)
+
+    def finish(self, words: Array) -> None:
+        """Rounds by the client on a few edges."""
+        words, lightest = numpy.unique(words), numpy.zeros_like(self.labels.of)
+        first, second = self.code.ends(words)
+        while True:
+            one, other = self.labels.of[first], self.labels.of[second]
+            apart = numpy.flatnonzero(one != other)
+            if not len(apart):
+                return
+            words, first, second = words[apart], first[apart], second[apart]
+            ends = numpy.stack((one[apart], other[apart]), axis=1).ravel()
+            # words ascend, and of several that are assigned the last counts
+            lightest[ends[::-1]] = numpy.arange(len(ends))[::-1] // 2
+            is_lightest = numpy.zeros(len(words), bool)
+            is_lightest[lightest[ends]] = True
+            self.take(words[is_lightest])
+
+    def entries(self) -> Triples:
+        """The edges, both ways."""
+        words = numpy.unique(numpy.concatenate([numpy.zeros(0, numpy.int64), *self.taken]))
+        (i, j), count = self.code.ends(words), self.code.vertices
+        rows, columns = numpy.concatenate((i, j)), numpy.concatenate((j, i))
+        ranks, weights = numpy.lexsort((columns, rows)), numpy.tile(self.code.weights(words), 2)
+        return Triples(rows[ranks], columns[ranks], weights[ranks], count, count)
 
 
 @algorithm('the lightest edges that join what is joined', wanted=BOTH_WAYS, values=True,
@@ -87,10 +141,11 @@ def minimum_spanning_forest(W: Matrix, progress: Progress = None, *, check: bool
     In each round every component takes the lightest edge that leaves it; the client joins
     components that met, and the graph shrinks to one vertex for each: two products with matrices of
     ones that the client makes. So there are no more rounds than the logarithm of the number of
-    vertices.
+    vertices. Once 32,768 edges or fewer are left, the client reads them, and makes the other
+    rounds by itself.
 
-    Runs: 5 a round, more where a product is made by parts, and 6. Steps: up to 14 an edge, and 20
-    an edge of the graph as it has shrunk, a round.
+    Runs: 5 a round of more edges, more where a product is made by parts, and 6. Steps: up to 14 an
+    edge, and 20 an edge of the graph as it has shrunk, a round; none for a graph of few edges.
 
     Borůvka's algorithm. LAGraph: `LAGraph_msf`. networkx: `minimum_spanning_edges`.
 
@@ -110,66 +165,13 @@ def minimum_spanning_forest(W: Matrix, progress: Progress = None, *, check: bool
     if (most - least + 1) * max(count, 1) ** 2 > 1 << 62:
         raise ValueError('weights of %d to %d are too many for %d vertices: divide them'
                          % (least, most, count))
-    code, number = Code(least, count), 0
-    taken: List[Array] = []
-    left = _encode(W.select('offdiag', 0), code)
-    label: Array = numpy.arange(count)
-    while left.nvals:
-        chosen = _choose(left, code, label)
-        taken.append(chosen.words)
-        met, many = _meet(chosen, left.nrows)
-        # of those without an edge 0, which isn't used
-        joined = numpy.zeros(left.nrows, numpy.int64)
-        joined[chosen.rows] = met
-        label = joined[label]
-        # one vertex for each component, and the lightest edge between each two
-        left = contract(left, (chosen.rows, met), many, 'min').select('offdiag', 0)
-        number += 1
-        tell(progress, 'round', number)
-    forest = keep(W, _both_ways(taken, code))
-    forest.notes = of_copy(W.notes)._replace(directed=False)
-    return forest
-
-
-def _choose(left: Matrix, code: Code, label: Array) -> Chosen:
-    """The lightest edge of each component. One of its ends is in the component, so the other is
-    what both labels add up to beside it."""
-    rows, words = read_column(left.reduce_rowwise('min'))
-    firsts, seconds = code.ends(words)
-    return Chosen(rows, words, label[firsts] + label[seconds] - rows)
-
-
-def _meet(chosen: Chosen, count: int) -> Tuple[Array, int]:
-    """A number for each component that met another, from 0, for each of the rows, and how many
-    there are. Each component points to that at the other end of its edge. As no two edges have one
-    number, such chains end where two components point to each other."""
-    parents = numpy.arange(count)
-    parents[chosen.rows] = chosen.others
-    is_root = (parents[chosen.others] == chosen.rows) & (chosen.rows < chosen.others)
-    roots = chosen.rows[is_root]
-    parents[roots] = roots
-    ends, is_end = _ends(parents)[chosen.rows], numpy.zeros(count, bool)
-    is_end[ends] = True
-    numbers: Array = numpy.cumsum(is_end) - 1      # numpy.unique sorts, for six times as long
-    return numbers[ends], int(is_end.sum())
-
-
-def _ends(parents: Array) -> Array:
-    """Where the chain of each component ends. Chains that run in circles, as they can where an edge
-    leads one way alone and nobody looked, end at the least component of their circle."""
-    ends, least = parents, numpy.minimum(numpy.arange(len(parents)), parents)
-    for _ in range(len(parents).bit_length()):
-        if numpy.array_equal(parents[ends], ends):
-            return ends
-        ends, least = ends[ends], numpy.minimum(least, least[ends])
-    return least[ends]
-
-
-def _both_ways(taken: List[Array], code: Code) -> Triples:
-    """The entries of edges that are given by their numbers, some of them twice."""
-    words = numpy.unique(numpy.concatenate([numpy.zeros(0, numpy.int64), *taken]))
-    i, j = code.ends(words) if len(words) else (words, words)
-    rows, columns = numpy.concatenate((i, j)), numpy.concatenate((j, i))
-    ranks = numpy.lexsort((columns, rows))
-    weights = numpy.tile(code.weights(words), 2) if len(words) else words
-    return Triples(rows[ranks], columns[ranks], weights[ranks], code.vertices, code.vertices)
+    code = Code(least, count)
+    forest = Forest(code, progress)
+    if W.nvals > AT_ONCE:
+        words = forest.shrink(code.encode(W.select('offdiag', 0)))
+    else:
+        words = code.words(*W.to_coo())
+    forest.finish(words)
+    made = keep(W, forest.entries())
+    made.notes = of_copy(W.notes)._replace(directed=False)
+    return made

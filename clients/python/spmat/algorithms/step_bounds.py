@@ -17,8 +17,9 @@ from ..operands import is_same
 from ..pricing.call_sizes import Bound, CallSizes, rounds_to
 from .path_bounds import LONG, extremes_of, large_levels, whole_search
 
-# edges of a graph, and of what is left of a larger one, whose strong components the client finds
-FEW_EDGES, MOST_EDGES_READ = 1 << 12, 1 << 18
+# edges of a graph that the client reads and looks at by itself, and of what is left of a larger one
+# for strong components
+FEW_EDGES, MOST_EDGES_READ = 1 << 15, 1 << 18
 LOUVAIN_LEVELS = 16
 
 
@@ -137,7 +138,7 @@ def connected_components(g: CallSizes) -> int:
     n, m, one_way = g.vertices, g.entries, g.both_ways is False or g.both_ways is None
     steps = g.check_both_ways + (g.check_transpose() if g.given['GT'] is None
                                  or not is_same(g.given['GT'], g.graph) else 0)
-    steps += (24 if one_way else 12) * m + 6 * n
+    steps += (24 if one_way else 12) * m + (10 if g.is_ample else 6) * n
     return steps + (36 if one_way else 24) * m * max(0, n.bit_length() - 2)
 
 
@@ -160,22 +161,21 @@ def components_in_rounds(n: int, m: int) -> int:
     return taken_off + carried + 100 * (m + n) * (n + 1)
 
 
-def _peeled(g: CallSizes) -> int:
-    """Each vertex that falls pushes along its edges, once; a round in which many fall looks at all
-    vertices."""
-    return g.check_undirected() + 10 * g.entries + 4 * g.vertices * (1 + large_levels(g))
-
-
 def k_core(g: CallSizes) -> int:
-    """Each vertex that falls pushes along its edges, once."""
-    return _peeled(g)
+    """Each vertex that falls pushes along its edges, once; a round in which many fall looks at all
+    vertices. The client looks at a graph of few edges."""
+    steps = g.check_undirected()
+    if max(g.entries, g.vertices) > FEW_EDGES:
+        steps += 10 * g.entries + 4 * g.vertices * (1 + large_levels(g))
+    return steps
 
 
 def core_numbers(g: CallSizes) -> int:
     """As `k_core`; on an ample budget the last 4,096 vertices are a loop, in each round of which
     one falls at the least."""
     some = min(g.vertices, 1 << 12)
-    return _peeled(g) + (13 * g.entries + 11 * some * (some + 1) if g.is_ample else 0)
+    may_loop = g.is_ample and max(g.entries, g.vertices) > FEW_EDGES
+    return k_core(g) + (13 * g.entries + 11 * some * (some + 1) if may_loop else 0)
 
 
 def _ordered(g: CallSizes, edge: int, vertex: int) -> int:
@@ -211,7 +211,7 @@ def minimum_spanning_forest(g: CallSizes) -> int:
     n, m = g.vertices, g.entries
     steps = (g.check_undirected(True) + g.once('values both ways', 43 * m + 10 * n)
              if g.given['check'] else 0) + g.find_extremes
-    return steps + (18 + 21 * n.bit_length()) * m
+    return steps if m <= FEW_EDGES else steps + (18 + 21 * n.bit_length()) * m
 
 
 # -- ranks and communities

@@ -9,22 +9,25 @@ from ..io.matrix_text import Triples
 from ..loops import Loop, State, empty
 from ..matrix import Matrix
 from . import step_bounds
-from .bfs import Search, find_levels
+from .bfs import NONE, Search, run_search
 from .cached_properties import found, transpose_of
 from .independent_set import draw_numbers
 from .types import Array, Place
 from .registry import algorithm
 from .topological_order import find_topological_levels
-from .traversal import Vector, keep, put_all, put_column, spread, vector_of
+from .traversal import (Vector, find_traversal, keep, put_all, put_column, read_column, read_edges,
+                        read_vector, spread, vector_of)
 from .utils import (Progress, as_many, beside, column, iterate, loops, nothing, order, product,
                     settle, tell)
 
 DONE = -1                                          # the part of a vertex whose component is known
-# edges of a graph that the client looks at whole, and of what is left of a larger one
+# edges of a graph that the client looks at by itself, and of what is left of a larger one
 AT_ONCE, SMALL = step_bounds.FEW_EDGES, step_bounds.MOST_EDGES_READ
 # rounds against the edges before the transpose pays
 PULLS = 16
-TRIMS = 32                                         # times that ends of paths are taken off together
+# times that all edges are looked at for ends of paths, or for what one vertex reaches
+SWEEPS = 32
+FEW = 1 << 9                                       # edges that Tarjan's algorithm is quick with
 
 
 class Parts:
@@ -85,8 +88,8 @@ def strongly_connected_components(G: Matrix, GT: Optional[Matrix] = None, progre
     -----
     First the component of the vertex with the most edges, by a search each way. Of what is left
     only edges between two vertices count that both or neither of the searches met. Where these are
-    262,144 or fewer the client finishes them, by Tarjan's algorithm, and a graph of 4,096 edges or
-    fewer at once. Where there are more, vertices that no cycle leads to, or that lead to none, are
+    262,144 or fewer the client finishes them, by Tarjan's algorithm, and a graph of 32,768 edges or
+    fewer at once. While there are more, vertices that no cycle leads to, or that lead to none, are
     taken off, level by level; then, a round for what is left, the components of all vertices that
     reach themselves before any other one, in an order by chance.
 
@@ -106,17 +109,20 @@ def strongly_connected_components(G: Matrix, GT: Optional[Matrix] = None, progre
         return nothing(G)
     if GT is not None:
         transpose_of(G, GT, check)
-    parts, number = Parts(count), 0
-    near = G
-    if G.nvals > AT_ONCE:
-        _search_around(G, GT, parts)
-        near, number = _inside(G, parts), 1
+    parts, near, number = Parts(count), G, 0
+    back: Optional[Matrix] = None
+    while near.nvals > (SMALL if number else AT_ONCE):
+        if number == 0:
+            _search_around(G, GT, parts)
+        else:
+            back = near.T if back is None else _inside(back, parts)
+            _close_ends(near, back, parts)
+            near, back = _inside(near, parts), _inside(back, parts)
+            _close_colours(near, back, parts, number)
+        near, number = _inside(near, parts), number + 1
         tell(progress, 'round', number)
-    if near.nvals > SMALL:
-        _close_in_rounds(near, parts, number, progress)
-    else:
-        rows, columns, _ = near.to_coo()
-        parts.close(*find_strong_components(rows, columns))
+    if near.nvals or not number:
+        parts.close(*find_strong_components(*read_edges(near)))
         tell(progress, 'round', number + 1)
     return beside(G, put_all(G, parts.label))
 
@@ -124,20 +130,24 @@ def strongly_connected_components(G: Matrix, GT: Optional[Matrix] = None, progre
 def _search_around(G: Matrix, GT: Optional[Matrix], parts: Parts) -> None:
     """The component of the vertex with the most edges, by those that leave it times those that lead
     to it."""
-    middle: Optional[Place] = found(G, 'most joined', lambda: _most_joined(
-        G.mxv(column(G, 1), 'plus_pair'), G.session.ones(G.nrows).mxm(G, 'plus_pair')))
+    middle: Optional[Place] = found(G, 'most joined', lambda: _find_most_joined(G))
     if middle is None:
         return
-    forward = find_levels(G, Search([middle])).to_coo()[0]
-    parts.divide(forward, _reaching(G, GT, middle))
+    parts.divide(_search(G, middle), _reaching(G, GT, middle))
 
 
-def _most_joined(outgoing: Matrix, incoming: Matrix) -> Optional[Place]:
+def _search(G: Matrix, start: Place) -> Array:
+    """The vertices that one reaches."""
+    levels = run_search(find_traversal(G, None, False), Search([start]), False)
+    return numpy.flatnonzero(levels != NONE)
+
+
+def _find_most_joined(G: Matrix) -> Optional[Place]:
     """The vertex with the most edges of both directions; None where no vertex has edges of both."""
-    rows, _, many = outgoing.to_coo()
-    _, columns, more = incoming.to_coo()
-    count = outgoing.nrows
-    scores = spread(Vector(rows, many), count) * spread(Vector(columns, more), count)
+    outgoing = G.mxv(column(G, 1), 'plus_pair')
+    incoming = G.session.ones(G.nrows).mxm(G, 'plus_pair')
+    scores = spread(read_column(outgoing), G.nrows)
+    scores *= spread(read_vector(incoming.to_text(), 1), G.nrows)
     best = int(scores.argmax())
     return Place(best) if scores[best] else None
 
@@ -151,8 +161,7 @@ def _reaching(G: Matrix, GT: Optional[Matrix], middle: Place) -> Array:
         if pulled is not None:
             return pulled
         back = transpose_of(G, None, False)
-    at: Array = find_levels(back, Search([middle])).to_coo()[0]
-    return at
+    return _search(back, middle)
 
 
 def _pull(G: Matrix, middle: Place) -> Optional[Array]:
@@ -185,83 +194,64 @@ def _inside(G: Matrix, parts: Parts) -> Matrix:
     return same.select('valueeq', 0).apply('one')
 
 
-def _close_in_rounds(G: Matrix, parts: Parts, number: int, progress: Progress) -> None:
-    """Components by jobs, where the client doesn't look at all edges."""
-    back = G.T
-    left = _cyclic(G, back, None)
-    while left.nvals:
-        diagonal = left.diag()
-        near, far = _within(G, diagonal), _within(back, diagonal)
-        at, labels = _colour(near, far, left, number)
-        parts.close(at, labels)
-        left = _cyclic(near, far, _less(left, at))
-        number += 1
-        tell(progress, 'round', number)
+def _close_ends(near: Matrix, back: Matrix, parts: Parts) -> None:
+    """The vertices that no cycle leads to, or that lead to none, are components of their own."""
+    for way in (near, back):
+        gone = numpy.flatnonzero((find_topological_levels(way) != NONE) & (parts.part != DONE))
+        parts.close(gone, gone)
 
 
-def _within(G: Matrix, diagonal: Matrix) -> Matrix:
-    """The edges between vertices on a diagonal."""
-    return product(product(diagonal, G, 'any_pair'), diagonal, 'any_pair')
-
-
-def _less(left: Matrix, gone: Array) -> Matrix:
-    zeros = put_column(left, Vector(gone, numpy.zeros_like(gone)))
-    return left.ewise_add(zeros, 'second').select('nonzero')
-
-
-def _cyclic(G: Matrix, GT: Matrix, left: Optional[Matrix]) -> Matrix:
-    """The vertices of `left`, or all, that a cycle leads to and that lead to one, as a column of
-    ones."""
-    now = column(G, 1) if left is None else left
-    for way in (G, GT):
-        if not now.nvals:
-            break
-        way = way if now.nvals == G.nrows else _within(way, now.diag())
-        gone = find_topological_levels(way).found()
-        if len(gone):
-            now = _less(now, gone)
-    return now
-
-
-def _colour(near: Matrix, back: Matrix, left: Matrix, seed: int) -> Tuple[Array, Array]:
-    """The components of those vertices whose score is the least of all that reach them: vertices,
-    and the least of each one's."""
-    own = draw_numbers(left, seed)
+def _close_colours(near: Matrix, back: Matrix, parts: Parts, seed: int) -> None:
+    """The components of those vertices whose score is the least of all that reach them."""
+    at = numpy.flatnonzero(parts.part != DONE)
+    own = draw_numbers(put_column(near, Vector(at, numpy.ones_like(at))), seed)
     taken = back.ewise_add(loops(back, 1), 'first')
     colour = settle(lambda score: taken.mxv(score, 'min_second'), own)
     first = colour.ewise_mult(own, 'eq').select('nonzero')
     colours = colour.diag()
     there = product(near, colours, 'any_second')
-    same = product(colours, near, 'any_first').ewise_mult(there, 'eq')
-    same = same.select('nonzero')
+    same = product(colours, near, 'any_first').ewise_mult(there, 'eq').select('nonzero')
     reached = iterate(first, lambda had: had.ewise_add(same.mxv(had, 'any_pair'), 'first'), as_many)
-    at, _, values = colour.ewise_mult(reached, 'first').to_coo()
+    at, values = read_column(colour.ewise_mult(reached, 'first'))
     # rows ascend: the first with a value is the least
     _, where, which = numpy.unique(values, return_index=True, return_inverse=True)
-    return at, at[where][which.reshape(-1)]
+    parts.close(at, at[where][which.reshape(-1)])
 
 
 # -- what the client does by itself with a few edges, where a trip would cost more than the work
 
 def find_strong_components(rows: Array, columns: Array) -> Tuple[Array, Array]:
     """The vertices with an edge of the given ones, whose rows ascend, and the least vertex of each
-    one's strongly connected component. By Tarjan's algorithm, once vertices that no edge leads to,
-    or none leaves, are taken off."""
-    vertices, ends = numpy.unique(numpy.concatenate((rows, columns)), return_inverse=True)
-    ends = ends.reshape(2, -1)
-    labels = numpy.arange(len(vertices))
-    first, second = _trim(ends[0], ends[1], len(vertices))
-    if len(first):
-        inner, some = numpy.unique(numpy.concatenate((first, second)), return_inverse=True)
-        some = some.reshape(2, -1)
-        labels[inner] = inner[_tarjan(some[0].tolist(), some[1].tolist(), len(inner))]
-    return vertices, vertices[labels]
+    one's strongly connected component. Vertices that no edge leads to, or none leaves, are taken
+    off, and the component of the one with the most edges; the others by Tarjan's algorithm."""
+    vertices, first, second = _renumber(rows, columns)
+    parts = Parts(len(vertices))
+    first, second = _trim(first, second, parts.count)
+    if len(first) > FEW:
+        leave, enter = (numpy.bincount(ends, minlength=parts.count) for ends in (first, second))
+        middle = int((leave * enter).argmax())
+        there, back = _reach(first, second, middle), _reach(second, first, middle)
+        if there is not None and back is not None:
+            parts.divide(there, back)
+            keeps = (parts.part[first] == parts.part[second]) & (parts.part[first] != DONE)
+            first, second = _trim(first[keeps], second[keeps], parts.count)
+    inner, first, second = _renumber(first, second)
+    parts.close(inner, inner[_tarjan(first, second, len(inner))])
+    return vertices, vertices[parts.label]
+
+
+def _renumber(rows: Array, columns: Array) -> Tuple[Array, Array, Array]:
+    """The vertices that have edges, and the edges between their numbers among these."""
+    is_end = numpy.zeros(1 + max(rows.max(initial=-1), columns.max(initial=-1)), bool)
+    is_end[rows] = is_end[columns] = True
+    numbers = numpy.cumsum(is_end) - 1
+    return numpy.flatnonzero(is_end), numbers[rows], numbers[columns]
 
 
 def _trim(first: Array, second: Array, count: int) -> Tuple[Array, Array]:
     """The edges without those that lead to a vertex that none leaves, or leave one that none leads
     to."""
-    for _ in range(TRIMS):
+    for _ in range(SWEEPS):
         keeps = numpy.bincount(second, minlength=count)[first] > 0
         keeps &= numpy.bincount(first, minlength=count)[second] > 0
         if keeps.all():
@@ -270,50 +260,50 @@ def _trim(first: Array, second: Array, count: int) -> Tuple[Array, Array]:
     return first, second
 
 
-def _tarjan(rows: List[int], columns: List[int], count: int) -> List[int]:
-    """The least vertex of each one's component. `rows` ascend. Tarjan's algorithm, with a list for
-    the calls."""
-    ends = [0] * (count + 1)
-    for i in rows:
-        ends[i + 1] += 1
-    for i in range(count):
-        ends[i + 1] += ends[i]
-    following, found, low, out = ends[:-1], [0] * count, [0] * count, list(range(count))
-    open_ = bytearray(count)                       # those on the stack
-    stack: List[int] = []
-    number = 0
+def _reach(first: Array, second: Array, start: int) -> Optional[Array]:
+    """The vertices that one reaches; None where paths are long."""
+    seen = numpy.zeros(1 + max(first.max(), second.max()), bool)
+    seen[start], many = True, 0
+    for _ in range(SWEEPS):
+        seen[second[seen[first]]] = True
+        before, many = many, numpy.count_nonzero(seen)
+        if many == before:
+            return numpy.flatnonzero(seen)
+    return None
+
+
+def _tarjan(first: Array, second: Array, count: int) -> List[int]:
+    """The least vertex of each one's component. `first` ascends. Tarjan's algorithm as Pearce has
+    it, with a list for the calls."""
+    ends = numpy.cumsum(numpy.bincount(first, minlength=count)).tolist()
+    following, heads = [0, *ends[:-1]], second.tolist()
+    number, low, out = [0] * count, [0] * count, list(range(count))
+    met, open_ = 0, []  # type: int, List[int]
     for root in range(count):
-        path = [] if found[root] else [root]
+        path = [] if low[root] else [root]
         while path:
             at = path[-1]
-            if not found[at]:
-                number += 1
-                found[at] = low[at] = number
-                stack.append(at)
-                open_[at] = 1
-            edge = following[at]
-            if edge < ends[at + 1]:
-                following[at] = edge + 1
-                there = columns[edge]
-                if not found[there]:
+            if not low[at]:
+                met += 1
+                number[at] = low[at] = met
+            if following[at] < ends[at]:
+                there = heads[following[at]]
+                following[at] += 1
+                if not low[there]:
                     path.append(there)
-                elif open_[there] and found[there] < low[at]:
-                    low[at] = found[there]
+                elif low[there] < low[at]:
+                    low[at] = low[there]
                 continue
             path.pop()
-            if path and low[at] < low[path[-1]]:
+            open_.append(at)
+            if low[at] == number[at]:              # all behind it on the stack are its component
+                begin = len(open_) - 1
+                while begin and low[open_[begin - 1]] >= low[at]:
+                    begin -= 1
+                least = min(open_[begin:])
+                for member in open_[begin:]:
+                    out[member], low[member] = least, count + 1
+                del open_[begin:]
+            elif low[at] < low[path[-1]]:
                 low[path[-1]] = low[at]
-            if low[at] == found[at]:
-                _close(stack, at, out, open_)
     return out
-
-
-def _close(stack: List[int], at: int, out: List[int], open_: bytearray) -> None:
-    """Takes the component of a vertex from the stack, and names it by its least vertex."""
-    members: List[int] = []
-    while not members or members[-1] != at:
-        members.append(stack.pop())
-    least = min(members)
-    for member in members:
-        out[member] = least
-        open_[member] = 0

@@ -20,14 +20,12 @@ from ..metadata import Nodes
 from ..operators import Semiring, asm, binary
 from ..session import Session
 from .server_loops import hear
+from .single_source_paths import LESS, NOT_LESS
 from .times import Clock, read_times
 from .types import Place, Vertex, Vertices
 from .traversal import Vector, put_column, put_row, vector_of
 from .utils import Progress, find_place, find_places
 
-# x where it is less than y, else the least number
-LESS = asm('binary', 'mov64 r0, r1\njslt64 r1, r2, 2\nmov64 r0, 1\nlsh64 r0, 63\nexit\n')
-NOT_LESS = -1 << 63
 # The time at which an event begins, where that isn't before one is there; else the least number
 TAKEN = asm('binary', 'mov64 r0, r2\njsge64 r2, r1, 2\nmov64 r0, 1\nlsh64 r0, 63\nexit\n')
 TAKE, ARRIVE = Semiring(binary.any, TAKEN), Semiring(binary.min, binary.second)

@@ -1,7 +1,7 @@
 """What must come before what: levels of a directed graph without cycles, or its cycle."""
 from __future__ import annotations
 
-from typing import Any, Dict, List, Tuple
+from typing import Any, Callable, Dict, List, Tuple
 
 import numpy
 
@@ -54,7 +54,8 @@ class CycleError(ValueError):
 
 
 class Order:
-    """Vertices in the order in which no edge leads to them any more from one that isn't taken yet.
+    """Vertices in the order in which no edge leads to them any more from one that isn't taken yet,
+    with a number for each that is taken.
 
     `front` is the row of those that are to be taken first, `waiting` that of the others that an
     edge leads to from the front. A step's cost follows the edges that leave the front, and the
@@ -66,12 +67,10 @@ class Order:
         self.waits_for = incoming.diag()
         every = G.session.ones(G.nrows).apply('zero').ewise_add(incoming, 'second')
         self.front = every.select('valueeq', 0)
+        self.numbers: Array = numpy.full(G.nrows, NONE)
+        self.numbers[self.front.to_coo()[1]] = 0
 
-    def begin(self) -> Dict[str, Matrix]:
-        """The state of a loop."""
-        return {'front': self.front, 'waiting': self.front.select('nonzero')}
-
-    def taken(self, s: State) -> Tuple[Matrix, Matrix, Matrix]:
+    def take(self, s: State) -> Tuple[Matrix, Matrix, Matrix]:
         """Takes the front away: the next one, those that have edges left, of the vertices that an
         edge led to, and how many."""
         taken = s.waiting.ewise_add(s.front.mxm(self.graph, TAKEN), 'plus')
@@ -79,53 +78,43 @@ class Order:
         still = left.select('nonzero')
         return left.select('valueeq', 0), still, taken.ewise_mult(still, 'first')
 
+    def run(self, step: Callable[[State], Dict[str, Matrix]], more: Dict[str, Matrix],
+            progress: Progress) -> Array:
+        """Makes all rounds, of which each vertex has the number, or its value in `lengths`; NONE
+        where a cycle leads to it."""
+        name = 'lengths' if more else 'front'
+        begin = {'front': self.front, 'waiting': self.front.select('nonzero'), **more}
+        tells = hear(progress, 'level')
 
-class Levels:
-    """The number that each vertex got, and how many got one, as a loop tells of them."""
-
-    def __init__(self, order: Order, progress: Progress) -> None:
-        self.graph = order.graph
-        self.numbers: Array = numpy.full(order.graph.nrows, NONE)
-        self._tells = hear(progress, 'level')
-        first = order.front.to_coo()[1]
-        self.count = len(first)
-        self.numbers[first] = 0
-
-    def hear(self, loop: Loop, name: str, first: int, rounds: List[Round]) -> None:
-        """Those that some rounds took: with the round, or with the value that is shown."""
-        new = loop.shown[name].drain(values=name != 'front')
-        self.numbers[new.places] = new.rounds if name == 'front' else new.values
-        self.count += len(new.places)
-        self._tells(first, rounds)
-
-    def found(self) -> Array:
-        """The vertices that have a number."""
-        return numpy.flatnonzero(self.numbers != NONE)
-
-    def check(self) -> None:
-        """Raises CycleError where a vertex has no number."""
-        if self.count < len(self.numbers):
-            raise CycleError(_find_cycle(self.graph, numpy.flatnonzero(self.numbers == NONE)))
-
-    def column(self) -> Matrix:
-        """The numbers as a column."""
-        return beside(self.graph, put_all(self.graph, self.numbers))
+        def heard(first: int, rounds: List[Round]) -> None:
+            if any(one.counts.get('wrapped') for one in rounds):
+                raise ValueError(WRAPS)
+            new = loop.shown[name].drain(values=bool(more))
+            self.numbers[new.places] = new.values if more else new.rounds
+            tells(first, rounds)
+        if (self.numbers != NONE).any():
+            loop = Loop(step, begin, [name], alike=True)
+            loop.rounds(empty('front'), self.graph.nrows + 1, heard)
+        return self.numbers
 
 
-def find_topological_levels(G: Matrix, progress: Progress = None) -> Levels:
-    """The vertices that no cycle leads to, and their levels: those without an edge that comes in,
-    those that have one from these alone, and so on."""
+def find_topological_levels(G: Matrix, progress: Progress = None) -> Array:
+    """The levels of the vertices that no cycle leads to: those without an edge that comes in, those
+    that have one from these alone, and so on. NONE for others."""
     order_ = Order(G)
-    levels = Levels(order_, progress)
 
     def step(s: State) -> Dict[str, Matrix]:
-        front, _, waiting = order_.taken(s)
+        front, _, waiting = order_.take(s)
         return {'front': front, 'waiting': waiting}
-    if levels.count:
-        loop = Loop(step, order_.begin(), ['front'], alike=True)
-        loop.rounds(empty('front'), G.nrows + 1,
-                    lambda first, rounds: levels.hear(loop, 'front', first, rounds))
-    return levels
+    return order_.run(step, {}, progress)
+
+
+def _column(G: Matrix, numbers: Array) -> Matrix:
+    """The numbers as a column. CycleError where a vertex has none."""
+    rest = numpy.flatnonzero(numbers == NONE)
+    if len(rest):
+        raise CycleError(_find_cycle(G, rest))
+    return beside(G, put_all(G, numbers))
 
 
 @algorithm('levels of a graph without cycles',
@@ -171,9 +160,7 @@ def topological_levels(G: Matrix, progress: Progress = None) -> Matrix:
     """
     if order(G) == 0:
         return beside(G, nothing(G))
-    levels = find_topological_levels(G, progress)
-    levels.check()
-    return levels.column()
+    return _column(G, find_topological_levels(G, progress))
 
 
 @algorithm('lengths of longest paths in a graph without cycles', values=True, lengths=True,
@@ -220,26 +207,16 @@ def longest_paths(W: Matrix, progress: Progress = None, *, check: bool = True) -
         return beside(W, nothing(W))
     may_wrap = check and count * extremes(W)[1] > MOST
     order_ = Order(W)
-    levels = Levels(order_, progress)
 
     def step(s: State) -> Dict[str, Matrix]:
         best = s.best.ewise_add(s.lengths.mxm(W, 'max_plus'), 'max')
-        front, still, waiting = order_.taken(s)
+        front, still, waiting = order_.take(s)
         out = {'front': front, 'waiting': waiting, 'best': best.ewise_mult(still, 'first'),
                'lengths': best.ewise_mult(front, 'first').apply('max', right=0)}
         return {**out, 'wrapped': s.lengths.mxm(W, WRAPPED).select('nonzero')} if may_wrap else out
-
-    def heard(first: int, rounds: List[Round]) -> None:
-        if may_wrap and any(one.counts['wrapped'] for one in rounds):
-            raise ValueError(WRAPS)
-        levels.hear(loop, 'lengths', first, rounds)
-    if levels.count:
-        lengths = order_.front.apply('zero')
-        begin = {**order_.begin(), 'lengths': lengths, 'best': lengths.select('nonzero')}
-        loop = Loop(step, begin, ['lengths'], alike=True)
-        loop.rounds(empty('front'), count + 1, heard)
-    levels.check()
-    return levels.column()
+    lengths = order_.front.apply('zero')
+    more = {'lengths': lengths, 'best': lengths.select('nonzero')}
+    return _column(W, order_.run(step, more, progress))
 
 
 def _find_cycle(G: Matrix, rest: Array) -> List[Any]:

@@ -17,8 +17,7 @@ as long by the clock: a pull looks at all rows, and wants the front as a column,
 """
 from __future__ import annotations
 
-import abc
-from typing import Any, Dict, List, NamedTuple, Optional, Sequence, cast
+from typing import Any, Dict, List, NamedTuple, Optional, Sequence, Tuple, cast
 
 import numpy
 
@@ -35,7 +34,7 @@ from .types import Array
 # a vertex it takes 1.7 times a row's time of processors, which three workers share.
 MANY_WORKERS, MANY_ENTRIES, MANY_AT_A_VERTEX = 3, 500_000, 3
 # Of fewer vertices all that a front reaches is read in less time than a mask is made.
-SMALL = 1 << 12
+SMALL = 1 << 15
 SWAPPED = {binary.first: binary.second, binary.second: binary.first}
 
 
@@ -50,23 +49,24 @@ def vector_of(at: Sequence[Any], values: Sequence[int]) -> Vector:
     return Vector(numpy.array(at, numpy.int64), numpy.array(values, numpy.int64))
 
 
-class Traversal(abc.ABC):
+class Traversal:
     """How what fronts have moves along the edges of a graph. Where the session keeps vectors, these
-    are matrices beside the graph."""
+    are matrices beside the graph: columns, or rows."""
 
-    has_matrices = False                           # whether the session keeps vectors
+    has_matrices = True                            # whether the session keeps vectors
     is_full = False                                # whether these had better have all vertices
+    is_column = False
 
     def __init__(self, graph: Matrix) -> None:
         self.graph, self.count = graph, graph.nrows
 
-    @abc.abstractmethod
     def push(self, front: Vector, ring: Semiring, values: bool = True) -> Vector:
         """What comes to each vertex j along the edges (i, j) from the front's vertices i; `values`
         says whether those are wanted.
 
         The terms are `mul(front(i), edge)`, folded by `add`. `mul` is `first`, `second`, or
         commutative."""
+        return self.read(self.step(self.put(front), ring), values)
 
     def pays_scan(self, front: int, part: int = 4) -> bool:
         """Whether a front of so many vertices has so many edges that jobs over all vertices pay.
@@ -85,24 +85,17 @@ class Traversal(abc.ABC):
 
     def put(self, vector: Vector) -> Matrix:
         """A matrix of a vector."""
-        raise NotImplementedError
+        return (put_column if self.is_column else put_row)(self.graph, vector)
 
     def fill(self, value: int) -> Matrix:
         """A matrix with a value for every vertex."""
-        raise NotImplementedError
+        sides = (self.count, 1) if self.is_column else (1, self.count)
+        return self.graph.session.full(*sides, value)
 
     def ones(self) -> Matrix:
         """A vector of ones, kept with the graph."""
         held: Matrix = found(self.graph, type(self).__name__ + ' of ones', lambda: self.fill(1))
         return held
-
-    def step(self, front: Matrix, ring: Semiring, mask: Optional[Matrix] = None) -> Matrix:
-        """`push`, of a matrix, under the structure of a mask."""
-        raise NotImplementedError
-
-    def read(self, matrix: Matrix, values: bool = True) -> Vector:
-        """The vector that a matrix is. Without `values` there may be none."""
-        raise NotImplementedError
 
     def numbers(self) -> Matrix:
         """A vector of the vertices' own numbers, kept with the graph."""
@@ -112,11 +105,19 @@ class Traversal(abc.ABC):
 
     def number(self, vector: Matrix, more: int = 0) -> Matrix:
         """A vector whose values are the vertices' own numbers, plus `more`."""
-        raise NotImplementedError
+        return vector.apply('rowindex' if self.is_column else 'colindex', right=more)
+
+    def read(self, matrix: Matrix, values: bool = True) -> Vector:
+        """The vector that a matrix is. Without `values` there may be none."""
+        return read_vector(matrix.to_text(), 0 if self.is_column else 1, values)
+
+    def step(self, front: Matrix, ring: Semiring, mask: Optional[Matrix] = None) -> Matrix:
+        """`push`, of a matrix, under the structure of a mask."""
+        return front.mxm(self.graph, ring, mask=None if mask is None else mask.S)
 
     def turn(self, transpose: Matrix) -> 'Traversal':
         """The same against the edges."""
-        raise NotImplementedError
+        return type(self)(transpose)
 
     def wants_full(self, vector: Matrix) -> bool:  # pylint: disable=unused-argument
         """Whether a vector that isn't full had better have zeros for the other vertices."""
@@ -126,26 +127,9 @@ class Traversal(abc.ABC):
 class Rows(Traversal):
     """Vectors as rows, which push."""
 
-    has_matrices = True
-
     def __init__(self, graph: Matrix) -> None:
         super().__init__(graph)
         self._pushes: Dict[Semiring, Push] = {}
-
-    def put(self, vector: Vector) -> Matrix:
-        return put_row(self.graph, vector)
-
-    def fill(self, value: int) -> Matrix:
-        return self.graph.session.full(1, self.count, value)
-
-    def step(self, front: Matrix, ring: Semiring, mask: Optional[Matrix] = None) -> Matrix:
-        return front.mxm(self.graph, ring, mask=None if mask is None else mask.S)
-
-    def number(self, vector: Matrix, more: int = 0) -> Matrix:
-        return vector.apply('colindex', right=more)
-
-    def read(self, matrix: Matrix, values: bool = True) -> Vector:
-        return read_vector(matrix.to_text(), 1, values)
 
     def push(self, front: Vector, ring: Semiring, values: bool = True) -> Vector:
         """By one trip; as a job where it is refused, so that the error is that of a job."""
@@ -156,11 +140,8 @@ class Rows(Traversal):
             row = Triples(numpy.zeros_like(front.at), front.at, front.values, 1, self.count)
             got = self._pushes[ring](row, values)
         if got is None:
-            return self.read(self.step(self.put(front), ring), values)
+            return super().push(front, ring, values)
         return Vector(got.places, got.values)
-
-    def turn(self, transpose: Matrix) -> 'Rows':
-        return Rows(transpose)
 
     def may_loop(self) -> bool:
         return is_ample(self.graph) and is_both_ways(self.graph)
@@ -169,29 +150,17 @@ class Rows(Traversal):
 class Columns(Traversal):
     """Vectors as columns, which pull along the rows of the transpose."""
 
-    has_matrices = is_full = True
+    is_full = is_column = True
 
     def __init__(self, graph: Matrix, transpose: Optional[Matrix] = None) -> None:
         super().__init__(graph)
         self.transpose = graph if transpose is None else transpose
 
-    def put(self, vector: Vector) -> Matrix:
-        return put_column(self.graph, vector)
-
-    def fill(self, value: int) -> Matrix:
-        return self.graph.session.full(self.count, 1, value)
-
-    def push(self, front: Vector, ring: Semiring, values: bool = True) -> Vector:
-        return self.read(self.step(self.put(front), ring), values)
-
-    def turn(self, transpose: Matrix) -> 'Columns':
-        return Columns(transpose, self.graph)
-
     def step(self, front: Matrix, ring: Semiring, mask: Optional[Matrix] = None) -> Matrix:
         return self.transpose.mxv(front, swap(ring), mask=None if mask is None else mask.S)
 
-    def number(self, vector: Matrix, more: int = 0) -> Matrix:
-        return vector.apply('rowindex', right=more)
+    def turn(self, transpose: Matrix) -> 'Columns':
+        return Columns(transpose, self.graph)
 
     def wants_full(self, vector: Matrix) -> bool:
         """The server prices a product with a column that isn't full by a walk along the graph."""
@@ -199,13 +168,12 @@ class Columns(Traversal):
             return False
         return self.graph.session.backend.is_estimate or bool(vector.nvals < self.count)
 
-    def read(self, matrix: Matrix, values: bool = True) -> Vector:
-        return read_vector(matrix.to_text(), 0, values)
-
 
 class BlockFronts(Traversal):
     """Fronts that the client has, beside a graph in blocks: each push is one trip to the blocks
     that have to do with it. Without a transpose all fronts are pushed."""
+
+    has_matrices = False
 
     def __init__(self, graph: Matrix, transpose: Optional[Matrix]) -> None:
         super().__init__(graph)
@@ -247,21 +215,6 @@ def find_flow(G: Matrix, GT: Optional[Matrix], check: bool, values: bool = False
     if is_shared(G):
         return Columns(G, transpose_of(G, GT, check, values))
     return find_vectors(G, GT, check, values)
-
-
-def find_both_directions(G: Matrix, GT: Optional[Matrix], check: bool) -> List[Traversal]:
-    """How all vertices look along their edges, and where that isn't the same, against them."""
-    if is_both_ways(G):
-        return [Columns(G)]
-    if GT is None and G.in_one_place:
-        return [Columns(G), Rows(G)]
-    back = transpose_of(G, GT, check)
-    return [Columns(G), Rows(G) if G.in_one_place else Columns(G, back)]
-
-
-def find_pushes(G: Matrix) -> Traversal:
-    """How some vertices look along edges that lead both ways."""
-    return Rows(G) if G.in_one_place else Columns(G)
 
 
 def is_whole(graph: Matrix) -> bool:
@@ -335,8 +288,13 @@ def put_column(graph: Matrix, vector: Vector) -> Matrix:
 
 def put_known(graph: Matrix, numbers: Array, missing: int) -> Matrix:
     """The numbers of all vertices as a column, without those that are `missing`."""
+    return put_column(graph, select_known(numbers, missing))
+
+
+def select_known(numbers: Array, missing: int) -> Vector:
+    """The vertices whose numbers aren't `missing`."""
     at = numpy.flatnonzero(numbers != missing)
-    return put_column(graph, Vector(at, numbers[at]))
+    return Vector(at, numbers[at])
 
 
 def put_all(graph: Matrix, values: Any) -> Matrix:
@@ -366,6 +324,13 @@ def read_vector(text: bytes, field: int, values: bool = True) -> Vector:
 def read_column(matrix: Matrix) -> Vector:
     """The vector that a column is."""
     return read_vector(matrix.to_text(), 0)
+
+
+def read_edges(graph: Matrix) -> Tuple[Array, Array]:
+    """Where the edges of a graph begin and end, by ascending vertices."""
+    text = graph.to_text()
+    rows, columns = matrix_text.read_fields(text[matrix_text.head_of(text).start:], (0, 1))
+    return rows - 1, columns - 1
 
 
 def read_values(matrix: Matrix) -> Array:

@@ -5,7 +5,7 @@ import numpy
 
 import graphs
 from spmat import algorithms, blocks
-from spmat.algorithms import strong_components, traversal
+from spmat.algorithms import spanning_forest, strong_components, traversal
 from support import InSession, enter
 
 
@@ -35,12 +35,12 @@ class Parts(InSession):
             with self.subTest(graph=graph.name):
                 G, near = graph.matrix(self.session), graph.near()
                 want = least_of(strong_groups(near), graph.count)
-                for at_once, most, pulls in ((1 << 12, 1 << 18, 16), (0, 1 << 18, 16),
-                                             (0, 1 << 18, 1), (0, 0, 1)):
+                for at_once, most, few, pulls in ((1 << 15, 1 << 18, 1 << 9, 16),
+                                                  (1 << 15, 1 << 18, 0, 16), (0, 1 << 18, 0, 16),
+                                                  (0, 1 << 18, 0, 1), (0, 0, 0, 1)):
                     if most or graph.count < 40:
-                        with mock.patch.object(strong_components, 'AT_ONCE', at_once), \
-                                mock.patch.object(strong_components, 'SMALL', most), \
-                                mock.patch.object(strong_components, 'PULLS', pulls):
+                        with mock.patch.multiple(strong_components, AT_ONCE=at_once, SMALL=most,
+                                                 FEW=few, PULLS=pulls):
                             G.kept.pop('transpose', None)
                             self.assertEqual(algorithms.strongly_connected_components(G).to_list(),
                                              want)
@@ -52,6 +52,10 @@ class Parts(InSession):
                 groups = [reached(graphs.both_ways(graph.near()), i) for i in range(graph.count)]
                 self.assertEqual(algorithms.connected_components(G).to_list(),
                                  least_of(groups, graph.count), graph.name)
+                if graph.name in {one.name for one in graphs.UNDIRECTED[:6]}:
+                    forest = algorithms.minimum_spanning_forest(G).to_triples()
+                    with mock.patch.object(spanning_forest, 'AT_ONCE', 0):
+                        self.assertEqual(algorithms.minimum_spanning_forest(G).to_triples(), forest)
 
     def test_many_parts_beside_a_hub(self):
         """Parts whose members have lesser and greater neighbours than the hub, to which only one of

@@ -233,14 +233,14 @@ class Costs(unittest.TestCase):
             self.assertEqual((told, runs), ([('batch', 1, 1)], many * levels + 3))
 
     def test_shortest_paths(self):
-        """1 a round, and 4; 2 more a round with a large front, 6 where a band ends with it."""
+        """1 a round, and 4."""
         path = graphs.undirected('path', 90, [(i, i + 1) for i in range(89)]).matrix(self.session)
         told, runs = self.counted(algorithms.sssp, path, 0)
         self.assertLessEqual(runs, len(told) + 4)
         self.assertLessEqual(len(told), 90)
         self.assertEqual(self.counted(algorithms.sssp, path, 0)[1], len(told))
         told, runs = self.counted(algorithms.sssp, self.G, 0)
-        self.assertLessEqual(runs, 9 * len(told) + 4)
+        self.assertLessEqual(runs, len(told) + 4)
 
     def test_bands(self):
         """On a grid the nearest vertices are taken first: a third of the steps that it takes to
