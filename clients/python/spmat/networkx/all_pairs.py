@@ -1,13 +1,13 @@
 """Lengths of the shortest paths between all nodes, and centralities."""
 from __future__ import annotations
 
-# networkx calls these by the names of its own arguments, served or not
-# pylint: disable=missing-function-docstring,unused-argument
+# networkx calls these by the names of its own arguments
+# pylint: disable=missing-function-docstring
 
 import itertools
 import math
 import operator
-from typing import Any, Callable, Dict, Iterable, Iterator, List, Mapping, Optional, Tuple
+from typing import Any, Callable, Dict, Iterator, List, Mapping, Optional, Tuple
 
 import networkx as nx
 import numpy
@@ -19,8 +19,7 @@ from ..limits import MOST_SIDE
 from ..matrix import Matrix
 from .connectivity import all_reached, connected
 from .edge_weights import scale_cutoff, unscale
-from .shortest_paths import (Lengths, NEGATIVE, Query, check_method, length_to, lengths, need,
-                             scaled, unit_of)
+from .shortest_paths import (Lengths, NEGATIVE, Query, length_to, lengths, need, scaled, unit_of)
 from .spmat_graph import SpmatGraph
 
 BLOCK = MOST_SIDE // 4                             # pairs of a block of sources
@@ -28,9 +27,9 @@ METHODS = (None, 'unweighted', 'dijkstra', 'bellman-ford', 'floyd-warshall', 'fl
 Blocks = Iterator[Tuple[int, Matrix]]
 
 
-def shortest_path_length(G: SpmatGraph, source: Any = None, target: Any = None, weight: Any = None,
-                         method: str = 'dijkstra') -> Any:
-    check_method(method)
+def shortest_path_length(G: SpmatGraph, source: Any, target: Any, weight: Any, method: str) -> Any:
+    if method not in ('dijkstra', 'bellman-ford'):
+        raise ValueError('method not supported: %s' % method)
     query = Query(weight)
     if method == 'bellman-ford' and weight is not None and source is not None:
         # of these networkx looks at the target last
@@ -87,23 +86,22 @@ def pairs(G: SpmatGraph, query: Query,
             for node, row in G.rows_of(far if most is None else far.select('valuele', most), first))
 
 
-def all_pairs_shortest_path_length(G: SpmatGraph,
-                                   cutoff: Any = None) -> Iterator[Tuple[Any, Lengths]]:
+def all_pairs_shortest_path_length(G: SpmatGraph, cutoff: Any) -> Iterator[Tuple[Any, Lengths]]:
     # by edges a cutoff of 2.5 is one of 3 in networkx, by weights one of 2
     return pairs(G, Query(cutoff=cutoff), math.ceil)
 
 
-def all_pairs_dijkstra_path_length(G: SpmatGraph, cutoff: Any = None,
-                                   weight: Any = 'weight') -> Iterator[Tuple[Any, Lengths]]:
+def all_pairs_dijkstra_path_length(G: SpmatGraph, cutoff: Any,
+                                   weight: Any) -> Iterator[Tuple[Any, Lengths]]:
     return pairs(G, Query(weight, cutoff=cutoff))
 
 
 def all_pairs_bellman_ford_path_length(G: SpmatGraph,
-                                       weight: Any = 'weight') -> Iterator[Tuple[Any, Lengths]]:
+                                       weight: Any) -> Iterator[Tuple[Any, Lengths]]:
     return pairs(G, Query(weight))
 
 
-def floyd_warshall(G: SpmatGraph, weight: Any = 'weight') -> Dict[Any, Dict[Any, Any]]:
+def floyd_warshall(G: SpmatGraph, weight: Any) -> Dict[Any, Dict[Any, Any]]:
     never = float('inf')
     try:
         return {u: {v: row.get(v, never) for v in G}
@@ -147,8 +145,7 @@ def sum_lengths(G: SpmatGraph, query: Query) -> Tuple[List[int], List[int]]:
     return many.tolist(), total.tolist()
 
 
-def average_shortest_path_length(G: SpmatGraph, weight: Any = None,
-                                 method: Optional[str] = None) -> float:
+def average_shortest_path_length(G: SpmatGraph, weight: Any, method: Optional[str]) -> float:
     if method not in METHODS:
         raise ValueError('method not supported: %s' % method)
     n = len(G)
@@ -164,7 +161,7 @@ def average_shortest_path_length(G: SpmatGraph, weight: Any = None,
     return sum(sum_lengths(G, query)[1]) / (n * (n - 1) * (unit_of(G, query.weight) or 1))
 
 
-def wiener_index(G: SpmatGraph, weight: Any = None) -> float:
+def wiener_index(G: SpmatGraph, weight: Any) -> float:
     if not len(G):
         raise NetworkXPointlessConcept('Connectivity is undefined for the null graph.')
     if not all_reached(G):
@@ -174,8 +171,7 @@ def wiener_index(G: SpmatGraph, weight: Any = None) -> float:
     return length if G.is_directed() else total / (2 * (unit or 1))
 
 
-def closeness_centrality(G: SpmatGraph, u: Any = None, distance: Any = None,
-                         wf_improved: bool = True) -> Any:
+def closeness_centrality(G: SpmatGraph, u: Any, distance: Any, wf_improved: bool) -> Any:
     if u is not None:
         need(G, u, 'Source %s is not in G')
         far = lengths(G, [u], Query(distance, back=True))
@@ -193,8 +189,8 @@ def _closeness(reached: int, total: float, count: int, wf_improved: bool) -> flo
     return found * ((reached - 1.0) / (count - 1)) if wf_improved else found
 
 
-def harmonic_centrality(G: SpmatGraph, nbunch: Any = None, distance: Any = None,
-                        sources: Any = None) -> Dict[Any, Any]:
+def harmonic_centrality(G: SpmatGraph, nbunch: Any, distance: Any,
+                        sources: Any) -> Dict[Any, Any]:
     wanted, starts = set(G.nbunch_iter(nbunch)), set(G.nbunch_iter(sources))
     found: Dict[Any, Any] = dict.fromkeys(wanted, 0)
     if distance is None and len(starts) == len(G):
@@ -235,7 +231,7 @@ def find_eccentricities(G: SpmatGraph, weight: Any) -> Lengths:
     return scaled(dict(zip(G, found)), unit_of(G, weight))
 
 
-def eccentricity(G: SpmatGraph, v: Any = None, sp: Any = None, weight: Any = None) -> Any:
+def eccentricity(G: SpmatGraph, v: Any, weight: Any) -> Any:
     nodes = list(G.nbunch_iter(v))
     if v is None:
         return find_eccentricities(G, weight)
@@ -246,31 +242,21 @@ def eccentricity(G: SpmatGraph, v: Any = None, sp: Any = None, weight: Any = Non
     return found[v] if v in G else {node: found[node] for node in nodes}
 
 
-def diameter(G: SpmatGraph, e: Any = None, usebounds: bool = False, weight: Any = None) -> Any:
-    return max((find_eccentricities(G, weight) if e is None else e).values())
+def _judge_eccentricities(name: str) -> Callable[..., Any]:
+    """Make a function of networkx that takes eccentricities, and asks for them if they aren't
+    given."""
+    def judge(G: SpmatGraph, e: Any, weight: Any) -> Any:
+        if name == 'center' and not len(G):
+            raise NotImplementedError('no node')
+        found = find_eccentricities(G, weight) if e is None else e
+        return getattr(nx, name).orig_func(G, found)
+    return judge
 
 
-def radius(G: SpmatGraph, e: Any = None, usebounds: bool = False, weight: Any = None) -> Any:
-    return min((find_eccentricities(G, weight) if e is None else e).values())
-
-
-def _find_extreme(G: SpmatGraph, e: Any, weight: Any,
-                  choose: Callable[[Iterable[Any]], Any]) -> List[Any]:
-    """The nodes that have the greatest or the least value."""
-    if not len(G):
-        raise NotImplementedError('no node')
-    found = find_eccentricities(G, weight) if e is None else e
-    extreme = choose(found.values())
-    return [node for node in found if found[node] == extreme]
-
-
-def periphery(G: SpmatGraph, e: Any = None, usebounds: bool = False,
-              weight: Any = None) -> List[Any]:
-    return _find_extreme(G, e, weight, max)
-
-
-def center(G: SpmatGraph, e: Any = None, usebounds: bool = False, weight: Any = None) -> List[Any]:
-    return _find_extreme(G, e, weight, min)
+diameter = _judge_eccentricities('diameter')
+radius = _judge_eccentricities('radius')
+periphery = _judge_eccentricities('periphery')
+center = _judge_eccentricities('center')
 
 
 # -- flows and ranks
@@ -298,9 +284,8 @@ def _weigh_nodes(G: SpmatGraph, given: Optional[Mapping[Any, Any]],
     return found
 
 
-def pagerank(G: SpmatGraph, alpha: float = 0.85, personalization: Any = None,
-             max_iter: int = ROUNDS, tol: float = 1.0e-6, nstart: Any = None,
-             weight: Any = 'weight', dangling: Any = None) -> Dict[Any, float]:
+def pagerank(G: SpmatGraph, alpha: float, personalization: Any, max_iter: int, tol: float,
+             weight: Any, dangling: Any) -> Dict[Any, float]:
     # who gives fewer wants to see whether it converges, as networkx sees it
     if max_iter < ROUNDS:
         raise NotImplementedError('fewer than %d rounds' % ROUNDS)
@@ -324,9 +309,7 @@ def pagerank(G: SpmatGraph, alpha: float = 0.85, personalization: Any = None,
     return {node: value / ONE for node, value in zip(G, found.to_list(0))}
 
 
-def betweenness_centrality(G: SpmatGraph, k: Any = None, normalized: bool = True,
-                           weight: Any = None, endpoints: bool = False,
-                           seed: Any = None) -> Dict[Any, float]:
+def betweenness_centrality(G: SpmatGraph, normalized: bool, weight: Any) -> Dict[Any, float]:
     count = len(G)
     if not normalized and count * (ROUNDING + 1 / PATHS) > DIGITS:
         raise NotImplementedError('sums over so many nodes, which whole numbers keep to fewer '

@@ -65,15 +65,16 @@ _handed = threading.local()
 
 # -- conversion
 
-def find_oddity(graph: Any) -> Optional[str]:
-    """Say why a graph can't be read by its adjacency; None if it can, or has been read."""
+def check_adjacency(graph: Any) -> None:
+    """NotImplementedError, with the reason, if a graph can't be read by its adjacency, and has not
+    been."""
     if find_conversion(graph) is not None:
-        return None
+        return
     if not isinstance(graph, nx.Graph):
-        return 'no graph of networkx: %s' % type(graph).__name__
+        raise NotImplementedError('no graph of networkx: %s' % type(graph).__name__)
     if type(graph).__getitem__ is not nx.Graph.__getitem__ or not hasattr(graph, '_adj'):
-        return 'a %s, whose neighbours are not those of its adjacency' % type(graph).__name__
-    return None
+        raise NotImplementedError('a %s, whose neighbours are not those of its adjacency'
+                                  % type(graph).__name__)
 
 
 def _is_view(graph: Any) -> bool:
@@ -100,9 +101,7 @@ def _convert(graph: Any) -> SpmatGraph:
     own."""
     made = find_conversion(graph)
     if made is None:
-        odd = find_oddity(graph)
-        if odd is not None:
-            raise NotImplementedError(odd)
+        check_adjacency(graph)
         made = _find_cache(graph)[CACHE_KEY] = SpmatGraph(graph)
     return made
 
@@ -187,21 +186,24 @@ class Backend:
         networkx shows. (Of what this says networkx shows nothing; its own tests alone ask for it.)
         Forgets what was made of a graph whose weights changed since."""
         _handed.over = False
-        arguments = _bind(name, args, kwargs)
-        if arguments is not None:
-            forget_changed(next(iter(arguments.values())),
-                           [arguments[key] for key in _list_weights(name)
-                            if arguments[key] is not None])
+        with contextlib.suppress(TypeError):
+            arguments = bind(name, args, kwargs)
+            forget_changed(next(iter(arguments.values())), _list_weights(name, arguments))
         is_tested = bool(os.environ.get('NETWORKX_TEST_BACKEND'))
         return (is_tested and Backend.reason(name, args, kwargs)) or True
 
     @staticmethod
-    def reason(name: str, args: Any, kwargs: Mapping[str, Any]) -> Optional[str]:
+    def reason(name: str, args: Any, kwargs: Dict[str, Any]) -> Optional[str]:
         """Say why a call is left to networkx: arguments, kinds of graphs and weights for which the
         answer would differ. None if it isn't, or its arguments don't fit, which networkx says
         better."""
-        arguments = _bind(name, args, kwargs)
-        return None if arguments is None else _find_reason(name, arguments)
+        try:
+            check_call(name, bind(name, args, kwargs))
+        except NotImplementedError as fault:
+            return str(fault)
+        except TypeError:
+            pass
+        return None
 
     @staticmethod
     def should_run(name: str, args: Any, kwargs: Dict[str, Any]) -> Union[bool, str]:
@@ -235,10 +237,19 @@ backend = Backend()
 @functools.lru_cache(maxsize=None)
 def find_function(name: str) -> Callable[..., Any]:
     """Find what serves networkx' function of a name; its module is imported when it is first asked
-    for."""
+    for. Some are networkx' own, made of others that are served."""
+    if SERVED[name].module == 'networkx':
+        return find_original(name)
     module = importlib.import_module('.' + SERVED[name].module, __package__)
     function: Callable[..., Any] = getattr(module, name)
     return function
+
+
+@functools.lru_cache(maxsize=None)
+def _list_parameters(name: str) -> Tuple[str, ...]:
+    """The arguments that the function of a name reads: those of the others are networkx'
+    defaults, or decide nothing here."""
+    return tuple(inspect.signature(find_function(name)).parameters)
 
 
 def serve(name: str, /, *args: Any, **kwargs: Any) -> Any:
@@ -267,24 +278,26 @@ def serve(name: str, /, *args: Any, **kwargs: Any) -> Any:
         If there is no session, unless networkx handed the call over by itself: then networkx does
         the work.
     """
-    said = Backend.reason(name, args, kwargs)
-    if said:
-        raise NotImplementedError('%s is left to networkx: %s' % (name, said))
+    arguments, is_handed = bind(name, args, kwargs), getattr(_handed, 'over', False)
     try:
-        return _answer(name, lambda: find_function(name)(*args, **kwargs))
+        check_call(name, arguments)
+    except NotImplementedError as fault:
+        raise NotImplementedError('%s is left to networkx: %s' % (name, fault)) from None
+    try:
+        return _answer(name, {key: arguments[key] for key in _list_parameters(name)})
     except process_session.NoSession as fault:
-        if not getattr(_handed, 'over', False):
+        if not is_handed:
             raise
         process_session.warn(str(fault))
         raise NotImplementedError('%s: %s' % (name, fault)) from fault
 
 
-def _answer(name: str, call: Callable[[], Any]) -> Any:
+def _answer(name: str, arguments: Dict[str, Any]) -> Any:
     """What a call gives. If the program died before it, or in it, once more with another; NoSession
     if that one dies, too."""
     for is_last in (False, True):
         try:
-            return call()
+            return find_function(name)(**arguments)
         except errors.BudgetExceeded as fault:
             raise fault.by(MORE_STEPS) from None
         except FALLS_BACK as fault:
@@ -324,68 +337,52 @@ def _count_edges(graph: Any, enough: int) -> int:
     return ends if graph.is_directed() else ends // 2
 
 
-def _dispatched(name: str) -> Any:
-    """networkx' function, with what it says of its arguments."""
-    places = (nx, nx.algorithms.bipartite, nx.algorithms.dag)
-    return next(vars(place)[name] for place in places
-                if hasattr(vars(place).get(name), 'orig_func'))
+def find_original(name: str) -> Callable[..., Any]:
+    """Find networkx' own function, which is not handed to a backend."""
+    function: Callable[..., Any] = getattr(nx, name).orig_func
+    return function
 
 
 @functools.lru_cache(maxsize=None)
-def _signature(name: str) -> inspect.Signature:
-    return inspect.signature(_dispatched(name).orig_func)
+def read_signature(name: str) -> inspect.Signature:
+    """Read the arguments of networkx' function, with their defaults."""
+    return inspect.signature(find_original(name))
 
 
-@functools.lru_cache(maxsize=None)
-def _list_weights(name: str) -> Tuple[str, ...]:
-    """The arguments that name an edge attribute."""
-    function = _dispatched(name)
-    reads = function.edge_attrs is not None or function.preserve_edge_attrs
-    return tuple(key for key in WEIGHTS if reads and key in _signature(name).parameters)
-
-
-def _bind(name: str, args: Any, kwargs: Mapping[str, Any]) -> Optional[Dict[str, Any]]:
-    """The arguments of a call by their names; None if they don't fit, which networkx says
-    better."""
-    try:
-        bound = _signature(name).bind(*args, **kwargs)
-    except TypeError:
-        return None
+def bind(name: str, args: Any, kwargs: Mapping[str, Any]) -> Dict[str, Any]:
+    """The arguments of a call by their names, defaults too. TypeError if they don't fit."""
+    bound = read_signature(name).bind(*args, **kwargs)
     bound.apply_defaults()
     return bound.arguments
 
 
-def _find_reason(name: str, arguments: Dict[str, Any]) -> Optional[str]:
-    """Say why a call is left to networkx; None if it isn't."""
+def _list_weights(name: str, arguments: Mapping[str, Any]) -> List[Any]:
+    """The edge attributes that a call names."""
+    function = getattr(nx, name)
+    if function.edge_attrs is None and not function.preserve_edge_attrs:
+        return []
+    return [arguments[key] for key in WEIGHTS if arguments.get(key) is not None]
+
+
+def check_call(name: str, arguments: Dict[str, Any]) -> None:
+    """NotImplementedError, with the reason, if a call is left to networkx."""
     graph = next(iter(arguments.values()))
-    odd = find_oddity(graph)
-    if odd:
-        return odd
+    check_adjacency(graph)
     if graph.is_directed() and name in NOT_DIRECTED:
-        return 'not of directed graphs'
+        raise NotImplementedError('not of directed graphs')
     if graph.is_multigraph() and name in NOT_MULTI:
-        return 'not of multigraphs'
+        raise NotImplementedError('not of multigraphs')
     for key, value in arguments.items():
-        if (name, key) in DECLINED and value != _signature(name).parameters[key].default:
-            return DECLINED[name, key]
-    return next(filter(None, (_find_reason_by_weights(name, graph, arguments, key)
-                              for key in _list_weights(name) if arguments[key] is not None)), None)
-
-
-def _find_reason_by_weights(name: str, graph: Any, arguments: Dict[str, Any],
-                            key: str) -> Optional[str]:
-    """Say why the values of an edge attribute don't do. What is read of them stays with the
-    conversion, which follows."""
-    attribute = arguments[key]
-    if callable(attribute):
-        return '%s is a function, and not the name of an edge attribute' % key
-    try:
+        if (name, key) in DECLINED and value != read_signature(name).parameters[key].default:
+            raise NotImplementedError(DECLINED[name, key])
+    for attribute in _list_weights(name, arguments):
+        if callable(attribute):
+            raise NotImplementedError('a weight is a function, and not the name of an edge '
+                                      'attribute')
+        # what is read of the values stays with the conversion, which follows
         made = _convert(graph)
         if made is not graph:
             made.keep_attributes(graph, False, True, False)
         found = made.values(attribute, arguments.get('default_weight', 1), FOLDS.get(name, 'min'))
-    except NotImplementedError as fault:
-        return str(fault)
-    if name not in SIGNED and found.least < 0:
-        return 'the edge attribute %r has values below 0' % attribute
-    return None
+        if name not in SIGNED and found.least < 0:
+            raise NotImplementedError('the edge attribute %r has values below 0' % attribute)

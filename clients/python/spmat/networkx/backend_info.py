@@ -42,7 +42,7 @@ class Served(NamedTuple):
     pays: Pays
 
 
-# the functions of each module, by when they pay
+# the functions of each module, by when they pay; those of networkx itself are made of others here
 _TABLE: Dict[str, Dict[Pays, str]] = {
     'all_pairs': {
         MUCH: 'all_pairs_dijkstra_path_length all_pairs_bellman_ford_path_length floyd_warshall '
@@ -62,25 +62,26 @@ _TABLE: Dict[str, Dict[Pays, str]] = {
               'number_weakly_connected_components is_weakly_connected descendants ancestors '
               'bfs_layers',
         KNOWN: 'degree_centrality in_degree_centrality out_degree_centrality isolates '
-               'number_of_isolates number_of_selfloops is_tree is_arborescence'},
-    'triangles_and_cores': {
-        MUCH: 'triangles transitivity clustering average_clustering generalized_degree '
-              'square_clustering',
+               'number_of_selfloops is_tree is_arborescence'},
+    'subgraphs': {
+        MUCH: 'triangles transitivity clustering generalized_degree square_clustering',
         PRODUCTS: 'k_core k_truss',
-        ROUNDS: 'core_number k_shell k_crust k_corona onion_layers maximal_independent_set'},
-    'spanning_trees': {
         WEIGHTS: 'minimum_spanning_edges maximum_spanning_edges minimum_spanning_tree '
-                 'maximum_spanning_tree'},
+                 'maximum_spanning_tree',
+        ROUNDS: 'core_number k_shell k_crust k_corona onion_layers maximal_independent_set'},
     'shortest_paths': {
-        WEIGHTS: 'multi_source_dijkstra multi_source_dijkstra_path single_source_dijkstra '
-                 'single_source_dijkstra_path dijkstra_predecessor_and_distance '
-                 'single_source_bellman_ford single_source_bellman_ford_path '
-                 'bellman_ford_predecessor_and_distance single_source_dijkstra_path_length '
+        WEIGHTS: 'multi_source_dijkstra dijkstra_predecessor_and_distance '
+                 'single_source_bellman_ford bellman_ford_predecessor_and_distance '
                  'multi_source_dijkstra_path_length single_source_bellman_ford_path_length '
                  'bellman_ford_path_length negative_edge_cycle',
         WALK: 'single_source_shortest_path_length single_target_shortest_path_length',
-        KNOWN: 'single_source_shortest_path single_target_shortest_path predecessor dijkstra_path '
-               'bellman_ford_path all_shortest_paths dijkstra_path_length'},
+        KNOWN: 'single_source_shortest_path single_target_shortest_path predecessor '
+               'dijkstra_path_length'},
+    'networkx': {
+        MUCH: 'average_clustering',
+        WEIGHTS: 'multi_source_dijkstra_path single_source_dijkstra single_source_dijkstra_path '
+                 'single_source_dijkstra_path_length single_source_bellman_ford_path',
+        KNOWN: 'all_shortest_paths bellman_ford_path dijkstra_path number_of_isolates'},
 }
 SERVED: Dict[str, Served] = {
     name: Served(module, pays) for module, classes in _TABLE.items()
@@ -106,11 +107,9 @@ def info() -> Dict[str, Any]:
 
 def _describe(pays: Pays) -> str:
     """Say when networkx hands a function over."""
-    if pays.first == NEVER:
-        return ('Taken by itself from %d edges on for a graph that was converted before, and '
-                'wherever backend="spmat" is given.' % pays.again)
-    return ('Taken by itself from %d edges on, from %d on for a graph that was converted before, '
-            'and wherever backend="spmat" is given.' % (pays.first, pays.again))
+    first = '' if pays.first == NEVER else 'from %d edges on, ' % pays.first
+    return ('Taken by itself %sfrom %d edges on for a graph that was converted before, and wherever '
+            'backend="spmat" is given.' % (first, pays.again))
 
 
 # -- settings

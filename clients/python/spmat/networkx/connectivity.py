@@ -2,8 +2,8 @@
 closures."""
 from __future__ import annotations
 
-# networkx calls these by the names of its own arguments, served or not
-# pylint: disable=missing-function-docstring,unused-argument
+# networkx calls these by the names of its own arguments
+# pylint: disable=missing-function-docstring
 
 from typing import Any, Dict, Iterator, List, Set, Tuple
 
@@ -74,10 +74,6 @@ def isolates(G: SpmatGraph) -> Iterator[Any]:
     return iter([node for node, d in zip(G, count_edges(G)) if d == 0])
 
 
-def number_of_isolates(G: SpmatGraph) -> int:
-    return count_edges(G).count(0)
-
-
 def number_of_selfloops(G: SpmatGraph) -> int:
     return sum(G.loops.values())
 
@@ -89,8 +85,8 @@ def s_metric(G: SpmatGraph) -> float:
     return float((sum(flow) + sum(near[i] ** 2 * loops for i, loops in G.loops.items())) // 2)
 
 
-def average_neighbor_degree(G: SpmatGraph, source: str = 'out', target: str = 'out',
-                            nodes: Any = None, weight: Any = None) -> Dict[Any, Any]:
+def average_neighbor_degree(G: SpmatGraph, source: str, target: str, nodes: Any,
+                            weight: Any) -> Dict[Any, Any]:
     if weight is not None and (G.is_multigraph() or G.is_directed()):
         raise NotImplementedError('weights of directed graphs and multigraphs')
     if {source, target} - {'out', 'in', 'in+out'}:
@@ -119,7 +115,7 @@ def overall_reciprocity(G: SpmatGraph) -> float:
     return G.simple.ewise_mult(G.AT, 'pair').nvals / len(G.rows)
 
 
-def reciprocity(G: SpmatGraph, nodes: Any = None) -> Any:
+def reciprocity(G: SpmatGraph, nodes: Any) -> Any:
     if nodes is None:
         return overall_reciprocity(G)
     if G.is_multigraph() or not G.is_directed():
@@ -298,7 +294,7 @@ def _add_edges(G: SpmatGraph, matrix: Matrix) -> Any:
     return closed
 
 
-def transitive_closure(G: SpmatGraph, reflexive: Any = False) -> Any:
+def transitive_closure(G: SpmatGraph, reflexive: Any) -> Any:
     if reflexive not in {None, True, False}:
         raise NetworkXError('Incorrect value for the parameter `reflexive`')
     closed = algorithms.transitive_closure(G.A)
@@ -309,7 +305,7 @@ def transitive_closure(G: SpmatGraph, reflexive: Any = False) -> Any:
     return _add_edges(G, closed)
 
 
-def transitive_closure_dag(G: SpmatGraph, topo_order: Any = None) -> Any:
+def transitive_closure_dag(G: SpmatGraph) -> Any:
     if _is_cyclic(G):
         raise NetworkXUnfeasible(UNFEASIBLE)
     return _add_edges(G, algorithms.transitive_closure(G.A))
@@ -335,7 +331,7 @@ def number_of_walks(G: SpmatGraph, walk_length: int) -> Dict[Any, Dict[Any, int]
     return {u: {v: found.get(v, 0) for v in G} for u, found in G.rows_of(walks)}
 
 
-def dag_longest_path_length(G: SpmatGraph, weight: Any = 'weight', default_weight: Any = 1) -> Any:
+def dag_longest_path_length(G: SpmatGraph, weight: Any, default_weight: Any) -> Any:
     if not len(G):
         raise NotImplementedError('no node')
     try:

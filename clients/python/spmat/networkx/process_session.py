@@ -1,16 +1,17 @@
 """The one session of a process, as the settings `nx.config.backends.spmat` describe it."""
 from __future__ import annotations
 
-import fractions
+import functools
 import os
 import threading
 import time
 import warnings
-from typing import Any, Dict, NamedTuple, Optional, Tuple
+from typing import Any, Callable, Dict, NamedTuple, Optional, Tuple
 
 import networkx as nx
 
 from ..errors import SpmatError
+from ..io.coo import whole_of_word
 from ..limits import MOST_STEPS, MOST_WORKERS
 from ..session import Session
 from ..wire.server_program import Program
@@ -19,63 +20,61 @@ from .backend_info import DEFAULTS
 MOST_DEFAULT_WORKERS = 8
 # how long a session that couldn't be opened isn't tried again by priority
 SECONDS = 30.0
-# the least and the greatest value of the settings that are numbers, and what they mean
-RANGES = {'steps': (0, MOST_STEPS, '0 (as many as there can be) to 2^62, also 1e9'),
-          'workers': (0, MOST_WORKERS, '0 (one for each processor) to %d' % MOST_WORKERS),
-          'least_edges': (-1, 1 << 62, '0 or more, or -1 (a number for each function)'),
-          'scale': (0, 1 << 62, '0 (weights are whole multiples of a power of ten or two) or '
-                    'more, also 1e6')}
 
 
 # -- settings
 
+def _read_number(least: int, most: int, value: Any) -> int:
+    number = whole_of_word(str(value))             # a text, too, as the command line takes it
+    if not least <= number <= most:
+        raise ValueError
+    return number
+
+
+def _read_program(value: Any) -> Any:
+    words = tuple(map(os.fsdecode, value if isinstance(value, (list, tuple)) else [value]))
+    if not words:
+        raise ValueError
+    return words if isinstance(value, (list, tuple)) else words[0]
+
+
+def _read_address(value: str) -> str:
+    _, colon, port = value.rpartition(':')
+    if value and '/' not in value and not (colon and port.isdigit() and 1 <= int(port) <= 65535):
+        raise ValueError
+    return value
+
+
+def _read_flag(value: Any) -> bool:
+    return {'true': True, '1': True, 'false': False, '0': False}[str(value).lower()]
+
+
+# what reads each setting, and what it takes
+SETTINGS: Dict[str, Tuple[Callable[[Any], Any], str]] = {
+    'program': (_read_program, 'the path of the program, or the words that start it, as a text or '
+                'a list'),
+    'connect': (_read_address, 'HOST:PORT, as "127.0.0.1:7171", or the path of a socket file, with '
+                'a slash'),
+    'steps': (functools.partial(_read_number, 0, MOST_STEPS),
+              'a whole number, 0 (as many as there can be) to 2^62, also 1e9'),
+    'workers': (functools.partial(_read_number, 0, MOST_WORKERS),
+                'a whole number, 0 (one for each processor) to %d' % MOST_WORKERS),
+    'least_edges': (functools.partial(_read_number, -1, 1 << 62),
+                    'a whole number, 0 or more, or -1 (a number for each function)'),
+    'scale': (functools.partial(_read_number, 0, 1 << 62),
+              'a whole number, 0 (weights are whole multiples of a power of ten or two) or more, '
+              'also 1e6'),
+    'compare_weights': (_read_flag, 'True or False')}
+
+
 def check_setting(name: str, value: Any) -> Any:
     """Check a setting, and bring it into one form. ValueError if no session can be opened with
     it."""
-    if name in RANGES:
-        return _check_number(name, value)
-    return {'program': _check_program, 'connect': _check_address,
-            'compare_weights': _check_flag}.get(name, lambda given: given)(value)
-
-
-def _check_number(name: str, value: Any) -> int:
-    least, most, meaning = RANGES[name]
+    read, meaning = SETTINGS[name]
     try:
-        number = fractions.Fraction(str(value))    # a text, too, as the command line takes it
-    except ValueError:
-        number = fractions.Fraction(1, 2)
-    if number.denominator != 1:
-        raise ValueError('%s: a whole number, %s; not %r' % (name, meaning, value))
-    if not least <= number <= most:
-        raise ValueError('%s: %s; not %r' % (name, meaning, value))
-    return int(number)
-
-
-def _check_program(value: Any) -> Any:
-    if isinstance(value, (str, os.PathLike)):
-        return os.fspath(value)
-    if (isinstance(value, (list, tuple)) and value
-            and all(isinstance(word, (str, os.PathLike)) for word in value)):
-        return tuple(map(os.fspath, value))
-    raise ValueError('program is the path of the program, or the words that start it, as a text '
-                     'or a list; not %r' % (value,))
-
-
-def _check_address(value: Any) -> str:
-    if isinstance(value, str):
-        _, colon, port = value.rpartition(':')
-        is_port = bool(colon) and port.isdigit() and 1 <= int(port) <= 65535
-        if '/' in value or not value or is_port:
-            return value
-    raise ValueError('connect is HOST:PORT, as "127.0.0.1:7171", or the path of a socket file, '
-                     'with a slash; not %r' % (value,))
-
-
-def _check_flag(value: Any) -> bool:
-    for flag in (True, False):
-        if value == flag or isinstance(value, str) and value.lower() == str(flag).lower():
-            return flag
-    raise ValueError('compare_weights is True or False, not %r' % (value,))
+        return read(value)
+    except (ValueError, TypeError, KeyError, AttributeError, OverflowError):
+        raise ValueError('%s is %s, not %r' % (name, meaning, value)) from None
 
 
 def setting(name: str) -> Any:

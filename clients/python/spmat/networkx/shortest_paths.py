@@ -3,13 +3,13 @@ client walks along the edges that are as long as their ends are apart, in networ
 of equal paths it takes those that networkx takes."""
 from __future__ import annotations
 
-# networkx calls these by the names of its own arguments, served or not
-# pylint: disable=missing-function-docstring,unused-argument
+# networkx calls these by the names of its own arguments
+# pylint: disable=missing-function-docstring
 
 import heapq
 import itertools
 import math
-from typing import Any, Dict, Iterator, List, NamedTuple, Optional, Sequence, Set, Tuple
+from typing import Any, Dict, List, NamedTuple, Optional, Sequence, Set, Tuple
 
 import numpy
 from networkx import NetworkXNoPath, NetworkXUnbounded, NodeNotFound
@@ -53,11 +53,6 @@ def need_some(G: SpmatGraph, sources: Any) -> None:
         raise ValueError('sources must not be empty')
     for source in sources:
         need(G, source)
-
-
-def check_method(method: str) -> None:
-    if method not in ('dijkstra', 'bellman-ford'):
-        raise ValueError('method not supported: %s' % method)
 
 
 def unit_of(G: SpmatGraph, weight: Any) -> Optional[int]:
@@ -123,29 +118,23 @@ def length_to(G: SpmatGraph, source: Any, target: Any, query: Query) -> Optional
     return unscale(found[0], unit_of(G, query.weight)) if found else None
 
 
-def single_source_shortest_path_length(G: SpmatGraph, source: Any, cutoff: Any = None) -> Lengths:
+def single_source_shortest_path_length(G: SpmatGraph, source: Any, cutoff: Any) -> Lengths:
     need(G, source, 'Source %s is not in G')
     return lengths(G, [source], Query(cutoff=cutoff))
 
 
-def single_target_shortest_path_length(G: SpmatGraph, target: Any, cutoff: Any = None) -> Lengths:
+def single_target_shortest_path_length(G: SpmatGraph, target: Any, cutoff: Any) -> Lengths:
     need(G, target, 'Target %s is not in G')
     return lengths(G, [target], Query(cutoff=cutoff, back=True))
 
 
-def multi_source_dijkstra_path_length(G: SpmatGraph, sources: Any, cutoff: Any = None,
-                                      weight: Any = 'weight') -> Lengths:
+def multi_source_dijkstra_path_length(G: SpmatGraph, sources: Any, cutoff: Any,
+                                      weight: Any) -> Lengths:
     need_some(G, sources)
     return lengths(G, list(sources), by_weights(weight, cutoff))
 
 
-def single_source_dijkstra_path_length(G: SpmatGraph, source: Any, cutoff: Any = None,
-                                       weight: Any = 'weight') -> Lengths:
-    return multi_source_dijkstra_path_length(G, [source], cutoff, weight)
-
-
-def single_source_bellman_ford_path_length(G: SpmatGraph, source: Any,
-                                           weight: Any = 'weight') -> Lengths:
+def single_source_bellman_ford_path_length(G: SpmatGraph, source: Any, weight: Any) -> Lengths:
     need(G, source, 'Source %s not in G')
     return lengths(G, [source], Query(weight))
 
@@ -160,18 +149,17 @@ def _length_between(G: SpmatGraph, source: Any, target: Any, query: Query, said:
     return far
 
 
-def dijkstra_path_length(G: SpmatGraph, source: Any, target: Any, weight: Any = 'weight') -> Any:
+def dijkstra_path_length(G: SpmatGraph, source: Any, target: Any, weight: Any) -> Any:
     need(G, source)
     return _length_between(G, source, target, Query(weight), 'Node %s not reachable from %s')
 
 
-def bellman_ford_path_length(G: SpmatGraph, source: Any, target: Any,
-                             weight: Any = 'weight') -> Any:
+def bellman_ford_path_length(G: SpmatGraph, source: Any, target: Any, weight: Any) -> Any:
     need(G, source, 'Source %s not in G')
     return _length_between(G, source, target, Query(weight), 'node %s not reachable from %s')
 
 
-def negative_edge_cycle(G: SpmatGraph, weight: Any = 'weight', heuristic: bool = True) -> bool:
+def negative_edge_cycle(G: SpmatGraph, weight: Any) -> bool:
     if not len(G.rows) or weight is None or G.values(weight).least >= 0:
         return False
     try:
@@ -264,18 +252,17 @@ def _find_tight_edges(G: SpmatGraph, at: Any, far: Any, query: Query) -> Dict[in
     return near
 
 
-def single_source_shortest_path(G: SpmatGraph, source: Any, cutoff: Any = None) -> Paths:
+def single_source_shortest_path(G: SpmatGraph, source: Any, cutoff: Any) -> Paths:
     need(G, source, 'Source %s not in G')
     return search(G, [source], Query(cutoff=cutoff)).list_paths()
 
 
-def single_target_shortest_path(G: SpmatGraph, target: Any, cutoff: Any = None) -> Paths:
+def single_target_shortest_path(G: SpmatGraph, target: Any, cutoff: Any) -> Paths:
     need(G, target, 'Target %s not in G')
     return search(G, [target], Query(cutoff=cutoff, back=True)).list_paths(back=True)
 
 
-def predecessor(G: SpmatGraph, source: Any, target: Any = None, cutoff: Any = None,
-                return_seen: Any = None) -> Any:
+def predecessor(G: SpmatGraph, source: Any, target: Any, cutoff: Any, return_seen: Any) -> Any:
     need(G, source, 'Source %s not in G')
     found = search(G, [source], Query(cutoff=max(1, cutoff) if cutoff else None))
     before, seen = found.name_predecessors(), found.name_lengths()
@@ -284,8 +271,8 @@ def predecessor(G: SpmatGraph, source: Any, target: Any = None, cutoff: Any = No
     return (before.get(target, []), seen.get(target, -1)) if return_seen else before.get(target, [])
 
 
-def multi_source_dijkstra(G: SpmatGraph, sources: Any, target: Any = None, cutoff: Any = None,
-                          weight: Any = 'weight') -> Any:
+def multi_source_dijkstra(G: SpmatGraph, sources: Any, target: Any, cutoff: Any,
+                          weight: Any) -> Any:
     need_some(G, sources)
     if target in sources:
         return 0, [target]
@@ -295,34 +282,13 @@ def multi_source_dijkstra(G: SpmatGraph, sources: Any, target: Any = None, cutof
     return found.reach(target, 'No path to %s.' % (target,))
 
 
-def single_source_dijkstra(G: SpmatGraph, source: Any, target: Any = None, cutoff: Any = None,
-                           weight: Any = 'weight') -> Any:
-    return multi_source_dijkstra(G, [source], target, cutoff, weight)
-
-
-def multi_source_dijkstra_path(G: SpmatGraph, sources: Any, cutoff: Any = None,
-                               weight: Any = 'weight') -> Any:
-    return multi_source_dijkstra(G, sources, None, cutoff, weight)[1]
-
-
-def single_source_dijkstra_path(G: SpmatGraph, source: Any, cutoff: Any = None,
-                                weight: Any = 'weight') -> Any:
-    return multi_source_dijkstra(G, [source], None, cutoff, weight)[1]
-
-
-def dijkstra_path(G: SpmatGraph, source: Any, target: Any, weight: Any = 'weight') -> Any:
-    return multi_source_dijkstra(G, [source], target, None, weight)[1]
-
-
-def dijkstra_predecessor_and_distance(G: SpmatGraph, source: Any, cutoff: Any = None,
-                                      weight: Any = 'weight') -> Any:
+def dijkstra_predecessor_and_distance(G: SpmatGraph, source: Any, cutoff: Any, weight: Any) -> Any:
     need(G, source, 'Node %s is not found in the graph')
     found = search(G, [source], by_weights(weight, cutoff))
     return found.name_predecessors(), found.name_lengths()
 
 
-def single_source_bellman_ford(G: SpmatGraph, source: Any, target: Any = None,
-                               weight: Any = 'weight') -> Any:
+def single_source_bellman_ford(G: SpmatGraph, source: Any, target: Any, weight: Any) -> Any:
     need(G, source, 'Node %s is not found in the graph' if source == target
          else 'Source %s not in G')
     if source == target:
@@ -336,58 +302,13 @@ def single_source_bellman_ford(G: SpmatGraph, source: Any, target: Any = None,
     return found.name_lengths(), found.list_paths()
 
 
-def single_source_bellman_ford_path(G: SpmatGraph, source: Any, weight: Any = 'weight') -> Any:
-    return single_source_bellman_ford(G, source, None, weight)[1]
-
-
-def bellman_ford_path(G: SpmatGraph, source: Any, target: Any, weight: Any = 'weight') -> Any:
-    return single_source_bellman_ford(G, source, target, weight)[1]
-
-
-def bellman_ford_predecessor_and_distance(G: SpmatGraph, source: Any, target: Any = None,
-                                          weight: Any = 'weight', heuristic: bool = False) -> Any:
+def bellman_ford_predecessor_and_distance(G: SpmatGraph, source: Any, weight: Any) -> Any:
     need(G, source, 'Node %s is not found in the graph')
-    _check_loops(G, weight)
+    # an edge of negative length from a node to itself, wherever it is
+    if weight is not None and (G.values(weight).many[G.rows == G.columns] < 0).any():
+        raise NetworkXUnbounded(NEGATIVE)
     # of which networkx reads no edge, not even one of length 0
     if len(G) == 1:
         return {source: []}, {source: 0}
     found = search(G, [source], Query(weight), True)
     return found.name_predecessors(), found.name_lengths()
-
-
-def _check_loops(G: SpmatGraph, weight: Any) -> None:
-    """NetworkXUnbounded for an edge of negative length from a node to itself, wherever it is."""
-    if weight is not None and (G.values(weight).many[G.rows == G.columns] < 0).any():
-        raise NetworkXUnbounded(NEGATIVE)
-
-
-def all_shortest_paths(G: SpmatGraph, source: Any, target: Any, weight: Any = None,
-                       method: str = 'dijkstra') -> Iterator[List[Any]]:
-    # by the nodes before each, the first ones first
-    if weight is not None:
-        check_method(method)
-    need(G, source, 'Source %s not in G' if weight is None else 'Node %s is not found in the graph')
-    is_signed = weight is not None and method == 'bellman-ford'
-    if is_signed:
-        _check_loops(G, weight)
-    elif weight is not None and G.values(weight).least < 0:
-        raise NotImplementedError('weights below 0, of which networkx says what it likes')
-    found = search(G, [source], Query(weight), is_signed)
-    start, end = G.index[source], G.index[target] if target in G else -1
-    if end not in found.far:
-        raise NetworkXNoPath('Target %s cannot be reached from given sources' % (target,))
-    path, at, on_path = [end], [0], {end}
-    while path:
-        # with edges of 0 a path may be told twice, as by networkx
-        if path[-1] == start:
-            yield [G.nodes[i] for i in reversed(path)]
-        if at[-1] == len(found.before[path[-1]]):
-            on_path.discard(path.pop())
-            at.pop()
-            continue
-        following = found.before[path[-1]][at[-1]]
-        at[-1] += 1
-        if following not in on_path:
-            path.append(following)
-            at.append(0)
-            on_path.add(following)

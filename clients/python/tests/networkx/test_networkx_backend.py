@@ -1,7 +1,6 @@
 """spmat as a backend of networkx: what is left to networkx, sessions, imports.
 The functions themselves are compared by tests/networkx/compare."""
 import copy
-import inspect
 import os
 import subprocess
 import sys
@@ -15,7 +14,7 @@ import spmat
 from networkx_case import NetworkxCase
 from spmat.networkx import graph, process_session
 from spmat.networkx.backend import (DECLINED, NOT_DIRECTED, NOT_MULTI, SIGNED, backend,
-                                    find_function)
+                                    find_function, read_signature)
 from spmat.networkx.backend_info import DEFAULTS, SERVED, info
 
 
@@ -150,10 +149,12 @@ class Left(NetworkxCase):
     def test_the_table_is_right(self):
         """Each module has what the table says; what is declined names functions and arguments."""
         for name, served in SERVED.items():
-            self.assertEqual(find_function(name).__module__, 'spmat.networkx.' + served.module)
+            place = find_function(name).__module__
+            self.assertTrue(place == 'spmat.networkx.' + served.module
+                            or place.startswith(served.module + '.'), (name, place))
         self.assertLessEqual(NOT_DIRECTED | NOT_MULTI | SIGNED, set(SERVED))
         for name, argument in DECLINED:
-            self.assertIn(argument, inspect.signature(find_function(name)).parameters)
+            self.assertIn(argument, read_signature(name).parameters)
 
     def test_names(self):
         """Each function that is named is served, is one of networkx', and has its line in the

@@ -1,11 +1,12 @@
-"""Triangles and squares, cores and trusses, and independent sets."""
+"""Parts of graphs: triangles and squares, cores and trusses, independent sets, and spanning trees of
+the edges that Kruskal's algorithm takes, in its order."""
 from __future__ import annotations
 
-# networkx calls these by the names of its own arguments, served or not
-# pylint: disable=missing-function-docstring,unused-argument
+# networkx calls these by the names of its own arguments
+# pylint: disable=missing-function-docstring
 
 from collections import Counter
-from typing import Any, Callable, Dict, Iterable, List, Optional
+from typing import Any, Callable, Dict, Iterable, Iterator, List, Optional, Tuple
 
 import numpy
 from networkx import NetworkXNotImplemented, NetworkXUnfeasible
@@ -14,6 +15,7 @@ from .. import algorithms
 from ..algorithms.core_decomposition import Peeling
 from ..algorithms.utils import as_many, iterate, product
 from .connectivity import choose_nodes
+from .process_session import session
 from .spmat_graph import SpmatGraph
 
 NO_LOOPS = ('Input graph %s self loops which is not permitted; '
@@ -39,7 +41,7 @@ def _count_neighbours(G: SpmatGraph) -> List[int]:
     return others
 
 
-def triangles(G: SpmatGraph, nodes: Any = None) -> Any:
+def triangles(G: SpmatGraph, nodes: Any) -> Any:
     if nodes is not None:
         _check_is_simple(G)
     return choose_nodes(G, nodes, _count_triangles(G))
@@ -51,7 +53,7 @@ def transitivity(G: SpmatGraph) -> float:
     return closed / sum(d * (d - 1) for d in _count_neighbours(G)) if closed else 0
 
 
-def clustering(G: SpmatGraph, nodes: Any = None, weight: Any = None) -> Any:
+def clustering(G: SpmatGraph, nodes: Any) -> Any:
     _check_is_simple(G)
     if G.is_directed():
         return choose_nodes(G, nodes, _cluster_directed(G))
@@ -72,15 +74,7 @@ def _cluster_directed(G: SpmatGraph) -> List[float]:
                                  for found in (three, total, both)))]
 
 
-def average_clustering(G: SpmatGraph, nodes: Any = None, weight: Any = None,
-                       count_zeros: bool = True) -> float:
-    shares: List[float] = list(clustering(G, nodes).values())
-    if not count_zeros:
-        shares = [share for share in shares if share > 0]
-    return sum(shares) / len(shares)
-
-
-def generalized_degree(G: SpmatGraph, nodes: Any = None) -> Any:
+def generalized_degree(G: SpmatGraph, nodes: Any) -> Any:
     _check_is_simple(G)
     rows, _, values = product(G.simple, G.simple, 'plus_pair', G.simple).entries(arrays=False)
     found: List[Dict[int, int]] = [Counter() for _ in G]
@@ -92,7 +86,7 @@ def generalized_degree(G: SpmatGraph, nodes: Any = None) -> Any:
     return choose_nodes(G, nodes, found)
 
 
-def square_clustering(G: SpmatGraph, nodes: Any = None) -> Any:
+def square_clustering(G: SpmatGraph, nodes: Any) -> Any:
     A = G.simple
     squares = algorithms.squares(A, check=False).to_list(0)
     next_to = A.mxv(algorithms.degrees(A), 'plus_second').to_list(0)
@@ -145,22 +139,22 @@ def _cut_part(G: SpmatGraph, core: Optional[Cores], k: Optional[int],
     return G.to_networkx({node for node, number in found.items() if keep(number, wanted)})
 
 
-def k_core(G: SpmatGraph, k: Optional[int] = None, core_number: Optional[Cores] = None) -> Any:
+def k_core(G: SpmatGraph, k: Optional[int], core_number: Optional[Cores]) -> Any:
     if core_number is None and k is not None and k >= 1 and not G.is_directed() and not G.loops:
         return G.to_networkx(set(G.named(algorithms.k_core(G.A, k, check=False)).by_node()))
     return _cut_part(G, core_number, k, lambda number, k: number >= k)
 
 
-def k_shell(G: SpmatGraph, k: Optional[int] = None, core_number: Optional[Cores] = None) -> Any:
+def k_shell(G: SpmatGraph, k: Optional[int], core_number: Optional[Cores]) -> Any:
     return _cut_part(G, core_number, k, lambda number, k: number == k)
 
 
-def k_crust(G: SpmatGraph, k: Optional[int] = None, core_number: Optional[Cores] = None) -> Any:
+def k_crust(G: SpmatGraph, k: Optional[int], core_number: Optional[Cores]) -> Any:
     return _cut_part(G, core_number, k, lambda number, k: number <= k,
                      lambda numbers: max(numbers) - 1)
 
 
-def k_corona(G: SpmatGraph, k: int, core_number: Optional[Cores] = None) -> Any:
+def k_corona(G: SpmatGraph, k: int, core_number: Optional[Cores]) -> Any:
     core = _name_cores(G) if core_number is None else core_number
     inside = G.spots([v for v in core if core[v] >= k])
     near = G.named(G.A.mxv(inside, 'plus_pair')).by_node()
@@ -188,7 +182,7 @@ def onion_layers(G: SpmatGraph) -> Dict[Any, int]:
             found.update((G.nodes[i], layer) for i in fallen.tolist())
 
 
-def maximal_independent_set(G: SpmatGraph, nodes: Any = None, seed: Any = None) -> List[Any]:
+def maximal_independent_set(G: SpmatGraph, nodes: Any, seed: Any) -> List[Any]:
     chosen = set(nodes) if nodes else {seed.choice(G.nodes)}
     if not chosen.issubset(G.index):
         raise NetworkXUnfeasible('%s is not a subset of the nodes of G' % chosen)
@@ -202,3 +196,52 @@ def maximal_independent_set(G: SpmatGraph, nodes: Any = None, seed: Any = None) 
     more = algorithms.maximal_independent_set(rest, seed.getrandbits(32),
                                               check=False).ewise_mult(free, 'first')
     return list(chosen) + list(G.named(more).by_node())
+
+
+# -- spanning trees
+
+def _find_forest(G: SpmatGraph, weight: Any, sign: int) -> List[Tuple[int, int, int]]:
+    """Row, column and entry of each edge of the forest, in the order in which Kruskal's algorithm
+    takes them; the greatest weights first if the sign is -1. Where an edge stands in that order is
+    its weight here, so that no two weigh the same, and there is one such forest."""
+    entries = numpy.flatnonzero(G.rows < G.columns)        # each edge once, without loops
+    if weight is not None:
+        entries = entries[(sign * G.values(weight).many[entries]).argsort(kind='stable')]
+    ends, order = (G.rows[entries], G.columns[entries]), numpy.arange(len(entries))
+    graph = session().from_coo(numpy.concatenate(ends), numpy.concatenate(ends[::-1]),
+                               numpy.concatenate((order, order)), len(G), len(G))
+    try:
+        forest = algorithms.minimum_spanning_forest(graph, check=False)
+    except ValueError as fault:                    # more edges and nodes than 62 bits tell apart
+        raise NotImplementedError(str(fault)) from fault
+    rows, columns, places = forest.entries(arrays=False)
+    taken = sorted((place, i, j) for i, j, place in zip(rows, columns, places) if i < j)
+    return [(i, j, int(entries[place])) for place, i, j in taken]
+
+
+def _list_edges(G: SpmatGraph, weight: Any, sign: int, data: bool) -> Iterator[Tuple[Any, ...]]:
+    nodes, had = G.nodes, G.edge_data
+    return iter([(nodes[i], nodes[j], had[at] if had else {}) if data else (nodes[i], nodes[j])
+                 for i, j, at in _find_forest(G, weight, sign)])
+
+
+def minimum_spanning_edges(G: SpmatGraph, weight: Any, data: bool) -> Iterator[Tuple[Any, ...]]:
+    return _list_edges(G, weight, 1, data)
+
+
+def maximum_spanning_edges(G: SpmatGraph, weight: Any, data: bool) -> Iterator[Tuple[Any, ...]]:
+    return _list_edges(G, weight, -1, data)
+
+
+def _make_tree(G: SpmatGraph, weight: Any, sign: int) -> Any:
+    tree = G.to_networkx(links=((), ()))
+    tree.add_edges_from(_list_edges(G, weight, sign, True))
+    return tree
+
+
+def minimum_spanning_tree(G: SpmatGraph, weight: Any) -> Any:
+    return _make_tree(G, weight, 1)
+
+
+def maximum_spanning_tree(G: SpmatGraph, weight: Any) -> Any:
+    return _make_tree(G, weight, -1)
