@@ -34,7 +34,7 @@ def pytest_configure(config):
     from spmat.networkx.backend_info import SERVED
     for name in SERVED:
         setattr(backend, name, _counted(name, getattr(backend, name)))
-    backend.can_run = _watched(backend.can_run)
+    backend.can_run = _watched(backend)
 
 
 def _counted(name, function):
@@ -50,10 +50,13 @@ def _counted(name, function):
     return counted
 
 
-def _watched(can_run):
-    @functools.wraps(can_run)
+def _watched(backend):
+    """What says whether a call can be run: networkx' tests take the reasons why it can't."""
+    can_run = backend.can_run
+
     def watched(name, args, kwargs):
-        said = can_run(name, args, kwargs)
+        can_run(name, args, kwargs)
+        said = backend.reason(name, args, kwargs) or True
         if said is not True:
             _left['%s: %s' % (name, said)] += 1
         return said

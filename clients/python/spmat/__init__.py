@@ -97,7 +97,7 @@ def __getattr__(name: str) -> Any:
     else:
         found = None if name.startswith('_') else _module(name)
     if found is None:
-        from .foreign_names import PACKAGE, missing_attribute      # only where one is missing
+        from .unsupported_syntax import PACKAGE, missing_attribute  # only where one is missing
         raise missing_attribute('module %r' % __name__, name, PACKAGE)
     globals()[name] = found
     return found

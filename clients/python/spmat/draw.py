@@ -139,9 +139,7 @@ def spy(A: Matrix, path: Optional[Path] = None, size: int = RASTER, first: int =
     if max(A.shape) <= MOST_LINED_ROWS:
         ax.vlines([left + j for j in range(1, A.ncols)], left, bottom, color='white', linewidth=1)
         ax.hlines([left + i for i in range(1, A.nrows)], left, right, color='white', linewidth=1)
-    rows_and_columns = [pictures.count_words(side, word)
-                        for side, word in zip(A.shape, ('row', 'column'))]
-    ax.set_title(', '.join([*rows_and_columns, pictures.describe_size(A)]), fontsize=10)
+    pictures.set_title(ax, {'row': A.nrows, 'column': A.ncols, 'entry': A.nvals})
     return pictures.finish(ax, path)
 
 
@@ -201,9 +199,8 @@ def degree_histogram(A: Matrix, path: Optional[Path] = None, *, ax: Any = None) 
     ax.set_xlabel('degree')
     ax.set_ylabel('vertices')
     without = A.nrows - len(degrees)
-    unjoined = ', %s of degree 0' % format(without, ',') if without else ''
-    ax.set_title('%s, %s%s' % (pictures.count_vertices(A), pictures.describe_size(A), unjoined),
-                 fontsize=10)
+    unjoined = ['%s of degree 0' % format(without, ',')] if without else []
+    pictures.set_title(ax, {'vertex': A.nrows, 'entry': A.nvals}, *unjoined)
     return pictures.finish(ax, path)
 
 
@@ -294,11 +291,9 @@ def levels(G: Matrix, found: Matrix, path: Optional[Path] = None, *, ax: Any = N
     joined(G.notes, found.notes, VERTICES)
     at = {i: level for (i, _), level in found.to_dict().items()}
     ax = graph_pictures.draw_levels(G, at, Target(ax, path))
-    unreached = G.nrows - len(at)
-    parts = [pictures.count_vertices(G), pictures.describe_size(G),
-             pictures.count_words(max(at.values(), default=-1) + 1, 'level')]
-    parts += ['%s not reached' % format(unreached, ',')] if unreached else []
-    ax.set_title(', '.join(parts), fontsize=10)
+    count, unreached = max(at.values(), default=-1) + 1, G.nrows - len(at)
+    pictures.set_title(ax, {'vertex': G.nrows, 'entry': G.nvals, 'level': count},
+                       *(['%s not reached' % format(unreached, ',')] if unreached else []))
     return pictures.finish(ax, path)
 
 

@@ -82,14 +82,18 @@ class Refused(SpmatError):
 
     def __init__(self, rule: str, numbers: Sequence[int] = (), command: str = '', line: str = '',
                  detail: str = '') -> None:
-        # copies and pickles are made of these arguments, and of what is set behind them
-        super().__init__(rule, tuple(numbers), command, line, detail)
         self.rule, self.numbers = rule, tuple(numbers)
-        self.command, self.line, self.detail = command, line, detail
+        self.command, self.line, self.detail = command, line, detail or self._describe_numbers()
+        # copies and pickles are made of these arguments, and of what is set behind them
+        super().__init__(rule, self.numbers, command, line, self.detail)
         self.at: Optional[int] = self.numbers[0] if self.numbers and is_placed(rule) else None
         self.file, self.said = '', ''
         self.text_line: Optional[int] = None
         self.sentence = find_sentence(rule, bool(self.numbers))
+
+    def _describe_numbers(self) -> str:
+        """Say what the numbers of the reply mean."""
+        return ''
 
     def __str__(self) -> str:
         return self.message()
@@ -206,10 +210,8 @@ class DomainMismatch(Refused, TypeError):
 
 
 class _Spent(Refused):
-    def __init__(self, rule: str, numbers: Sequence[int] = (), command: str = '', line: str = '',
-                 detail: str = '') -> None:
-        spent = '%s steps were spent' % format(numbers[0], ',') if numbers else ''
-        super().__init__(rule, numbers, command, line, detail or spent)
+    def _describe_numbers(self) -> str:
+        return '%s steps were spent' % format(self.numbers[0], ',') if self.numbers else ''
 
     @property
     def spent(self) -> Optional[int]:
@@ -268,11 +270,9 @@ class BudgetExceeded(Refused):
     arguments = ('steps',)
     partial: Any = None
 
-    def __init__(self, rule: str, numbers: Sequence[int] = (), command: str = '', line: str = '',
-                 detail: str = '') -> None:
-        detail = (detail or ('the price is %d, and %d are left' % tuple(numbers[:2])
-                             if len(numbers) >= 2 else ''))
-        super().__init__(rule, numbers, command, line, detail)
+    def _describe_numbers(self) -> str:
+        return ('the price is %d, and %d are left' % tuple(self.numbers[:2])
+                if len(self.numbers) >= 2 else '')
 
     def with_advice(self) -> 'BudgetExceeded':
         """This refusal of a job, with what can be done.

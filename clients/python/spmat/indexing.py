@@ -6,12 +6,12 @@ for.
 from __future__ import annotations
 
 import collections
-import sys
 from collections.abc import Iterator, KeysView, Set, ValuesView
-from typing import TYPE_CHECKING, Any, Hashable, List, NamedTuple, NoReturn, Optional
+from typing import TYPE_CHECKING, Any, List, NamedTuple, NoReturn, Optional
+
+import numpy
 
 from .io.coo import shown
-from .io.matrix_text import is_array
 from .mask import Mask
 from .matrix_base import MatrixBase
 from .metadata import Nodes, joined
@@ -24,6 +24,7 @@ TWO = ('an index is two: G[i, j], G[i, :], G[:, j], G[rows, columns], or a mask:
        'G.by_node()[i] is one value of a column')
 # what has no order of its own, or is read once
 COLLECTIONS = (Set, dict, Iterator, KeysView, ValuesView)
+TRUTHS, FLOATS = (bool, numpy.bool_), (float, numpy.floating)
 
 
 class Chosen(NamedTuple):
@@ -61,10 +62,10 @@ def pair_of(at: Any) -> Any:
     if any(index is None for index in found):
         raise TypeError(
             'None adds a dimension in numpy, and a matrix has two: write : for all rows or columns')
-    if any(index is Ellipsis for index in found):
-        place = next(place for place, index in enumerate(found) if index is Ellipsis)
-        found[place:place + 1] = [slice(None)] * (3 - len(found))
-    if len(found) != 2 or any(index is Ellipsis for index in found):
+    dots = [place for place, index in enumerate(found) if index is Ellipsis]
+    if dots:
+        found[dots[0]:dots[0] + 1] = [slice(None)] * (3 - len(found))
+    if len(found) != 2 or len(dots) > 1:
         raise TypeError(TWO)
     return found
 
@@ -82,10 +83,8 @@ def choose_places(matrix: 'Matrix', index: Any, axis: int) -> Chosen:
         return _of_slice(matrix, index, axis)
     if isinstance(index, (Mask, MatrixBase)):
         return Chosen(_of_column(matrix, index, axis))
-    series = _pandas('Series')
-    if series is not None and isinstance(index, series) and _is_boolean(index):
-        return Chosen(_of_series(matrix, index, axis))
-    if isinstance(index, (list, range)) or is_array(index) or _is_pandas(index):
+    # columns, indexes and arrays of pandas say which of their values are missing
+    if isinstance(index, (list, range, numpy.ndarray)) or hasattr(type(index), 'isna'):
         return Chosen(_of_list(matrix, index, axis))
     if isinstance(index, COLLECTIONS) and not _is_name(matrix.notes.names(axis), index):
         raise TypeError(
@@ -97,18 +96,13 @@ def choose_places(matrix: 'Matrix', index: Any, axis: int) -> Chosen:
 def locate(matrix: 'Matrix', index: Any, axis: int) -> int:
     """The place of one row (or column). A number that is no whole one, and a truth value, are names
     alone, where names are such."""
-    kind = (bool if _is_truth(index) else float if isinstance(index, float)
-            or _is_number_kind(index, 'f') else None)
-    if kind is not None:
-        names = matrix.notes.names(axis)
-        found = names.places.get(index) if names is not None else None
-        if names is None or found is None or not isinstance(names[found], kind):
-            _refuse_kind(index, axis, kind)
-        return found
     names = matrix.notes.names(axis)
-    if (names is None or not names.numbered) and hasattr(index,
-                                                         '__index__') and not _is_name(
-                                                             names, index) and index < 0:
+    is_name = _is_name(names, index)
+    kind = (bool if isinstance(index, TRUTHS) else float if isinstance(index, FLOATS) else None)
+    if kind is not None and not (names and is_name and isinstance(names[names.at(index)], kind)):
+        _refuse_kind(index, axis, kind)
+    if (not is_name and not (names and names.numbered) and hasattr(index, '__index__')
+            and index < 0):
         raise ValueError(
             'no vertex %s: they are 0 to %d; negative numbers count from the end in slices '
             'alone, G[-2:, :]' % (shown(index), matrix.shape[axis] - 1))
@@ -124,30 +118,10 @@ def _refuse_kind(index: Any, axis: int, kind: type) -> NoReturn:
 
 
 def _is_name(names: Optional[Nodes], index: Any) -> bool:
-    return names is not None and isinstance(index, Hashable) and index in names.places
-
-
-def _is_truth(thing: Any) -> bool:
-    return isinstance(thing, bool) or _is_number_kind(thing, 'b')
-
-
-def _is_number_kind(thing: Any, kind: str) -> bool:
-    """Whether this is a number of numpy of a kind."""
-    return (getattr(thing, 'ndim', None) == 0 and getattr(getattr(thing, 'dtype', None), 'kind', '')
-            == kind)
-
-
-def _pandas(name: str) -> Any:
-    """A class of pandas, where that is imported."""
-    return getattr(sys.modules.get('pandas'), name, None)
-
-
-def _is_pandas(thing: Any) -> bool:
-    """Whether this is a column, an index or an array of pandas."""
-    kinds = [_pandas(name) for name in ('Series', 'Index')]
-    extension = getattr(_pandas('api'), 'extensions', None)
-    kinds.append(getattr(extension, 'ExtensionArray', None))
-    return isinstance(thing, tuple(kind for kind in kinds if kind is not None))
+    try:
+        return names is not None and index in names.places
+    except TypeError:                              # what has no hash is no name
+        return False
 
 
 def _is_boolean(many: Any) -> bool:
@@ -155,9 +129,7 @@ def _is_boolean(many: Any) -> bool:
     kind = getattr(getattr(many, 'dtype', None), 'kind', None)
     if kind is not None and kind != 'O':
         return bool(kind == 'b')
-    if isinstance(many, range):
-        return False
-    return len(many) > 0 and all(map(_is_truth, many))
+    return len(many) > 0 and all(isinstance(one, TRUTHS) for one in many)
 
 
 def _of_slice(matrix: 'Matrix', index: slice, axis: int) -> Chosen:
@@ -168,7 +140,7 @@ def _of_slice(matrix: 'Matrix', index: slice, axis: int) -> Chosen:
         return Chosen(None)
     names = matrix.notes.names(axis)
     number = next((end for end in (start, stop) if hasattr(end, '__index__')
-                   and not _is_truth(end)), None)
+                   and not isinstance(end, TRUTHS)), None)
     if number is not None and names is not None and names.numbered and not names.are_counted:
         raise ValueError(
             '%ss have numbers for names, so that %d in a slice could be a name or a position: '
@@ -176,22 +148,18 @@ def _of_slice(matrix: 'Matrix', index: slice, axis: int) -> Chosen:
             % (WHAT[axis], number, start if start is not None else names[0],
                stop if stop is not None else '..'))
     for end in (start, stop):
-        if _is_truth(end) or isinstance(end, float):
-            _refuse_kind(end, axis, type(end) if isinstance(end, float) else bool)
+        if isinstance(end, (*TRUTHS, float)):
+            _refuse_kind(end, axis, float if isinstance(end, float) else bool)
     if step is not None and (not hasattr(step, '__index__') or not step):
         raise TypeError('the step of a slice is a whole number but 0, not %s' % shown(step))
     backward = step is not None and step < 0
-    if start is not None and _names_vertex(start):
+    # an end that is no number is a name
+    if start is not None and not hasattr(start, '__index__'):
         start = matrix.index(start, axis)
-    if stop is not None and _names_vertex(stop):
+    if stop is not None and not hasattr(stop, '__index__'):
         last = matrix.index(stop, axis)
         stop = last + 1 if not backward else last - 1 if last else None
     return Chosen(list(range(*slice(start, stop, step).indices(matrix.shape[axis]))))
-
-
-def _names_vertex(end: Any) -> bool:
-    """Whether an end of a slice is a name, and not a position."""
-    return not hasattr(end, '__index__')
 
 
 def _of_list(matrix: 'Matrix', many: Any, axis: int) -> List[int]:
@@ -199,24 +167,18 @@ def _of_list(matrix: 'Matrix', many: Any, axis: int) -> List[int]:
     if getattr(many, 'ndim', 1) != 1:
         raise IndexError('%ss are chosen by an array of one dimension, not of %d'
                          % (WHAT[axis], many.ndim))
-    if _has_gaps(many):
+    mask = many.isna() if hasattr(many, 'isna') else getattr(many, 'mask', None)
+    if mask is not None and mask.any():
         raise IndexError('an index of %ss has missing values: fillna(False) makes a filter whole'
                          % WHAT[axis])
     if _is_boolean(many):
-        return _filtered(matrix, many, axis)
+        return (_of_series if hasattr(many, 'iloc') else _filtered)(matrix, many, axis)
     plain = many.tolist() if hasattr(many, 'tolist') else many
-    if any(map(_is_truth, plain)):
+    if any(isinstance(one, TRUTHS) for one in plain):
         raise TypeError(
             'an index of %ss has truth values and others: a filter has True or False alone'
             % WHAT[axis])
     return [locate(matrix, one, axis) for one in plain]
-
-
-def _has_gaps(many: Any) -> bool:
-    """Whether some values of a column of pandas, or of a masked array, are missing."""
-    if hasattr(many, 'isna'):
-        return bool(many.isna().any())
-    return bool(getattr(many, 'mask', None) is not None and getattr(many, 'mask').any())
 
 
 def _filtered(matrix: 'Matrix', many: Any, axis: int) -> List[int]:
@@ -229,11 +191,8 @@ def _filtered(matrix: 'Matrix', many: Any, axis: int) -> List[int]:
 def _of_series(matrix: 'Matrix', series: Any, axis: int) -> List[int]:
     """The places of a column of pandas that filters: by its labels where they name the rows, else
     by position."""
-    if _has_gaps(series):
-        raise IndexError('a filter of %ss has missing values: fillna(False) makes it whole'
-                         % WHAT[axis])
     names, labels = matrix.notes.names(axis), series.index.tolist()
-    wanted = list(names) if names is not None else list(range(matrix.shape[axis]))
+    wanted = matrix.notes.axis(axis).listed(matrix.shape[axis])
     by_label = dict(zip(labels, series.tolist()))
     if len(by_label) == len(labels) and all(name in by_label for name in wanted):
         if names is None and len(labels) != len(wanted):

@@ -8,7 +8,7 @@ from .backends.placeholders import all_priced, backend_now
 from .backends.protocol import Budget, Run
 from .backends.server import ServerBackend
 from .errors import OperatorRefused
-from .foreign_names import SESSION, missing_attribute
+from .unsupported_syntax import SESSION, missing_attribute
 from .io.session_importers import SessionSources
 from .limits import MOST_STEPS
 from .matrix import Matrix

@@ -27,7 +27,7 @@ Examples are of two graphs in a session `s`:
 
 from typing import TYPE_CHECKING, NoReturn
 
-from ..foreign_names import ALGORITHMS as FOREIGN_NAMES, missing_attribute
+from ..unsupported_syntax import ALGORITHMS as FOREIGN_NAMES, missing_attribute
 from ..matrix import Matrix as GraphMatrix
 from ..pricing.call_price import guarded
 from .all_pairs_lengths import (all_pairs as all_pairs, path_lengths as path_lengths,

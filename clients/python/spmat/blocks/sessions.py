@@ -6,7 +6,7 @@ import operator
 from typing import Any, Callable, Dict, Iterable, List, Optional, Union
 
 from ..backends.placeholders import backend_now
-from ..foreign_names import SESSION, missing_attribute
+from ..unsupported_syntax import SESSION, missing_attribute
 from ..io import coo
 from ..limits import MOST_STEPS
 from ..operators import Op, Operator, diagnostics, find

@@ -8,17 +8,19 @@ statuses.
 from __future__ import annotations
 
 import argparse
+import os
 import signal
 import sys
 import warnings
 from typing import Any, List, NoReturn, Optional
 
 from .. import __version__
+from ..extras import import_extra
 from ..io.formats import READABLE
 from ..io.matrix_market import ENDINGS
 from . import algorithm_commands, session_commands
-from .exit_status import MEANINGS, PROGRAM, Status, finish, show_warning
-from .grammar import Parser, add_completion, complete
+from .exit_status import PROGRAM, Status, finish, show_warning
+from .options import Parser, add_command
 
 DESCRIPTION = (
     'Graph algorithms, pictures, operators and sessions of spmat, the job server for sparse '
@@ -42,12 +44,34 @@ exit status:
 """
 # what `script` is called where the program is `python3 -m spmat`
 FORMER = 'run'
+COMPLETION = """The packages install it. Elsewhere a line in the shell's own file does:
+
+  ~/.bashrc    eval "$(spmat-graph completion bash)"
+  ~/.zshrc     eval "$(spmat-graph completion zsh)"      below compinit
+
+Completion needs argcomplete."""
+# argcomplete 2 knows bash alone; this is what its functions do, by zsh's own completion
+ZSH = r"""#compdef %(program)s
+_spmat_graph() {
+    local IFS=$'\013'
+    local -a found
+    found=($(IFS="$IFS" COMP_LINE="${(j: :)words[1,CURRENT]}" COMP_POINT="${#${(j: :)words[1,CURRENT]}}" COMP_TYPE=9 \
+        _ARGCOMPLETE=1 _ARGCOMPLETE_SUPPRESS_SPACE=1 %(program)s 8>&1 9>/dev/null 1>/dev/null 2>&1))
+    compadd -- "${found[@]%% }" || _files
+}
+if [[ $funcstack[1] == _spmat_graph || $funcstack[1] == _%(program)s ]]; then
+    _spmat_graph "$@"
+else
+    compdef _spmat_graph %(program)s
+fi
+"""
+SHELLS = ('bash', 'zsh')
 
 
 def epilog() -> str:
     """Examples, and the exit statuses."""
     return EPILOG % (READABLE, ', '.join(ENDINGS),
-                     '\n'.join('  %3d  %s' % pair for pair in MEANINGS.items()))
+                     '\n'.join('  %3d  %s' % (status, status.meaning) for status in Status))
 
 
 def parser(program: str = PROGRAM) -> argparse.ArgumentParser:
@@ -62,6 +86,34 @@ def parser(program: str = PROGRAM) -> argparse.ArgumentParser:
     add_completion(commands)
     return made
 
+
+# -- completion
+
+def add_completion(commands: Any) -> None:
+    """Add `completion`, which prints what a shell reads."""
+    command = add_command(commands, 'completion', 'what makes a shell complete these words',
+                          epilog=COMPLETION, description='Prints what makes a shell complete the '
+                          'words of spmat-graph.')
+    command.add_argument('shell', choices=SHELLS, help='which shell')
+    command.set_defaults(run=print_completion, parser=command)
+
+
+def print_completion(options: argparse.Namespace) -> int:
+    """Print the text for a shell."""
+    argcomplete = import_extra('argcomplete', 'completion')
+    bash = argcomplete.shellcode([PROGRAM], shell='bash')
+    print(bash if options.shell == 'bash' else ZSH % {'program': PROGRAM}, end='')
+    return 0
+
+
+def complete(parser: argparse.ArgumentParser) -> None:
+    """Answer a shell that asks for the words which may follow, and end; else do nothing."""
+    if '_ARGCOMPLETE' in os.environ:
+        import_extra('argcomplete',
+                     'completion').autocomplete(parser, always_complete_options=False)
+
+
+# -- running
 
 def main(words: Optional[List[str]] = None, program: str = PROGRAM) -> int:
     """Runs a command, and gives its exit status."""

@@ -20,10 +20,10 @@ from ..algorithms.communities import ROUNDS
 from ..algorithms.registry import ALGORITHMS, Algorithm
 from ..matrix import Matrix
 from ..matrix_base import abbreviate_names, suggest_names
-from . import graph_options, output
+from . import output
 from .exit_status import Ended, Status
-from .grammar import add_command, read_number
-from .session_options import add_session_options, open_session
+from .options import (Needs, add_command, add_graph_options, add_session_options, check_graph,
+                      choose_values, open_session, read_graph, read_number)
 
 WIDTH = 100                                        # of descriptions
 OTHERS = ('GraphBLAS:', 'LAGraph:', 'networkx:', 'igraph:')     # whose names for it are listed
@@ -103,7 +103,7 @@ def add_commands(commands: Any) -> None:
     for name, algorithm in COMMANDS.items():
         command = add_command(commands, name, algorithm.gives, description=describe(algorithm),
                               epilog=describe_output(algorithm))
-        graph_options.add_graph_options(command)
+        add_graph_options(command)
         command.set_defaults(target=None)
         for option in algorithm.flags:
             grammar = dict(OPTIONS[option])
@@ -146,11 +146,6 @@ def describe_output(algorithm: Algorithm) -> str:
 
 # -- what an algorithm is called with
 
-def find_transpose(graph: Matrix, options: argparse.Namespace) -> Optional[Matrix]:
-    """The transpose, if it is the graph itself."""
-    return graph if options.undirected else None
-
-
 def find_vertex(graph: Matrix, word: str) -> Any:
     """The vertex of a name. Ended if it is none."""
     names = graph.notes.rows
@@ -165,50 +160,38 @@ def find_vertex(graph: Matrix, word: str) -> Any:
                  else 'the graph has none'))
 
 
-def find_source(graph: Matrix, options: argparse.Namespace) -> Any:
-    """The vertex that a search begins with: the first, if none is named."""
-    if options.source is not None:
-        return find_vertex(graph, options.source)
-    if not graph.notes.rows:
-        raise Ended(Status.FILE, 'the graph has no vertex')
-    return graph.notes.rows[0]
-
-
-def find_sources(graph: Matrix, options: argparse.Namespace) -> Optional[List[Any]]:
-    """The vertices that --source names, None if it names none, which means all."""
-    if options.sources is None and options.command == 'path-lengths':
+def find_vertices(graph: Matrix, options: argparse.Namespace) -> None:
+    """Put vertices in the place of the words that name them in options. A search begins with the
+    first one if none is named; without any of many sources all are meant."""
+    given, find = vars(options), functools.partial(find_vertex, graph)
+    if given['target'] is not None:
+        given['target'] = find(options.target)
+    if 'source' in given:
+        first = next(iter(graph.notes.rows or ()), None)
+        if options.source is None and first is None:
+            raise Ended(Status.FILE, 'the graph has no vertex')
+        given['source'] = first if options.source is None else find(options.source)
+    if given.get('sources') is not None:
+        given['sources'] = list(map(find, options.sources))
+    elif options.command == 'path-lengths':
         raise Ended(Status.WORDS,
                     '--source is missing; all-pairs gives the lengths from all vertices')
-    return (None if options.sources is None
-            else [find_vertex(graph, word) for word in options.sources])
-
-
-def find_target(graph: Matrix, options: argparse.Namespace) -> Any:
-    """The vertex that a path leads to."""
-    return None if options.target is None else find_vertex(graph, options.target)
-
-
-ARGUMENTS: Dict[str, Callable[[Matrix, argparse.Namespace], Any]] = {
-    'GT': find_transpose, 'WT': find_transpose, 'source': find_source, 'sources': find_sources,
-    'target': find_target,
-    'firsts': lambda graph, options: [find_vertex(graph, first) for first, _ in options.pair],
-    'seconds': lambda graph, options: [find_vertex(graph, second) for _, second in options.pair]}
+    if 'pair' in given:
+        given['firsts'], given['seconds'] = (list(map(find, words)) for words in zip(*options.pair))
 
 
 def call_algorithm(algorithm: Algorithm, graph: Matrix, options: argparse.Namespace,
                    progress: Any) -> Any:
     """Call an algorithm with the options that are named as its arguments are."""
-    given: Dict[str, Any] = {}
-    for name in algorithm.parameters[1:]:
-        if name in ARGUMENTS:
-            given[name] = ARGUMENTS[name](graph, options)
-        elif name in algorithm.flags:
-            given[name] = getattr(options, name)
-        elif name in ('scale', 'progress'):
-            given[name] = algorithm.scale if name == 'scale' else progress
+    find_vertices(graph, options)
+    transpose = graph if options.undirected else None
+    given = {**vars(options), 'GT': transpose, 'WT': transpose, 'scale': algorithm.scale,
+             'progress': progress}
+    known = {*algorithm.flags, 'GT', 'WT', 'scale', 'progress', 'target', 'firsts', 'seconds'}
     # by its public name, which also names the algorithm in errors
     function = getattr(algorithms, algorithm.function.__name__)
-    return function(graph.T if options.command == IN_DEGREES else graph, **given)
+    return function(graph.T if options.command == IN_DEGREES else graph,
+                    **{name: given[name] for name in algorithm.parameters[1:] if name in known})
 
 
 # -- what a result is printed as
@@ -246,10 +229,9 @@ def choose_hubs(found: Any, _: Matrix, options: argparse.Namespace) -> Any:
     return found[options.authorities]
 
 
-def list_pairs(found: Any, graph: Matrix, options: argparse.Namespace) -> List[Any]:
+def list_pairs(found: Any, _: Matrix, options: argparse.Namespace) -> List[Any]:
     """A row for each pair, in their order."""
-    ends = [ARGUMENTS[name](graph, options) for name in ('firsts', 'seconds')]
-    return list(zip(*ends, found.to_list(0)))
+    return list(zip(options.firsts, options.seconds, found.to_list(0)))
 
 
 def print_modularity(found: Any, _: Matrix, options: argparse.Namespace) -> Any:
@@ -275,7 +257,7 @@ def format_result(algorithm: Algorithm, result: Any, options: argparse.Namespace
     """A number, a column or a matrix as lines."""
     called = options.command.replace('-', '_')
     if isinstance(result, int):
-        return output.format_lines(options, output.label_number(called, result))
+        return output.format_lines(options, output.Result((called,), [(result,)], single=True))
     if isinstance(result, list):
         return output.format_lines(options, output.Result(algorithm.fields, result))
     if options.mtx:
@@ -303,13 +285,13 @@ def run(algorithm: Algorithm, options: argparse.Namespace) -> int:
     plot = getattr(options, 'plot', None)
     if plot:
         pictures.check(plot)
-    graph_options.check_graph(options)
+    check_graph(options)
     output.check_output(options)
     check_values(algorithm, options)
-    needs = graph_options.Needs(algorithm.wanted,
+    needs = Needs(algorithm.wanted,
                                 algorithm.uses_values(getattr(options, 'weighted', False)))
     with output.open_progress(options) as progress, open_session(options, progress) as session:
-        graph = graph_options.read_graph(session, options, needs)
+        graph = read_graph(session, options, needs)
         result = call_algorithm(algorithm, graph, options, progress)
         if algorithm.function.__name__ in SHAPES:
             result = SHAPES[algorithm.function.__name__](result, graph, options)
@@ -329,7 +311,7 @@ def check_values(algorithm: Algorithm, options: argparse.Namespace) -> None:
     """End the command if values count and the words leave them out. Say on standard error if values
     are asked for and don't count."""
     weighted = getattr(options, 'weighted', False)
-    asked = graph_options.choose_values(options)
+    asked = choose_values(options)
     if options.pattern and (asked or weighted):
         options.parser.error('%s wants values of edges, and --pattern reads none' %
                              (asked or '--weighted'))
@@ -364,7 +346,7 @@ def add_pictures(commands: Any) -> None:
                                   ('draw', 'a picture of a graph', DRAW)):
         command = add_command(commands, name, summary, epilog=epilog,
                               description='Draws %s.' % summary)
-        graph_options.add_graph_options(command)
+        add_graph_options(command)
         command.add_argument('--plot', metavar='FILE.png', required=True,
                              help='where the picture goes; needs matplotlib')
         if name == 'draw':
@@ -378,11 +360,11 @@ def add_pictures(commands: Any) -> None:
 def run_picture(options: argparse.Namespace) -> int:
     """Draw the matrix of a file, and print its size."""
     pictures.check(options.plot)
-    graph_options.check_graph(options)
+    check_graph(options)
     is_spy = options.command == 'spy'
-    needs = graph_options.Needs(values=not is_spy and options.weights, rectangular=is_spy)
+    needs = Needs(values=not is_spy and options.weights, rectangular=is_spy)
     with output.open_progress(options) as progress, open_session(options, progress) as session:
-        matrix = graph_options.read_graph(session, options, needs)
+        matrix = read_graph(session, options, needs)
         with output.writing(options.plot):
             if is_spy:
                 pictures.spy(matrix, options.plot, first=1)

@@ -11,7 +11,7 @@ import socket
 import struct
 import sys
 import zlib
-from typing import Any, Iterator, Optional, Tuple, Type, Union
+from typing import Any, Iterator, Tuple, Type, Union
 
 from ..errors import (MORE_STEPS, BudgetExceeded, Busy, Closed, CompileError, NoThread, NotMade,
                       OutOfMemory, ReadError, Refused, SpmatError, TextRefused, arguments_in)
@@ -23,36 +23,27 @@ MORE_STEPS_HERE = 'a greater --steps gives it more'
 
 
 class Status(enum.IntEnum):
-    """The exit statuses, by cause."""
-    DONE = 0
-    OTHER = 1
-    WORDS = 2
-    FILE = 3
-    REFUSED = 4
-    BUDGET = 5
-    BUSY = 6
-    UNREACHED = 7
-    FAULT = 70                                     # EX_SOFTWARE of sysexits.h
-    INTERRUPTED = 128 + signal.SIGINT
-    PIPE = 128 + signal.SIGPIPE
-    TERMINATED = 128 + signal.SIGTERM
+    """The exit statuses, by cause, and what each means."""
+    meaning: str
 
+    def __new__(cls, number: int, meaning: str) -> Status:
+        made = int.__new__(cls, number)
+        made._value_, made.meaning = number, meaning
+        return made
 
-MEANINGS = {
-    Status.DONE: 'all went well',
-    Status.OTHER: 'the result could not be written, or a Python package is missing',
-    Status.WORDS: 'the words of the command line are wrong',
-    Status.FILE: 'a file is missing, could not be read, or is no graph that the command takes',
-    Status.REFUSED: 'refused by a rule: an operator, a size, a limit, a command of a script',
-    Status.BUDGET: 'the budget of steps is spent',
-    Status.BUSY: 'too little memory, too few threads, or no seat at the server: try later, or '
-    'smaller',
-    Status.UNREACHED: 'no program, no server, or the session ended amid the work',
-    Status.FAULT: 'a fault of spmat-graph itself',
-    Status.INTERRUPTED: 'interrupted (Ctrl-C)',
-    Status.PIPE: 'whoever read standard output has gone',
-    Status.TERMINATED: 'terminated (SIGTERM)',
-}
+    DONE = 0, 'all went well'
+    OTHER = 1, 'the result could not be written, or a Python package is missing'
+    WORDS = 2, 'the words of the command line are wrong'
+    FILE = 3, 'a file is missing, could not be read, or is no graph that the command takes'
+    REFUSED = 4, 'refused by a rule: an operator, a size, a limit, a command of a script'
+    BUDGET = 5, 'the budget of steps is spent'
+    BUSY = 6, ('too little memory, too few threads, or no seat at the server: try later, or '
+               'smaller')
+    UNREACHED = 7, 'no program, no server, or the session ended amid the work'
+    FAULT = 70, 'a fault of spmat-graph itself'    # EX_SOFTWARE of sysexits.h
+    INTERRUPTED = 128 + signal.SIGINT, 'interrupted (Ctrl-C)'
+    PIPE = 128 + signal.SIGPIPE, 'whoever read standard output has gone'
+    TERMINATED = 128 + signal.SIGTERM, 'terminated (SIGTERM)'
 
 
 class Ended(Exception):
@@ -84,28 +75,32 @@ def reading(file: str) -> Iterator[None]:
     """What is done here reads a file. ReadError names it where a fault doesn't."""
     try:
         yield
-    except OSError as fault:
-        if fault.filename is not None:
+    except (OSError, *UNREADABLE) as fault:
+        if getattr(fault, 'filename', None) is not None:
             raise
-        raise ReadError(file, None, 'not read: %s' % (fault.strerror or fault)) from None
-    except UNREADABLE as fault:
-        raise ReadError(file, None, 'not read: %s' % fault) from None
+        words = getattr(fault, 'strerror', None) or fault
+        raise ReadError(file, None, 'not read: %s' % words) from None
 
 
-def causes(fault: BaseException) -> Iterator[BaseException]:
-    """A fault, and what it comes from, the first first."""
-    found: Optional[BaseException] = fault
-    while found is not None:
-        yield found
-        found = found.__cause__ if isinstance(found, NotMade) else None
+def find_refusal(fault: BaseException) -> BaseException:
+    """Find what a fault comes from: of a matrix that was not made the refusal."""
+    while isinstance(fault, NotMade) and fault.__cause__ is not None:
+        fault = fault.__cause__
+    return fault
 
 
 def status_of(fault: BaseException) -> Status:
     """The exit status of a fault; of a matrix that was not made that of the refusal."""
-    last = list(causes(fault))[-1]
+    last = find_refusal(fault)
     if isinstance(last, Ended):
         return last.status
     return next((status for kinds, status in CAUSES if isinstance(last, kinds)), Status.FAULT)
+
+
+def describe_os_error(fault: OSError) -> str:
+    """What the system says of a fault, and of which file."""
+    words = fault.strerror or str(fault)
+    return '%s: %s' % (os.fsdecode(fault.filename), words) if fault.filename else words
 
 
 def words_of(fault: BaseException) -> str:
@@ -115,8 +110,7 @@ def words_of(fault: BaseException) -> str:
     if isinstance(fault, MemoryError):
         return 'this machine has too little memory for it'
     if isinstance(fault, OSError) and fault.strerror:
-        return ('%s: %s' % (os.fsdecode(fault.filename), fault.strerror) if fault.filename
-                else fault.strerror)
+        return describe_os_error(fault)
     if isinstance(fault, BudgetExceeded):
         return ' '.join(str(fault.by(MORE_STEPS_HERE)).split())
     words = ' '.join(str(fault).split()) or type(fault).__name__
@@ -135,7 +129,7 @@ FLAGS = {'bipartite': '--bipartite or --one-kind', 'check': '',
 
 def describe_flags(fault: BaseException) -> str:
     """Name the flags for the arguments that an error is about."""
-    last = list(causes(fault))[-1]
+    last = find_refusal(fault)
     arguments = getattr(last, 'arguments', None) or arguments_in(getattr(last, 'words', str(last)))
     flags = [FLAGS.get(name, '--' + name.replace('_', '-')) for name in arguments]
     found = ', '.join(filter(None, dict.fromkeys(flags)))

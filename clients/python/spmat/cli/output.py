@@ -85,7 +85,7 @@ def _format_csv(result: Result) -> Iterator[str]:
 
 def _format_json(result: Result) -> Iterator[str]:
     """An object a row, each on a line of its own."""
-    objects = (json.dumps(dict(zip(result.fields, map(_plain_object, row))), ensure_ascii=False)
+    objects = (json.dumps(dict(zip(result.fields, row)), ensure_ascii=False, default=_plain_object)
                for row in result.rows)
     if result.single:
         yield from (text + '\n' for text in objects)
@@ -98,10 +98,8 @@ def _format_json(result: Result) -> Iterator[str]:
 
 
 def _plain_object(cell: Any) -> Any:
-    """A cell as JSON has it: whole numbers as such, also those of numpy; names that are no text or
+    """A cell that JSON doesn't know: whole numbers of numpy as such, names that are no text or
     number by their words."""
-    if cell is None or isinstance(cell, (bool, int, float, str, list, dict)):
-        return cell
     if isinstance(cell, decimal.Decimal):
         return float(cell)
     return int(cell) if hasattr(cell, '__index__') else str(cell)
@@ -111,17 +109,6 @@ def _format_cell(cell: Any) -> str:
     """A cell as text: fractions to nine decimals, decimals of the graph's unit as they are."""
     return ('%.9f' % cell if isinstance(cell, float) else format(cell, 'f')
             if isinstance(cell, decimal.Decimal) else '' if cell is None else str(cell))
-
-
-def label_entries(entries: Iterable[Tuple[Any, ...]], called: str, single_column: bool) -> Result:
-    """The result of a column, or of a matrix: (name, value) or (name, name, value), with values of
-    this name."""
-    return Result((*(NODE if single_column else EDGE), called), entries)
-
-
-def label_number(called: str, value: int) -> Result:
-    """A result that is one number."""
-    return Result((called,), [(value,)], single=True)
 
 
 def is_column(matrix: Matrix) -> bool:
@@ -134,12 +121,13 @@ def list_entries(options: argparse.Namespace, matrix: Matrix, called: str,
     """A matrix as rows, one an entry: the names of its row and its column, of a column the row's
     alone, and what is shown of the value, which is called so. Nothing is asked of the server once
     they are handed out."""
+    is_one = is_column(matrix)
     entries: List[Tuple[Any, ...]] = [
-        *(matrix.by_node(raw=True).items() if is_column(matrix) else matrix.to_edgelist(raw=True))]
+        *(matrix.by_node(raw=True).items() if is_one else matrix.to_edgelist(raw=True))]
     if options.top is not None:
         entries = heapq.nlargest(options.top, entries, key=operator.itemgetter(-1))
-    return label_entries([(*entry[:-1], show(entry[-1])) for entry in entries], called,
-                         is_column(matrix))
+    return Result((*(NODE if is_one else EDGE), called),
+                  [(*entry[:-1], show(entry[-1])) for entry in entries])
 
 
 # -- where a result goes

@@ -14,8 +14,7 @@ from ..progress import Bar
 from ..wire.protocol import FORMS, WORDS_WITH_BODY
 from . import output
 from .exit_status import Ended, Status, reading, status_of
-from .grammar import add_command
-from .session_options import add_session_options, open_session
+from .options import add_command, add_session_options, open_session
 
 SCRIPT = """SCRIPT holds the commands of docs/protocol.md as a server reads them: the line of a
 matrix or an operator ends with the length of its body, which follows. A shell writes such a script

@@ -59,10 +59,8 @@ def draw_graph(G: Matrix, look: Look, target: Target) -> Any:
     ax.margins(.08)
     ax.set_aspect('equal')
     ax.set_axis_off()
-    unshown = ', %s not shown' % pictures.count_words(loops, 'loop') if loops else ''
-    ax.set_title('%s, %s%s' % (pictures.count_vertices(G),
-                               pictures.count_words(len(lines), 'edge'), unshown),
-                 fontsize=10, color=GREY)
+    unshown = ['%s not shown' % pictures.count_words(loops, 'loop')] if loops else []
+    pictures.set_title(ax, {'vertex': G.nrows, 'edge': len(lines)}, *unshown, color=GREY)
     return ax
 
 

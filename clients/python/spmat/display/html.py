@@ -64,15 +64,12 @@ def matrix(shown: 'Matrix') -> str:
     about = [sizes(shown)]
     try:
         about.append('%s entries' % format(shown.nvals, ','))
-    except SpmatError as fault:
-        return headed('Matrix', about + [text_of(fault)], '')
-    about += known(shown)
-    try:
         found = few(shown) if shown.nvals <= FEW else many(shown)
     except SpmatError as fault:
-        return headed('Matrix', about, '<div>%s</div>' % text_of(fault))
-    return headed('Matrix', about, beside(corner(shown, values_of(shown, found.corner)),
-                                          raster(shown.shape, found.raster)))
+        return headed('Matrix', about + known(shown), '<div>%s</div>' % text_of(fault))
+    return headed('Matrix', about + known(shown),
+                  beside(corner(shown, values_of(shown, found.corner)),
+                         raster(shown.shape, found.raster)))
 
 
 def mask(shown: 'Mask') -> str:

@@ -22,6 +22,7 @@ INK, PALE, GREY, WARM, LINE = '#1f4e79', '#c9d3dd', '#5a6672', '#b5651d', '#9aa7
 LEAST_AREA, MOST_AREA = 20., 500.                  # of dots that have a size, in square points
 LARGE, MIDDLE, SMALL = 225., 64., 16.              # areas of other dots
 MOST_LABELS = 60           # a graph of more vertices has no names on it
+PLURALS = {'entry': 'entries', 'vertex': 'vertices'}
 
 
 # -- axes
@@ -68,19 +69,15 @@ def add_note(ax: Any, text: str, at: XY, off: Tuple[float, float], **look: Any) 
                 **{'ha': 'center', 'fontsize': 8, **look})
 
 
-def count_words(number: int, word: str, words: Optional[str] = None) -> str:
+def count_words(number: int, word: str) -> str:
     """Write a number of things in words: ``1 vertex``, ``2 vertices``."""
-    return '%s %s' % (format(number, ','), word if number == 1 else words or word + 's')
+    return '%s %s' % (format(number, ','), word if number == 1 else PLURALS.get(word, word + 's'))
 
 
-def count_vertices(A: Matrix) -> str:
-    """Write how many vertices a graph has."""
-    return count_words(A.nrows, 'vertex', 'vertices')
-
-
-def describe_size(A: Matrix) -> str:
-    """Write how many entries a matrix has."""
-    return count_words(A.nvals, 'entry', 'entries')
+def set_title(ax: Any, counts: Mapping[str, int], *more: str, **look: Any) -> None:
+    """Write how many of what there are above a picture."""
+    parts = [count_words(number, word) for word, number in counts.items()]
+    ax.set_title(', '.join(parts + list(more)), fontsize=10, **look)
 
 
 def shorten(name: Any) -> str:

@@ -9,7 +9,6 @@ import contextlib
 import functools
 import importlib
 import inspect
-import os
 import threading
 from typing import Any, Callable, Dict, List, Mapping, Optional, Tuple, Union
 
@@ -181,16 +180,15 @@ class Backend:
     convert_to_nx = staticmethod(convert_to_nx)
 
     @staticmethod
-    def can_run(name: str, args: Any, kwargs: Dict[str, Any]) -> Union[bool, str]:
+    def can_run(name: str, args: Any, kwargs: Dict[str, Any]) -> bool:
         """True: why a call is left to networkx say `should_run` and the function, whose words
-        networkx shows. (Of what this says networkx shows nothing; its own tests alone ask for it.)
-        Forgets what was made of a graph whose weights changed since."""
+        networkx shows, while of what this says it shows nothing. Forgets what was made of a graph
+        whose weights changed since."""
         _handed.over = False
         with contextlib.suppress(TypeError):
             arguments = bind(name, args, kwargs)
             forget_changed(next(iter(arguments.values())), _list_weights(name, arguments))
-        is_tested = bool(os.environ.get('NETWORKX_TEST_BACKEND'))
-        return (is_tested and Backend.reason(name, args, kwargs)) or True
+        return True
 
     @staticmethod
     def reason(name: str, args: Any, kwargs: Dict[str, Any]) -> Optional[str]:
@@ -222,13 +220,6 @@ class Backend:
         found = functools.partial(serve, name)
         setattr(self, name, found)
         return found
-
-    @staticmethod
-    def on_start_tests(items: Any) -> None:
-        """networkx' tests ask for scipy.sparse.sparray, which scipy has from 1.11 on."""
-        import scipy.sparse
-        if not hasattr(scipy.sparse, 'sparray'):
-            scipy.sparse.sparray = scipy.sparse.csr_array.__mro__[1]
 
 
 backend = Backend()

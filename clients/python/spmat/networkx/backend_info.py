@@ -76,12 +76,12 @@ _TABLE: Dict[str, Dict[Pays, str]] = {
                  'bellman_ford_path_length negative_edge_cycle',
         WALK: 'single_source_shortest_path_length single_target_shortest_path_length',
         KNOWN: 'single_source_shortest_path single_target_shortest_path predecessor '
-               'dijkstra_path_length'},
+               'all_shortest_paths dijkstra_path_length'},
     'networkx': {
         MUCH: 'average_clustering',
         WEIGHTS: 'multi_source_dijkstra_path single_source_dijkstra single_source_dijkstra_path '
                  'single_source_dijkstra_path_length single_source_bellman_ford_path',
-        KNOWN: 'all_shortest_paths bellman_ford_path dijkstra_path number_of_isolates'},
+        KNOWN: 'bellman_ford_path dijkstra_path number_of_isolates'},
 }
 SERVED: Dict[str, Served] = {
     name: Served(module, pays) for module, classes in _TABLE.items()

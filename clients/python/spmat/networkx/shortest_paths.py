@@ -9,8 +9,9 @@ from __future__ import annotations
 import heapq
 import itertools
 import math
-from typing import Any, Dict, List, NamedTuple, Optional, Sequence, Set, Tuple
+from typing import Any, Dict, Iterator, List, NamedTuple, Optional, Sequence, Set, Tuple
 
+import networkx as nx
 import numpy
 from networkx import NetworkXNoPath, NetworkXUnbounded, NodeNotFound
 
@@ -312,3 +313,9 @@ def bellman_ford_predecessor_and_distance(G: SpmatGraph, source: Any, weight: An
         return {source: []}, {source: 0}
     found = search(G, [source], Query(weight), True)
     return found.name_predecessors(), found.name_lengths()
+
+
+def all_shortest_paths(G: SpmatGraph, source: Any, target: Any, weight: Any,
+                       method: str) -> Iterator[List[Any]]:
+    # networkx goes along the nodes before each, and asks here for these
+    yield from nx.all_shortest_paths.orig_func(G, source, target, weight, method)

@@ -22,7 +22,7 @@ def printed(result, **forms):
 
 class Forms(unittest.TestCase):
     def test_rows(self):
-        result = output.label_entries(ROWS, 'weight', single_column=False)
+        result = output.Result(('source', 'target', 'weight'), ROWS)
         self.assertEqual(printed(result), 'Anna\tDvořák, Emil\t3\na "b"\tc\t-2\n')
         self.assertEqual(list(csv.reader(io.StringIO(printed(result, csv=True)))),
                          [['source', 'target', 'weight'], ['Anna', 'Dvořák, Emil', '3'],
@@ -33,14 +33,14 @@ class Forms(unittest.TestCase):
         self.assertEqual(text.count('\n'), 4)      # an object a line
 
     def test_a_column_of_fractions(self):
-        result = output.label_entries([(1, .25), (2, 1 / 3)], 'rank', single_column=True)
+        result = output.Result(('node', 'rank'), [(1, .25), (2, 1 / 3)])
         self.assertEqual(printed(result), '1 0.250000000\n2 0.333333333\n')
         self.assertEqual(printed(result, csv=True), 'node,rank\n1,0.250000000\n2,0.333333333\n')
         self.assertEqual(json.loads(printed(result, json=True)),
                          [{'node': 1, 'rank': .25}, {'node': 2, 'rank': 1 / 3}])
 
     def test_a_number(self):
-        result = output.label_number('triangles', 45)
+        result = output.Result(('triangles',), [(45,)], single=True)
         self.assertEqual((printed(result), printed(result, csv=True)), ('45\n', 'triangles\n45\n'))
         self.assertEqual(printed(result, json=True), '{"triangles": 45}\n')
 
