@@ -2,7 +2,7 @@
 from __future__ import annotations
 
 import itertools
-from typing import Any, Dict, List, NamedTuple, Sequence, Tuple, TypeVar, cast
+from typing import Any, List, NamedTuple, Sequence, Tuple, TypeVar, cast
 
 import numpy
 
@@ -14,12 +14,6 @@ from .operands import alias
 
 M = TypeVar('M', bound=MatrixBase)
 WAYS = ('outer', 'inner')
-
-
-class _Side(NamedTuple):
-    """The rows (0) or the columns (1) of one of the matrices, by its number."""
-    matrix: int
-    axis: int
 
 
 class _Target(NamedTuple):
@@ -72,14 +66,13 @@ def align(*matrices: M, how: str = 'outer') -> Tuple[M, ...]:
         if not isinstance(matrix, MatrixBase):
             raise TypeError('align takes matrices, each by itself, as in align(A, B), and not %r'
                             % (matrix,))
-    targets: Dict[_Side, _Target] = {}
+    targets = [[_target_of(matrix, axis) for axis in (ROWS, COLUMNS)] for matrix in matrices]
     for sides in _groups(matrices):
-        target = _common([_target_of(matrices[side.matrix], side.axis) for side in sides], how)
-        targets.update((side, target) for side in sides)
+        target = _common([targets[number][axis] for number, axis in sides], how)
+        for number, axis in sides:
+            targets[number][axis] = target
     made: List[M] = []
-    for number, matrix in enumerate(matrices):
-        rows, columns = (targets.get(_Side(number, axis)) or _target_of(matrix, axis)
-                         for axis in (ROWS, COLUMNS))
+    for matrix, (rows, columns) in zip(matrices, targets):
         made.append(_moved(matrix, rows, columns, made))
     return tuple(made)
 
@@ -89,26 +82,25 @@ def _target_of(matrix: MatrixBase, axis: int) -> _Target:
     return _Target(matrix.notes.axis(axis), matrix.shape[axis])
 
 
-def _groups(matrices: Sequence[MatrixBase]) -> List[List[_Side]]:
-    """Which rows and columns are to be called the same. ValueError for graphs beside matrices of
-    two kinds of vertices."""
+def _groups(matrices: Sequence[MatrixBase]) -> List[List[Tuple[int, int]]]:
+    """Which rows (0) and columns (1) are to be called the same, beside the numbers of their
+    matrices. ValueError for graphs beside matrices of two kinds of vertices."""
     vectors = [1 in matrix.shape and matrix.shape != (1, 1) for matrix in matrices]
-    tables = [not vector and not _is_square(matrix) for matrix, vector in zip(matrices, vectors)]
-    all_sides = [[_Side(number, axis) for number in range(len(matrices))]
-                 for axis in (ROWS, COLUMNS)]
-    if not any(tables):
-        long = [side for sides in all_sides for side in sides if not vectors[side.matrix]
-                or matrices[side.matrix].shape[side.axis] != 1]
-        return ([long] if not all(vectors) else [[side for side in long if side.axis == axis]
-                                                 for axis in (ROWS, COLUMNS)])
-    for matrix, vector in zip(matrices, vectors):
-        if not vector and _is_square(matrix) and matrix.notes.rows is not None:
+    squares = [_is_square(matrix) and not vector for matrix, vector in zip(matrices, vectors)]
+    if all(vector or square for vector, square in zip(vectors, squares)):
+        rows, columns = ([(number, axis) for number, matrix in enumerate(matrices)
+                          if not vectors[number] or matrix.shape[axis] != 1]
+                         for axis in (ROWS, COLUMNS))
+        return [rows, columns] if all(vectors) else [rows + columns]
+    for matrix, square in zip(matrices, squares):
+        if square and matrix.notes.rows is not None:
             raise ValueError(
                 'a graph of %d vertices has one list of names for rows and columns, and others '
                 'here have one for each: align graphs with graphs, and matrices of two kinds of '
                 'vertices with their like' % matrix.nrows)
-    return [[side for side in sides if matrices[side.matrix].shape[side.axis] != 1
-             or matrices[side.matrix].notes.names(side.axis) is not None] for sides in all_sides]
+    return [[(number, axis) for number, matrix in enumerate(matrices)
+             if matrix.shape[axis] != 1 or matrix.notes.names(axis) is not None]
+            for axis in (ROWS, COLUMNS)]
 
 
 def _is_square(matrix: MatrixBase) -> bool:

@@ -150,10 +150,6 @@ def convert_from_nx(graph: Any, *, edge_attrs: Optional[Dict[str, Any]] = None,
     if made is not graph:
         made.keep_attributes(graph, preserve_node_attrs or bool(node_attrs),
                              preserve_edge_attrs or bool(edge_attrs), preserve_graph_attrs)
-        for attribute, default in (edge_attrs or {}).items():
-            # the function says why; networkx would keep it as a graph that can't be converted
-            with contextlib.suppress(NotImplementedError):
-                made.values(attribute, default, FOLDS.get(name or '', 'min'))
     return made
 
 

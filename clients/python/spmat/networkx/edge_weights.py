@@ -18,7 +18,6 @@ import numpy
 from ..io import coo
 from ..io.values import Rounding, check_scale, scaled_one
 from ..io.edge_sources import neighbourhoods
-from . import process_session
 
 # units are 1 over a divisor of one of these
 MOST_DECIMAL, MOST_BINARY = 10 ** 9, 1 << 40
@@ -45,11 +44,6 @@ class Values(NamedTuple):
     most: int
     unit: Optional[int]
     read: List[Any]
-
-
-def make_key(name: Any, default: Any, fold: Optional[str]) -> Key:
-    """Make the key of an edge attribute, with the scale that is set now."""
-    return Key(name, default, fold, process_session.setting('scale'))
 
 
 def list_edge_data(graph: Any) -> List[Any]:

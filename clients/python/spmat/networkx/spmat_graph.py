@@ -14,7 +14,7 @@ from ..matrix import Matrix
 from ..metadata import Metadata, Nodes
 from . import edge_weights
 from .edge_weights import Key, Values
-from .process_session import session
+from .process_session import session, setting
 
 # what a weight times the nodes stays below: networkx' integers don't wrap
 BOUND = 1 << 61
@@ -151,7 +151,7 @@ class SpmatGraph:
         return all(edge_weights.list_attribute(data, key) == read for key, read in known.items())
 
     def _make_key(self, name: Any, default: Any, fold: str) -> Key:
-        return edge_weights.make_key(name, default, fold if self._multigraph else None)
+        return Key(name, default, fold if self._multigraph else None, setting('scale'))
 
     def values(self, name: Any, default: Any = 1, fold: str = 'min') -> Values:
         """Read an edge attribute at each entry: of parallel edges the least ('min'), the greatest

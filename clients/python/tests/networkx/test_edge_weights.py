@@ -187,5 +187,5 @@ class Weights(NetworkxCase):
                 self.read(found)
 
     def read(self, found):
-        key = edge_weights.make_key('w', 1, None)
+        key = edge_weights.Key('w', 1, None, nx.config.backends.spmat.scale)
         return edge_weights.read_values([{'w': value} for value in found], key)
