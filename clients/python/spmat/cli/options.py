@@ -8,7 +8,8 @@ import contextlib
 import difflib
 import math
 import sys
-from typing import TYPE_CHECKING, Any, Callable, Iterator, List, NamedTuple, NoReturn, Optional
+from typing import (TYPE_CHECKING, Any, Callable, Dict, Iterator, List, NamedTuple, NoReturn,
+                    Optional)
 
 from ..algorithms import undirected
 from ..algorithms.registry import Wanted
@@ -16,8 +17,7 @@ from ..errors import ReadError
 from ..io import matrix_market
 from ..io.coo import whole_of_word
 from ..io.files import Loaded
-from ..io.columns import Layout
-from ..io.formats import FORMATS, READABLE, Request, format_of
+from ..io.formats import FORMATS, READABLE, format_of
 from ..io.values import UNITS
 from ..limits import MOST_STEPS, MOST_WORKERS
 from ..matrix import Matrix
@@ -35,6 +35,8 @@ UNDIRECTED = ': --undirected takes the graph without directions, weights and loo
 TLS = ('tls', 'cacert', 'cert', 'key')
 BOTH_WAYS = ', --both-ways each edge both ways with its value'
 SERVERS = ('run', 'serve')                         # words of the program spmat
+# options that are arguments of `Session.read_graph`, too
+READING = ('format', 'delimiter', 'header', 'scale', 'bipartite', 'unit', 'date_format', 'dup_op')
 GIVEN = '_given'                                   # which options of one value stood in the words
 
 
@@ -192,10 +194,7 @@ def read_graph(session: Session, options: argparse.Namespace, needs: Needs) -> M
         text = matrix_market.load(sys.stdin.buffer if options.graph == '-' else options.graph)
     if not text.strip():
         raise ReadError(file, None, 'it is empty')
-    request = request_of(options, text, needs)
-    graph = session.read_graph(Loaded(file, text), request.format, directed=request.directed,
-                               dup_op=options.dup_op, nodelist=request.nodelist,
-                               **request.layout._asdict())
+    graph = session.read_graph(Loaded(file, text), **list_arguments(options, text, needs))
     if graph.notes.source and not options.quiet:
         # which columns were taken, so that a wrong guess is seen
         print(graph.notes.source, file=sys.stderr)
@@ -217,21 +216,23 @@ def read_graph(session: Session, options: argparse.Namespace, needs: Needs) -> M
     return graph
 
 
-def request_of(options: argparse.Namespace, text: bytes, needs: Needs) -> Request:
-    """What the options ask of a file. Values that don't count are read only where the server reads
-    them by itself."""
-    columns = (None if options.columns is None
-               else [int(word) if word.isdigit() else word for word in options.columns.split(',')])
-    plain = format_of(text) == 'mtx' and matrix_market.is_plain(text)
-    values = (not options.pattern
-              and (plain or (needs.values and not options.undirected) or options.scale is not None
-                   or options.unit is not None))
-    layout = Layout(options.delimiter, options.header, columns, values, options.scale,
-                    options.bipartite, True if options.comments is None else options.comments, None
-                    if options.missing == 'keep' else options.missing, None, options.unit,
-                    options.date_format)
-    directed = False if options.both_ways and options.dup_op is not None else None
-    return Request(options.format, layout, directed)
+def list_arguments(options: argparse.Namespace, text: bytes, needs: Needs) -> Dict[str, Any]:
+    """What the options ask of `Session.read_graph`. Values that don't count are read only where the
+    server reads them by itself."""
+    given = {name: getattr(options, name) for name in READING}
+    is_plain = format_of(text) == 'mtx' and matrix_market.is_plain(text)
+    given['values'] = (not options.pattern
+                       and (is_plain or (needs.values and not options.undirected)
+                            or options.scale is not None or options.unit is not None))
+    given['missing'] = None if options.missing == 'keep' else options.missing
+    if options.columns is not None:
+        given['columns'] = [int(word) if word.isdigit() else word
+                            for word in options.columns.split(',')]
+    if options.comments is not None:
+        given['comments'] = options.comments
+    if options.both_ways and options.dup_op is not None:
+        given['directed'] = False
+    return given
 
 
 def name_vertices(graph: Matrix, first: int) -> None:
