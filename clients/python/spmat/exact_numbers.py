@@ -63,11 +63,6 @@ class TimeUnit(int):
         return UNITS[self.name]
 
 
-def is_time(value: Any) -> bool:
-    """Whether this is a time, or the time between two, of Python, numpy or pandas."""
-    return isinstance(value, TIMES)
-
-
 def count(value: Any, unit: Union[int, Fraction]) -> Fraction:
     """A time in a unit, since 1970-01-01 (UTC) or as long as it is. TypeError where the unit is
     none of times, ValueError for a time that is missing."""
@@ -98,6 +93,7 @@ def _nanoseconds(value: Any) -> Fraction:
 
 # -- numbers, and comparisons with them
 
+FRACTIONS = (float, numpy.floating, decimal.Decimal)        # numbers that may be infinite
 Relation = Callable[[Any, Any], bool]
 RELATIONS: Dict[str, Relation] = {
     'eq': operator.eq, 'iseq': operator.eq, 'ne': operator.ne, 'isne': operator.ne,
@@ -131,8 +127,8 @@ def compared(op: Operator, number: Any, unit: Union[int, Fraction],
     NaN."""
     name = _names(op.kind)[op]
     relation = RELATIONS[name]
-    exact: Union[float, Fraction] = (float(number) if _is_infinite(number)
-                                     else exact_in(number, unit))
+    is_infinite = isinstance(number, FRACTIONS) and math.isinf(number)
+    exact: Union[float, Fraction] = float(number) if is_infinite else exact_in(number, unit)
     if isinstance(exact, Fraction):
         if name in ('lt', 'ge', 'le', 'gt'):
             exact = Fraction(math.ceil(exact) if (name in ('lt', 'ge')) != is_left
@@ -148,8 +144,7 @@ def exact_number(number: Any) -> Fraction:
     for what is no number, ValueError for what isn't finite."""
     if hasattr(number, '__index__') and not hasattr(number, '__len__'):
         return Fraction(number.__index__())
-    if isinstance(number, (str, bytes)) or not (hasattr(number, '__float__')
-                                                or isinstance(number, Fraction)):
+    if isinstance(number, (str, bytes)) or not hasattr(number, '__float__'):
         raise TypeError('expected a number, not %s' % shown(number))
     try:
         return Fraction(number if isinstance(number, (Fraction, decimal.Decimal))
@@ -162,12 +157,4 @@ def exact_number(number: Any) -> Fraction:
 
 def exact_in(number: Any, unit: Union[int, Fraction]) -> Fraction:
     """A number, or a time, as a number of stored parts of a unit."""
-    return (count(number, unit) if is_time(number) else exact_number(number)
-            * unit)
-
-
-def _is_infinite(number: Any) -> bool:
-    try:
-        return math.isinf(number)
-    except (TypeError, ValueError, OverflowError):
-        return False
+    return count(number, unit) if isinstance(number, TIMES) else exact_number(number) * unit

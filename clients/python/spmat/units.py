@@ -91,19 +91,15 @@ def to_stored(number: Any, unit: Unit, what: str) -> int:
     if exact.denominator != 1:
         finer = unit * 10 ** (_places(exact.denominator) or 0)
         mend = finer if (exact / unit * finer).denominator == 1 else unit * exact.denominator
+        # of a time the coarsest unit that holds it
+        times = [repr(name) for name, size in UNITS.items() if isinstance(unit, TimeUnit)
+                 and (exact * unit.size / size).denominator == 1]
         raise ValueError('%s%s is no whole number%s: A.rescale(%s) holds it' % (
             what, number, parts or ', as the values of this matrix are',
-            _finer_time(exact, unit) or simplify_unit(Fraction(mend))))
+            times[0] if times else simplify_unit(Fraction(mend))))
     if not coo.LEAST <= exact <= coo.MOST:
         raise ValueError('%s%s is not in -2^63 to 2^63 - 1%s' % (what, coo.shown(number), parts))
     return exact.numerator
-
-
-def _finer_time(exact: Fraction, unit: Unit) -> Optional[str]:
-    """The coarsest unit of times that holds a time exactly; None of what is no time."""
-    found = [name for name, size in UNITS.items() if isinstance(unit, TimeUnit)
-             and (exact * unit.size / size).denominator == 1]
-    return repr(found[0]) if found else None
 
 
 def to_decimal(value: int, unit: Unit) -> Any:
@@ -322,10 +318,10 @@ def _factor_to(before: Unit, unit: Any) -> Tuple[Unit, Fraction]:
 
 def _check_fits(matrix: Any, factor: Fraction, wanted: Unit) -> None:
     """ValueError where a stored value times a factor is beyond 64 bits."""
-    least, most = math.ceil(coo.LEAST / factor), math.floor(coo.MOST / factor)
-    outside = [matrix.select('valuelt', least) if least > coo.LEAST else None,
-               matrix.select('valuegt', most) if most < coo.MOST else None]
-    many = sum(part.nvals for part in outside if part is not None)
+    ends = (('valuelt', math.ceil(coo.LEAST / factor)), ('valuegt', math.floor(coo.MOST / factor)))
+    # both wait, so that one run makes them
+    outside = [matrix.select(op, end) for op, end in ends if coo.LEAST < end < coo.MOST]
+    many = sum(part.nvals for part in outside)
     if many:
         raise ValueError('%d of %d values are beyond 64 bits in %s: a coarser unit holds them'
                          % (many, matrix.nvals, describe_unit(wanted)))

@@ -85,7 +85,7 @@ def _format_csv(result: Result) -> Iterator[str]:
 
 def _format_json(result: Result) -> Iterator[str]:
     """An object a row, each on a line of its own."""
-    objects = (json.dumps(dict(zip(result.fields, row)), ensure_ascii=False, default=_plain_object)
+    objects = (json.dumps(dict(zip(result.fields, map(_plain_object, row))), ensure_ascii=False)
                for row in result.rows)
     if result.single:
         yield from (text + '\n' for text in objects)
@@ -98,8 +98,10 @@ def _format_json(result: Result) -> Iterator[str]:
 
 
 def _plain_object(cell: Any) -> Any:
-    """A cell that JSON doesn't know: whole numbers of numpy as such, names that are no text or
+    """A cell as JSON has it: whole numbers as such, also those of numpy; names that are no text or
     number by their words."""
+    if cell is None or isinstance(cell, (bool, int, float, str, list, dict)):
+        return cell
     if isinstance(cell, decimal.Decimal):
         return float(cell)
     return int(cell) if hasattr(cell, '__index__') else str(cell)
