@@ -10,7 +10,7 @@ import unittest
 
 import support
 from spmat.cli import main
-from spmat.cli.exit_status import Status
+from spmat.cli.output import Status
 
 PACKAGE = os.path.join(support.TOP, 'clients', 'python')
 

@@ -2,7 +2,7 @@
 
 A command for each algorithm of `spmat.algorithms`, `spy` and `draw` (`algorithm_commands`), `types`
 and `script` (`session_commands`), and `completion`. Results go to standard output, progress to
-standard error where that is a terminal, and a fault is one line there. `exit_status` has the exit
+standard error where that is a terminal, and a fault is one line there. `output` has the exit
 statuses.
 """
 from __future__ import annotations
@@ -19,7 +19,7 @@ from ..extras import import_extra
 from ..io.formats import READABLE
 from ..io.matrix_market import ENDINGS
 from . import algorithm_commands, session_commands
-from .exit_status import PROGRAM, Status, finish, show_warning
+from .output import PROGRAM, Status, finish, show_warning
 from .options import Parser, add_command
 
 DESCRIPTION = (

@@ -21,7 +21,7 @@ from ..algorithms.registry import ALGORITHMS, Algorithm
 from ..matrix import Matrix
 from ..matrix_base import abbreviate_names, suggest_names
 from . import output
-from .exit_status import Ended, Status
+from .output import Ended, Status
 from .options import (Needs, add_command, add_graph_options, add_session_options, check_graph,
                       choose_values, open_session, read_graph, read_number)
 
@@ -164,13 +164,13 @@ def find_vertices(graph: Matrix, options: argparse.Namespace) -> None:
     """Put vertices in the place of the words that name them in options. A search begins with the
     first one if none is named; without any of many sources all are meant."""
     given, find = vars(options), functools.partial(find_vertex, graph)
-    if given['target'] is not None:
-        given['target'] = find(options.target)
     if 'source' in given:
         first = next(iter(graph.notes.rows or ()), None)
         if options.source is None and first is None:
             raise Ended(Status.FILE, 'the graph has no vertex')
         given['source'] = first if options.source is None else find(options.source)
+    if given['target'] is not None:
+        given['target'] = find(options.target)
     if given.get('sources') is not None:
         given['sources'] = list(map(find, options.sources))
     elif options.command == 'path-lengths':

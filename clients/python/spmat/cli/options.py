@@ -26,7 +26,7 @@ from ..session import Session
 from ..submatrices import bipartite
 from ..wire.connection import Progress
 from ..wire.transport import Address
-from .exit_status import PROGRAM, Ended, Status, describe_os_error, reading
+from .output import PROGRAM, Ended, Status, describe_os_error, reading
 
 if TYPE_CHECKING:
     import ssl

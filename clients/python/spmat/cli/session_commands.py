@@ -13,7 +13,7 @@ from ..operators import KINDS, Operator, READY, asm, c as from_c, code, dataflow
 from ..progress import Bar
 from ..wire.protocol import FORMS, WORDS_WITH_BODY
 from . import output
-from .exit_status import Ended, Status, reading, status_of
+from .output import Ended, Status, reading, status_of
 from .options import add_command, add_session_options, open_session
 
 SCRIPT = """SCRIPT holds the commands of docs/protocol.md as a server reads them: the line of a

@@ -11,7 +11,7 @@ import time
 import support
 from command_line import PACKAGE, CommandLine, with_body
 from processes import alive, gone
-from spmat.cli.exit_status import Status
+from spmat.cli.output import Status
 
 DATA = os.path.join(PACKAGE, 'tests', 'data')
 KARATE = os.path.join(support.TOP, 'docs', 'karate.mtx')

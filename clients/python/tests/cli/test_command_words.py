@@ -17,9 +17,9 @@ import support
 from command_line import PACKAGE, CommandLine
 from spmat import algorithms, errors
 from spmat.cli import parser
-from spmat.cli import exit_status
+from spmat.cli import output
 from spmat.cli.algorithm_commands import COMMANDS, describe
-from spmat.cli.exit_status import Status
+from spmat.cli.output import Status
 
 # What of the module is no algorithm: types, and what the flag --undirected does.
 NO_COMMAND = {'Bounds', 'Centrality', 'Communities', 'CycleError', 'GraphMatrix', 'modularity',
@@ -117,13 +117,13 @@ class Words(CommandLine):
             (ValueError("no vertex 'columns=3'"), ''),
             (errors.BudgetExceeded('S8', (5, 3)), ' (flags: --steps)')):
             with self.subTest(fault=fault):
-                self.assertEqual(exit_status.describe_flags(fault), want)
+                self.assertEqual(output.describe_flags(fault), want)
 
     def test_each_argument_has_a_flag(self):
         known = {word for command in commands().choices.values() for action in command._actions
                  for word in action.option_strings}
         for name in errors.ARGUMENTS:
-            flags = exit_status.FLAGS.get(name, '--' + name.replace('_', '-'))
+            flags = output.FLAGS.get(name, '--' + name.replace('_', '-'))
             with self.subTest(name=name):
                 self.assertLessEqual(set(re.findall('--[a-z-]+', flags)), known)
 

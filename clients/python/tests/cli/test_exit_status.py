@@ -16,8 +16,8 @@ from unittest import mock
 import support
 from command_line import PACKAGE, CommandLine, with_body
 from spmat import errors
-from spmat.cli import exit_status
-from spmat.cli.exit_status import Status
+from spmat.cli import output
+from spmat.cli.output import Status
 
 GRAPH = '%%MatrixMarket matrix coordinate pattern symmetric\n3 3 3\n2 1\n3 1\n3 2\n'
 LIST = b'a,b\nb,c\n'
@@ -220,14 +220,14 @@ class Ends(CommandLine):
             self.ends(Status.FAULT, 'degrees', 'graph.mtx',
                       says="a fault of spmat-graph itself: KeyError: 'x' (SPMAT_TRACE=1 shows "
                       "where)")
-            with mock.patch.dict(os.environ, {exit_status.TRACE: '1'}), self.assertRaises(KeyError):
+            with mock.patch.dict(os.environ, {output.TRACE: '1'}), self.assertRaises(KeyError):
                 self.run_words('degrees', 'graph.mtx')
 
     def test_what_was_not_made(self):
         """A result that a refused run was to make has the refusal's status."""
         fault = errors.NotMade('this matrix was not made')
         fault.__cause__ = errors.refusal('memory', [7])
-        self.assertEqual(exit_status.status_of(fault), Status.BUSY)
+        self.assertEqual(output.status_of(fault), Status.BUSY)
 
     def signalled(self, number):
         """The status of a command that waits for standard input, and gets a signal."""

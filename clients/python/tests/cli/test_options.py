@@ -6,7 +6,7 @@ import os
 import support
 from command_line import CommandLine
 from spmat.algorithms.registry import ALGORITHMS
-from spmat.cli.exit_status import Status
+from spmat.cli.output import Status
 
 FILES = {'r.csv': 'A,B,3\nB,A,4\nA,B,10\n', 'r3.csv': 'A,B,1\nB,C,1\nA,C,10\n',
          'loop.csv': 'A,B,3\nB,A,4\nC,C,2\n',
