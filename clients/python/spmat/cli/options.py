@@ -1,5 +1,5 @@
-"""The grammar of the command line, whose faults are one line; and the options that say which graph a
-command reads, and where its work is done: by a process of its own, or a server, over TLS where
+"""The grammar of the command line, whose faults are one line; and the options that say which graph
+a command reads, and where its work is done: by a process of its own, or a server, over TLS where
 something in front of it speaks that."""
 from __future__ import annotations
 

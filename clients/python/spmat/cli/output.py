@@ -1,7 +1,7 @@
 """What commands print, and how they end.
 
-A result is plain lines, CSV (`--csv`) or JSON (`--json`), all of the same fields and rows. A command
-adds the options by `add_form_options`, makes a `Result` of what it found, and hands
+A result is plain lines, CSV (`--csv`) or JSON (`--json`), all of the same fields and rows. A
+command adds the options by `add_form_options`, makes a `Result` of what it found, and hands
 `format_lines(options, result)` to `write`. Plain lines have no header; CSV has one, in words that
 `read_graph` knows; JSON is a list with an object a row, or an object alone where the result is
 `single`. Rows may come one by one from a generator.

@@ -108,8 +108,8 @@ def info() -> Dict[str, Any]:
 def _describe(pays: Pays) -> str:
     """Say when networkx hands a function over."""
     first = '' if pays.first == NEVER else 'from %d edges on, ' % pays.first
-    return ('Taken by itself %sfrom %d edges on for a graph that was converted before, and wherever '
-            'backend="spmat" is given.' % (first, pays.again))
+    return ('Taken by itself %sfrom %d edges on for a graph that was converted before, and '
+            'wherever backend="spmat" is given.' % (first, pays.again))
 
 
 # -- settings

@@ -1,5 +1,5 @@
-"""Parts of graphs: triangles and squares, cores and trusses, independent sets, and spanning trees of
-the edges that Kruskal's algorithm takes, in its order."""
+"""Parts of graphs: triangles and squares, cores and trusses, independent sets, and spanning trees
+of the edges that Kruskal's algorithm takes, in its order."""
 from __future__ import annotations
 
 # networkx calls these by the names of its own arguments
