@@ -62,7 +62,7 @@ _TABLE: Dict[str, Dict[Pays, str]] = {
               'number_weakly_connected_components is_weakly_connected descendants ancestors '
               'bfs_layers',
         KNOWN: 'degree_centrality in_degree_centrality out_degree_centrality isolates '
-               'number_of_selfloops is_tree is_arborescence'},
+               'number_of_selfloops is_arborescence'},
     'subgraphs': {
         MUCH: 'triangles transitivity clustering generalized_degree square_clustering',
         PRODUCTS: 'k_core k_truss',
@@ -81,7 +81,7 @@ _TABLE: Dict[str, Dict[Pays, str]] = {
         MUCH: 'average_clustering',
         WEIGHTS: 'multi_source_dijkstra_path single_source_dijkstra single_source_dijkstra_path '
                  'single_source_dijkstra_path_length single_source_bellman_ford_path',
-        KNOWN: 'bellman_ford_path dijkstra_path number_of_isolates'},
+        KNOWN: 'bellman_ford_path dijkstra_path is_tree number_of_isolates'},
 }
 SERVED: Dict[str, Served] = {
     name: Served(module, pays) for module, classes in _TABLE.items()

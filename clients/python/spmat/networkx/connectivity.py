@@ -255,11 +255,6 @@ def bfs_layers(G: SpmatGraph, sources: Any) -> Iterator[List[Any]]:
 
 # -- trees
 
-def is_tree(G: SpmatGraph) -> bool:
-    need_nodes(G, 'G has no nodes.')
-    return G.number_of_edges() == len(G) - 1 and connected(G)
-
-
 def is_forest(G: SpmatGraph) -> bool:
     need_nodes(G, 'G has no nodes.')
     many = G.number_of_edges()
@@ -267,7 +262,7 @@ def is_forest(G: SpmatGraph) -> bool:
 
 
 def is_arborescence(G: SpmatGraph) -> bool:
-    return is_tree(G) and max(count_edges(G, 'in')) <= 1
+    return bool(nx.is_tree(G)) and max(count_edges(G, 'in')) <= 1
 
 
 def is_branching(G: SpmatGraph) -> bool:
