@@ -182,23 +182,21 @@ def order_columns(count: int, at: Mapping[int, int], pairs: Set[Edge]) -> List[L
     """Make a column of vertices for each level, in which few edges cross: each column is sorted by
     the mean height of neighbours in the one before, then in the one after, some times over (the
     barycenter heuristic of Sugiyama)."""
-    near: Dict[int, Set[int]] = {i: set() for i in range(count)}
+    near = numpy.zeros((count, count))
     for i, j in pairs:
-        near[i].add(j)
-        near[j].add(i)
-    columns: List[List[int]] = [[] for _ in range(max(at.values(), default=-1) + 2)]
-    for i in range(count):
-        columns[at.get(i, -1)].append(i)
+        near[i, j] = near[j, i] = 1
+    levels = [*range(max(at.values(), default=-1) + 1), -1]
+    columns = [[i for i in range(count) if at.get(i, -1) == level] for level in levels]
     for turn in range(8):
         step = 1 if turn % 2 == 0 else -1
         for number in range(1, len(columns)) if step == 1 else range(len(columns) - 2, -1, -1):
-            height, old = ({i: k / max(1, len(column) - 1) for k, i in enumerate(column)}
-                           for column in (columns[number - step], columns[number]))
-            means = {}
-            for i in columns[number]:
-                heights = [height[j] for j in near[i] if j in height]
-                means[i] = (sum(heights) / len(heights) if heights else old[i], old[i])
-            columns[number].sort(key=means.__getitem__)
+            column, beside = columns[number], columns[number - step]
+            old, heights = (numpy.arange(len(many)) / max(1, len(many) - 1)
+                            for many in (column, beside))
+            links = near[numpy.ix_(column, beside)]
+            count_of = links.sum(axis=1)
+            means = numpy.where(count_of, links @ heights / numpy.maximum(count_of, 1), old)
+            columns[number] = [column[k] for k in numpy.lexsort((old, means))]
     return columns
 
 

@@ -11,8 +11,7 @@ from __future__ import annotations
 import html
 import itertools
 import math
-from typing import (TYPE_CHECKING, Any, Dict, Iterator, List, Mapping, NamedTuple, Optional,
-                    Sequence, Tuple)
+from typing import TYPE_CHECKING, Any, Dict, List, Mapping, NamedTuple, Optional, Sequence, Tuple
 
 import numpy
 
@@ -196,11 +195,17 @@ def raster(shape: Tuple[int, int], counts: Cells) -> str:
     rows, columns = (max(1, min(CELLS, side)) for side in shape)
     size = SIDE / max(rows, columns)
     most = math.log(max(counts.values(), default=1) + 1)
-    # a path for each shade, since a notebook keeps every byte of this
+    cells = sorted((i, j, math.ceil(SHADES * math.log(count + 1) / most))
+                   for (i, j), count in counts.items())
+    # a path for each shade, since a notebook keeps every byte of this: of cells beside one another
+    # the column and the place in this order differ by the same number
     shades: Dict[int, List[str]] = {}
-    for (i, j), shade, width in _runs({at: math.ceil(SHADES * math.log(count + 1) / most)
-                                       for at, count in counts.items()}):
-        shades.setdefault(shade, []).append('M%d %dh%dv1h-%dz' % (j, i, width, width))
+    for (i, shade, _), run in itertools.groupby(
+            enumerate(cells), lambda cell: (cell[1][0], cell[1][2], cell[1][1] - cell[0])):
+        columns_of_run = [j for _, (_, j, _) in run]
+        width = len(columns_of_run)
+        shades.setdefault(shade, []).append('M%d %dh%dv1h-%dz'
+                                            % (columns_of_run[0], i, width, width))
     paths = ''.join('<path fill-opacity="%.2f" d="%s"/>' % (.3 + .7 * shade / SHADES,
                                                             ''.join(parts))
                     for shade, parts in sorted(shades.items()))
@@ -209,17 +214,6 @@ def raster(shape: Tuple[int, int], counts: Cells) -> str:
             'entries '
             'are"><g fill="#1f4e79" shape-rendering="crispEdges">%s</g></svg>'
             % (math.ceil(columns * size), math.ceil(rows * size), columns, rows, paths))
-
-
-def _runs(shades: Mapping[Tuple[int, int], int]) -> Iterator[Tuple[Tuple[int, int], int, int]]:
-    """Cells beside one another in a row that have one shade: the first, the shade, and how many
-    they are."""
-    # of cells beside one another the column and the place in this order differ by the same number
-    cells = enumerate(sorted((*at, shade) for at, shade in shades.items()))
-    for (i, shade, _), run in itertools.groupby(
-            cells, lambda cell: (cell[1][0], cell[1][2], cell[1][1] - cell[0])):
-        columns = [j for _, (_, j, _) in run]
-        yield (i, columns[0]), shade, len(columns)
 
 
 def operator(op: 'Operator') -> str:
