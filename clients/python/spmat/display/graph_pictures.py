@@ -11,7 +11,7 @@ from ..matrix import Matrix
 from ..units import to_decimal
 from . import count_in_groups, pictures
 from .pictures import (GREY, INK, LARGE, LINE, LONG, MIDDLE, MOST_LABELS, PALE, SHORT, WARM, XY,
-                       Edge, Look, Strokes, Target)
+                       Edge, Look, Target)
 
 MOST_VERTICES, MOST_EDGES = 1000, 5000             # of a whole graph
 MOST_ARROWS = 700          # a graph of more edges has lines without arrows
@@ -105,8 +105,8 @@ def draw_lines(ax: Any, positions: Any, lines: List[Edge], directed: Set[Edge],
         return
     room = numpy.sqrt(areas) / 2 + .5              # to the rim of each dot, in points
     for i, j in lines:
-        look = Strokes(bend=.12 if (j, i) in directed else 0, arrow=True)
-        pictures.draw_edge(ax, (positions[i], positions[j]), look, (room[i], room[j]))
+        pictures.draw_edge(ax, (positions[i], positions[j]), (room[i], room[j]),
+                           .12 if (j, i) in directed else 0, color=GREY, linewidth=.8)
 
 
 def draw_labels(ax: Any, positions: Any, texts: Mapping[int, str], colours: Sequence[Any],
@@ -161,14 +161,13 @@ def draw_columns(G: Matrix, at: Mapping[int, int], target: Target,
         if is_directed or i < j:
             ways = {(i, j)} if is_directed else {(i, j), (j, i)}
             goes_on = any(at.get(end) == at.get(start, -9) + 1 for start, end in ways)
-            look = Strokes(INK, .8) if goes_on else Strokes(LINE, .6)
-            look = Strokes(WARM, 2.4) if ways & marked else look
+            is_marked = bool(ways & marked)
+            color, width = (WARM, 2.4) if is_marked else (INK, .8) if goes_on else (LINE, .6)
             (x, y), (u, v) = positions[i], positions[j]
             bend = .25 if x == u else .12 if is_directed and (j, i) in pairs else 0
             bend *= 1 if is_directed or y > v else -1
-            look = look._replace(bend=bend, arrow=is_directed)
-            pictures.draw_edge(ax, ((x, y), (u, v)), look, (room, room),
-                               1 + bool(ways & marked) / 2)
+            pictures.draw_edge(ax, ((x, y), (u, v)), (room, room), bend, is_directed, color=color,
+                               linewidth=width, zorder=1 + is_marked / 2)
     draw_leveled_dots(ax, G, positions, at)
     ax.set_xticks(range(deepest + 1))
     ax.set_xlabel('level')
@@ -276,7 +275,7 @@ def draw_chain(names: List[str], values: Sequence[Any], target: Target) -> Any:
     rows = (len(names) - 1) // 10
     ax = pictures.open_axes(target, max(3, 1.4 * min(10, len(names))), 1.2 + .9 * rows)
     for start, end, value in zip(positions, positions[1:], values):
-        pictures.draw_edge(ax, (start, end), Strokes(WARM, 1.6, arrow=True), (9, 9))
+        pictures.draw_edge(ax, (start, end), (9, 9), color=WARM, linewidth=1.6)
         middle = (start[0] + end[0]) / 2, (start[1] + end[1]) / 2
         pictures.add_note(ax, format(value, ','), middle, (0, 5), color=GREY)
     pictures.draw_dots(ax, positions, INK, 81)

@@ -269,22 +269,13 @@ def longest_name(G: Matrix) -> int:
 
 # -- dots and edges
 
-class Strokes(NamedTuple):
-    """How an edge is drawn: its colour and width, how much it bends, whether it has an arrow."""
-    colour: str = GREY
-    width: float = .8
-    bend: float = 0.
-    arrow: bool = False
-
-
-def draw_edge(ax: Any, ends: Tuple[XY, XY], look: Strokes, room: Tuple[float, float],
-              zorder: float = 1) -> None:
+def draw_edge(ax: Any, ends: Tuple[XY, XY], room: Tuple[float, float], bend: float = 0.,
+              arrow: bool = True, **look: Any) -> None:
     """Draw an edge as a line or an arrow that ends so many points before the middle of each dot."""
     patches = import_extra('matplotlib.patches', 'a picture')
     ax.add_patch(patches.FancyArrowPatch(
-        *ends, arrowstyle='-|>' if look.arrow else '-', mutation_scale=9, linewidth=look.width,
-        color=look.colour, shrinkA=room[0], shrinkB=room[1], zorder=zorder,
-        connectionstyle='arc3,rad=%g' % look.bend))
+        *ends, arrowstyle='-|>' if arrow else '-', mutation_scale=9, shrinkA=room[0],
+        shrinkB=room[1], connectionstyle='arc3,rad=%g' % bend, **look))
 
 
 def draw_dots(ax: Any, positions: Any, colours: Any, areas: Any) -> None:
