@@ -251,8 +251,8 @@ def graph(G: Matrix, path: Optional[Path] = None, *, color: Any = None, size: An
     >>> draw.graph(G, color=algorithms.core_numbers(G), size=algorithms.pagerank(G))
     """
     graph_pictures.check_is_drawable(G)
-    look = pictures.Look(color, size, labels, pos)
-    return pictures.finish(graph_pictures.draw_graph(G, look, Target(ax, path)), path)
+    ax = graph_pictures.draw_graph(G, color, size, labels, pos, Target(ax, path))
+    return pictures.finish(ax, path)
 
 
 def levels(G: Matrix, found: Matrix, path: Optional[Path] = None, *, ax: Any = None) -> Any:

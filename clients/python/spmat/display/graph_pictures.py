@@ -11,7 +11,7 @@ from ..matrix import Matrix
 from ..units import to_decimal
 from . import count_in_groups, pictures
 from .pictures import (GREY, INK, LARGE, LINE, LONG, MIDDLE, MOST_LABELS, PALE, SHORT, WARM, XY,
-                       Edge, Look, Target)
+                       Edge, Target)
 
 MOST_VERTICES, MOST_EDGES = 1000, 5000             # of a whole graph
 MOST_ARROWS = 700          # a graph of more edges has lines without arrows
@@ -34,15 +34,15 @@ def check_is_drawable(G: Matrix) -> None:
             % tuple(format(n, ',') for n in (MOST_VERTICES, MOST_EDGES, G.nrows, G.nvals)))
 
 
-def draw_graph(G: Matrix, look: Look, target: Target) -> Any:
+def draw_graph(G: Matrix, color: Any, size: Any, labels: Any, pos: Any, target: Target) -> Any:
     """Draw a whole graph, with a legend or a colour bar if colours mean something."""
     values = {(i, j): value for i, j, value in G.to_triples()}
     pairs = {(i, j) for i, j in values if i != j}
     is_directed = any((j, i) not in pairs for i, j in pairs)
     lines = [(i, j) for i, j in sorted(pairs) if is_directed or i < j]
-    colours, areas = pictures.choose_colours(G, look), pictures.choose_areas(G, look)
-    texts = pictures.choose_texts(G, look)
-    positions = choose_positions(G, look, pairs)
+    colours, areas = pictures.choose_colours(G, color), pictures.choose_areas(G, size)
+    texts = pictures.choose_texts(G, labels)
+    positions = choose_positions(G, pos, pairs)
     side = max(4.8, min(11.0, .9 * math.sqrt(max(1, G.nrows)) + 1.5))
     ax = pictures.open_axes(target, side, side)
     draw_lines(ax, positions, lines, pairs if is_directed else set(), areas)
@@ -64,12 +64,12 @@ def draw_graph(G: Matrix, look: Look, target: Target) -> Any:
     return ax
 
 
-def choose_positions(G: Matrix, look: Look, pairs: Set[Edge]) -> Any:
+def choose_positions(G: Matrix, pos: Any, pairs: Set[Edge]) -> Any:
     """Choose an x and a y for each vertex: the caller's, or by springs. ValueError if one is
     missing."""
-    if look.pos is None:
+    if pos is None:
         return lay_out(G.nrows, pairs)
-    found = pictures.values_of_vertices(G, look.pos, 'pos')
+    found = pictures.values_of_vertices(G, pos, 'pos')
     missing = next((i for i in range(G.nrows) if i not in found), None)
     if missing is not None:
         raise ValueError('pos: expected a position of each vertex, and %r has none'
@@ -204,13 +204,13 @@ def draw_leveled_dots(ax: Any, G: Matrix, at_xy: Mapping[int, XY], at: Mapping[i
     deepest = max(at.values(), default=-1)
     shades = pictures.shade(numpy.arange(deepest + 1) / max(1, deepest))
     colours = [shades[at[i]] if i in at else PALE for i in range(G.nrows)]
-    areas = pictures.choose_areas(G, Look(size=None if G.nrows <= MOST_LABELS else MIDDLE))
+    areas = pictures.choose_areas(G, None if G.nrows <= MOST_LABELS else MIDDLE)
     positions = [at_xy[i] for i in range(G.nrows)]
     pictures.draw_dots(ax, positions, colours, areas)
     heights = [y for _, y in positions]
     is_crowded = max(heights, default=0.) - min(heights, default=0.) > CROWDED
     if G.nrows <= MOST_LABELS or not is_crowded:
-        draw_labels(ax, positions, pictures.choose_texts(G, Look(labels=True)), colours, areas)
+        draw_labels(ax, positions, pictures.choose_texts(G, True), colours, areas)
     if len(at) < G.nrows:
         pictures.add_note(ax, 'not reached', (deepest + 1.4, 0), (0, -14), color=GREY,
                           xycoords=('data', 'axes fraction'))

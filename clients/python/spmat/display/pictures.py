@@ -160,15 +160,6 @@ def values_of_vertices(G: Matrix, given: Any, what: str) -> Dict[int, Any]:
     return dict(enumerate(given))
 
 
-class Look(NamedTuple):
-    """What a caller asks for: a value for each vertex that chooses its colour, its size, its text
-    and its position; None for what is left to the picture."""
-    color: Any = None
-    size: Any = None
-    labels: Any = None
-    pos: Any = None
-
-
 class Colours(NamedTuple):
     """A colour for each vertex, and what explains it: pairs of a colour and a text for a legend, or
     the scale of a colour bar."""
@@ -178,14 +169,14 @@ class Colours(NamedTuple):
     title: Optional[str] = None
 
 
-def choose_colours(G: Matrix, look: Look) -> Colours:
+def choose_colours(G: Matrix, color: Any) -> Colours:
     """Choose a colour for each vertex: groups and names by hues, a few whole numbers by shades,
     others by a scale. Vertices without a value are pale."""
     from ..algorithms.results import Communities   # algorithms are slow to import
-    if look.color is None or isinstance(look.color, str):
-        return Colours([look.color or INK] * G.nrows)
-    values = values_of_vertices(G, look.color, 'color')
-    are_groups, scale = isinstance(look.color, Communities), None
+    if color is None or isinstance(color, str):
+        return Colours([color or INK] * G.nrows)
+    values = values_of_vertices(G, color, 'color')
+    are_groups, scale = isinstance(color, Communities), None
     are_numbers = all(isinstance(value, (int, float, numpy.number)) for value in values.values())
     distinct = sorted(set(values.values())) if are_numbers else []
     if are_groups or not are_numbers:
@@ -236,15 +227,15 @@ def add_legend(ax: Any, colours: Colours) -> None:
         bar.ax.tick_params(labelsize=8)
 
 
-def choose_areas(G: Matrix, look: Look) -> Any:
+def choose_areas(G: Matrix, size: Any) -> Any:
     """Choose the area of each vertex' dot, which grows with its value. Short names of few vertices
     fit into the dots. ValueError for a value below 0."""
-    if look.size is None:
+    if size is None:
         few = LARGE if longest_name(G) <= SHORT else MIDDLE
         return numpy.full(G.nrows, few if G.nrows <= MOST_LABELS else SMALL)
-    if isinstance(look.size, (int, float)):
-        return numpy.full(G.nrows, float(look.size))
-    values = values_of_vertices(G, look.size, 'size')
+    if isinstance(size, (int, float)):
+        return numpy.full(G.nrows, float(size))
+    values = values_of_vertices(G, size, 'size')
     numbers = numpy.zeros(G.nrows)
     numbers[list(values)] = [float(value) for value in values.values()]
     if (numbers < 0).any():
@@ -252,9 +243,9 @@ def choose_areas(G: Matrix, look: Look) -> Any:
     return LEAST_AREA + (MOST_AREA - LEAST_AREA) * numbers / numpy.max(numbers, initial=1e-300)
 
 
-def choose_texts(G: Matrix, look: Look) -> Dict[int, str]:
+def choose_texts(G: Matrix, labels: Any) -> Dict[int, str]:
     """Choose what stands at each vertex."""
-    labels = G.nrows <= MOST_LABELS if look.labels is None else look.labels
+    labels = G.nrows <= MOST_LABELS if labels is None else labels
     if isinstance(labels, bool):
         names = (G.nodes or range(G.nrows)) if labels else ()
         return {i: str(name) for i, name in enumerate(names)}
