@@ -22,7 +22,7 @@ from ..matrix import Matrix
 from ..matrix_base import abbreviate_names, suggest_names
 from . import output
 from .output import Ended, Status
-from .options import (Needs, add_command, add_graph_options, add_session_options, check_graph,
+from .options import (add_command, add_graph_options, add_session_options, check_graph,
                       choose_values, open_session, read_graph, read_number)
 
 WIDTH = 100                                        # of descriptions
@@ -288,10 +288,9 @@ def run(algorithm: Algorithm, options: argparse.Namespace) -> int:
     check_graph(options)
     output.check_output(options)
     check_values(algorithm, options)
-    needs = Needs(algorithm.wanted,
-                                algorithm.uses_values(getattr(options, 'weighted', False)))
+    values = algorithm.uses_values(getattr(options, 'weighted', False))
     with output.open_progress(options) as progress, open_session(options, progress) as session:
-        graph = read_graph(session, options, needs)
+        graph = read_graph(session, options, values, algorithm.wanted)
         result = call_algorithm(algorithm, graph, options, progress)
         if algorithm.function.__name__ in SHAPES:
             result = SHAPES[algorithm.function.__name__](result, graph, options)
@@ -362,9 +361,8 @@ def run_picture(options: argparse.Namespace) -> int:
     pictures.check(options.plot)
     check_graph(options)
     is_spy = options.command == 'spy'
-    needs = Needs(values=not is_spy and options.weights, rectangular=is_spy)
     with output.open_progress(options) as progress, open_session(options, progress) as session:
-        matrix = read_graph(session, options, needs)
+        matrix = read_graph(session, options, not is_spy and options.weights, rectangular=is_spy)
         with output.writing(options.plot):
             if is_spy:
                 pictures.spy(matrix, options.plot, first=1)

@@ -8,8 +8,7 @@ import contextlib
 import difflib
 import math
 import sys
-from typing import (TYPE_CHECKING, Any, Callable, Dict, Iterator, List, NamedTuple, NoReturn,
-                    Optional)
+from typing import TYPE_CHECKING, Any, Callable, Dict, Iterator, List, NoReturn, Optional
 
 from ..algorithms import undirected
 from ..algorithms.registry import Wanted
@@ -178,31 +177,26 @@ def check_graph(options: argparse.Namespace) -> None:
             '--bipartite or --undirected')
 
 
-class Needs(NamedTuple):
-    """What an algorithm needs of a graph: its kind, whether values count, and whether rows and
-    columns may be of two kinds."""
-    kind: Wanted = Wanted.ANY
-    values: bool = False
-    rectangular: bool = False
-
-
-def read_graph(session: Session, options: argparse.Namespace, needs: Needs) -> Matrix:
+def read_graph(session: Session, options: argparse.Namespace, values: bool,
+               kind: Wanted = Wanted.ANY, rectangular: bool = False) -> Matrix:
     """The graph of the file that the options name, with names for its vertices: those of the file,
-    or numbers from 1 where it is a Matrix Market file. Ended where it isn't of the wanted kind."""
+    or numbers from 1 where it is a Matrix Market file. Ended where it isn't of the wanted kind.
+    `values` says whether they count, and `rectangular` whether rows and columns may be of two
+    kinds."""
     file = 'standard input' if options.graph == '-' else options.graph
     with reading(file):
         text = matrix_market.load(sys.stdin.buffer if options.graph == '-' else options.graph)
     if not text.strip():
         raise ReadError(file, None, 'it is empty')
-    graph = session.read_graph(Loaded(file, text), **list_arguments(options, text, needs))
+    graph = session.read_graph(Loaded(file, text), **list_arguments(options, text, values))
     if graph.notes.source and not options.quiet:
         # which columns were taken, so that a wrong guess is seen
         print(graph.notes.source, file=sys.stderr)
     name_vertices(graph, 1 if format_of(text) == 'mtx' else 0)
-    if options.bipartite and not needs.rectangular:
+    if options.bipartite and not rectangular:
         graph = bipartite(graph)
     if graph.nrows != graph.ncols:
-        if needs.rectangular:
+        if rectangular:
             return graph
         raise Ended(Status.FILE,
                     'a graph is a square matrix, and %s has %d rows and %d columns: --bipartite '
@@ -212,17 +206,17 @@ def read_graph(session: Session, options: argparse.Namespace, needs: Needs) -> M
     if options.both_ways and options.dup_op is None:       # else reading made it so
         graph = graph.ewise_add(graph.T, 'min')
         graph.notes = graph.notes._replace(directed=False)
-    check_kind(graph, needs.kind)
+    check_kind(graph, kind)
     return graph
 
 
-def list_arguments(options: argparse.Namespace, text: bytes, needs: Needs) -> Dict[str, Any]:
+def list_arguments(options: argparse.Namespace, text: bytes, values: bool) -> Dict[str, Any]:
     """What the options ask of `Session.read_graph`. Values that don't count are read only where the
     server reads them by itself."""
     given = {name: getattr(options, name) for name in READING}
     is_plain = format_of(text) == 'mtx' and matrix_market.is_plain(text)
     given['values'] = (not options.pattern
-                       and (is_plain or (needs.values and not options.undirected)
+                       and (is_plain or (values and not options.undirected)
                             or options.scale is not None or options.unit is not None))
     given['missing'] = None if options.missing == 'keep' else options.missing
     if options.columns is not None:
