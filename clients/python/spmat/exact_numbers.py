@@ -12,7 +12,7 @@ import functools
 import math
 import operator
 from fractions import Fraction
-from typing import Any, Callable, Dict, NamedTuple, Tuple, Union
+from typing import Any, Callable, Dict, Tuple, Union
 
 import numpy
 
@@ -105,13 +105,6 @@ CERTAIN: Dict[bool, Dict[bool, str]] = {False: {True: 'ge', False: 'lt'},
                                         True: {True: 'le', False: 'gt'}}
 
 
-class Compared(NamedTuple):
-    """An operator and a whole number of 64 bits beside it, which tell the same of each stored
-    number as another comparison."""
-    op: Operator
-    number: int
-
-
 @functools.lru_cache(maxsize=None)
 def _names(kind: str) -> Dict[Operator, str]:
     """The ready operators of a kind that compare two numbers."""
@@ -121,10 +114,10 @@ def _names(kind: str) -> Dict[Operator, str]:
 
 
 def compared(op: Operator, number: Any, unit: Union[int, Fraction],
-             is_left: bool = False) -> Compared:
-    """What compares stored numbers of a unit as an operator compares what they stand for with a
-    number: x > 0.125 is x > 12 of hundredths. TypeError for what is no number, ValueError for
-    NaN."""
+             is_left: bool = False) -> Tuple[Operator, int]:
+    """The operator and the whole number of 64 bits that compare stored numbers of a unit as an
+    operator compares what they stand for with a number: x > 0.125 is x > 12 of hundredths.
+    TypeError for what is no number, ValueError for NaN."""
     name = _names(op.kind)[op]
     relation = RELATIONS[name]
     is_infinite = isinstance(number, FRACTIONS) and math.isinf(number)
@@ -134,9 +127,9 @@ def compared(op: Operator, number: Any, unit: Union[int, Fraction],
             exact = Fraction(math.ceil(exact) if (name in ('lt', 'ge')) != is_left
                              else math.floor(exact))
         if exact.denominator == 1 and LEAST <= exact <= MOST:
-            return Compared(op, exact.numerator)
+            return op, exact.numerator
     always = CERTAIN[is_left][relation(exact, 0) if is_left else relation(0, exact)]
-    return Compared(READY[op.kind]['value' + always if op.kind == 'index' else always], LEAST)
+    return READY[op.kind]['value' + always if op.kind == 'index' else always], LEAST
 
 
 def exact_number(number: Any) -> Fraction:
