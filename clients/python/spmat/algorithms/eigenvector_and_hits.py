@@ -9,7 +9,7 @@ import numpy
 
 from ..io.coo import shown, whole
 from ..matrix import Matrix
-from ..operators import asm
+from ..operators import asm, binary
 from . import step_bounds
 from .cached_properties import check_weights
 from .registry import algorithm
@@ -17,7 +17,7 @@ from .results import CHANGE, Centrality, RESIDUAL, as_centrality, keep_partial
 from .traversal import find_flow, put_all
 from .types import Array
 from .utils import Progress, beside, order, tell
-from .vector_rounds import SPARE, Pace, Room, Rounds, Scale, Steps
+from .vector_rounds import SPARE, Pace, Room, Rounds, Scale, Steps, call_on, join
 
 ONE = 1 << 40
 # of the greatest number of a vector, or fewer where sums leave no room
@@ -32,18 +32,14 @@ class Grown(NamedTuple):
     scale: Scale
     everywhere: bool
 
-    def of_numbers(self, steps: Steps, numbers: Array) -> Dict[str, Array]:
-        """At the client."""
-        return {'now': self.scale.of(numbers + steps.comes(numbers))}
-
-    def of_matrix(self, steps: Steps, numbers: Matrix) -> Dict[str, Matrix]:
-        """As jobs: the product, and a union, whose copies a second one has to scale."""
-        flow = steps.flow(numbers)
+    def make(self, steps: Steps, numbers: Any) -> Dict[str, Any]:
+        """The product, and a union, whose copies a second operator has to scale."""
+        flow = steps.comes(numbers)
         if self.everywhere:
             scaled = self.scale.operator('binary', 'mov64 r0, r1\nadd64 r0, r2\n')
-            return {'now': numbers.ewise_add(flow, scaled)}
+            return {'now': join(scaled, numbers, flow)}
         scaled = self.scale.operator('unary', 'mov64 r0, r1\n')
-        return {'now': numbers.ewise_add(flow, 'plus').apply(scaled)}
+        return {'now': call_on(scaled, join(binary.plus, numbers, flow))}
 
 
 class Mutual(NamedTuple):
@@ -53,21 +49,16 @@ class Mutual(NamedTuple):
     shift: int
     zeros: Optional[Matrix]
 
-    def of_numbers(self, steps: Steps, numbers: Array) -> Dict[str, Array]:
-        """At the client."""
-        came = steps.comes(numbers) >> self.shift
-        return {'now': self.scale.of(steps.leads(came)), 'came': came}
-
-    def of_matrix(self, steps: Steps, numbers: Matrix) -> Dict[str, Matrix]:
-        """As jobs: two products, and what scales each, if need be."""
-        came = steps.flow(numbers)
+    def make(self, steps: Steps, numbers: Any) -> Dict[str, Any]:
+        """Two products, and what scales each, if need be."""
+        came = steps.comes(numbers)
         if self.shift:
-            came = came.apply(asm('unary', 'mov64 r0, r1\nrsh64 r0, %d\nexit\n' % self.shift))
-        now = steps.flow_back(self._filled(came))
+            came = call_on(asm('unary', 'mov64 r0, r1\nrsh64 r0, %d\nexit\n' % self.shift), came)
+        now = steps.leads(self._filled(came))
         scaled = self.scale.operator('unary', 'mov64 r0, r1\n')
-        return {'now': self._filled(now.apply(scaled)), 'came': came}
+        return {'now': self._filled(call_on(scaled, now)), 'came': came}
 
-    def _filled(self, numbers: Matrix) -> Matrix:
+    def _filled(self, numbers: Any) -> Any:
         return numbers if self.zeros is None else self.zeros.ewise_add(numbers, 'plus')
 
 
@@ -352,7 +343,8 @@ def hits(G: Matrix, GT: Optional[Matrix] = None, tolerance: Optional[float] = No
     shift = max(0, bits + SPARE + sum(end.bit_length() for end in ends) - 62)
     steps.find_transpose()
     has_gaps = not (weights.all() and leaving.all())
-    zeros = steps.lines.fill(0) if steps.lines.is_full and has_gaps else None
+    wants_zeros = steps.in_session and steps.lines.is_full and has_gaps
+    zeros = steps.lines.fill(0) if wants_zeros else None
     start = steps.fill(1 << bits)
     made = Rounds(steps, start, start, 0)
 

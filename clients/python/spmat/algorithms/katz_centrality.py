@@ -19,7 +19,7 @@ from .registry import algorithm
 from .results import Centrality, as_centrality, keep_partial, unit_of
 from .types import Array
 from .utils import Progress, order, tell
-from .vector_rounds import ABOVE, Pace, Rounds, Steps
+from .vector_rounds import ABOVE, Pace, Rounds, Steps, join
 
 # bits by which numbers may grow, and so many more where they do
 ROOM, MORE_ROOM = 16, 8
@@ -76,28 +76,24 @@ HALF, NARROW = 31, 47                              # bits of half a constant, an
 
 class Handed(NamedTuple):
     """A share of what comes to each vertex, by a semiring, and what each has anyhow, which `units`
-    has as a matrix. The share is a whole number and a constant, which is rounded up, in parts of so
-    many bits: so all is rounded by less than 1. It is `wide` where sums have up to 62 bits."""
+    has as a matrix or an array. The share is a whole number and a constant, which is rounded up, in
+    parts of so many bits: so all is rounded by less than 1. It is `wide` where sums have up to 62
+    bits."""
     whole: int
     parts: Tuple[int, ...]
     bits: int
     unit: int
     ring: Optional[Semiring]
-    units: Optional[Matrix]
+    units: Any
 
     def share_of(self, sums: Array) -> Array:
         """What sums make of numbers, at the client."""
         shares: Array = evaluate(self.operator, numpy.full_like(sums, self.unit), sums)
         return shares
 
-    def of_numbers(self, steps: Steps, numbers: Array) -> Dict[str, Array]:
-        """At the client."""
-        return {'now': self.share_of(steps.comes(numbers, self.ring))}
-
-    def of_matrix(self, steps: Steps, numbers: Matrix) -> Dict[str, Matrix]:
-        """As jobs: the product, and a union."""
-        assert self.units is not None
-        return {'now': self.units.ewise_add(steps.flow(numbers, self.ring), self.operator)}
+    def make(self, steps: Steps, numbers: Any) -> Dict[str, Any]:
+        """The product, and a union."""
+        return {'now': join(self.operator, self.units, steps.comes(numbers, self.ring))}
 
     @property
     def operator(self) -> Operator:
@@ -110,8 +106,7 @@ class Handed(NamedTuple):
         return asm('binary', (WHOLE % self.whole if self.whole else '') + text)
 
 
-def handed(share: Fraction, unit: int, ring: Optional[Semiring], units: Optional[Matrix],
-           most: float) -> Handed:
+def handed(share: Fraction, unit: int, ring: Optional[Semiring], units: Any, most: float) -> Handed:
     """How numbers hand on a share of sums that are no greater than so much."""
     size = max(HALF, int(most * ABOVE).bit_length())
     bits, many = HALF, 2
@@ -319,7 +314,7 @@ def _hand_on(steps: Steps, edges: Tuple[_Way, Array], room: Tuple[int, int],
     if not steps.count:
         return Settled(steps.fill(0), 0, 0.0)
     unit, pace = 1 << bits, Pace(nearest)
-    units = steps.lines.fill(unit) if steps.in_session else None
+    units = steps.lines.fill(unit) if steps.in_session else steps.fill(unit)
     rounds = Rounds(steps, steps.fill(unit), steps.fill(unit), 0)
     if way.ring is None:                           # then the first sums are known
         first = handed(way.share, unit, None, None, float(greatest_of(weights) * unit))

@@ -16,6 +16,7 @@ import numpy
 from ..loops import Loop, State
 from ..matrix import Matrix
 from ..operators import Operator, Semiring, asm, binary
+from ..operators.evaluation import evaluate
 from .cached_properties import is_both_ways, transpose_of
 from .server_loops import hear
 from .traversal import Columns, Traversal, Vector, spread
@@ -33,8 +34,8 @@ ABOVE = 1 + 2.0 ** -30                             # what floats take of a bound
 
 
 class Steps:
-    """Products of a graph with numbers, at the server or of numbers that the client has: what comes
-    to each vertex, and what it leads to."""
+    """Products of a graph with numbers, which are a matrix, or an array where the client has them:
+    what comes to each vertex, and what it leads to."""
 
     def __init__(self, lines: Traversal, weighted: bool,
                  transpose: Optional[Matrix] = None) -> None:
@@ -53,9 +54,11 @@ class Steps:
         """The same number for each vertex."""
         return numpy.full(self.count, value)
 
-    def comes(self, numbers: Array, ring: Optional[Semiring] = None) -> Array:
+    def comes(self, numbers: Any, ring: Optional[Semiring] = None) -> Any:
         """The sum over the edges that lead to each vertex, or what another semiring makes of
         them."""
+        if isinstance(numbers, Matrix):
+            return self.lines.step(numbers, ring or self._comes)
         return spread(self.lines.push(_nonzero(numbers), ring or self._comes), self.count)
 
     @property
@@ -63,21 +66,16 @@ class Steps:
         """Whether what leads to a vertex also leaves it, so that both sums are one."""
         return not self._is_weighted and is_both_ways(self.graph)
 
-    def leads(self, numbers: Array) -> Array:
-        """The sum over the edges that leave each vertex."""
+    def leads(self, numbers: Any) -> Any:
+        """The sum over the edges that leave each vertex; of a matrix once the transpose was
+        found."""
+        if isinstance(numbers, Matrix):
+            assert self._turned is not None
+            return self._turned.step(numbers, self._comes)
         if self.goes_both_ways:
             return self.comes(numbers)
         # a column beside the graph itself is pulled along its edges: that wants no transpose
         return spread(Columns(self.graph).push(_nonzero(numbers), self._comes), self.count)
-
-    def flow(self, numbers: Matrix, ring: Optional[Semiring] = None) -> Matrix:
-        """`comes`, of a matrix."""
-        return self.lines.step(numbers, ring or self._comes)
-
-    def flow_back(self, numbers: Matrix) -> Matrix:
-        """`leads`, of a matrix, once the transpose was found."""
-        assert self._turned is not None
-        return self._turned.step(numbers, self._comes)
 
     def find_transpose(self) -> None:
         """Finds the way against the edges."""
@@ -123,11 +121,6 @@ class Scale(NamedTuple):
     def rounding(self) -> float:
         """What it may take of a number."""
         return 1 + self.value * ((1 << self.first) - 1)
-
-    def of(self, numbers: Array) -> Array:
-        """Numbers that the client has, times the factor."""
-        scaled: Array = (numbers >> self.first) * self.times >> self.then
-        return scaled
 
     def operator(self, kind: str, begin: str) -> Operator:
         """The factor times what some instructions leave in r0."""
@@ -211,13 +204,21 @@ class Pace:
 
 
 class Kind(Protocol):
-    """What a round makes of numbers: the next ones as `now`, and what else there is of it."""
+    """What a round makes of numbers."""
 
-    def of_numbers(self, steps: Steps, numbers: Array) -> Dict[str, Array]:
-        """At the client."""
+    def make(self, steps: Steps, numbers: Any) -> Dict[str, Any]:
+        """The next ones as `now`, and what else there is of the round."""
 
-    def of_matrix(self, steps: Steps, numbers: Matrix) -> Dict[str, Matrix]:
-        """As jobs."""
+
+def call_on(op: Operator, numbers: Any) -> Any:
+    """An operator's values for numbers, which are a matrix or an array."""
+    return numbers.apply(op) if isinstance(numbers, Matrix) else evaluate(op, numbers)
+
+
+def join(op: Operator, some: Any, others: Any) -> Any:
+    """An operator's values for numbers of two, which are both a matrix or both an array."""
+    return (some.ewise_add(others, op) if isinstance(some, Matrix)
+            else evaluate(op, some, others))
 
 
 class Rounds:
@@ -234,7 +235,7 @@ class Rounds:
         """So many rounds, and a look."""
         if not self.steps.in_session:
             for _ in range(count):
-                self._made = kind.of_numbers(self.steps, self.now)
+                self._made = kind.make(self.steps, self.now)
                 self.before, self.now = self.now, self._made['now']
                 self.number += 1
                 tell(progress, 'round', self.number)
@@ -256,15 +257,16 @@ class Rounds:
                 state = self._loop.state
 
             def step(s: State) -> Dict[str, Any]:
-                return {**kind.of_matrix(steps, s.now), 'before': s.now}
+                return {**kind.make(steps, s.now), 'before': s.now}
             self._loop, self._kind = Loop(step, state, alike=True), kind
         return self._loop
 
     def product(self) -> Array:
         """What comes to each vertex from the numbers of the last round."""
-        if self._loop is None:
-            return self.steps.comes(self.now)
-        return self.steps.read(self.steps.flow(self._loop.state.now))
+        if self._loop is not None:
+            return self.steps.read(self.steps.comes(self._loop.state.now))
+        found: Array = self.steps.comes(self.now)
+        return found
 
     def last(self, name: str) -> Array:
         """What the last round made, also after one that was refused. It takes no step."""

@@ -13,6 +13,7 @@ from spmat.algorithms import vector_rounds
 from spmat.algorithms.eigenvector_and_hits import Grown, Mutual
 from spmat.algorithms.katz_centrality import handed
 from spmat.algorithms.vector_rounds import MOST_AHEAD, Rounds, Scale, Steps, scale_of
+from spmat.operators.evaluation import evaluate
 
 SIDE = 9
 GRID = graphs.undirected('grid', SIDE * SIDE,
@@ -84,7 +85,8 @@ class Shares(support.InSession):
             self.assertTrue(.9 * factor < scale.value <= factor)
             most = min((1 << 62) - 1, int(2.0 ** bits / scale.value))
             numbers = [0, 1, most, *(chance.randint(0, most) for _ in range(20))]
-            got = scale.of(numpy.array(numbers, numpy.int64)).tolist()
+            got = evaluate(scale.operator('unary', 'mov64 r0, r1\n'),
+                           numpy.array(numbers, numpy.int64)).tolist()
             for x, found in zip(numbers, got):
                 exact = x * scale.times / Fraction(1 << scale.first + scale.then)
                 self.assertTrue(0 <= exact - found < scale.rounding + 1e-9, (scale, x))
@@ -117,9 +119,9 @@ class Words(support.InSession):
                               for one in sums], made['now'].tolist())
             return made
         for kind, function in ((Grown, algorithms.eigenvector), (Mutual, algorithms.hits)):
-            real = kind.of_numbers
+            real = kind.make
             with mock.patch.object(Steps, 'in_session', False), \
-                    mock.patch.object(kind, 'of_numbers',
+                    mock.patch.object(kind, 'make',
                                       lambda kind, steps, numbers, real=real: compare(
                                           kind, steps, numbers, real)):
                 try:
