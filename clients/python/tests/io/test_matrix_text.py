@@ -45,6 +45,31 @@ class Digits(unittest.TestCase):
                      b'1\t2\n', b'1 2 3\n', b'1 00000000000000000012\n', b'-1-2 3\n'):
             self.assertIsNone(matrix_text.read_plain(text, 2), text)
 
+    def test_names_as_written(self):
+        """Of lines of numbers, read by pieces, those are taken whose numbers are all written as
+        Python writes them, and parted by one byte; never as other numbers."""
+        random_ = random.Random(5)
+        taken = 0
+        for number in range(1500):
+            part = random_.choice(' \t,;|')
+            lines = [[str(random_.choice((0, 1, -1, 10, 99, -305, 123456789, 10 ** 18)))
+                      for _ in range(3)] for _ in range(random_.randrange(1, 30))]
+            if number % 2:
+                odd = random_.choice(('007', '-0', '-01', '+1', '', '-', '1-', '--1', '1.0', ' 1',
+                                      '1 ', '1,2', 'x', '2' * 20, '1\n', '1e3', '1:', '/'))
+                random_.choice(lines)[random_.randrange(3)] = odd
+            text = ''.join(part.join(line) + '\n' for line in lines).encode()
+            with mock.patch.object(matrix_text, 'CHUNK', 32), \
+                    mock.patch.object(matrix_text, 'SHORT', 16):
+                got = matrix_text.read_plain(text, 3, part.encode(), (0, 2), True)
+            if number % 2:
+                self.assertIsNone(got, text)
+            if got is not None:
+                taken += 1
+                self.assertEqual([one.tolist() for one in got],
+                                 [[int(line[at]) for line in lines] for at in (0, 2)])
+        self.assertGreater(taken, 700)
+
     def test_even_lines(self):
         for text, delimiter, count in ((b'', None, 0), (b'1 2\n', None, 1),
                                        (b' 1\t2 \n\n3 4', None, 2), (b'1 2\n3\n', None, None),
