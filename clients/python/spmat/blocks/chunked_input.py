@@ -23,7 +23,7 @@ from ..io.files import name_of
 from ..io.matrix_text import Triples
 from ..metadata import NOTHING, Metadata
 from .engine import Progress
-from .row_partition import Cut
+from .row_partition import Cut, split_rows
 
 PIECE = 1 << 23                                    # bytes of a file that are read at a time
 CHUNK = 1 << 16                                    # edges of a generator that are taken at a time
@@ -75,11 +75,7 @@ class InMemory(Spooled):
         return numpy.bincount(self._triples.rows, minlength=self.nrows)
 
     def blocks(self, cut: Cut) -> Iterator[Triples]:
-        rows, columns, values, nrows, ncols = self._triples
-        order = numpy.argsort(rows, kind='stable')
-        bounds = numpy.searchsorted(rows[order], cut.bounds).tolist()
-        for at in itertools.starmap(slice, zip(bounds, bounds[1:])):
-            yield Triples(rows[order[at]], columns[order[at]], values[order[at]], nrows, ncols)
+        return split_rows(self._triples, cut)
 
 
 class Spool(Spooled):
@@ -139,7 +135,7 @@ class Spool(Spooled):
         try:
             self._file.seek(0)
             for piece in iter(lambda: self._file.read(ENTRIES * WIDTH), b''):
-                for part, triples in zip(parts, InMemory(self._unpack(piece)).blocks(cut)):
+                for part, triples in zip(parts, split_rows(self._unpack(piece), cut)):
                     part.write(_pack(triples))
             for part in parts:
                 part.seek(0)

@@ -94,18 +94,8 @@ def read_lines(part: Range) -> bytes:
 
 def _write_lines(triples: Triples, bare: bool, cut: Cut, path: str) -> List[Stored]:
     """The lines of each block, in the order of the entries; in a file where a path is given."""
-    rows, columns, values, nrows, ncols = triples
-    of = numpy.searchsorted(numpy.array(cut.bounds[1:-1], numpy.int64), rows, side='right')
-    # numbers of 16 bits are sorted by their digits, in less time
-    order = numpy.argsort(of.astype(numpy.uint16 if cut.blocks < 1 << 16 else numpy.int64),
-                          kind='stable')
-    ends = numpy.searchsorted(of[order], numpy.arange(cut.blocks + 1)).tolist()
-    parts = []
-    for first, end in zip(ends, ends[1:]):
-        at = order[first:end]
-        text = matrix_text.write(Triples(rows[at], columns[at], values[at], nrows, ncols),
-                                 ones=bare)
-        parts.append(Stored(text[matrix_text.head_of(text).start:], end - first))
+    parts = [Stored(*row_partition.write_lines(block, bare))
+             for block in row_partition.split_rows(triples, cut)]
     return write_texts(parts, path) if path else parts
 
 

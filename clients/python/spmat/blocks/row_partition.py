@@ -14,6 +14,7 @@ import numpy
 from .. import limits
 from ..errors import refusal
 from ..io import matrix_text
+from ..io.matrix_text import Triples
 
 # rows or ranges of rows that are counted, to cut there
 RANGES = 4096
@@ -93,6 +94,25 @@ def cut_evenly(nrows: int, blocks: int) -> Cut:
     """The cut into so many blocks of about as many rows each, where nothing is known of the
     entries."""
     return Cut(tuple(nrows * k // blocks for k in range(blocks + 1)))
+
+
+def split_rows(triples: Triples, cut: Cut) -> Iterator[Triples]:
+    """The entries of each block, in the order in which they come."""
+    rows, columns, values, nrows, ncols = triples
+    of = numpy.searchsorted(numpy.array(cut.bounds[1:-1], numpy.int64), rows, side='right')
+    # numbers of 16 bits are sorted by their digits, in less time
+    order = numpy.argsort(of.astype(numpy.uint16 if cut.blocks < 1 << 16 else numpy.int64),
+                          kind='stable')
+    ends = numpy.searchsorted(of[order], numpy.arange(cut.blocks + 1)).tolist()
+    for first, end in zip(ends, ends[1:]):
+        at = order[first:end]
+        yield Triples(rows[at], columns[at], values[at], nrows, ncols)
+
+
+def write_lines(triples: Triples, bare: bool = False) -> Tuple[bytes, int]:
+    """The lines of entries, without values where these are `bare` and 1 each; and their number."""
+    text = matrix_text.write(triples, ones=bare)
+    return text[matrix_text.head_of(text).start:], len(triples.rows)
 
 
 def lines_of(text: bytes, first: int, end: int) -> Tuple[bytes, int]:

@@ -154,17 +154,8 @@ def join_lines(store: Store, shape: Tuple[int, int], parts: Sequence[Lines]) -> 
 def turn_lines(store: Store, piece: Piece, cut: row_partition.Cut) -> List[Lines]:
     """The lines of the transpose of a block, those of each block of another cut by themselves."""
     rows, columns, values, nrows, ncols = matrix_text.read(piece.text(), True)
-    order = numpy.argsort(columns, kind='stable')
-    rows, columns, values = rows[order], columns[order], values[order]
-    places = numpy.searchsorted(columns, cut.bounds).tolist()
-    parts = [slice(first, end) for first, end in zip(places, places[1:])]
-    return [_write_entries(Triples(columns[at], rows[at], values[at], ncols, nrows))
-            for at in parts]
-
-
-def _write_entries(triples: Triples) -> Lines:
-    text = matrix_text.write(triples)
-    return text[matrix_text.head_of(text).start:], len(triples.rows)
+    turned = Triples(columns, rows, values, ncols, nrows)
+    return [row_partition.write_lines(part) for part in row_partition.split_rows(turned, cut)]
 
 
 def pick(store: Store, many: Sequence[Any], at: int) -> Any:
