@@ -8,7 +8,8 @@ and says in its docstring what it costs: runs and steps (what the budget pays).
 
 Searches, cores and components keep a number for each vertex at the client, and ask the session for
 what leads out of the vertices that changed: so a round costs what these vertices' edges do. While
-many change at a time, the session's jobs do it all.
+many change at a time, the session's jobs do it all. Of a graph of 32,768 edges or fewer the client
+reads the edges for cores, forests and strong components, and finds these by itself.
 
 Where the values of a graph have a unit, so have lengths of paths and spanning forests; levels,
 counts and shares have none.

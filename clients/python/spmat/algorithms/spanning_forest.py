@@ -170,7 +170,9 @@ def minimum_spanning_forest(W: Matrix, progress: Progress = None, *, check: bool
     if W.nvals > AT_ONCE:
         words = forest.shrink(code.encode(W.select('offdiag', 0)))
     else:
-        words = code.words(*W.to_coo())
+        i, j, weights = W.to_coo()
+        once = i < j if check else i != j          # where an edge may lead one way alone
+        words = code.words(i[once], j[once], weights[once])
     forest.finish(words)
     made = keep(W, forest.entries())
     made.notes = of_copy(W.notes)._replace(directed=False)
