@@ -13,7 +13,7 @@ import re
 import sys
 import textwrap
 from decimal import Decimal
-from typing import Any, Callable, Dict, Iterable, List, Optional
+from typing import Any, Callable, Dict, Iterable, List
 
 from .. import algorithms, draw as pictures, units
 from ..algorithms.communities import ROUNDS

@@ -151,8 +151,8 @@ def draw_columns(G: Matrix, at: Mapping[int, int], target: Target,
     columns = order_columns(G.nrows, at, pairs)
     tallest, longest = max(map(len, columns), default=1), pictures.longest_name(G)
     wide = 1.7 + (.06 * min(LONG, longest) if longest > SHORT else 0)
-    high = (.4 if G.nrows <= MOST_LABELS else .2) * tallest
-    ax = pictures.open_axes(target, max(5, min(16, wide * len(columns))), max(4, min(9, high)))
+    ax = pictures.open_axes(target, max(5, min(16, wide * len(columns))),
+                            max(4, min(9, (.4 if G.nrows <= MOST_LABELS else .2) * tallest)))
     positions: Dict[int, XY] = {
         i: (level + .4 * (level > deepest), (len(column) - 1) / 2 - k)
         for level, column in enumerate(columns) for k, i in enumerate(column)}

@@ -17,6 +17,7 @@ from .. import algorithms
 from ..algorithms.page_rank import ONE
 from ..limits import MOST_SIDE
 from ..matrix import Matrix
+from .backend import find_original
 from .connectivity import all_reached, connected
 from .edge_weights import scale_cutoff, unscale
 from .shortest_paths import (Lengths, NEGATIVE, Query, length_to, lengths, need, scaled, unit_of)
@@ -249,7 +250,7 @@ def _judge_eccentricities(name: str) -> Callable[..., Any]:
         if name == 'center' and not len(G):
             raise NotImplementedError('no node')
         found = find_eccentricities(G, weight) if e is None else e
-        return getattr(nx, name).orig_func(G, found)
+        return find_original(name)(G, found)
     return judge
 
 

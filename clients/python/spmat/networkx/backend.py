@@ -326,7 +326,8 @@ def _count_edges(graph: Any, enough: int) -> int:
 
 def find_original(name: str) -> Callable[..., Any]:
     """Find networkx' own function, which is not handed to a backend."""
-    function: Callable[..., Any] = getattr(nx, name).orig_func
+    # pylint takes networkx' functions for undecorated ones
+    function: Callable[..., Any] = getattr(nx, name).orig_func  # pylint: disable=no-member
     return function
 
 

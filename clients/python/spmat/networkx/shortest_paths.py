@@ -11,7 +11,6 @@ import itertools
 import math
 from typing import Any, Dict, Iterator, List, NamedTuple, Optional, Sequence, Set, Tuple
 
-import networkx as nx
 import numpy
 from networkx import NetworkXNoPath, NetworkXUnbounded, NodeNotFound
 
@@ -19,6 +18,7 @@ from .. import algorithms
 from ..algorithms.utils import loops, settle
 from ..errors import NotSettled
 from ..matrix import Matrix
+from .backend import find_original
 from .edge_weights import scale_cutoff, unscale
 from .spmat_graph import SpmatGraph
 
@@ -318,4 +318,4 @@ def bellman_ford_predecessor_and_distance(G: SpmatGraph, source: Any, weight: An
 def all_shortest_paths(G: SpmatGraph, source: Any, target: Any, weight: Any,
                        method: str) -> Iterator[List[Any]]:
     # networkx goes along the nodes before each, and asks here for these
-    yield from nx.all_shortest_paths.orig_func(G, source, target, weight, method)
+    yield from find_original('all_shortest_paths')(G, source, target, weight, method)
