@@ -32,7 +32,7 @@ DYNAMIC = frozenset(('eval', 'exec', 'globals', 'locals', 'vars', 'getattr', 'di
                      'open', 'input', 'id', 'hash'))
 HEAP_TYPE = 1 << 9                                 # Py_TPFLAGS_HEAPTYPE: attributes can be set
 
-_cache: 'weakref.WeakKeyDictionary[Function, Dict[str, Tuple[Any, Compiled]]]' = (
+_cache: 'weakref.WeakKeyDictionary[Any, Dict[str, Tuple[Any, Compiled]]]' = (
     weakref.WeakKeyDictionary())
 _lock = threading.Lock()
 
@@ -43,19 +43,22 @@ class _Unknown(Exception):
 
 def code_of(kind: str, function: Function, name: Optional[str] = None,
             check: bool = True) -> Compiled:
-    """The code of a function as an operator of a kind: compiled once for each function, kind, and
-    values of the variables that it names."""
+    """The code of a function as an operator of a kind: compiled once for each function, or for each
+    code of functions, for each kind, and for the values of the variables that it names."""
     try:
         seen = _describe(function, set())
-        held = _cache.setdefault(function, {})
+        # by its code, too: a lambda in a loop is another function each time
+        held = [_cache.setdefault(key, {})
+                for key in (function, getattr(function, '__code__', function))]
     except (_Unknown, TypeError):                  # TypeError: no hash, or no weak reference
         return compile_function(kind, function, name, check)
     with _lock:
-        found = held.get(kind)
-    if found is None or found[0] != seen:
+        found = next((each[kind] for each in held if kind in each and each[kind][0] == seen), None)
+    if found is None:
         found = seen, compile_function(kind, function, name, check)
-        with _lock:
-            held[kind] = found
+    with _lock:
+        for each in held:
+            each[kind] = found
     return found[1]
 
 

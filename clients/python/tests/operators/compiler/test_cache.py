@@ -8,11 +8,13 @@ import fractions
 import functools
 import sys
 import types
+from unittest import mock
 
 import numpy
 
 import support
 from spmat import CompileError
+from spmat.operators.compiler import cache
 
 TOLL = 5
 
@@ -153,8 +155,6 @@ class Changes(support.InSession):
         self.follows(lambda x: x + spmat_toll, lambda: setattr(builtins, 'spmat_toll', 100))
 
     def test_what_stays_is_compiled_once(self):
-        from unittest import mock
-        from spmat.operators.compiler import cache
         pure = functools.partial(lambda y, x: max(x, y) + Settings.toll + Level.LOW * 0, 5)
         for function, times in ((lambda x: x + Settings.toll + abs(x), 1),
                                 (lambda x: max(x, 3) % 7, 1), (pure, 3)):
@@ -162,6 +162,24 @@ class Changes(support.InSession):
                 for _ in range(3):
                     self.A.apply(function)
             self.assertEqual(made.call_count, times)
+
+    def test_a_function_that_is_made_again_is_compiled_once(self):
+        """As a lambda in a loop is; what it encloses counts, whichever was used last."""
+        def adder(number):
+            return lambda x: x + number
+
+        with mock.patch.object(cache, 'compile_function', wraps=cache.compile_function) as made:
+            for _ in range(3):
+                self.assertEqual(self.A.apply(lambda x: x * 3 + 1).to_list(), [4])
+            self.assertEqual(made.call_count, 1)
+            five, six = adder(5), adder(6)
+            for _ in range(3):
+                self.assertEqual(self.A.apply(five).to_list(), [6])
+                self.assertEqual(self.A.apply(six).to_list(), [7])
+            self.assertEqual(made.call_count, 3)
+            self.assertEqual(self.A.apply(adder(6)).to_list(), [7])
+            self.assertEqual(self.A.apply(adder(7)).to_list(), [8])
+            self.assertEqual(made.call_count, 4)
 
 
 class Comparisons(support.InSession):
