@@ -22,10 +22,8 @@ one, in any line. None: nothing."""
 Column = Union[int, str]
 
 FEW_COLUMNS = 20                                   # columns that an error shows of many
-# where half of a column are numbers, anything else is a slip
-HALF = 2
-# so many columns a table has at least that is told from a list
-LEAST_TABLE = 3
+HALF = 2                                           # of a column are numbers: the rest are slips
+LEAST_TABLE = 3                                    # columns of a table that is told from a list
 ASK_HEADER = (
     'the first line may name columns, or be an edge: header=True or header=False says which')
 MAY_BE_HEADER = (
@@ -167,16 +165,14 @@ def _is_labelled(head: Head) -> bool:
 
 
 def _is_mirror(head: Head) -> bool:
-    """Whether a square of fields is its own mirror, with one number on its diagonal: edges hardly
-    are."""
+    """Whether a square of fields is its own mirror, with one number on its diagonal."""
     rows = [head.first, *head.rest]
     return (all(len(row) == len(rows) for row in rows) and list(map(list, zip(*rows))) == rows
             and len({row[at] for at, row in enumerate(rows)}) == 1)
 
 
 def _may_have(head: Head, wanted: int) -> bool:
-    """Whether so many lines stand below the first, or may, where more follow than were looked
-    at."""
+    """Whether so many lines stand below the first, or may, where not all were looked at."""
     return len(head.rest) == wanted if head.is_whole else len(head.rest) < wanted
 
 
@@ -255,8 +251,7 @@ def _find_column(head: Head, column: Column) -> int:
 
 
 def _has_numbers(fields: Sequence[str], share: int = 1) -> bool:
-    """Whether a column has numbers: at least one, and nothing else but missing ones; or as
-    many as one in `share` of these."""
+    """Whether a column has a number, and only missing ones beside; or one in `share` of these."""
     numbers = sum(map(is_number, fields))
     return numbers > 0 and share * numbers >= sum(not is_missing(field) for field in fields)
 
