@@ -178,7 +178,7 @@ class Ends(CommandLine):
         done = self.run_words('pagerank', '-', '--steps', '200', text=GRAPH)
         self.assertEqual(done.returncode, Status.BUDGET)
         warning, fault = done.stderr.splitlines()
-        self.assertRegex(warning, '^spmat-graph: pagerank may take up to 696 steps, and 200 are '
+        self.assertRegex(warning, '^spmat-graph: pagerank may take up to 561 steps, and 200 are '
                          'left: it may be refused amid its work; a greater --steps gives it more$')
         self.assertRegex(fault, '^spmat-graph: S8: .* are left: a greater --steps gives it more$')
         text = with_body('matrix G', GRAPH) + with_body('asm f unary',
