@@ -15,7 +15,6 @@ from ..io.formats import Request, check_layout
 from ..io.importers import DupOp, Sources
 from ..io.matrix_text import Triples
 from ..metadata import BY_POSITIONS, as_constant
-from ..operators import find
 from . import chunked_input, parallel_read, row_partition, worker_tasks
 from .backend import BlockHandle, BlocksBackend
 from .chunked_input import InMemory, Spool, Spooled
@@ -231,13 +230,6 @@ class Inputs(TaskRunner, Sources[BlockMatrix]):
                                dup_op=dup_op, name=name)
         except Refused as fault:
             raise fault.of_file(file) from None
-
-    def _folded(self, triples: Triples, dup_op: DupOp) -> Triples:
-        if dup_op is None:
-            return triples
-        op = find('binary', dup_op)
-        return coo.unrepeated(triples,
-                              lambda many: self._from(many).reduce_rowwise(op).entries()[2])
 
     def full(self, nrows: int, ncols: int, value: int = 1, *,
              name: Optional[str] = None) -> BlockMatrix:

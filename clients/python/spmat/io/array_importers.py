@@ -8,7 +8,7 @@ from typing import Any, Generic, Iterable, Optional, Sequence, TypeVar
 from .. import overflow, units
 from ..matrix_base import MatrixBase
 from ..metadata import NOTHING, Axes, axes_of, sizes_of
-from ..operators import Op
+from ..operators import Op, find
 from . import arrays, coo, edge_sources, matrix_market
 from .matrix_text import Triples
 from .values import Rounding, scaled
@@ -368,9 +368,17 @@ class ArraySources(abc.ABC, Generic[Made]):
         overflow.note(made, triples.values)
         return made
 
-    @abc.abstractmethod
     def _folded(self, triples: Triples, dup_op: DupOp) -> Triples:
-        """Each position once: what shares one is folded by an operator."""
+        """Each position once: values that share one are folded by the server, in a matrix with a
+        row for each such position."""
+        if dup_op is None:
+            return triples
+        op = find('binary', dup_op)
+
+        def fold(many: Triples) -> Any:
+            matrix: Any = self._from(many)         # which has methods that its base here lacks
+            return matrix.reduce_rowwise(op).entries()[2]
+        return coo.unrepeated(triples, fold)
 
 
 def _note_values(made: Made, rounding: Rounding, unit: units.Unit, axes: Axes, values: Any) -> Made:

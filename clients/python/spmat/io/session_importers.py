@@ -10,7 +10,6 @@ from ..errors import Refused, TextRefused, refusal
 from ..matrix import Matrix
 from ..metadata import BY_POSITIONS, NOTHING, as_constant
 from ..operands import alias
-from ..operators import find
 from . import coo, matrix_market, matrix_text
 from .columns import Layout
 from .files import name_of
@@ -84,15 +83,6 @@ class SessionSources(Sources[Matrix]):
                 raise
             raise coo.repeated(triples, refused.at - matrix_text.HEAD_LINES - 1,
                                symmetric) from None
-
-    def _folded(self, triples: Triples, dup_op: DupOp) -> Triples:
-        """Each position once: values that share one are folded by the server, in a matrix with a
-        row for each such position."""
-        if dup_op is None:
-            return triples
-        op = find('binary', dup_op)
-        return coo.unrepeated(triples,
-                              lambda many: self._from(many).reduce_rowwise(op).entries()[2])
 
     def mmread(self, source: Any, *, values: bool = True, scale: Optional[float] = None,
                max_bytes: Optional[int] = None, dup_op: DupOp = None,
