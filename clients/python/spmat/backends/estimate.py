@@ -262,15 +262,19 @@ def read_entries(handle: Handle) -> Triples:
 
 
 def counted(handle: Handle) -> Tuple[Any, Any]:
-    """The entries of each row and column of a matrix that is there, or of the transpose of one."""
+    """The entries of each row and column of a matrix that is there, or of the transpose of one;
+    kept with it, as each product of a price asks for them."""
     if isinstance(handle, EstimateHandle):
         inner = _countable(handle.turned)
         assert inner is not None
         rows, columns = counted(inner)
         return columns, rows
-    rows, columns = (numpy.bincount(at, minlength=size)
-                     for at, size in zip(read_entries(handle)[:2], handle.shape))
-    return rows, columns
+    if 'entries by row and column' not in handle.facts:
+        handle.facts['entries by row and column'] = tuple(
+            numpy.bincount(at, minlength=size)
+            for at, size in zip(read_entries(handle)[:2], handle.shape))
+    held: Tuple[Any, Any] = handle.facts['entries by row and column']
+    return held
 
 
 def least_taken(job: Job, sizes: Sequence[Size], price: 'Price') -> Least:

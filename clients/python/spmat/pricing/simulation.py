@@ -221,7 +221,8 @@ def _multiply(operators: Sequence[Operator], operands: Sequence[Triples],
 
 def _fold(op: Operator, at: Any, values: Any) -> Tuple[Any, Any]:
     """The values of each place, which stand one after the other, as one. By an operator that numpy
-    hasn't each second one joins the one before it, until none is left."""
+    hasn't each second one joins the one before it, until none is left: algorithms add by operators
+    that are associative, so this gives what a fold from the left does."""
     while True:
         begins = numpy.concatenate((at[:1] >= 0, at[1:] != at[:-1]))
         starts = numpy.flatnonzero(begins)
