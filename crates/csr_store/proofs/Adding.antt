@@ -32,7 +32,7 @@ joined_closed rows columns ends new cells next row column h k e l =
     }
 
 module _ (rows columns : ℕ) (ends : List ℕ) (cells : List Cell) (new_rows new_columns : ℕ) (new : List ℕ) (new_cells : List Cell) (row column word : ℕ) (more : List Cell)
-    (j : Joined rows columns ends cells new_rows new_columns new new_cells row column) (row_in : row < rows) (column_in : column < columns) (room : length cells < limit) (fits : word < 2 ^ 64)
+    (j : Joined rows columns ends cells new_rows new_columns new new_cells row column) (row_in : row < rows) (column_in : column < columns) (capacity : length cells < limit) (fits : word < 2 ^ 64)
     (e : more ≡ new_cells ++ (column, word) ∷ []) where
   r : length new < rows
   r = let a = j.row_open in omega arith
@@ -41,12 +41,12 @@ module _ (rows columns : ℕ) (ends : List ℕ) (cells : List Cell) (new_rows ne
   pushed = e ∙ ap (λ cs. cs ++ (column, word) ∷ []) j.cells_same
 
   pub joined_filling : IsFilling new_rows new_columns new more (column + 1)
-  joined_filling = rw (j.rows_same, j.columns_same, pushed) (filling_more rows columns new cells column word j.ready r column_in room fits)
+  joined_filling = rw (j.rows_same, j.columns_same, pushed) (filling_more rows columns new cells column word j.ready r column_in capacity fits)
 
   pub joined_added : grid_of new_rows new_columns new more ≡ record (grid_of rows columns ends cells) { cells = insert (from_entries (by_rows ends cells)) (row, column) word }
   joined_added =
       rw (j.rows_same, j.columns_same, pushed)
-      (added rows columns new cells column word j.ready r column_in room fits
+      (added rows columns new cells column word j.ready r column_in capacity fits
       ∙ (ap (λ (g : Grid). let h : Grid = record { rows = rows; columns = columns; cells = insert g.cells (length new, column) word } in h) j.grid_same
       ∙ ap (λ k. let h : Grid = record { rows = rows; columns = columns; cells = insert (from_entries (by_rows ends cells)) (k, column) word } in h) j.row_open))
 

@@ -7,7 +7,7 @@ use Rattle.csr_store.specs.Ascending.{Ascends}
 use Rattle.csr_store.specs.Added.{kept_where}
 use Rattle.csr_store.proofs.Along.{ascends-weaken}
 use Rattle.csr_store.specs.Run.{Run, Row}
-use Rattle.csr_store.specs.inner.Kept.{kept_count}
+use Rattle.csr_store.specs.inner.Selected.{kept_count}
 use Rattle.csr_store.specs.inner.Run.{IsRow, AreRows, AreEnds, ended_rows, open_row}
 use Rattle.csr_store.proofs.Runs.{ends_below, ends_push, all_push, row_push, row_none, run}
 
@@ -87,21 +87,21 @@ all_taken P (x ∷ xs) (suc k) d l h p = (h.0, all_taken P xs k d (omega arith) 
 
 -- ---- cells kept one by one
 
-pub record AreKept (cells : Row) (answers : List ℕ) (start : Row) (k next : ℕ) (now : Row) (room : ℕ) : Type 0 where
+pub record AreKept (cells : Row) (answers : List ℕ) (start : Row) (k next : ℕ) (now : Row) (capacity : ℕ) : Type 0 where
   pub same : now ++ kept_where (drop k cells) (drop k answers) ≡ start ++ kept_where cells answers
   pub words : AllByRecursion (λ (c : Cell). c.1 < 2 ^ 64) (take k cells)
-  pub fits : k < length cells → length now + kept_count (drop k answers) < room
+  pub fits : k < length cells → length now + kept_count (drop k answers) < capacity
   pub at : next ≡ k
 
-pub are_kept_none : (cells : Row) (answers : List ℕ) (start : Row) (room : ℕ) → (0 < length cells → length start + kept_count answers < room) → AreKept cells answers start 0 0 start room
-are_kept_none cells answers start room h = record { same = refl; words = tt; fits = h; at = refl }
+pub are_kept_none : (cells : Row) (answers : List ℕ) (start : Row) (capacity : ℕ) → (0 < length cells → length start + kept_count answers < capacity) → AreKept cells answers start 0 0 start capacity
+are_kept_none cells answers start capacity h = record { same = refl; words = tt; fits = h; at = refl }
 
-module _ (cells : Row) (answers : List ℕ) (start : Row) (k next : ℕ) (now : Row) (room : ℕ) (h : AreKept cells answers start k next now room)
+module _ (cells : Row) (answers : List ℕ) (start : Row) (k next : ℕ) (now : Row) (capacity : ℕ) (h : AreKept cells answers start k next now capacity)
     (l : k < length cells) (n : length answers ≡ length cells) where
   kept_here : kept_count (drop k answers) ≡ (if nat_eq (get_or answers k 0) 0 then kept_count (drop (k + 1) answers) else suc (kept_count (drop (k + 1) answers)))
   kept_here = ap kept_count (drop_more answers k 0 (omega arith))
 
-module _ (cells : Row) (answers : List ℕ) (start : Row) (k next : ℕ) (now : Row) (room : ℕ) (d : Cell) (h : AreKept cells answers start k next now room)
+module _ (cells : Row) (answers : List ℕ) (start : Row) (k next : ℕ) (now : Row) (capacity : ℕ) (d : Cell) (h : AreKept cells answers start k next now capacity)
     (l : k < length cells) (n : length answers ≡ length cells) (w : (get_or cells k d).1 < 2 ^ 64) where
   here : kept_where (drop k cells) (drop k answers) ≡ kept_where (get_or cells k d ∷ drop (k + 1) cells) (get_or answers k 0 ∷ drop (k + 1) answers)
   here = ap (λ cs. kept_where cs (drop k answers)) (drop_more cells k d l) ∙ ap (kept_where (get_or cells k d ∷ drop (k + 1) cells)) (drop_more answers k 0 (omega arith))
@@ -114,13 +114,13 @@ module _ (cells : Row) (answers : List ℕ) (start : Row) (k next : ℕ) (now : 
   chosen b e = ap (λ t. now ++ (if t then kept_where (drop (k + 1) cells) (drop (k + 1) answers) else get_or cells k d ∷ kept_where (drop (k + 1) cells) (drop (k + 1) answers))) (sym e)
       ∙ ap (λ cs. now ++ cs) (sym here) ∙ h.same
 
-  kept_by : (b : Bool) (new : Row) (more : ℕ) → nat_eq (get_or answers k 0) 0 ≡ b → new ≡ (if b then now else now ++ get_or cells k d ∷ []) → room ≤ more
+  kept_by : (b : Bool) (new : Row) (more : ℕ) → nat_eq (get_or answers k 0) 0 ≡ b → new ≡ (if b then now else now ++ get_or cells k d ∷ []) → capacity ≤ more
       → AreKept cells answers start (k + 1) (next + 1) new more
   kept_by true new more e is r = record {
     same = ap (λ cs. cs ++ kept_where (drop (k + 1) cells) (drop (k + 1) answers)) is ∙ chosen true e;
     words = taken;
     fits = λ u. let f = h.fits l in let p = ap length is in
-        let m = kept_here cells answers start k next now room h l n ∙ ap (λ t. if t then kept_count (drop (k + 1) answers) else suc (kept_count (drop (k + 1) answers))) e in omega (arith, f, m, p, r);
+        let m = kept_here cells answers start k next now capacity h l n ∙ ap (λ t. if t then kept_count (drop (k + 1) answers) else suc (kept_count (drop (k + 1) answers))) e in omega (arith, f, m, p, r);
     at = let a = h.at in omega arith;
   }
   kept_by false new more e is r = record {
@@ -128,18 +128,18 @@ module _ (cells : Row) (answers : List ℕ) (start : Row) (k next : ℕ) (now : 
         ∙ append_assoc now (get_or cells k d ∷ []) (kept_where (drop (k + 1) cells) (drop (k + 1) answers)) ∙ chosen false e;
     words = taken;
     fits = λ u. let f = h.fits l in let q = ap length is in let p = length-append now (get_or cells k d ∷ []) in
-        let m = kept_here cells answers start k next now room h l n ∙ ap (λ t. if t then kept_count (drop (k + 1) answers) else suc (kept_count (drop (k + 1) answers))) e in omega (arith, f, m, q, p, r);
+        let m = kept_here cells answers start k next now capacity h l n ∙ ap (λ t. if t then kept_count (drop (k + 1) answers) else suc (kept_count (drop (k + 1) answers))) e in omega (arith, f, m, q, p, r);
     at = let a = h.at in omega arith;
   }
 
-  pub kept_step : (new : Row) (more : ℕ) → new ≡ (if nat_eq (get_or answers next 0) 0 then now else now ++ get_or cells k d ∷ []) → room ≤ more
+  pub kept_step : (new : Row) (more : ℕ) → new ≡ (if nat_eq (get_or answers next 0) 0 then now else now ++ get_or cells k d ∷ []) → capacity ≤ more
       → AreKept cells answers start (k + 1) (next + 1) new more
   kept_step new more is r = kept_by (nat_eq (get_or answers k 0) 0) new more refl
       (is ∙ ap (λ m. if nat_eq (get_or answers m 0) 0 then now else now ++ get_or cells k d ∷ []) h.at) r
 
-pub are_kept : (cells : Row) (answers : List ℕ) (start : Row) (k next : ℕ) (now : Row) (room : ℕ) → AreKept cells answers start k next now room → length cells ≤ k
+pub are_kept : (cells : Row) (answers : List ℕ) (start : Row) (k next : ℕ) (now : Row) (capacity : ℕ) → AreKept cells answers start k next now capacity → length cells ≤ k
     → (now ≡ start ++ kept_where cells answers) × AllByRecursion (λ (c : Cell). c.1 < 2 ^ 64) cells
-are_kept cells answers start k next now room h l = (
+are_kept cells answers start k next now capacity h l = (
   sym (append-nil now) ∙ ap (λ cs. now ++ kept_where cs (drop k answers)) (sym (drop_all k cells l)) ∙ h.same,
   subst (λ cs. AllByRecursion (λ (c : Cell). c.1 < 2 ^ 64) cs) (take_all k cells l) h.words,
 )

@@ -120,7 +120,7 @@ module _ (g : Grid) (es : List Entry) (p : Position) (h : IsCollected g es) (ins
       rw (lt-ltb p.0 g.rows inside.0, lt-ltb p.1 g.columns inside.1, nothing a b, many) refl
 
   pub fits : get g.cells p ≡ None → value_at es p ≡ None → len g.cells + len (from_entries {R = pos_cmp} es) < limit → Fits (collected g es) p
-  fits a b l = record { inside = inside; absent = nothing a b; room = let n = h.apart in omega arith }
+  fits a b l = record { inside = inside; absent = nothing a b; capacity = let n = h.apart in omega arith }
 
   still_first : (q : Position) (v : ℕ) → value_at es p ≡ None → (o : Ordering) → pos_cmp q p ≡ o → is_some (cond (is_eq o) (Some v) (get g.cells q)) ≡ true
       → get (from_entries {R = pos_cmp} es) q ≡ None

@@ -170,7 +170,7 @@ fits_behind rows columns es p v h a b l =
     record {
       inside = (a, b);
       absent = get-last (from_entries es) p v (ap (λ (xs : List Entry). is_sorted pos_cmp (xs ++ (p, v) ∷ [])) own ∙ h);
-      room = omega (arith, len-entries (from_entries {R = pos_cmp} es), ap length own);
+      capacity = omega (arith, len-entries (from_entries {R = pos_cmp} es), ap length own);
     }
 
 -- the state with an entry at `column` of the open row
@@ -214,7 +214,7 @@ module _ (rows columns : ℕ) (ends new : List ℕ) (cells : List Cell) (next : 
         opened = o;
       }
 
-module _ (rows columns : ℕ) (ends : List ℕ) (cells : List Cell) (column word : ℕ) (h : Ready rows columns ends cells column) (row_in : length ends < rows) (column_in : column < columns) (room : length cells < limit) (fits : word < 2 ^ 64) where
+module _ (rows columns : ℕ) (ends : List ℕ) (cells : List Cell) (column word : ℕ) (h : Ready rows columns ends cells column) (row_in : length ends < rows) (column_in : column < columns) (capacity : length cells < limit) (fits : word < 2 ^ 64) where
   at : Position
   at = (length ends, column)
 

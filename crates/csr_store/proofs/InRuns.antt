@@ -1,20 +1,22 @@
 -- Cells that stand in runs of rows: what is in one list.
-use Rattle.std.proofs.Common.{take, drop, zero, suc, ◌≡◌, ◌≤◌, ◌<◌, ◌+◌, ◌-◌, ◌*◌, ◌/◌, ℕ, List, [], ◌∷◌, ◌++◌, length, get_or, refl, sym, ap, ◌∙◌, subst, arith, length-append, length-drop, append-nil, append_assoc}
+use Rattle.std.proofs.Common.{take, drop, zero, suc, ◌≡◌, ◌≤◌, ◌<◌, ◌+◌, ◌-◌, ◌*◌, ◌/◌, ℕ, List, [], ◌∷◌, ◌++◌, length, get_or, refl, sym, map, ap, ◌∙◌, subst, arith, length-append, length-drop, append-nil, append_assoc}
 use Rattle.std.proofs.lemmas.List.{take_all, take-append-le, take_more, length-map, drop-append-le}
 use Rattle.std.proofs.lemmas.Bool.{cases_lt}
 use Rattle.std.proofs.Math.Logic.{⊎_elim}
+use Rattle.std.specs.List.{AllByRecursion}
 use Rattle.std.specs.Global.{Vec}
 use Rattle.csr_store.specs.Grid.{Cell, at_row, limit}
 use Rattle.csr_store.specs.ByRows.{ends_of}
-use Rattle.csr_store.specs.Run.{Run, Row, AreEven, IsInRun, numbered, all_ended}
+use Rattle.csr_store.specs.Run.{Run, Row, IsInRun, numbered}
+use Rattle.csr_store.specs.Stacked.{IsNext}
 use Rattle.csr_store.specs.Valued.{entries_in}
 use Rattle.csr_store.specs.inner.ByRows.{AreStarts}
-use Rattle.csr_store.specs.inner.Run.{AreEnds, AreClosed, ended_rows, open_row}
-use Rattle.csr_store.specs.inner.Cells.{joined, joined_cells, cells_before, IsPart, AreParts, AreBases, Stacks}
+use Rattle.csr_store.specs.inner.Run.{AreEnds, AreClosed, AreRows, IsRow, ended_rows, open_row}
+use Rattle.csr_store.specs.inner.Cells.{joined, joined_cells, cells_before, IsPart, AreParts, AreBases, AreStacked}
 use Rattle.csr_store.specs.declared.cells.Cells.{Cells}
 use Rattle.csr_store.specs.declared.cells.Cells.TheVariants.{Whole, Runs}
-use Rattle.csr_store.proofs.Joining.{inner_ends, inner_end}
-use Rattle.csr_store.proofs.Runs.{length-ended, run}
+use Rattle.csr_store.proofs.Joining.{all_append, inner_ends, inner_end, joined_rows, joined_closed_rows}
+use Rattle.csr_store.proofs.Runs.{length-ended}
 use Rattle.csr_store.proofs.Slicing.{start_within, length_starts}
 use Rattle.csr_store.proofs.Copies.{starts_rise, start_below}
 use Rattle.csr_store.proofs.Valuing.{entries_ended}
@@ -108,19 +110,6 @@ bases_more starts ends runs v closed full h k l =
     ))
     (cases_lt k (length runs))
 
--- the runs that are left fit behind so many rows in so many runs
-abbrev pub Fits : ℕ → ℕ → List Run → Type 0
-Fits rows runs [] = rows ≤ runs * 256
-Fits rows runs (r ∷ rs) = (rows ≡ runs * 256) × AreEven (r ∷ rs)
-
-pub fits_first : (runs : List Run) → AreEven runs → Fits 0 0 runs
-fits_first [] h = omega arith
-fits_first (r ∷ rs) h = (omega arith, h)
-
-pub fits_next : (rows n : ℕ) (r : Run) (rs : List Run) → Fits rows n (r ∷ rs) → Fits (rows + length r.ended) (n + 1) rs
-fits_next rows n r [] h = let a = h.0 in let b = h.1 in omega arith
-fits_next rows n r (s ∷ rs) h = let a = h.0 in let b = h.1.0 in ((let q : rows + length r.ended ≡ (n + 1) * 256 = omega (arith, a, b) in q), h.1.1)
-
 -- ---- each row in its run
 
 pub whole_parts : (rows columns : ℕ) (starts : List ℕ) (cells : Vec Cell) → AreStarts rows starts cells.items → AreParts rows starts (Whole cells)
@@ -183,54 +172,84 @@ in_append (x ∷ xs) ys = omega (arith, in_append xs ys)
 cells_here : (i : ℕ) (r : Row) → length (at_row i r) ≡ length r
 cells_here i r = length-map r (λ (c : Cell). ((i, c.0), c.1))
 
-pub in_numbered : (i : ℕ) (rows : List Row) → length (numbered i rows) ≡ entries_in rows
+in_numbered : (i : ℕ) (rows : List Row) → length (numbered i rows) ≡ entries_in rows
 in_numbered i [] = refl
 in_numbered i (r ∷ rows) =
     omega (arith, length-append (at_row i r) (numbered (i + 1) rows), cells_here i r, in_numbered (i + 1) rows)
 
--- compressed rows that all have an end have all cells
-pub closed_entries : (starts : List ℕ) (cells : Row) → AreClosed starts cells → entries_in (ended_rows 0 (ends_of starts) cells) ≡ length cells
-closed_entries starts cells h =
+-- rows that all have an end have all cells
+entries_all : (ends : List ℕ) (cells : Row) → AreEnds 0 ends (length cells) → open_row 0 ends cells ≡ [] → entries_in (ended_rows 0 ends cells) ≡ length cells
+entries_all ends cells rise none =
     let z : length cells ≡ 0 + length cells = omega arith in
-    let q : AreEnds 0 (ends_of starts) (0 + length cells) = rw z at h.rise in
-    let e = entries_ended 0 (ends_of starts) cells q in
-    let n = ap (λ (r : Row). length r) h.none_open in
+    let q : AreEnds 0 ends (0 + length cells) = rw z at rise in
+    let e = entries_ended 0 ends cells q in
+    let n = ap (λ (r : Row). length r) none in
     omega (arith, e, n)
 
--- what was listed and what comes next are no more than all
-pub room_for : (starts : List ℕ) (cells : Row) (r : Run) (rest all : List Run) → AreClosed starts cells
-    → ended_rows 0 (ends_of starts) cells ++ all_ended (r ∷ rest) ≡ all_ended all → length (numbered 0 (all_ended all)) ≤ limit → length cells + entries_in r.ended ≤ limit
-room_for starts cells r rest all h e l =
-    let a = closed_entries starts cells h in
-    let b = ap entries_in e in
-    let c = in_append (ended_rows 0 (ends_of starts) cells) (all_ended (r ∷ rest)) in
-    let d = in_append r.ended (all_ended rest) in
-    let n = in_numbered 0 (all_ended all) in
-    omega (arith, a, b, c, d, n, l)
+-- the entries of stacked runs
+pub stacked_few : (columns entries : ℕ) (starts : List ℕ) (runs : List (Vec Cell)) → AreStacked columns entries starts runs
+    → length (numbered 0 (ended_rows 0 (ends_of starts) (joined runs))) ≤ limit
+stacked_few columns entries starts runs h =
+    let a = entries_all (ends_of starts) (joined runs) h.closed.rise h.closed.none_open in
+    let b = in_numbered 0 (ended_rows 0 (ends_of starts) (joined runs)) in
+    let c = h.count in let f = h.few in
+    omega (arith, a, b, c, f)
 
-pub ends_count : (starts : List ℕ) (cells : Row) → length (ends_of starts) ≡ length (ended_rows 0 (ends_of starts) cells)
-ends_count starts cells = sym (length-ended 0 (ends_of starts) cells)
+-- a run of rows behind a stack of full ones
+module _ (stack next : Run) (columns entries : ℕ) (starts ends : List ℕ) (runs : List (Vec Cell)) (part : Vec Cell) (h : AreStacked columns entries starts runs)
+    (view : record { first = 0; columns = columns; ended = ended_rows 0 (ends_of starts) (joined runs); opened = [] } ≡ stack)
+    (rows : AreRows next.columns ends part.items) (ended : ended_rows 0 ends part.items ≡ next.ended) (opened : open_row 0 ends part.items ≡ next.opened)
+    (is_next : IsNext next stack) where
+  none : open_row 0 ends part.items ≡ []
+  none = opened ∙ is_next.none_open
 
-pub ends_stacked : (run : Run) (starts more : List ℕ) (lists all : List (Vec Cell)) → Stacks run starts lists more all → length (ends_of more) ≡ length (ends_of starts) + length run.ended
-ends_stacked run starts more lists all s =
-    let e = ap (λ (rs : List Row). length rs) s.rows in
-    let n = length-append (ended_rows 0 (ends_of starts) (joined lists)) run.ended in
-    omega (arith, e, n, ends_count starts (joined lists), ends_count more (joined all))
+  pub room_behind : entries + length part.items ≤ limit
+  room_behind =
+      let a = entries_all (ends_of starts) (joined runs) h.closed.rise h.closed.none_open in
+      let b = entries_all ends part.items rows.ends_rise none in
+      let v = ap (λ (r : Run). entries_in r.ended) view in
+      let w = ap entries_in ended in
+      let d = in_append stack.ended next.ended in
+      let n = in_numbered 0 (stack.ended ++ next.ended) in
+      let c = h.count in let small = is_next.small in
+      omega (arith, a, b, v, w, c, d, n, small)
 
-pub length_stacked : (run : Run) (starts more : List ℕ) (lists all : List (Vec Cell)) → Stacks run starts lists more all → length all ≡ length lists + 1
-length_stacked run starts more lists all s = ap (λ (vs : List (Vec Cell)). length vs) s.runs_are ∙ (length-append lists (s.cells ∷ []) ∙ (let q : length lists + suc 0 ≡ length lists + 1 = omega arith in q))
+  module _ (new : List ℕ) (all : List (Vec Cell)) (s : new ≡ starts ++ map (λ e. entries + e) ends) (t : all ≡ runs ++ part ∷ []) where
+    shifted : new ≡ starts ++ map (λ e. length (joined runs) + e) ends
+    shifted = s ∙ ap (λ n. starts ++ map (λ e. n + e) ends) h.count
 
-pub bases_stacked : (run : Run) (starts more : List ℕ) (lists all : List (Vec Cell)) → Stacks run starts lists more all → AreClosed starts (joined lists)
-    → length (ends_of starts) ≡ length lists * 256 → AreBases starts lists → AreBases more all
-bases_stacked run starts more lists all s closed full h =
-    subst (λ (xs : List ℕ). AreBases xs all) (sym s.starts_are)
-    (subst (λ (vs : List (Vec Cell)). AreBases (starts ++ s.ends) vs) (sym s.runs_are) (bases_more starts s.ends lists s.cells closed full h))
+    more : joined all ≡ joined runs ++ part.items
+    more = ap joined t ∙ joined_more runs part
 
--- the last run was put there
-pub listed_all : (starts : List ℕ) (cells : Row) (rest all : List Run) → rest ≡ [] → ended_rows 0 (ends_of starts) cells ++ all_ended rest ≡ all_ended all → ended_rows 0 (ends_of starts) cells ≡ all_ended all
-listed_all starts cells rest all n e =
-    sym (append-nil (ended_rows 0 (ends_of starts) cells)) ∙ (ap (λ (rs : List Run). ended_rows 0 (ends_of starts) cells ++ all_ended rs) (sym n) ∙ e)
+    both : ended_rows 0 (ends_of new) (joined all) ≡ ended_rows 0 (ends_of starts) (joined runs) ++ ended_rows 0 ends part.items
+    both = joined_rows starts new ends (joined runs) (joined all) part.items h.closed rows.ends_rise none shifted more
 
-pub fits_end : (rows n : ℕ) (rest : List Run) → rest ≡ [] → Fits rows n rest → rows ≤ n * 256
-fits_end rows n [] e h = h
-fits_end rows n (r ∷ rs) e h = absurd (cc)
+    pub view_stacked : (let r : Run = record { first = 0; columns = columns; ended = ended_rows 0 (ends_of new) (joined all); opened = [] } in r) ≡ record stack { ended = stack.ended ++ next.ended }
+    view_stacked =
+        ap (λ (rs : List Row). record { first = 0; columns = columns; ended = rs; opened = [] }) both
+        ∙ ap (λ (r : Run). record r { ended = r.ended ++ ended_rows 0 ends part.items }) view
+        ∙ ap (λ (rs : List Row). record stack { ended = stack.ended ++ rs }) ended
+
+    pub stacked_more : AreStacked columns (entries + length part.items) new all
+    stacked_more =
+        let closed = joined_closed_rows starts new ends (joined runs) (joined all) part.items h.closed rows.ends_rise none shifted more in
+        let before = ap (λ (r : Run). length r.ended) view in
+        let rows_before = length-ended 0 (ends_of starts) (joined runs) in
+        let rows_after = length-ended 0 (ends_of new) (joined all) in
+        let after = ap (λ (r : Run). length r.ended) view_stacked in
+        let long = length-append stack.ended next.ended in
+        let lists = ap (λ (vs : List (Vec Cell)). length vs) t ∙ length-append runs (part ∷ []) in
+        let cells = ap (λ (cs : Row). length cs) more ∙ length-append (joined runs) part.items in
+        let filled = h.filled in let count = h.count in
+        let full = is_next.full in let some = is_next.some in let most = is_next.even in
+        record {
+          closed = closed;
+          are_rows = subst (AllByRecursion (λ r. IsRow columns r)) (sym both)
+              (all_append (λ r. IsRow columns r) (ended_rows 0 (ends_of starts) (joined runs)) (ended_rows 0 ends part.items) h.are_rows
+              (subst (λ (n : ℕ). AllByRecursion (λ r. IsRow n r) (ended_rows 0 ends part.items)) (is_next.columns ∙ sym (ap (λ (r : Run). r.columns) view)) rows.ended_are));
+          bases = subst (λ (xs : List ℕ). AreBases xs all) (sym s) (subst (AreBases (starts ++ map (λ e. entries + e) ends)) (sym t)
+              (bases_more starts (map (λ e. entries + e) ends) runs part h.closed (omega (arith, full, filled, before, rows_before)) h.bases));
+          filled = omega (arith, full, filled, some, most, before, rows_before, after, rows_after, long, lists);
+          count = omega (arith, count, cells);
+          few = room_behind;
+        }

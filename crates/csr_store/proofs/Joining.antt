@@ -161,7 +161,7 @@ entries_parts i from (to ∷ ends) cs =
     (entries_parts (i + 1) to ends (drop (to - from) cs) ∙ ap (λ n. numbered (i + 1) (ended_rows to ends (drop (to - from) cs)) ++ at_row n (open_row to ends (drop (to - from) cs))) (let q : i + 1 + length ends ≡ i + suc (length ends) = omega arith in q))
     ∙ sym (append_assoc (at_row i (take (to - from) cs)) (numbered (i + 1) (ended_rows to ends (drop (to - from) cs))) _)
 
-entries_closed : (ends : List ℕ) (cs : Row) → open_row 0 ends cs ≡ [] → by_rows ends cs ≡ numbered 0 (ended_rows 0 ends cs)
+pub entries_closed : (ends : List ℕ) (cs : Row) → open_row 0 ends cs ≡ [] → by_rows ends cs ≡ numbered 0 (ended_rows 0 ends cs)
 entries_closed ends cs h =
     entries_parts 0 0 ends cs ∙ ap (λ (row : Row). numbered 0 (ended_rows 0 ends cs) ++ at_row (0 + length ends) row) h ∙ append-nil (numbered 0 (ended_rows 0 ends cs))
 
@@ -176,6 +176,9 @@ follow_length columns at to [] h = (let q : at + 0 ≡ at = omega arith in q) �
 follow_length columns at to (r ∷ rs) h =
     let k = follow_length columns (at + length r.ended) to rs h.3 in
     omega (arith, length-append r.ended (all_ended rs))
+
+pub follow_count : (columns to : ℕ) (runs : List Run) → Follow columns 0 to runs → length (all_ended runs) ≡ to
+follow_count columns to runs h = let n = follow_length columns 0 to runs h in omega (arith, n)
 
 -- what holds of each entry of rows
 pub record IsPlaced (from to columns : ℕ) (e : Entry) : Type 0 where
@@ -227,30 +230,25 @@ placed_grid rows columns es r c l h =
       words = λ p v e. (found_holds (IsPlaced 0 rows columns) es p v h (sym (get-from_entries pos_total es p) ∙ e)).word;
     }
 
-module _ (rows columns : ℕ) (starts : List ℕ) (cells : Row) (runs : List Run) (r : rows ≤ limit) (c : columns ≤ limit) (follow : Follow columns 0 rows runs) (small : length (numbered 0 (all_ended runs)) ≤ limit)
-    (closed : AreClosed starts cells) (listed : ended_rows 0 (ends_of starts) cells ≡ all_ended runs) (are_rows : AllByRecursion (λ q. IsRow columns q) (all_ended runs)) where
-  pub joined_entries : by_rows (ends_of starts) cells ≡ numbered 0 (all_ended runs)
+module _ (rows columns : ℕ) (starts : List ℕ) (cells : Row) (ended : List Row) (r : rows ≤ limit) (c : columns ≤ limit) (count : length ended ≡ rows) (small : length (numbered 0 ended) ≤ limit)
+    (closed : AreClosed starts cells) (listed : ended_rows 0 (ends_of starts) cells ≡ ended) (are_rows : AllByRecursion (λ q. IsRow columns q) ended) where
+  pub joined_entries : by_rows (ends_of starts) cells ≡ numbered 0 ended
   joined_entries = entries_closed (ends_of starts) cells closed.none_open ∙ ap (numbered 0) listed
 
-  joined_sorted : is_sorted pos_cmp (numbered 0 (all_ended runs)) ≡ true
-  joined_sorted = sorted_rows columns 0 (all_ended runs) are_rows
+  joined_sorted : is_sorted pos_cmp (numbered 0 ended) ≡ true
+  joined_sorted = sorted_rows columns 0 ended are_rows
 
-  joined_few : len (from_entries {R = pos_cmp} (numbered 0 (all_ended runs))) ≤ limit
-  joined_few = omega (arith, len-entries (from_entries {R = pos_cmp} (numbered 0 (all_ended runs))), ap length (entries-from_entries (numbered 0 (all_ended runs)) joined_sorted))
-
-  joined_count : length (all_ended runs) ≡ rows
-  joined_count = let l = follow_length columns 0 rows runs follow in omega arith
+  joined_few : len (from_entries {R = pos_cmp} (numbered 0 ended)) ≤ limit
+  joined_few = omega (arith, len-entries (from_entries {R = pos_cmp} (numbered 0 ended)), ap length (entries-from_entries (numbered 0 ended) joined_sorted))
 
   pub joined_grid : IsGrid (grid rows columns (by_rows (ends_of starts) cells))
-  joined_grid =
-      rw joined_entries
-      (placed_grid rows columns (numbered 0 (all_ended runs)) r c joined_few (placed_rows 0 rows columns (all_ended runs) (let n = joined_count in omega arith) are_rows))
+  joined_grid = rw joined_entries (placed_grid rows columns (numbered 0 ended) r c joined_few (placed_rows 0 rows columns ended (omega arith) are_rows))
 
   pub joined_starts : AreStarts rows starts cells
   joined_starts =
       record {
         begin = closed.begin;
-        count = sym (length-ended 0 (ends_of starts) cells) ∙ ap length listed ∙ joined_count;
+        count = sym (length-ended 0 (ends_of starts) cells) ∙ ap length listed ∙ count;
         within = within_of 0 (length cells) (ends_of starts) (subst (λ (n : ℕ). AreEnds 0 (ends_of starts) n) (let q : length cells ≡ 0 + length cells = omega arith in q) closed.rise);
         ascending = ap (is_sorted pos_cmp) joined_entries ∙ joined_sorted;
       }

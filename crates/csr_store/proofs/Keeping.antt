@@ -7,7 +7,7 @@ use Rattle.csr_store.specs.Along.{along}
 use Rattle.csr_store.specs.Ascending.{Ascends}
 use Rattle.csr_store.specs.Added.{kept_where, kept_rows}
 use Rattle.csr_store.specs.Run.{Row, Run}
-use Rattle.csr_store.specs.inner.Kept.{kept_count}
+use Rattle.csr_store.specs.inner.Selected.{kept_count}
 use Rattle.csr_store.specs.inner.Run.{AreRows, ended_rows, open_row}
 use Rattle.csr_store.proofs.Along.{along-next, row_of-ascends}
 use Rattle.csr_store.proofs.Appending.{rows_append, run_append, ascends_kept, kept_words}
@@ -42,12 +42,12 @@ kept_first [] answers = refl
 kept_first (c ∷ cells) [] = refl
 kept_first (c ∷ cells) (a ∷ answers) = ap (λ r. if nat_eq a 0 then r else c ∷ r) (kept_first cells answers)
 
-pub record AreRowsKept (a : Grid) (first end : ℕ) (answers : List ℕ) (start : List Row) (i : ℕ) (left : List ℕ) (ends : List ℕ) (cells : Row) (room most : ℕ) : Type 0 where
+pub record AreRowsKept (a : Grid) (first end : ℕ) (answers : List ℕ) (start : List Row) (i : ℕ) (left : List ℕ) (ends : List ℕ) (cells : Row) (capacity most : ℕ) : Type 0 where
   pub rows : AreRows a.columns ends cells
   pub none_open : open_row 0 ends cells ≡ []
   pub same : ended_rows 0 ends cells ++ kept_rows a left i (end - i) ≡ start ++ kept_rows a answers first (end - first)
   pub many : length left ≡ length (along (row_of a) i (end - i))
-  pub fits : 0 < length left → length cells + kept_count left < room
+  pub fits : 0 < length left → length cells + kept_count left < capacity
   pub fits_ends : length ends + (end - i) ≤ most
 
 -- cells of one row, of those that are left
@@ -55,8 +55,8 @@ pub row_there : (a : Grid) (i end : ℕ) (left : List ℕ) → i < end → lengt
     → length left ≡ length (row_of a i) + length (along (row_of a) (i + 1) (end - (i + 1)))
 row_there a i end left l m = m ∙ ap length (along-next (row_of a) i end l) ∙ length-append (row_of a i) (along (row_of a) (i + 1) (end - (i + 1)))
 
-module _ (a : Grid) (first end : ℕ) (answers : List ℕ) (start : List Row) (i : ℕ) (left : List ℕ) (ends : List ℕ) (cells : Row) (room most : ℕ)
-    (h : AreRowsKept a first end answers start i left ends cells room most) (l : i < end) (g : IsGrid a) (row : Row) (is : row ≡ row_of a i)
+module _ (a : Grid) (first end : ℕ) (answers : List ℕ) (start : List Row) (i : ℕ) (left : List ℕ) (ends : List ℕ) (cells : Row) (capacity most : ℕ)
+    (h : AreRowsKept a first end answers start i left ends cells capacity most) (l : i < end) (g : IsGrid a) (row : Row) (is : row ≡ row_of a i)
     (now later : List ℕ) (f : now ≡ take (length row) left) (b : later ≡ drop (length row) left) where
   there : length left ≡ length row + length (along (row_of a) (i + 1) (end - (i + 1)))
   there = row_there a i end left l h.many ∙ ap (λ (r : Row). length r + length (along (row_of a) (i + 1) (end - (i + 1)))) (sym is)
@@ -70,7 +70,7 @@ module _ (a : Grid) (first end : ℕ) (answers : List ℕ) (start : List Row) (i
   counted : kept_count left ≡ kept_count now + kept_count later
   counted = ap kept_count (parts (length row) left now later f b) ∙ kept_count-append now later
 
-  pub row_fits : (length now ≡ length row) × (0 < length now → length cells + kept_count now < room)
+  pub row_fits : (length now ≡ length row) × (0 < length now → length cells + kept_count now < capacity)
   row_fits = (even, λ u. let t = there in let e = even in let q = h.fits (omega (arith, t, e, u)) in let m = counted in omega (arith, q, m))
 
   next : kept_rows a left i (end - i) ≡ kept_where row now ∷ kept_rows a later (i + 1) (end - (i + 1))
@@ -100,7 +100,7 @@ module _ (a : Grid) (first end : ℕ) (answers : List ℕ) (start : List Row) (i
     ended_is : ended_rows 0 more new ≡ ended_rows 0 ends cells ++ kept_where row now ∷ []
     ended_is = ap (λ (r : Run). r.ended) run_is ∙ ap (λ (r : Row). ended_rows 0 ends cells ++ (r ++ kept_where row now) ∷ []) h.none_open
 
-    pub rows_kept_more : (wide wider : ℕ) → room ≤ wide → most ≤ wider → AreRowsKept a first end answers start (i + 1) later more new wide wider
+    pub rows_kept_more : (wide wider : ℕ) → capacity ≤ wide → most ≤ wider → AreRowsKept a first end answers start (i + 1) later more new wide wider
     rows_kept_more wide wider v u = record {
       rows = subst (λ es. AreRows a.columns es new) (sym pushed) (rows_more a.columns ends new n appended long);
       none_open = ap (λ (r : Run). r.opened) run_is;

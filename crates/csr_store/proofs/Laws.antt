@@ -125,14 +125,14 @@ take_ascend (suc n) (e ∷ es) h = let t = both_true (below_all pos_cmp e.0 es) 
 pub record Fits (g : Grid) (p : Position) : Type 0 where
   pub inside : IsInside g p
   pub absent : get g.cells p ≡ None
-  pub room : len g.cells < limit
+  pub capacity : len g.cells < limit
 
 pub fits-put_fault : (g : Grid) (p : Position) → Fits g p → put_fault g p ≡ None
 fits-put_fault g p h =
     let row = lt-ltb p.0 g.rows h.inside.0 in
     let column = lt-ltb p.1 g.columns h.inside.1 in
-    let room : nat_le limit (len g.cells) ≡ false = lt-leb limit (len g.cells) h.room in
-    rw (row, column, h.absent, room) refl
+    let capacity : nat_le limit (len g.cells) ≡ false = lt-leb limit (len g.cells) h.capacity in
+    rw (row, column, h.absent, capacity) refl
 
 no_fault : (a b c d : Bool) → cond (not (a && b)) (Some IndexOutOfRange) (cond c (Some PositionGivenTwice) (cond d (Some TooManyEntries) None)) ≡ None → (a ≡ true) × (b ≡ true) × (c ≡ false) × (d ≡ false)
 no_fault true true false false h = (refl, refl, refl, refl)
@@ -179,7 +179,7 @@ insert-is_grid g p v h f w =
     record {
       rows_small = h.rows_small;
       columns_small = h.columns_small;
-      entries_small = let n = len-insert_new g.cells p v f.absent in let r = f.room in omega arith;
+      entries_small = let n = len-insert_new g.cells p v f.absent in let r = f.capacity in omega arith;
       inside = λ q s. inside_more g p q v (pos_cmp q p) refl f.inside (h.inside q) (subst IsSome (get-insert pos_total g.cells p v q) s);
       words = λ q x e. words_more g.cells q v x (is_eq (pos_cmp q p)) w (h.words q x) (sym (get-insert pos_total g.cells p v q) ∙ e);
     }

@@ -24,9 +24,11 @@ pub mod Starting
 pub mod Appending
 pub mod Moved
 pub mod Keeping
+pub mod Showing
 pub mod InRuns
 pub mod Copied
 pub mod InColumn
+pub mod OneEach
 pub mod ByBits
 pub mod BlankEnds
 pub mod Alike

@@ -1,4 +1,4 @@
--- How a matrix is kept: compressed rows. All cells stand in one list, row after row, and a second list says where each
+-- How a matrix is stored: compressed rows. All cells stand in one list, row after row, and a second list says where each
 -- row ends in it; the row behind those that have an end is open. This project's own.
 use Rattle.std.specs.Prelude.{◌+◌, ◌-◌, ℕ, List, [], ◌∷◌, ◌++◌, take, drop}
 use Rattle.std.specs.FinMap as fin
@@ -8,7 +8,7 @@ use Rattle.csr_store.specs.Grid.{Grid, Cell, Entry, at_row}
 abbrev pub grid : ℕ → ℕ → List Entry → Grid
 grid rows columns es = record { rows = rows; columns = columns; cells = fin.from_entries es }
 
--- the entries of the cells from place `from` on, in row i and those behind it
+-- the entries of the cells from index `from` on, in row i and those behind it
 abbrev pub entries_from : ℕ → ℕ → List ℕ → List Cell → List Entry
 entries_from i from [] cs = at_row i cs
 entries_from i from (e ∷ ends) cs = at_row i (take (e - from) cs) ++ entries_from (i + 1) e ends (drop (e - from) cs)

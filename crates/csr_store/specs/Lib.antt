@@ -2,12 +2,14 @@ pub mod Grid
 pub mod Refusal
 pub mod ByRows
 pub mod Run
+pub mod Stacked
 pub mod Listed
 pub mod Packed
 pub mod Repeated
 pub mod Along
 pub mod Mask
 pub mod Ascending
+pub mod Shown
 pub mod Added
 pub mod Valued
 pub mod Copied

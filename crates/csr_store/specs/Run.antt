@@ -37,12 +37,6 @@ Follow columns at to [] = at ≡ to
 Follow columns at to (r ∷ rs) =
     (r.first ≡ at) × (r.columns ≡ columns) × (r.opened ≡ []) × Follow columns (at + length r.ended) to rs
 
--- runs of 256 rows each, the last of no more
-abbrev pub AreEven : List Run → Type 0
-AreEven [] = Unit {0}
-AreEven (r ∷ []) = length r.ended ≤ 256
-AreEven (r ∷ s ∷ rs) = (length r.ended ≡ 256) × AreEven (s ∷ rs)
-
 -- rows from one up to another that are all of one run, where each run has 256
 abbrev pub IsInRun : ℕ → ℕ → Type 0
 IsInRun from to = to ≤ from / 256 * 256 + 256

@@ -2,7 +2,7 @@
 pub mod ByRows
 pub mod Collected
 pub mod Grid
-pub mod Kept
+pub mod Selected
 pub mod Moved
 pub mod Packed
 pub mod Repeated

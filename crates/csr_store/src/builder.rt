@@ -55,7 +55,7 @@ impl Builder {
         }
     }
 
-    /// Reserves room for `entries` more entries, in ascending order.
+    /// Reserves memory for `entries` more entries, in ascending order.
     pub fn reserve(&mut self, entries: usize) -> Result<(), AllocError>
         ensures { self.new ≡ self.old }
     {
@@ -75,7 +75,7 @@ impl Builder {
             (self.new ≡ record self.old { cells = map.insert self.old.cells (row, column) value }) }
         ensures refused { IfErr result
             (λ e. e ≡ unwrap_or (put_fault self.old (row, column)) StoreError.Memory) }
-        ensures kept { OnErr result (self.new ≡ self.old) }
+        ensures unchanged { OnErr result (self.new ≡ self.old) }
     {
         if row >= self.ascending.rows() || column >= self.ascending.columns() {
             return Err(StoreError::IndexOutOfRange);

@@ -57,7 +57,7 @@ impl RowEnds {
         self.blank + self.listed.len() as u64
     }
 
-    /// Reserves room for `rows` more rows.
+    /// Reserves memory for `rows` more rows.
     pub(crate) fn reserve(&mut self, rows: usize) -> Result<(), AllocError>
         ensures { self.new ≡ self.old }
     {
@@ -68,7 +68,7 @@ impl RowEnds {
     #[inline(always)]
     pub(crate) fn push(&mut self, end: u64) -> Result<(), AllocError>
         ensures ended { OnOk result (self.new ≡ self.old ++ end ∷ []) }
-        ensures kept { OnErr result (self.new ≡ self.old) }
+        ensures unchanged { OnErr result (self.new ≡ self.old) }
     {
         self.listed.push(end)?;
         Ok(())
@@ -78,7 +78,7 @@ impl RowEnds {
     /// no time per row.
     pub(crate) fn push_alike(&mut self, count: u64, end: u64) -> Result<(), AllocError>
         ensures ended { OnOk result (self.new ≡ self.old ++ replicate count end) }
-        ensures kept { OnErr result (self.new ≡ self.old) }
+        ensures unchanged { OnErr result (self.new ≡ self.old) }
     {
         if end == 0 && self.listed.is_empty() && count <= MOST_SIDE - self.blank {
             self.blank += count;

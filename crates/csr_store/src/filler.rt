@@ -55,7 +55,7 @@ impl Filler {
         }
     }
 
-    /// Reserves room for `entries` more entries.
+    /// Reserves memory for `entries` more entries.
     pub fn reserve(&mut self, entries: usize) -> Result<(), AllocError>
         ensures { self.new ≡ self.old }
     {
@@ -118,7 +118,7 @@ impl Filler {
         ensures added { IfOk result (λ b. b ≡ true
             → self.new ≡ record self.old { cells = map.insert self.old.cells (row, column) word }) }
         ensures left { IfOk result (λ b. b ≡ false → self.new ≡ self.old) }
-        ensures kept { OnErr result (self.new ≡ self.old) }
+        ensures unchanged { OnErr result (self.new ≡ self.old) }
     {
         let open = self.ends.len() as u64;
         if !comes_behind(open, self.next, row, column) {

@@ -17,7 +17,7 @@ pub(crate) struct Growing<'m> {
     alloc: Global,
     like: &'m Matrix,
     /// The number of row starts to expect.
-    room: usize,
+    capacity: usize,
     so_far: SoFar,
 }
 
@@ -45,15 +45,15 @@ impl<'m> Model for Growing<'m> {
 }
 
 impl<'m> Growing<'m> {
-    /// The start of the first row. Takes no memory. A list, once there is one, has room for `room`
+    /// The start of the first row. Takes no memory. A list, once there is one, holds `capacity`
     /// starts.
-    pub(crate) fn begin(alloc: Global, like: &'m Matrix, room: usize) -> Self
+    pub(crate) fn begin(alloc: Global, like: &'m Matrix, capacity: usize) -> Self
         ensures { result ≡ 0 ∷ [] }
     {
         Growing {
             alloc,
             like,
-            room,
+            capacity,
             so_far: SoFar::Alike(1),
         }
     }
@@ -71,7 +71,7 @@ impl<'m> Growing<'m> {
                     *count += ends.len() as usize;
                     return Ok(());
                 }
-                let mut starts = first_starts(self.alloc, self.like, *count, self.room)?;
+                let mut starts = first_starts(self.alloc, self.like, *count, self.capacity)?;
                 ends.add_to(&mut starts, base)?;
                 self.so_far = SoFar::Listed(starts);
                 Ok(())
@@ -101,17 +101,17 @@ impl<'m> Growing<'m> {
     }
 }
 
-/// The first starts of a matrix, in a list with room for more.
+/// The first starts of a matrix, in a list with capacity for more.
 fn first_starts(
     alloc: Global,
     matrix: &Matrix,
     count: usize,
-    room: usize,
+    capacity: usize,
 ) -> Result<Vec<u64>, AllocError>
     requires { count ≤ matrix.now.rows + 1 }
     ensures { IfOk result (λ starts. starts.items ≡ take count (starts_of matrix.now)) }
 {
-    let mut starts = Vec::with_capacity(alloc, room)?;
+    let mut starts = Vec::with_capacity(alloc, capacity)?;
     starts.extend_from_slice(&matrix.starts()[..count])?;
     Ok(starts)
 }

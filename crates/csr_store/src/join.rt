@@ -24,7 +24,7 @@ pub fn join_rows(
     requires small { length (numbered 0 (all_ended pieces.items)) ≤ limit }
     ensures { IfOk result (λ m. m ≡ grid rows columns (numbered 0 (all_ended pieces.items))) }
 {
-    let mut shared = RowStarts::room(alloc)?;
+    let mut shared = RowStarts::empty(alloc)?;
     let mut starts: Vec<u64> = Vec::with_capacity(alloc, rows as usize + 1)?;
     let mut cells = Vec::with_capacity(alloc, count_entries(&pieces))?;
     starts.push(0)?;

@@ -4,23 +4,24 @@
 //! [`Matrix`], which never changes; a [`Version`] is a matrix with several owners.
 //!
 //! The one contract: a `Matrix` is a finite map from positions to words with its two sizes, a
-//! `Grid` of `specs/Grid.antt`. That it is kept as compressed rows is no caller's business, but
+//! `Grid` of `specs/Grid.antt`. That it is stored as compressed rows is no caller's business, but
 //! that a row is a slice, and that the starts of the rows are lent. [`Rows`] is a run of rows, a
-//! `Run` of `specs/Run.antt`. [`stack_runs`] makes a matrix of runs of 256 rows, whose cells stay
-//! where they are, and whose starts are another matrix's where they are the same; and [`join_rows`]
-//! one of any runs that follow one another, by copying. [`RowReader`] reads rows one after the
-//! other, [`RowCopy`] copies rows of a matrix with other values, and [`Column`] is a copy of a
-//! matrix of one column, a word and a bit a row. What callers need to know of grids is proved in
-//! `proofs/Laws.antt` (single entries) and `proofs/ByRow.antt` (a grid row by row).
+//! `Run` of `specs/Run.antt`. A [`Stack`] takes runs of 256 rows one by one, and becomes a matrix
+//! whose cells stay where they are, and whose starts are another matrix's where they are the same.
+//! [`join_rows`] makes one of any runs that follow one another, by copying. [`RowReader`] reads
+//! rows one after the other, [`RowCopy`] copies rows of a matrix with other values, and [`Column`]
+//! is a copy of a matrix of one column, a word and a bit a row. What callers need to know of grids
+//! is proved in `proofs/Laws.antt` (single entries) and `proofs/ByRow.antt` (a grid row by row).
 //!
 //! Read `specs/Grid.antt` and `specs/Refusal.antt` first, then `error`, `builder`, `matrix`, `rows`
 //! and `stack`; below them `cells` (one list of cells, or many), `starts` (where rows start, in a
 //! list that matrices may share), `growing` (where rows start while runs are stacked), `ends`
-//! (where the rows of a run end), `moving` (ends counted from another place), `filler` (rows filled
+//! (where the rows of a run end), `moving` (ends counted from another start), `filler` (rows filled
 //! in ascending order), `merging` (those entries and others by position, as one list), `repeat`
 //! (the positions that two or more entries of a list have), `parts` (where positions start in each
-//! part of their range), `kept` (cells of which some are kept), `reader` (rows one after the other)
-//! and `row` (parts of a list of cells, and searches in a row), over `specs/ByRows.antt`.
+//! part of their range), `selected` (the cells that answers or a mask select), `reader` (rows one
+//! after the other) and `row` (parts of a list of cells, and searches in a row), over
+//! `specs/ByRows.antt`.
 #![tactic(auto)]
 
 pub mod builder;
@@ -32,7 +33,6 @@ pub mod error;
 mod filler;
 mod growing;
 mod join;
-mod kept;
 mod limits;
 pub mod matrix;
 mod merging;
@@ -43,6 +43,7 @@ mod repeat;
 mod row;
 mod row_copy;
 mod rows;
+mod selected;
 mod stack;
 mod starts;
 
@@ -57,4 +58,4 @@ pub use reader::RowReader;
 pub use repeat::RepeatedPositions;
 pub use row_copy::RowCopy;
 pub use rows::Rows;
-pub use stack::stack_runs;
+pub use stack::Stack;

@@ -3,12 +3,12 @@ ghost use Rattle.std.specs.Prelude.{◌≡◌, ◌<◌, ◌≤◌, ◌+◌, ◌-
 ghost use Rattle.std.specs.List.{range_with_len};
 ghost use Rattle.std.specs.FinMap as fin;
 ghost use Rattle.csr_store.specs.Along.{along};
-ghost use Rattle.csr_store.specs.Grid.{IsGrid, row_of, row_start};
+ghost use Rattle.csr_store.specs.Grid.{IsGrid, limit, row_of, row_start};
 ghost use Rattle.csr_store.specs.ByRows.{grid, by_rows, ends_of};
 ghost use Rattle.csr_store.specs.Run.{IsInRun};
 ghost use Rattle.csr_store.specs.inner.ByRows.{AreStarts};
 ghost use Rattle.csr_store.specs.Valued.{rows_of};
-ghost use Rattle.csr_store.specs.inner.Cells.{AreBases, joined};
+ghost use Rattle.csr_store.specs.inner.Cells.{AreStacked, joined};
 
 mod column;
 
@@ -29,9 +29,9 @@ pub type Cell = (u64, u64);
 
 /// A sparse matrix of 64-bit words: its two sizes, and at most one value at each position.
 ///
-/// It is kept as compressed rows: where each row starts, and behind the last row where it ends, and
-/// the cells of all rows. So it takes 16 bytes an entry and 8 a row. The cells stand in one list
-/// where they were read, and in the runs of rows that they were computed in where they are a
+/// It is stored as compressed rows: where each row starts, and behind the last row where it ends,
+/// and the cells of all rows. So it takes 16 bytes an entry and 8 a row. The cells stand in one
+/// list where they were read, and in the runs of rows that they were computed in where they are a
 /// result. Matrices whose rows start alike may share where they do.
 #[derive(Drop)]
 pub struct Matrix {
@@ -85,9 +85,9 @@ impl Matrix {
         starts: RowStarts,
         lists: Vec<Vec<Cell>>,
     ) -> Self
-        requires is_grid { IsGrid (grid rows columns (by_rows (ends_of starts) (joined lists.items))) }
-        requires starts { AreStarts rows starts (joined lists.items) }
-        requires lists { AreBases starts lists.items × (rows ≤ length lists.items * 256) × (entries ≡ length (joined lists.items)) }
+        requires stacked { AreStacked columns entries starts lists.items }
+        requires rows { (rows ≡ length (ends_of starts)) × (rows ≤ limit) }
+        requires columns { columns ≤ limit }
         ensures { result ≡ grid rows columns (by_rows (ends_of starts) (joined lists.items)) }
     {
         Matrix {

@@ -1,4 +1,4 @@
-//! Where rows end, counted from another place.
+//! Where rows end, counted from another start.
 ghost use Rattle.std.specs.Prelude.{◌≡◌, ◌++◌, length, map, OnOk};
 ghost use Rattle.csr_store.specs.inner.Moved.{moved};
 

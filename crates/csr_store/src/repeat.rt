@@ -17,8 +17,8 @@ use std::marker::Model;
 
 /// The positions that two or more entries of a list have, and which of them were met so far.
 ///
-/// They are kept where the entries stood, so they take no memory of their own. Each has two entries
-/// or more, so behind them is room for a table of where to look for a position.
+/// They are stored where the entries stood, so they take no memory of their own. Each has two
+/// entries or more, so behind them is memory for a table of where to look for a position.
 #[derive(Drop)]
 pub struct RepeatedPositions {
     /// The positions, rising, and behind them where each part of their range starts.
@@ -97,34 +97,35 @@ fn keep_repeats(cells: &mut Vec<Cell>) -> usize
     requires { IsNonDecreasingBy (λ c. c.0) cells.old.items }
     ensures within { result ≤ length cells.new.items }
     ensures sorted { fin.is_sorted nat_cmp (take result cells.new.items) ≡ true }
-    ensures kept { (p : Position) → found_in (take result cells.new.items) p ≡ mark_of (times p (map unpacked cells.old.items)) 0 }
+    ensures marked { (p : Position) → found_in (take result cells.new.items) p
+        ≡ mark_of (times p (map unpacked cells.old.items)) 0 }
 {
-    let mut kept = 0;
+    let mut repeats = 0;
     for nth in 1..cells.len() {
-        if begins_repeat(cells, kept, nth) {
-            cells[kept] = (cells[nth].0, 0);
-            kept += 1;
+        if begins_repeat(cells, repeats, nth) {
+            cells[repeats] = (cells[nth].0, 0);
+            repeats += 1;
         }
     }
-    kept
+    repeats
 }
 
 /// Whether a cell has the position of the one before it, and the last of the first so many cells
 /// has another.
-fn begins_repeat(cells: &[Cell], kept: usize, nth: usize) -> bool
-    requires order { kept < nth }
+fn begins_repeat(cells: &[Cell], repeats: usize, nth: usize) -> bool
+    requires order { repeats < nth }
     requires within { nth < length cells.now }
-    ensures yes { result ≡ true → BeginsRepeat cells.now kept nth }
-    ensures no { result ≡ false → GoesOn cells.now kept nth }
+    ensures yes { result ≡ true → BeginsRepeat cells.now repeats nth }
+    ensures no { result ≡ false → GoesOn cells.now repeats nth }
 {
     let position = cells[nth].0;
     if cells[nth - 1].0 != position {
         return false;
     }
-    if kept == 0 {
+    if repeats == 0 {
         return true;
     }
-    cells[kept - 1].0 != position
+    cells[repeats - 1].0 != position
 }
 
 /// Marks the cell of a position, if there is one, and tells whether it had its mark before.

@@ -44,7 +44,7 @@ impl<'m> Model for RowCopy<'m> {
 }
 
 impl<'m> RowCopy<'m> {
-    /// Rows by where each ends among cells, of which none was written, with room for all.
+    /// Rows by where each ends among cells, of which none was written, with capacity for all.
     pub(crate) fn of_ends(
         first: u64,
         columns: u64,
@@ -54,7 +54,7 @@ impl<'m> RowCopy<'m> {
     ) -> Self
         requires rows { AreRows columns ends.items source.now }
         requires none { written.items ≡ [] }
-        requires room { length source.now ≤ vec_capacity written }
+        requires capacity { length source.now ≤ vec_capacity written }
         ensures { result ≡ record { run = run_by_ends first columns ends.items source.now; written = 0 } }
     {
         RowCopy {
@@ -99,7 +99,7 @@ impl<'m> RowCopy<'m> {
     {
         let from = self.written.len();
         let columns = cells_between(self.source, from, from + values.len());
-        // a list of its own, so that its length and its place are not looked up for each cell
+        // a list of its own, so that its length and its address are not looked up for each cell
         let none = Vec::new(*self.written.allocator());
         let mut written = mem::replace(&mut self.written, none);
         push_valued(&mut written, columns, values);
@@ -125,13 +125,13 @@ impl<'m> RowCopy<'m> {
     }
 }
 
-/// Adds cells with other values to a list that has room for them.
+/// Adds cells with other values to a list that has capacity for them.
 #[inline(always)]
 fn push_valued(written: &mut Vec<Cell>, columns: &[Cell], values: &[u64])
     requires same { length columns.now ≡ length values.now }
-    requires room { length written.old.items + length values.now ≤ vec_capacity written.old }
+    requires capacity { length written.old.items + length values.now ≤ vec_capacity written.old }
     ensures pushed { written.new.items ≡ valued_from (length written.old.items) values.now (written.old.items ++ columns.now) }
-    ensures room { vec_capacity written.old ≤ vec_capacity written.new }
+    ensures capacity { vec_capacity written.old ≤ vec_capacity written.new }
 {
     let mut next = 0;
     for value in values {

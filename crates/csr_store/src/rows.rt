@@ -4,16 +4,17 @@ ghost use Rattle.std.specs.List.{AllByRecursion};
 ghost use Rattle.csr_store.specs.Grid.{Cell, limit, row_of};
 ghost use Rattle.csr_store.specs.Added.{kept_rows};
 ghost use Rattle.csr_store.specs.Along.{along};
+ghost use Rattle.csr_store.specs.Ascending.{Ascends};
+ghost use Rattle.csr_store.specs.Shown.{cells_shown};
 ghost use Rattle.csr_store.specs.ByRows.{ends_of};
 ghost use Rattle.csr_store.specs.Valued.{entries_in, entries_of, with_value, all_cells, valued_from, AreAlike};
-ghost use Rattle.csr_store.specs.inner.Cells.{CanStack, Stacks, joined};
+ghost use Rattle.csr_store.specs.inner.Column.{HaveOneEach};
 ghost use Rattle.csr_store.specs.inner.Run.{AreClosed, AreRows, IsRow, ended_rows, open_row};
 
 use crate::ends::RowEnds;
-use crate::growing::Growing;
-use crate::kept::{add_where, room_for};
 use crate::matrix::{Cell, Matrix};
 use crate::row::{append, put_values};
+use crate::selected::{add_shown, add_where, push_if, room_for};
 use std::alloc::{AllocError, Global};
 use std::marker::Model;
 use std::ops::Range;
@@ -78,7 +79,7 @@ impl Rows {
 
     /// The rows of a range of a matrix, with those of their cells whose answer is not 0. Takes
     /// memory for these, and for one cell more.
-    pub fn kept(
+    pub fn selected(
         alloc: Global,
         a: &Matrix,
         range: Range<u64>,
@@ -94,6 +95,9 @@ impl Rows {
           opened = [];
         }) }
     {
+        if let Some(cells) = a.one_each(range.start..range.end) {
+            return Rows::selected_each(alloc, a, range, cells, answers);
+        }
         let mut ends = Vec::with_capacity(alloc, (range.end - range.start) as usize)?;
         let mut cells = Vec::with_capacity(alloc, room_for(answers))?;
         let mut reader = a.rows_from(range.start);
@@ -114,7 +118,36 @@ impl Rows {
         })
     }
 
-    /// Reserves room for `entries` more entries. If that takes memory, the room at least doubles.
+    /// The same of rows that have one cell each: one loop over the cells, without a branch.
+    fn selected_each(
+        alloc: Global,
+        a: &Matrix,
+        range: Range<u64>,
+        cells: &[Cell],
+        answers: &[u64],
+    ) -> Result<Self, AllocError>
+        requires each { HaveOneEach a.now range.start range.end cells.now }
+        requires answers { length answers.now ≡ length cells.now }
+        ensures { IfOk result (λ r. r ≡ record {
+          first = range.start;
+          columns = a.now.columns;
+          ended = kept_rows a.now answers.now range.start (range.end - range.start);
+          opened = [];
+        }) }
+    {
+        let mut ends = Vec::with_capacity(alloc, cells.len())?;
+        let mut selected = Vec::with_capacity(alloc, room_for(answers))?;
+        a.recall();
+        let mut next = 0;
+        for (column, word) in cells {
+            push_if(&mut selected, *column, *word, answers[next]);
+            ends.push_reserved(selected.len() as u64);
+            next += 1;
+        }
+        Ok(Rows::of_ends(range.start, a.columns(), ends, selected))
+    }
+
+    /// Reserves memory for `entries` more entries. If it grows, it at least doubles.
     #[inline]
     pub fn reserve(&mut self, entries: usize) -> Result<(), AllocError>
         ensures { self.new ≡ self.old }
@@ -125,21 +158,22 @@ impl Rows {
         self.widen(entries)
     }
 
-    /// Reserves room for the ends of `rows` more rows.
+    /// Reserves memory for the ends of `rows` more rows.
     pub fn reserve_rows(&mut self, rows: usize) -> Result<(), AllocError>
         ensures { self.new ≡ self.old }
     {
         self.ends.reserve(rows)
     }
 
-    /// Moves the entries into a list with room for `entries` more, and for at least twice as many.
+    /// Moves the entries into a list with capacity for `entries` more, and for at least twice as
+    /// many.
     #[inline(never)]
     fn widen(&mut self, entries: usize) -> Result<(), AllocError>
         ensures { self.new ≡ self.old }
     {
         let len = self.cells.len();
-        let room = len.saturating_add(entries.max(len));
-        let mut wider = Vec::with_capacity(*self.cells.allocator(), room)?;
+        let capacity = len.saturating_add(entries.max(len));
+        let mut wider = Vec::with_capacity(*self.cells.allocator(), capacity)?;
         append(&mut wider, &self.cells)?;
         self.cells = wider;
         Ok(())
@@ -158,9 +192,26 @@ impl Rows {
         requires above { AllByRecursion (λ (c : Cell). c.0 < column) self.old.opened }
         ensures pushed { OnOk result
             (self.new ≡ record self.old { opened = self.old.opened ++ (column, value) ∷ [] }) }
-        ensures kept { OnErr result (self.new ≡ self.old) }
+        ensures unchanged { OnErr result (self.new ≡ self.old) }
     {
         self.cells.push((column, value))?;
+        Ok(())
+    }
+
+    /// Appends the cells of a row at whose columns a mask's row has one, where the open row has no
+    /// entry yet. On a refusal the run is as before.
+    #[inline]
+    pub fn push_shown(&mut self, cells: &[Cell], mask: &[Cell]) -> Result<(), AllocError>
+        requires none_open { self.old.opened ≡ [] }
+        requires ascends { Ascends 0 self.old.columns cells.now × Ascends 0 self.old.columns mask.now }
+        ensures pushed { OnOk result (self.new ≡ record self.old { opened = cells_shown mask.now cells.now }) }
+        ensures unchanged { OnErr result (self.new ≡ self.old) }
+    {
+        let most = cells.len().min(mask.len());
+        self.reserve(most)?;
+        // For the prover, which isn't told what was reserved: it takes no memory.
+        self.cells.reserve(most)?;
+        add_shown(&mut self.cells, cells, mask);
         Ok(())
     }
 
@@ -184,7 +235,7 @@ impl Rows {
     pub fn end_row(&mut self) -> Result<(), AllocError>
         ensures ended { OnOk result
             (self.new ≡ record self.old { ended = self.old.ended ++ self.old.opened ∷ []; opened = [] }) }
-        ensures kept { OnErr result (self.new ≡ self.old) }
+        ensures unchanged { OnErr result (self.new ≡ self.old) }
     {
         self.ends.push(self.cells.len() as u64)?;
         Ok(())
@@ -195,7 +246,7 @@ impl Rows {
     pub fn end_blank(&mut self, count: u64) -> Result<(), AllocError>
         requires none_open { self.old.opened ≡ [] }
         ensures ended { OnOk result (self.new ≡ record self.old { ended = self.old.ended ++ replicate count [] }) }
-        ensures kept { OnErr result (self.new ≡ self.old) }
+        ensures unchanged { OnErr result (self.new ≡ self.old) }
     {
         self.ends.push_alike(count, self.cells.len() as u64)?;
         Ok(())
@@ -232,23 +283,13 @@ impl Rows {
         self.cells[entry].1 = value;
     }
 
-    /// Appends the row ends to the starts of earlier runs, which have `entries` entries, and the cells
-    /// to theirs, as a list of their own. Returns the number of entries of all runs.
-    pub(crate) fn stack_on(
-        self,
-        entries: u64,
-        starts: &mut Growing<'_>,
-        lists: &mut Vec<Vec<Cell>>,
-    ) -> Result<u64, AllocError>
-        requires { CanStack self entries starts.old lists.old.items }
-        ensures stacked { OnOk result (Stacks self starts.old lists.old.items starts.new lists.new.items) }
-        ensures entries { IfOk result (λ n. n ≡ length (joined lists.new.items)) }
-        ensures rows { AllByRecursion (λ r. IsRow self.columns r) self.ended }
+    /// Where each ended row ends among the cells, and the cells, with those of the open row.
+    pub(crate) fn into_parts(self) -> (RowEnds, Vec<Cell>)
+        ensures rows { AreRows self.columns result.0 result.1.items }
+        ensures ended { ended_rows 0 result.0 result.1.items ≡ self.ended }
+        ensures opened { open_row 0 result.0 result.1.items ≡ self.opened }
     {
-        let count = self.cells.len() as u64;
-        starts.add(&self.ends, entries)?;
-        lists.push(self.cells)?;
-        Ok(entries + count)
+        (self.ends, self.cells)
     }
 
     /// Appends the ended rows to compressed rows.

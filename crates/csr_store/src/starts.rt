@@ -34,14 +34,14 @@ impl RowStarts {
         Ok(RowStarts { list })
     }
 
-    /// Room for a list, which is given later.
-    pub(crate) fn room(alloc: Global) -> Result<Self, AllocError> {
+    /// An empty list, which `give` replaces.
+    pub(crate) fn empty(alloc: Global) -> Result<Self, AllocError> {
         let list = Arc::new(alloc, Vec::new(alloc))?;
         Ok(RowStarts { list })
     }
 
-    /// Puts a list into room that has one owner. If it has more, the others keep the old list, and
-    /// memory is taken; else none is.
+    /// Replaces the list. If it has more owners, the others keep the old list, and memory is taken;
+    /// else none is.
     pub(crate) fn give(&mut self, list: Vec<u64>) -> Result<(), AllocError>
         ensures { OnOk result (self.new ≡ list.items) }
     {

@@ -255,11 +255,11 @@ enum Order {
 }
 
 /// The entry that comes behind so many others.
-fn entry_at(order: Order, place: u64) -> Triple {
+fn entry_at(order: Order, index: u64) -> Triple {
     let k = match order {
-        Order::Ascending => place,
-        Order::Descending => 29_999u64.wrapping_sub(place),
-        Order::Mixed => place.wrapping_mul(7_919) % 30_000,
+        Order::Ascending => index,
+        Order::Descending => 29_999u64.wrapping_sub(index),
+        Order::Mixed => index.wrapping_mul(7_919) % 30_000,
     };
     (k / SIDE, k % SIDE, k)
 }
@@ -267,8 +267,8 @@ fn entry_at(order: Order, place: u64) -> Triple {
 /// A builder that was given these entries in an order.
 fn builder_in(alloc: Global, order: Order) -> Result<Builder, StoreError> {
     let mut builder = Builder::new(alloc, SIDE, SIDE);
-    for place in 0..30_000u64 {
-        put_again(&mut builder, entry_at(order, place))?;
+    for index in 0..30_000u64 {
+        put_again(&mut builder, entry_at(order, index))?;
     }
     Ok(builder)
 }

@@ -52,8 +52,8 @@ fn refusal_of(alloc: Global, text: &[u8]) -> Option<MarketError> {
     }
 }
 
-/// Room for the entries is taken before the lines are read, and no more where a fault is found. So
-/// this passes whichever one allocation is refused.
+/// Memory for the entries is allocated before the lines are read, and no more where a fault is
+/// found. So this passes whichever one allocation is refused.
 #[test]
 fn a_fault_that_is_found_is_told_without_memory(rt: HostRuntime) -> Result<(), Fail> {
     match refusal_of(rt.alloc(), LATE_FAULT) {

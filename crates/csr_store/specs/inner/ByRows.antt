@@ -4,7 +4,7 @@ use Rattle.std.specs.FinMap as fin
 use Rattle.csr_store.specs.Grid.{IsGrid, Cell, pos_cmp}
 use Rattle.csr_store.specs.ByRows.{grid, by_rows, ends_of}
 
--- the ends from place `from` on don't fall, and are no more than n behind it
+-- the ends from index `from` on don't fall, and are no more than n behind it
 abbrev pub Within : ℕ → List ℕ → ℕ → Type 0
 Within from [] n = Unit {0}
 Within from (e ∷ ends) n = (from ≤ e) × ((e ≤ from + n) × Within e ends (n - (e - from)))

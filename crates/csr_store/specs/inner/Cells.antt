@@ -1,11 +1,10 @@
--- How the cells of a matrix are kept: all in one list, or those of each 256 rows in a list of their own.
+-- How the cells of a matrix are stored: all in one list, or those of each 256 rows in a list of their own.
 use Rattle.std.specs.Prelude.{◌≡◌, ◌≤◌, ◌<◌, ◌+◌, ◌*◌, ◌/◌, ℕ, List, [], ◌∷◌, ◌++◌, length, take, get_or}
+use Rattle.std.specs.List.{AllByRecursion}
 use Rattle.std.specs.Global.{Vec}
 use Rattle.csr_store.specs.Grid.{Cell, limit}
-use Rattle.csr_store.specs.Valued.{entries_in}
 use Rattle.csr_store.specs.ByRows.{ends_of}
-use Rattle.csr_store.specs.Run.{Run}
-use Rattle.csr_store.specs.inner.Run.{AreClosed, ended_rows}
+use Rattle.csr_store.specs.inner.Run.{AreClosed, IsRow, ended_rows}
 use Rattle.csr_store.specs.declared.cells.Cells.{Cells}
 use Rattle.csr_store.specs.declared.cells.Cells.TheVariants.{Whole, Runs}
 
@@ -22,7 +21,7 @@ joined_cells (Runs runs) = joined runs.items
 abbrev pub cells_before : List (Vec Cell) → ℕ → ℕ
 cells_before runs k = length (joined (take k runs))
 
--- the cells from one place up to another stand in one list: where there are runs, in this one, with so many cells before it
+-- the cells from one index up to another stand in one list: where there are runs, in this one, with so many cells before it
 abbrev pub IsPart : Cells → ℕ → ℕ → ℕ → ℕ → Type 0
 IsPart (Whole cells) run before from to = (from ≤ to) × (to ≤ length cells.items)
 IsPart (Runs runs) run before from to =
@@ -39,18 +38,11 @@ abbrev pub AreBases : List ℕ → List (Vec Cell) → Type 0
 AreBases starts runs =
     (k : ℕ) → k < length runs → (k * 256 < length starts) × (get_or starts (k * 256) 0 ≡ cells_before runs k)
 
--- the rows of a run behind those of compressed rows whose cells stand in runs
-pub record Stacks (run : Run) (starts : List ℕ) (runs : List (Vec Cell)) (more : List ℕ) (all : List (Vec Cell)) : Type 0 where
-  pub closed : AreClosed more (joined all)
-  pub rows : ended_rows 0 (ends_of more) (joined all) ≡ ended_rows 0 (ends_of starts) (joined runs) ++ run.ended
-  pub ends : List ℕ
-  pub starts_are : more ≡ starts ++ ends
-  pub cells : Vec Cell
-  pub runs_are : all ≡ runs ++ cells ∷ []
-
--- a run without an open row can stand behind compressed rows, which have so many entries
-pub record CanStack (run : Run) (entries : ℕ) (starts : List ℕ) (runs : List (Vec Cell)) : Type 0 where
+-- Runs of rows, stacked: compressed rows of so many columns and entries, of which each 256 have a list of cells of their own.
+pub record AreStacked (columns entries : ℕ) (starts : List ℕ) (runs : List (Vec Cell)) : Type 0 where
   pub closed : AreClosed starts (joined runs)
-  pub none_open : run.opened ≡ []
+  pub are_rows : AllByRecursion (λ r. IsRow columns r) (ended_rows 0 (ends_of starts) (joined runs))
+  pub bases : AreBases starts runs
+  pub filled : length runs ≡ (length (ends_of starts) + 255) / 256
   pub count : entries ≡ length (joined runs)
-  pub few : entries + entries_in run.ended ≤ limit
+  pub few : entries ≤ limit

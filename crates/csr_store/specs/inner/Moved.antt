@@ -1,4 +1,4 @@
--- Where rows end, counted from another place. This project's own.
+-- Where rows end, counted from another start. This project's own.
 use Rattle.std.specs.Prelude.{◌+◌, ◌%◌, ◌^◌, ℕ}
 
 -- an end moved by a distance, as words are added

@@ -12,9 +12,9 @@ pub record IsRow (columns : ℕ) (row : Row) : Type 0 where
   pub ascending : fin.is_sorted nat_cmp row ≡ true
   pub within : AllByRecursion (λ (c : Cell). (c.0 < columns) × (c.1 < 2 ^ 64)) row
 
--- How a run is kept: where each of its rows ends among its cells.
+-- How a run is stored: where each of its rows ends among its cells.
 
--- the rows that have an end, from the one that begins at a place on
+-- the rows that have an end, from the one that begins at a cell on
 abbrev pub ended_rows : ℕ → List ℕ → Row → List Row
 ended_rows from [] cells = []
 ended_rows from (to ∷ ends) cells = take (to - from) cells ∷ ended_rows to ends (drop (to - from) cells)
@@ -24,7 +24,7 @@ abbrev pub open_row : ℕ → List ℕ → Row → Row
 open_row from [] cells = cells
 open_row from (to ∷ ends) cells = open_row to ends (drop (to - from) cells)
 
--- ends that don't fall, from a place on up to a limit
+-- ends that don't fall, from an index on up to a limit
 abbrev pub AreEnds : ℕ → List ℕ → ℕ → Type 0
 AreEnds from [] most = from ≤ most
 AreEnds from (to ∷ ends) most = (from ≤ to) × AreEnds to ends most

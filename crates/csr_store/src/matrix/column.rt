@@ -1,11 +1,12 @@
 //! Words of a matrix of one column, by their rows.
-ghost use Rattle.std.specs.Prelude.{◌≡◌, ◌<◌, ◌≤◌, None, Some, length, slice_range, if◌then◌else◌};
+ghost use Rattle.std.specs.Prelude.{◌≡◌, ◌<◌, ◌≤◌, None, Some, length, slice_range, if◌then◌else◌, IfSome};
 ghost use Rattle.std.specs.FinMap as fin;
-ghost use Rattle.csr_store.specs.inner.Column.{first_word};
+ghost use Rattle.csr_store.specs.inner.Column.{first_word, HaveOneEach};
 
 use super::{Cell, Matrix};
 use crate::cells::Cells;
 use crate::limits::RUN_ROWS;
+use std::ops::Range;
 
 impl Matrix {
     /// The word at row `k` of a matrix of one column, and whether there is one. Where there is none it is any word, so that a
@@ -38,6 +39,25 @@ impl Matrix {
                 let to = starts[k as usize + 1] - before;
                 first_between(cells, from as usize, to as usize)
             }
+        }
+    }
+
+    /// The cells of rows of one column, all of one run, if each of the rows has one.
+    pub(crate) fn one_each(&self, range: Range<u64>) -> Option<&[Cell]>
+        requires range { range.start ≤ range.end }
+        requires within { range.end ≤ self.now.rows }
+        ensures { IfSome result (λ cells. HaveOneEach self.now range.start range.end cells.now) }
+    {
+        let in_run = range.end - range.start / RUN_ROWS * RUN_ROWS <= RUN_ROWS;
+        if self.columns() != 1 || !in_run {
+            return None;
+        }
+        let many = (range.end - range.start) as usize;
+        let cells = self.cells_of(range.start..range.end);
+        if cells.len() == many {
+            Some(cells)
+        } else {
+            None
         }
     }
 }

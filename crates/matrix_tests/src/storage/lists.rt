@@ -88,7 +88,7 @@ fn list_refuses_a_position_given_twice(rt: HostRuntime) {
     assert_twice(&rt, rt.alloc(), &[(0, 0, 1), (0, 0, 1)]);
 }
 
-/// The place, from 0, of the first of these entries of a matrix of 4 rows and 4 columns that has
+/// The index, from 0, of the first of these entries of a matrix of 4 rows and 4 columns that has
 /// the position of an earlier one.
 fn first_repeat(alloc: Global, entries: &[Triple]) -> Result<Option<usize>, StoreError> {
     let mut list = EntryList::new(alloc, 4, 4);
@@ -185,8 +185,8 @@ fn full_list_refuses_in_order(rt: HostRuntime) -> Result<(), Fail> {
 /// The entries of a matrix in an order.
 fn entries_in(alloc: Global, order: Order) -> Result<Vec<Triple>, AllocError> {
     let mut entries = Vec::new(alloc);
-    for place in 0..30_000u64 {
-        entries.push(entry_at(order, place))?;
+    for index in 0..30_000u64 {
+        entries.push(entry_at(order, index))?;
     }
     Ok(entries)
 }

@@ -25,18 +25,18 @@ fn uneven(rt: &HostRuntime) -> Result<Matrix, Fail> {
     Ok(finish_again(builder)?)
 }
 
-/// A run of rows has this cell at a place.
-fn assert_cell(rt: &impl Abort, rows: &Rows, place: u64, column: u64, value: u64) {
+/// A run of rows has this cell at an index.
+fn assert_cell(rt: &impl Abort, rows: &Rows, index: u64, column: u64, value: u64) {
     assert_eq!(rt;
-        rows.cells().get(place as usize),
+        rows.cells().get(index as usize),
         Some(&(column, value)),
-        "entry {place}"
+        "entry {index}"
     );
 }
 
-/// A run of rows has the cells of a row from a place on. The place behind them.
-fn assert_row_at(rt: &impl Abort, rows: &Rows, place: u64, cells: &[(u64, u64)]) -> u64 {
-    let mut next = place;
+/// A run of rows has the cells of a row from an index on. The index behind them.
+fn assert_row_at(rt: &impl Abort, rows: &Rows, index: u64, cells: &[(u64, u64)]) -> u64 {
+    let mut next = index;
     for (column, value) in cells {
         assert_cell(rt, rows, next, *column, *value);
         next = next.wrapping_add(1);
@@ -97,7 +97,7 @@ fn rows_are_copied(rt: HostRuntime) -> Result<(), Fail> {
     Ok(())
 }
 
-/// Rows and columns, each with its place among all cells and its value behind `other_values`.
+/// Rows and columns, each with its index among all cells and its value behind `other_values`.
 const CHANGED: [(u64, u64, u64, u64); 7] = [
     (1, 0, 0, 1000),
     (2, 0, 1, 2000),
@@ -108,7 +108,7 @@ const CHANGED: [(u64, u64, u64, u64); 7] = [
     (5, 0, 256, 5000),
 ];
 
-/// Three values from the place 127 on, and one at the place 500.
+/// Three values from the index 127 on, and one at the index 500.
 fn other_values(rt: &impl Abort, alloc: Global, matrix: &Matrix) -> Result<Rows, AllocError> {
     let mut copied = copy_of(rt, alloc, matrix, 0, matrix.rows())?;
     if 130 <= copied.entries() {
@@ -120,16 +120,16 @@ fn other_values(rt: &impl Abort, alloc: Global, matrix: &Matrix) -> Result<Rows,
     Ok(copied)
 }
 
-/// A run of rows has these cells, each with its row, its column, its place and its value.
+/// A run of rows has these cells, each with its row, its column, its index and its value.
 fn assert_cells(rt: &impl Abort, rows: &Rows, cells: &[(u64, u64, u64, u64)]) {
-    for (_, column, place, value) in cells {
-        assert_cell(rt, rows, *place, *column, *value);
+    for (_, column, index, value) in cells {
+        assert_cell(rt, rows, *index, *column, *value);
     }
 }
 
-/// The value of the cell at a place.
-fn value_at(rows: &Rows, place: usize) -> Option<u64> {
-    match rows.cells().get(place) {
+/// The value of the cell at an index.
+fn value_at(rows: &Rows, index: usize) -> Option<u64> {
+    match rows.cells().get(index) {
         Some(cell) => Some(cell.1),
         None => None,
     }
@@ -164,13 +164,13 @@ fn odd_columns(alloc: Global, matrix: &Matrix, from: u64, to: u64) -> Result<Row
     for row in from..to {
         push_answers(&mut answers, matrix.row(row))?;
     }
-    Rows::kept(alloc, matrix, from..to, &answers)
+    Rows::selected(alloc, matrix, from..to, &answers)
 }
 
-/// A run of rows has from a place on those cells of a row that stand in odd columns. The place
+/// A run of rows has from an index on those cells of a row that stand in odd columns. The index
 /// behind them.
-fn assert_odd_at(rt: &impl Abort, rows: &Rows, place: u64, cells: &[(u64, u64)]) -> u64 {
-    let mut next = place;
+fn assert_odd_at(rt: &impl Abort, rows: &Rows, index: u64, cells: &[(u64, u64)]) -> u64 {
+    let mut next = index;
     for (column, value) in cells {
         if *column % 2 == 1 {
             assert_cell(rt, rows, next, *column, *value);

@@ -4,7 +4,7 @@ use Rattle.std.specs.List.{AllByRecursion}
 use Rattle.csr_store.specs.ByRows.{grid, by_rows, ends_of}
 use Rattle.csr_store.specs.Run.{Run, Row, all_ended}
 use Rattle.csr_store.specs.inner.Run.{IsRow}
-use Rattle.csr_store.proofs.Joining.{follow_each, ended_more, rows_more, joined_entries, joined_grid, joined_starts}
+use Rattle.csr_store.proofs.Joining.{follow_each, ended_more, rows_more, follow_count, joined_entries, joined_grid, joined_starts}
 use Rattle.csr_store.proofs.join.join_rows.Goals as goal
 
 pub append_to-requires-clause-none_open : goal.append_to-requires-clause-none_open
@@ -29,7 +29,8 @@ from_rows-requires-clause-is_grid c =
     let v = c.deref-piece-items.ensures.value in
     let all : take c.loop-piece.piece-index c.deref-piece-items.result.now ≡ c.args.pieces.items = take_all c.loop-piece.piece-index c.deref-piece-items.result.now c.loop-piece-test.false ∙ v in
     rw c.in_ok-give.ensures
-    (joined_grid c.args.rows c.args.columns c.loop-piece.starts.items c.loop-piece.cells.items c.args.pieces.items c.requires.rows c.requires.columns c.requires.follow c.requires.small
+    (joined_grid c.args.rows c.args.columns c.loop-piece.starts.items c.loop-piece.cells.items (all_ended c.args.pieces.items) c.requires.rows c.requires.columns
+    (follow_count c.args.columns c.args.rows c.args.pieces.items c.requires.follow) c.requires.small
     c.loop-piece.invariant.closed (c.loop-piece.invariant.listed ∙ ap all_ended all) (subst (λ (rs : List Run). AllByRecursion (λ q. IsRow c.args.columns q) (all_ended rs)) all c.loop-piece.invariant.are_rows))
 
 pub from_rows-requires-clause-starts : goal.from_rows-requires-clause-starts
@@ -37,7 +38,8 @@ from_rows-requires-clause-starts c =
     let v = c.deref-piece-items.ensures.value in
     let all : take c.loop-piece.piece-index c.deref-piece-items.result.now ≡ c.args.pieces.items = take_all c.loop-piece.piece-index c.deref-piece-items.result.now c.loop-piece-test.false ∙ v in
     rw c.in_ok-give.ensures
-    (joined_starts c.args.rows c.args.columns c.loop-piece.starts.items c.loop-piece.cells.items c.args.pieces.items c.requires.rows c.requires.columns c.requires.follow c.requires.small
+    (joined_starts c.args.rows c.args.columns c.loop-piece.starts.items c.loop-piece.cells.items (all_ended c.args.pieces.items) c.requires.rows c.requires.columns
+    (follow_count c.args.columns c.args.rows c.args.pieces.items c.requires.follow) c.requires.small
     c.loop-piece.invariant.closed (c.loop-piece.invariant.listed ∙ ap all_ended all) (subst (λ (rs : List Run). AllByRecursion (λ q. IsRow c.args.columns q) (all_ended rs)) all c.loop-piece.invariant.are_rows))
 
 pub returns : goal.returns
@@ -46,5 +48,6 @@ returns c =
     let all : take c.loop-piece.piece-index c.deref-piece-items.result.now ≡ c.args.pieces.items = take_all c.loop-piece.piece-index c.deref-piece-items.result.now c.loop-piece-test.false ∙ v in
     c.from_rows.ensures ∙ ap (λ (ss : List ℕ). grid c.args.rows c.args.columns (by_rows (ends_of ss) c.loop-piece.cells.items)) c.in_ok-give.ensures
     ∙ ap (grid c.args.rows c.args.columns)
-    (joined_entries c.args.rows c.args.columns c.loop-piece.starts.items c.loop-piece.cells.items c.args.pieces.items c.requires.rows c.requires.columns c.requires.follow c.requires.small
+    (joined_entries c.args.rows c.args.columns c.loop-piece.starts.items c.loop-piece.cells.items (all_ended c.args.pieces.items) c.requires.rows c.requires.columns
+    (follow_count c.args.columns c.args.rows c.args.pieces.items c.requires.follow) c.requires.small
     c.loop-piece.invariant.closed (c.loop-piece.invariant.listed ∙ ap all_ended all) (subst (λ (rs : List Run). AllByRecursion (λ q. IsRow c.args.columns q) (all_ended rs)) all c.loop-piece.invariant.are_rows))

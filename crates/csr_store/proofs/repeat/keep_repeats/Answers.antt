@@ -22,13 +22,13 @@ loop-nth-preserved c =
     let l : c.loop-nth.nth < length c.args.cells.now.items = omega (arith, t, n, o) in
     let m : c.loop-nth.nth < length c.loop-nth.cells.items = omega (arith, l, s) in
     elim c.if-begins_repeat.branch [
-      | then-begins_repeat w ↦ rw (w.kept-is, w.cells-is)
-          (kept_push c.args.cells.now.items c.loop-nth.cells.items c.loop-nth.kept c.loop-nth.nth c.requires c.loop-nth.invariant l
-          (subst (λ (cs : List Cell). BeginsRepeat cs c.loop-nth.kept c.loop-nth.nth) c.deref.ensures.value (c.begins_repeat.ensures.yes w.if-begins_repeat.true)) _
-          (ap (λ (i : ℕ). set c.loop-nth.cells.items c.loop-nth.kept (i, 0)) (number c.loop-nth.cells.items c.loop-nth.nth w.index.result.now m w.index.ensures)))
-      | else-begins_repeat w ↦ rw (w.kept-is, w.cells-is)
-          (kept_on c.args.cells.now.items c.loop-nth.cells.items c.loop-nth.kept c.loop-nth.nth c.requires c.loop-nth.invariant l
-          (subst (λ (cs : List Cell). GoesOn cs c.loop-nth.kept c.loop-nth.nth) c.deref.ensures.value (c.begins_repeat.ensures.no w.if-begins_repeat.false)))
+      | then-begins_repeat w ↦ rw (w.repeats-is, w.cells-is)
+          (kept_push c.args.cells.now.items c.loop-nth.cells.items c.loop-nth.repeats c.loop-nth.nth c.requires c.loop-nth.invariant l
+          (subst (λ (cs : List Cell). BeginsRepeat cs c.loop-nth.repeats c.loop-nth.nth) c.deref.ensures.value (c.begins_repeat.ensures.yes w.if-begins_repeat.true)) _
+          (ap (λ (i : ℕ). set c.loop-nth.cells.items c.loop-nth.repeats (i, 0)) (number c.loop-nth.cells.items c.loop-nth.nth w.index.result.now m w.index.ensures)))
+      | else-begins_repeat w ↦ rw (w.repeats-is, w.cells-is)
+          (kept_on c.args.cells.now.items c.loop-nth.cells.items c.loop-nth.repeats c.loop-nth.nth c.requires c.loop-nth.invariant l
+          (subst (λ (cs : List Cell). GoesOn cs c.loop-nth.repeats c.loop-nth.nth) c.deref.ensures.value (c.begins_repeat.ensures.no w.if-begins_repeat.false)))
     ]
 
 pub returns-clause-within : goal.returns-clause-within
@@ -39,11 +39,11 @@ returns-clause-sorted c =
     let t = c.loop-nth-test.false in
     let n = c.len-nth-end.ensures in
     let o = c.args.cells.now.ok.0 in
-    (kept_all c.args.cells.now.items c.loop-nth.cells.items c.loop-nth.kept c.loop-nth.nth c.loop-nth.invariant (omega (arith, t, n, o))).0
+    (kept_all c.args.cells.now.items c.loop-nth.cells.items c.loop-nth.repeats c.loop-nth.nth c.loop-nth.invariant (omega (arith, t, n, o))).0
 
-pub returns-clause-kept : goal.returns-clause-kept
-returns-clause-kept c =
+pub returns-clause-marked : goal.returns-clause-marked
+returns-clause-marked c =
     let t = c.loop-nth-test.false in
     let n = c.len-nth-end.ensures in
     let o = c.args.cells.now.ok.0 in
-    (kept_all c.args.cells.now.items c.loop-nth.cells.items c.loop-nth.kept c.loop-nth.nth c.loop-nth.invariant (omega (arith, t, n, o))).1
+    (kept_all c.args.cells.now.items c.loop-nth.cells.items c.loop-nth.repeats c.loop-nth.nth c.loop-nth.invariant (omega (arith, t, n, o))).1

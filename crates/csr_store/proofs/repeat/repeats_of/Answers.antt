@@ -9,7 +9,7 @@ use Rattle.csr_store.proofs.repeat.repeats_of.Goals as goal
 
 pub returns-then-count-eq0-clause-once : goal.returns-then-count-eq0-clause-once
 returns-then-count-eq0-clause-once c =
-    once_kept c.args.cells.items (take c.keep_repeats-count.result c.keep_repeats-count.new.cells.items) c.keep_repeats-count.ensures.kept
+    once_kept c.args.cells.items (take c.keep_repeats-count.result c.keep_repeats-count.new.cells.items) c.keep_repeats-count.ensures.marked
     (ap (λ n. length (take n c.keep_repeats-count.new.cells.items)) c.if-count-eq0.true)
 
 some_long : (m n : ℕ) → (m ≡ 0 → ⊥) → n ≡ m → 0 < n
@@ -17,7 +17,7 @@ some_long m n f e = grind arith
 
 pub returns-clause-twice : goal.returns-clause-twice
 returns-clause-twice c =
-    twice_kept c.args.cells.items (take c.keep_repeats-count.result c.keep_repeats-count.new.cells.items) c.keep_repeats-count.ensures.kept
+    twice_kept c.args.cells.items (take c.keep_repeats-count.result c.keep_repeats-count.new.cells.items) c.keep_repeats-count.ensures.marked
     (let f = c.if-count-eq0.false in let k = length-take-le c.keep_repeats-count.result c.keep_repeats-count.new.cells.items c.keep_repeats-count.ensures.within in some_long _ _ f k)
 
 -- what stands in front in the end is what was kept
@@ -33,4 +33,4 @@ returns-clause-repeats c = λ p.
     ap (λ (xs : List Cell). get (from_entries {R = pos_cmp} (map unpacked xs)) p)
     (in_front n c.truncate.new.self.len c.split_at_mut-positions.result.0.now c.write_starts.new.starts _ c.split_at_mut-positions.ensures.front_len (omega (arith, len, most, cut))
     ∙ c.split_at_mut-positions.ensures.front ∙ ap (take n) (c.deref_mut.ensures.value ∙ t) ∙ take-take n m c.keep_repeats-count.new.cells.items (omega arith))
-    ∙ marks_are (take n c.keep_repeats-count.new.cells.items) p ∙ c.keep_repeats-count.ensures.kept p
+    ∙ marks_are (take n c.keep_repeats-count.new.cells.items) p ∙ c.keep_repeats-count.ensures.marked p

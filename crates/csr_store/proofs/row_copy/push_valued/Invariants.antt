@@ -6,5 +6,5 @@ abbrev pub invariant-loop-value : goal.invariant-loop-value
 invariant-loop-value l = record {
   set : AreSet (length l.fn.written.items) l.values (l.fn.written.items ++ l.columns) l.value-index (length l.written.items) (l.written.items ++ drop l.next l.columns);
   at : l.next ≡ l.value-index;
-  room : vec_capacity l.fn.written ≤ vec_capacity l.written;
+  capacity : vec_capacity l.fn.written ≤ vec_capacity l.written;
 }

@@ -30,7 +30,7 @@ returns-in-Ok c =
     (ap (λ (x : Listed). x.rows) c.in_ok-push_entries.ensures ∙ (ap (λ (x : Listed). x.rows) c.new-list.ensures ∙ c.rows.ensures.rows))
     (ap (λ (x : Listed). x.columns) c.in_ok-push_entries.ensures ∙ (ap (λ (x : Listed). x.columns) c.new-list.ensures ∙ c.columns.ensures.columns))
     (ap (λ (x : Listed). x.entries) c.in_ok-push_entries.ensures ∙ c.deref.ensures.value) in
-    c.in-Ok.ensures.made
+    c.in-Ok.ensures.built
     ∙ (ap (λ (l : Listed). grid l.rows l.columns l.entries) list
     ∙ (same_merged g c.self.inside.others.entries c.self.invariant c.len-for_proof_others.ensures.ordered fs c.in_ok-entries.ensures ∙ c.self.view_is))
 

@@ -6,7 +6,7 @@ pub push_reserved-requires : goal.push_reserved-requires
 push_reserved-requires c =
     let i = c.loop-k.invariant in
     let n = i.copying.rows in
-    let r = i.room in
+    let r = i.capacity in
     let t = c.loop-k-test.true in
     let e = c.rows-k-end.ensures.rows in
     let o = c.loop-k.words.ok.0 in
@@ -22,7 +22,7 @@ set_bit-requires c =
 pub loop-k-preserved : goal.loop-k-preserved
 loop-k-preserved c =
     let i = c.loop-k.invariant in
-    let r = i.room in
+    let r = i.capacity in
     let p = c.push_reserved.ensures.capacity in
     record {
       copying = subst (λ (us : List ℕ). Copying c.args.column.now (c.loop-k.k + 1) us c.set_bit.new.bits.items
@@ -30,7 +30,7 @@ loop-k-preserved c =
           (copying_step c.args.column.now c.loop-k.k c.loop-k.words.items c.loop-k.bits.items c.set_bit.new.bits.items
           c.word_in_column-word.result.0 c.word_in_column-word.result.1 c.loop-k.full i.copying c.word_in_column-word.ensures
           c.set_bit.ensures.set c.set_bit.ensures.others);
-      room = omega (arith, r, p);
+      capacity = omega (arith, r, p);
       wide = let w = i.wide in let b = c.set_bit.ensures.wide in omega (arith, w, b);
     }
 

@@ -12,8 +12,8 @@ invariant_of-self c =
     closed_filling c.self.inside.rows c.self.inside.columns c.self.inside.ends.items c.close.new.ends.items c.self.inside.cells.items c.self.inside.next c.len.result c.args.row c.self.invariant c.in_err-close.ensures.closes
     (c.len.ensures ∙ c.self.inside.cells.ok.0) c.in_err-close.ensures.upto (omega arith)
 
-pub returns-in_err-close-clause-kept : goal.returns-in_err-close-clause-kept
-returns-in_err-close-clause-kept c =
+pub returns-in_err-close-clause-unchanged : goal.returns-in_err-close-clause-unchanged
+returns-in_err-close-clause-unchanged c =
     on_err c.from_residual.result (closed_same c.self.inside.rows c.self.inside.columns c.self.inside.ends.items c.close.new.ends.items c.self.inside.cells.items c.self.inside.next c.len.result c.args.self.now c.self.invariant c.in_err-close.ensures.closes
     (c.len.ensures ∙ c.self.inside.cells.ok.0) c.self.view_is)
 
@@ -24,8 +24,8 @@ invariant_of-self-in_err-push c =
     (closed_filling c.self.inside.rows c.self.inside.columns c.self.inside.ends.items c.close.new.ends.items c.self.inside.cells.items c.self.inside.next c.len.result c.args.row c.self.invariant c.in_ok-close.ensures.closes
     (c.len.ensures ∙ c.self.inside.cells.ok.0) c.in_ok-close.ensures.upto (omega arith))
 
-pub returns-in_err-push-clause-kept : goal.returns-in_err-push-clause-kept
-returns-in_err-push-clause-kept c =
+pub returns-in_err-push-clause-unchanged : goal.returns-in_err-push-clause-unchanged
+returns-in_err-push-clause-unchanged c =
     on_err c.from_residual-in_err-push.result (ap (λ (cs : List Cell). grid_of c.self.inside.rows c.self.inside.columns c.close.new.ends.items cs) c.in_err-push.ensures.items
     ∙ closed_same c.self.inside.rows c.self.inside.columns c.self.inside.ends.items c.close.new.ends.items c.self.inside.cells.items c.self.inside.next c.len.result c.args.self.now c.self.invariant c.in_ok-close.ensures.closes
     (c.len.ensures ∙ c.self.inside.cells.ok.0) c.self.view_is)
@@ -44,8 +44,8 @@ row_in c = let r = ap (λ (g : Grid). g.rows) c.self.view_is in let l = c.requir
 column_in : (c : goal.After-self-1) → c.args.column < c.self.inside.columns
 column_in c = let r = ap (λ (g : Grid). g.columns) c.self.view_is in let l = c.requires.0.1 in omega arith
 
-room : (c : goal.After-self-1) → length c.self.inside.cells.items < limit
-room c =
+capacity : (c : goal.After-self-1) → length c.self.inside.cells.items < limit
+capacity c =
     let n = filling_entries c.self.inside.rows c.self.inside.columns c.self.inside.ends.items c.self.inside.cells.items c.self.inside.next c.self.invariant in
     let s = ap (λ (g : Grid). len g.cells) c.self.view_is in
     let l = c.requires.1 in omega arith
@@ -54,9 +54,9 @@ fits : (c : goal.After-self-1) → c.args.word < 2 ^ 64
 fits c = let f = c.ranges.word.fits in omega arith
 
 pub invariant_of-self-2 : goal.invariant_of-self-2
-invariant_of-self-2 c = joined_filling _ _ _ _ _ _ _ _ c.args.row c.args.column c.args.word c.push.new.self.items (joined c) (row_in c) (column_in c) (room c) (fits c) c.in_ok-push.ensures.items
+invariant_of-self-2 c = joined_filling _ _ _ _ _ _ _ _ c.args.row c.args.column c.args.word c.push.new.self.items (joined c) (row_in c) (column_in c) (capacity c) (fits c) c.in_ok-push.ensures.items
 
 pub returns-clause-added : goal.returns-clause-added
 returns-clause-added c =
-    λ t. joined_added _ _ _ _ _ _ _ _ c.args.row c.args.column c.args.word c.push.new.self.items (joined c) (row_in c) (column_in c) (room c) (fits c) c.in_ok-push.ensures.items
+    λ t. joined_added _ _ _ _ _ _ _ _ c.args.row c.args.column c.args.word c.push.new.self.items (joined c) (row_in c) (column_in c) (capacity c) (fits c) c.in_ok-push.ensures.items
     ∙ ap (λ (g : Grid). let h : Grid = record { rows = g.rows; columns = g.columns; cells = insert g.cells (c.args.row, c.args.column) c.args.word } in h) c.self.view_is

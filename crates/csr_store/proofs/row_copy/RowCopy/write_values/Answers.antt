@@ -31,8 +31,8 @@ push_valued-requires-clause-same c =
     (omega (arith, length-drop c.len-from.result c.self.inside.source.now, e, n, v, w, k, o, r)) in
     omega (arith, p, t, z)
 
-pub push_valued-requires-clause-room : goal.push_valued-requires-clause-room
-push_valued-requires-clause-room c =
+pub push_valued-requires-clause-capacity : goal.push_valued-requires-clause-capacity
+push_valued-requires-clause-capacity c =
     let e = entries_in_run c.self.inside.first c.self.inside.columns c.self.inside.ends.items (copied_cells c.self.inside.written.items c.self.inside.source.now) c.self.invariant.0 in
     let n = copied_length c.self.inside.written.items c.self.inside.source.now c.self.invariant.1 in
     let v = ap (λ (d : Copied). entries_of d.run) c.self.view_is in
@@ -55,7 +55,7 @@ invariant_of-self c =
     let m = x.count in
     let a = c.self.invariant.2 in
     let d = ap vec_capacity c.replace-written.ensures.value in
-    let g = c.push_valued.ensures.room in
+    let g = c.push_valued.ensures.capacity in
     (x.rows, omega (arith, m, e, n, v, w, o, r), omega (arith, a, d, g))
 
 pub returns-clause-written : goal.returns-clause-written

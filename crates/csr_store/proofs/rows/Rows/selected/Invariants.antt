@@ -1,11 +1,11 @@
 use Rattle.std.proofs.Common.{◌≡◌, ◌-◌, [], vec_capacity}
 use Rattle.csr_store.proofs.Keeping.{AreRowsKept}
-use Rattle.csr_store.proofs.rows.Rows.kept.Given as goal
+use Rattle.csr_store.proofs.rows.Rows.selected.Given as goal
 
 abbrev pub invariant-loop-reader : goal.invariant-loop-reader
 invariant-loop-reader l = record {
   of : l.reader.grid ≡ l.a;
-  kept : AreRowsKept l.a l.range.start l.range.end l.answers [] l.reader.row l.left l.ends.items l.cells.items (vec_capacity l.cells)
+  selected : AreRowsKept l.a l.range.start l.range.end l.answers [] l.reader.row l.left l.ends.items l.cells.items (vec_capacity l.cells)
       (vec_capacity l.ends);
 }
 
