@@ -80,14 +80,14 @@ kept-more (Some was) (Some now) before i bytes s m k =
     (m.0 ∙ ap (λ x. x ++ cells_of i) k.0 ∙ sym (layout-one before i), omega (arith, m.1, k.1))
 
 -- in the end they are laid out as the program
-kept-same : (room : Option (Vec (Option Insn))) (cells : Vec (Option Insn)) (is : List Insn) (bytes : ℕ) → AreKept room is bytes
-    → room ≡ Some cells → cells.items ≡ layout is
-kept-same room cells is bytes k e = (subst (λ r. AreKept r is bytes) e k).0
+kept-same : (reserved : Option (Vec (Option Insn))) (cells : Vec (Option Insn)) (is : List Insn) (bytes : ℕ) → AreKept reserved is bytes
+    → reserved ≡ Some cells → cells.items ≡ layout is
+kept-same reserved cells is bytes k e = (subst (λ r. AreKept r is bytes) e k).0
 
-pub kept-back : (room : Option (Vec (Option Insn))) (cells : Vec (Option Insn)) (is : List Insn) (bytes : ℕ)
-    → AreKept room is bytes → room ≡ Some cells → insns_of cells.items ≡ is
-kept-back room cells is bytes k e = ap insns_of (kept-same room cells is bytes k e) ∙ insns_of-layout is
+pub kept-back : (reserved : Option (Vec (Option Insn))) (cells : Vec (Option Insn)) (is : List Insn) (bytes : ℕ)
+    → AreKept reserved is bytes → reserved ≡ Some cells → insns_of cells.items ≡ is
+kept-back reserved cells is bytes k e = ap insns_of (kept-same reserved cells is bytes k e) ∙ insns_of-layout is
 
-pub kept-laid : (room : Option (Vec (Option Insn))) (cells : Vec (Option Insn)) (is : List Insn) (bytes : ℕ)
-    → AreKept room is bytes → room ≡ Some cells → IsProgram is → IsLaid cells.items
-kept-laid room cells is bytes k e p = subst IsLaid (sym (kept-same room cells is bytes k e)) (layout-laid is p)
+pub kept-laid : (reserved : Option (Vec (Option Insn))) (cells : Vec (Option Insn)) (is : List Insn) (bytes : ℕ)
+    → AreKept reserved is bytes → reserved ≡ Some cells → IsProgram is → IsLaid cells.items
+kept-laid reserved cells is bytes k e p = subst IsLaid (sym (kept-same reserved cells is bytes k e)) (layout-laid is p)

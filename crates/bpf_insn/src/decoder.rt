@@ -44,8 +44,8 @@ pub fn decode(alloc: Global, code: &[u8]) -> Result<Program, DecodeError>
     }
     // Without memory the code is read all the same: its fault comes before the refusal.
     // One cell a slot: `push_cells` never reallocates, so memory can be refused here alone.
-    let room = Vec::with_capacity(alloc, code.len() / 8).ok();
-    read_program(code, room)
+    let reserved = Vec::with_capacity(alloc, code.len() / 8).ok();
+    read_program(code, reserved)
 }
 
 fn has_bad_length(len: usize) -> bool
@@ -56,13 +56,13 @@ fn has_bad_length(len: usize) -> bool
 
 /// The program of code of a valid length, in a list with capacity for all of its slots; or the
 /// code's fault; or, if there is neither a fault nor capacity, `Memory`.
-fn read_program(code: &[u8], room: Option<Vec<Option<Insn>>>) -> Result<Program, DecodeError>
+fn read_program(code: &[u8], reserved: Option<Vec<Option<Insn>>>) -> Result<Program, DecodeError>
     requires length { has_bad_length (length code.now) ≡ false }
-    requires room { IfSome room (λ r. (r.items ≡ []) × (length code.now ≤ 8 * vec_capacity r)) }
+    requires capacity { IfSome reserved (λ r. (r.items ≡ []) × (length code.now ≤ 8 * vec_capacity r)) }
     ensures ok { IfOk result (Spells code.now) }
     ensures err { IfErr result (ExplainsRefusal code.now) }
 {
-    let mut cells = room;
+    let mut cells = reserved;
     let mut slot = 0;
     let mut len = 0;
     let mut rest = code;

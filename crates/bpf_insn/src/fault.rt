@@ -21,7 +21,7 @@ pub enum DecodeError {
     Memory,
 }
 
-/// Why instructions were not made a program.
+/// Why instructions are no program.
 #[derive(Debug, Drop, Error)]
 pub enum InsnsError {
     /// There are no instructions, or they have more than 4,096 slots: `V1`, at slot 0 or 4,096.

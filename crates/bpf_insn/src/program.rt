@@ -52,10 +52,10 @@ impl Program {
         let Some(slots) = slots_of_all(&insns) else {
             return Err(InsnsError::Fault(bad_length(MOST_SLOTS as u64)));
         };
-        let Ok(room) = Vec::with_capacity(alloc, slots) else {
+        let Ok(reserved) = Vec::with_capacity(alloc, slots) else {
             return Err(InsnsError::Memory);
         };
-        let cells = lay(&insns, room);
+        let cells = lay(&insns, reserved);
         Ok(Program::from_cells(cells, insns.len() as u64))
     }
 
@@ -173,12 +173,12 @@ fn slots_of_all(insns: &[Insn]) -> Option<usize>
 }
 
 /// The slots of the instructions in order, in a list with capacity for all of them.
-fn lay(insns: &[Insn], room: Vec<Option<Insn>>) -> Vec<Option<Insn>>
-    requires empty { room.items ≡ [] }
-    requires room { slot_count insns.now ≤ vec_capacity room }
+fn lay(insns: &[Insn], reserved: Vec<Option<Insn>>) -> Vec<Option<Insn>>
+    requires empty { reserved.items ≡ [] }
+    requires capacity { slot_count insns.now ≤ vec_capacity reserved }
     ensures { result.items ≡ layout insns.now }
 {
-    let mut cells = room;
+    let mut cells = reserved;
     for insn in insns {
         push_cells(&mut cells, *insn);
     }

@@ -3,7 +3,7 @@
 //! All of it keeps one promise, that of `call`: on operands of its kind an operator returns the
 //! value, and takes the steps, that the machine of `bpf_insn` has for its program (`HasValue`; as
 //! functions, `value_of` and `cost_of` of `specs/Meaning.antt`). `fold` promises the same of calls
-//! that each operate on the last result, and `Calls` of calls that are made together.
+//! that each operate on the last result, and `Calls` of calls that run together.
 //!
 //! Read `single` first: a call runs the flat code of its operator by `bpf_flat`. That such a run is
 //! a call is the law of `specs/inner/Flat.antt`. `folding` is a run that starts again for each
@@ -16,7 +16,7 @@
 //! operator is generic over that type, and `native` runs it, compiled for what the operator
 //! computes: there is one for folds in `folding`, one for a word with each of some words in
 //! `products`, and crates above may write their own. Unary operators have one in `unary`, since
-//! they compute a function of the first of the two words alone. Calls that are made together have
+//! they compute a function of the first of the two words alone. Calls that run together have
 //! one in `lanes::known`, for operators of each kind. All that loops of other crates may use is
 //! `Computes` of `specs/Known.antt`. The costs of a list of calls are defined in
 //! `specs/Calls.antt`, and folds in `specs/Fold.antt`.

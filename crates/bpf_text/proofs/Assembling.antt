@@ -59,7 +59,7 @@ progress_fault text rest first behind n listing rule p e b = inl (record {
   behind = lines behind;
   insns = p.insns;
   cut = p.cut ∙ ap (λ ls. p.done ++ ls) e;
-  place = ap (λ k. k + 1) (sym p.count);
+  numbered = ap (λ k. k + 1) (sym p.count);
   faultless = p.faultless;
   fault = b;
 })
@@ -72,7 +72,7 @@ progress_empty text rest n listing p e none =
     let whole = all_done text rest n listing p e in
     inr (record {
       faultless = subst (λ (ls : List (List ℕ)). AreFaultless ls []) (sym whole) (subst (λ (is : List Insn). AreFaultless p.done is) none p.faultless);
-      place = ap (λ k. k + 1) (sym (ap length whole ∙ p.count));
+      numbered = ap (λ k. k + 1) (sym (ap length whole ∙ p.count));
       name = refl;
     })
 

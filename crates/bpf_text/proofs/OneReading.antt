@@ -65,10 +65,10 @@ no_fault text is f t fault = ⊎_elim
 
 one_line : (text : List ℕ) (f g : AsmFault) → (p : IsFaultyLine text f) → (q : IsFaultyLine text g) → Cuts p.before p.line q.before q.line → f ≡ g
 one_line text f g p q (same b l) =
-    let place = p.place ∙ (ap (λ (x : List (List ℕ)). length x + 1) b ∙ sym q.place) in
+    let numbered = p.numbered ∙ (ap (λ (x : List (List ℕ)). length x + 1) b ∙ sym q.numbered) in
     let insns : p.insns ≡ q.insns = faultless_unique q.before p.insns q.insns (subst (λ (x : List (List ℕ)). AreFaultless x p.insns) b p.faultless) q.faultless in
     let lowest : IsLowestBroken q.insns q.line f.rule = subst (λ (x : List Insn). IsLowestBroken x q.line f.rule) insns (subst (λ (x : List ℕ). IsLowestBroken p.insns x f.rule) l p.fault) in
-    same_fault f g place (lowest_unique q.insns q.line f.rule g.rule lowest q.fault)
+    same_fault f g numbered (lowest_unique q.insns q.line f.rule g.rule lowest q.fault)
 one_line text f g p q (first m e) = absurd (not_among text f q.before q.insns p m e q.faultless)
 one_line text f g p q (second m e) = absurd (not_among text g p.before p.insns q m e p.faultless)
 
@@ -79,7 +79,7 @@ one_fault text f g a b = ⊎_elim
     (λ (q : HasNoInstruction text g). absurd (not_among text f (lines text) [] p p.behind p.cut q.faultless)) b)
     (λ (p : HasNoInstruction text f). ⊎_elim
     (λ (q : IsFaultyLine text g). absurd (not_among text g (lines text) [] q q.behind q.cut p.faultless))
-    (λ (q : HasNoInstruction text g). same_fault f g (p.place ∙ sym q.place) (p.name ∙ sym q.name)) b) a
+    (λ (q : HasNoInstruction text g). same_fault f g (p.numbered ∙ sym q.numbered) (p.name ∙ sym q.name)) b) a
 
 pub one_reading : (text : List ℕ) → HasOneReading text
 one_reading text = record {

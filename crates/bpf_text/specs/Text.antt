@@ -100,14 +100,14 @@ pub record IsFaultyLine (text : List ℕ) (f : AsmFault) : Type 0 where
   pub behind : List (List ℕ)
   pub insns : List Insn
   pub cut : lines text ≡ before ++ line ∷ behind
-  pub place : f.line ≡ length before + 1
+  pub numbered : f.line ≡ length before + 1
   pub faultless : AreFaultless before insns
   pub fault : IsLowestBroken insns line f.rule
 
 -- all lines are without fault, and none of them has an instruction
 pub record HasNoInstruction (text : List ℕ) (f : AsmFault) : Type 0 where
   pub faultless : AreFaultless (lines text) []
-  pub place : f.line ≡ length (lines text) + 1
+  pub numbered : f.line ≡ length (lines text) + 1
   pub name : f.rule ≡ BadLength
 
 -- the one fault of a text: its first faulty line and the lowest rule there

@@ -15,7 +15,7 @@ same_place m n e = cc
 adds_one : (F : ℕ → Types → Type 0) (V : Types → Type 0) (to : ℤ) (k : Types) (old new : List (Option Facts))
     → ((n : ℕ) → TellsSlot (known_at old n) (F n)) → Tells k V → Adds to k old new → (n : ℕ)
     → TellsSlot (known_at new n) (λ w. F n w ⊎ ((pos n ≡ to) × V w))
-adds_one F V to k old new h v a n = elim (cases_eq n a.place) [
+adds_one F V to k old new h v a n = elim (cases_eq n a.destination) [
   | inl e ↦
       let m : IsMerged (known_at old n) k a.there = subst (λ j. IsMerged (known_at old j) k a.there) (sym e) a.merged in
       subst (λ o. TellsSlot o (λ w. F n w ⊎ ((pos n ≡ to) × V w))) (sym (ap (known_at new) e ∙ a.now))
@@ -26,7 +26,7 @@ adds_one F V to k old new h v a n = elim (cases_eq n a.place) [
   | inr d ↦
       subst (λ o. TellsSlot o (λ w. F n w ⊎ ((pos n ≡ to) × V w))) (sym (a.others n d))
       (slot_same (F n) (λ w. F n w ⊎ ((pos n ≡ to) × V w)) (λ w f. inl f)
-      (λ w x. elim x [ inl f ↦ f | inr y ↦ absurd (d (same_place n a.place (y.0 ∙ a.is_place))) ])
+      (λ w x. elim x [ inl f ↦ f | inr y ↦ absurd (d (same_place n a.destination (y.0 ∙ a.is_place))) ])
       (known_at old n) (h n))
 ]
 

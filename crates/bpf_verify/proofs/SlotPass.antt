@@ -95,12 +95,12 @@ not_false false e = absurd (cc)
 
 jump_good : (insns : List Insn) (slot : ℕ) (to : ℤ) → goes_back slot (Some to) ≡ false
     → goes_nowhere insns (Some to) ≡ false → IsGoodTarget insns slot to
-jump_good insns slot (pos to) e f = record { place = to; is_place = refl; above = grind arith; begin = not_false _ f }
+jump_good insns slot (pos to) e f = record { destination = to; is_place = refl; above = grind arith; begin = not_false _ f }
 jump_good insns slot (negsuc n) e f = absurd (cc)
 
 fall_good : (insns : List Insn) (slot n : ℕ) → 0 < n → begins insns (slot + n) ≡ true
     → IsGoodTarget insns slot (pos (slot + n))
-fall_good insns slot n h b = record { place = slot + n; is_place = refl; above = omega arith; begin = b }
+fall_good insns slot n h b = record { destination = slot + n; is_place = refl; above = omega arith; begin = b }
 
 good : (insns : List Insn) (slot : ℕ) (i : Insn) → goes_back slot (jump_target slot i) ≡ false
     → goes_nowhere insns (jump_target slot i) ≡ false → (is_exit i ≡ false → begins insns (slot + slots_of i) ≡ true)

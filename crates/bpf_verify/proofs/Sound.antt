@@ -144,7 +144,7 @@ module _ (insns : List Insn) (entry : List Tag) (long : length entry ≡ 11) (cl
       inl (number (content f.registers R0), record { insn = i; here = at; unbroken = unbroken; leads = (no_next f i (steps.reads_numbers insns f i unbroken) n, refl) })
   steps_on f i at a (Some to) n =
       let t = in_all (IsGoodTarget insns f.slot) to (targets f.slot i) (clean f.slot i at).targets_good (next_target f i to n) in
-      let g : Frame = record { slot = t.place; registers = new_registers f.registers (written f.registers f.stack i); stack = new_stack f.registers f.stack i } in
+      let g : Frame = record { slot = t.destination; registers = new_registers f.registers (written f.registers f.stack i); stack = new_stack f.registers f.stack i } in
       inr (g, record { insn = i; here = at; unbroken = steps_unbroken f i at a; leads = record { slot = n ∙ ap Some t.is_place; registers = refl; stack = refl } }, t.above)
 
   -- the machine comes to an end

@@ -59,7 +59,7 @@ pub target_of : (insns : List Insn) (from to : ℕ) → IsClean insns → MayLea
     → (from < to) × (begins insns to ≡ true)
 target_of insns from to clean m =
     let g = in_all (IsGoodTarget insns from) (pos to) (targets from m.insn) (clean from m.insn m.here).targets_good m.target in
-    let e : to ≡ g.place = same_place to g.place g.is_place in
+    let e : to ≡ g.destination = same_place to g.destination g.is_place in
     (omega (arith, g.above, e), ap (begins insns) e ∙ g.begin)
 
 last_below : (insns : List Insn) (path : List ℕ) (slot : ℕ) → IsClean insns → IsPath insns path slot

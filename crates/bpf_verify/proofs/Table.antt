@@ -31,14 +31,14 @@ pub known_other : (table : List (Option Facts)) (k n : ℕ) (x : Option Facts) �
 known_other table k n x d = ap known_in (get_set_other table k n x d)
 
 -- a write of what is merged adds it
-pub adds_set : (table : List (Option Facts)) (to : ℤ) (place : ℕ) (k : Types) (f : Facts) → to ≡ pos place
-    → place < length table → IsMerged (known_at table place) k (known f) → Adds to k table (slice_set table place (Some f))
-adds_set table to place k f e h m = record {
-  place = place;
+pub adds_set : (table : List (Option Facts)) (to : ℤ) (destination : ℕ) (k : Types) (f : Facts) → to ≡ pos destination
+    → destination < length table → IsMerged (known_at table destination) k (known f) → Adds to k table (slice_set table destination (Some f))
+adds_set table to destination k f e h m = record {
+  destination = destination;
   is_place = e;
-  others = λ slot d. known_other table place slot (Some f) d;
+  others = λ slot d. known_other table destination slot (Some f) d;
   there = known f;
-  now = known_set table place f h;
+  now = known_set table destination f h;
   merged = m;
 }
 

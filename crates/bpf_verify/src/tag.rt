@@ -49,7 +49,7 @@ impl Tag {
         ensures { result ≡ reaches_outside self offset count }
     {
         match self {
-            Tag::Place(place) => is_outside_stack(i64::from(place) + i64::from(offset), count),
+            Tag::Place(base) => is_outside_stack(i64::from(base) + i64::from(offset), count),
             _ => false,
         }
     }
@@ -59,7 +59,7 @@ impl Tag {
         ensures { result ≡ first_byte self offset }
     {
         match self {
-            Tag::Place(place) => (i64::from(place) + i64::from(offset) + 512).unsigned_abs(),
+            Tag::Place(base) => (i64::from(base) + i64::from(offset) + 512).unsigned_abs(),
             // As in the definition, which has to be total. Such an access was refused before.
             _ => 0,
         }
@@ -72,7 +72,7 @@ impl Tag {
     {
         match self {
             // Inside the stack by the contract, so the cast is exact.
-            Tag::Place(place) => Tag::Place((i64::from(place) + i64::from(by)) as i16),
+            Tag::Place(base) => Tag::Place((i64::from(base) + i64::from(by)) as i16),
             // A number stays a number. Unset and mixed registers were refused before.
             _ => self,
         }

@@ -11,7 +11,7 @@ use std::process::Abort;
 use std::test::Fail;
 use test_operators::assembled;
 
-/// The words that operands are made of.
+/// The words of which operands consist.
 const WORDS: [u64; 12] = [
     0,
     1,

@@ -143,6 +143,6 @@ fn moved(content: Content, by: i32) -> Content
         Content::Number(n) => Content::Number(n.wrapping_add(i64::from(by).cast_unsigned())),
         // In i64, since imm has 32 bits. The sum is within -512 to 0 by the contract, so the cast
         // is exact.
-        Content::Place(place) => Content::Place((i64::from(place) + i64::from(by)) as i16),
+        Content::Place(distance) => Content::Place((i64::from(distance) + i64::from(by)) as i16),
     }
 }

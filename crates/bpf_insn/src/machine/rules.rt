@@ -119,8 +119,8 @@ impl Frame {
             return false;
         };
         match self.content(access.base) {
-            Content::Place(place) => is_outside_stack(
-                i64::from(place) + i64::from(access.offset),
+            Content::Place(distance) => is_outside_stack(
+                i64::from(distance) + i64::from(access.offset),
                 access.bytes,
             ),
             // Unset or a number: V11 or V14 is reported before this rule.
@@ -133,7 +133,7 @@ impl Frame {
     {
         match self.content(reg) {
             // No bytes are accessed: the moved place alone has to be inside.
-            Content::Place(place) => is_outside_stack(i64::from(place) + i64::from(by), 0),
+            Content::Place(distance) => is_outside_stack(i64::from(distance) + i64::from(by), 0),
             _ => false,
         }
     }

@@ -73,7 +73,9 @@ impl Frame {
         match self.content(base) {
             // `unsigned_abs` is total, as the definition is. Inside the stack, the sum isn't
             // negative.
-            Content::Place(place) => (i64::from(place) + i64::from(offset) + 512).unsigned_abs(),
+            Content::Place(distance) => (i64::from(distance)
+                + i64::from(offset)
+                + 512).unsigned_abs(),
             // As in the definition. A step that needs a place is refused before.
             _ => 0,
         }

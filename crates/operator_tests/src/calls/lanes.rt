@@ -1,10 +1,10 @@
-//! Calls that are made together, in all counts of lanes that differ in kind.
+//! Calls that run together, in all counts of lanes that differ in kind.
 ghost use Rattle.std.specs.Prelude.{◌≡◌, []};
 
 use super::*;
 use test_operators::SUBTRACT;
 
-/// How many calls are gathered: below the counts from which on they are made in lanes, and above.
+/// How many calls are gathered: below the counts from which on they run in lanes, and above.
 const COUNTS: [u64; 27] = [
     0, 1, 8, 9, 10, 11, 12, 13, 14, 15, 16, 17, 18, 19, 20, 21, 22, 23, 24, 25, 26, 27, 28, 29, 30,
     63, 64,
@@ -48,7 +48,7 @@ fn expect_values(rt: &impl Abort, tagged: &Program, operands: &[Operands], value
     sum
 }
 
-/// That calls made together give and cost what the tagged machine says of each.
+/// That calls run together give and cost what the tagged machine says of each.
 fn expect_together(
     rt: &impl Abort,
     tagged: &Program,
@@ -280,7 +280,7 @@ fn entries_where_others_stood(rt: HostRuntime) -> Result<(), Fail> {
     expect_entries(&rt, rt.alloc(), STORED)
 }
 
-/// Pairs of two lists are called in their order, and values stay until the next calls are made.
+/// Pairs of two lists are called in their order, and values stay until the next calls run.
 #[test]
 fn pairs_of_lists(rt: HostRuntime) -> Result<(), Fail> {
     let operator = assembled(rt.alloc(), Kind::Binary, SUBTRACT)?;

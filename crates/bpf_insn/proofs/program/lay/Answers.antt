@@ -15,6 +15,6 @@ loop-insn-preserved c =
     let n = c.loop-insn.insn-index in
     record {
       laid = c.push_cells.ensures.items ∙ ap (λ x. x ++ cells_of (get_or insns n past_end)) c.loop-insn.invariant.laid ∙ sym (layout-take insns n c.loop-insn-test.true);
-      room = omega (arith, c.push_cells.ensures.capacity);
+      capacity = omega (arith, c.push_cells.ensures.capacity);
       len = omega (arith, slot_count-take insns n c.loop-insn-test.true, c.push_cells.ensures.len);
     }
