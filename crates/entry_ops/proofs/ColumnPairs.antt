@@ -302,7 +302,7 @@ length_words-in [] = refl
 length_words-in (c ∷ r) = ap suc (length_words-in r)
 
 pub joined_valued : (form : Form) (f : Accepted) (a b shape : Grid) (first n : ℕ) → a.columns ≡ 1 → HasShapeOf form f a b shape first n
-    → AreValued shape (form_row form f a (Some b) None) (joined_words form f a b) first n
+    → AreValued (row_of shape) (form_row form f a (Some b) None) (joined_words form f a b) first n
 joined_valued form f a b shape first n one h = record {
   many = λ i l u. length_words-in (form_row form f a (Some b) None i) ∙ h.many i l u;
   rows = λ i l u.
@@ -320,7 +320,7 @@ module _ (f : Accepted) (pair : ColumnPair) (is : IsPair pair) (shape : Grid)
   abbrev vs : ℕ → List ℕ
   vs i = joined_words (form_of pair.form) f pair.left.now pair.right.now i
 
-  valued : AreValued shape (form_row (form_of pair.form) f pair.left.now (Some pair.right.now) None) vs pair.first pair.rows
+  valued : AreValued (row_of shape) (form_row (form_of pair.form) f pair.left.now (Some pair.right.now) None) vs pair.first pair.rows
   valued = joined_valued (form_of pair.form) f pair.left.now pair.right.now shape pair.first pair.rows is.left h
 
   pub joined_many : length words ≡ entries_in_run run
@@ -336,7 +336,7 @@ module _ (f : Accepted) (pair : ColumnPair) (is : IsPair pair) (shape : Grid)
         opened = [];
       }
   joined_rows r alike cells =
-      valued-rows shape (form_row (form_of pair.form) f pair.left.now (Some pair.right.now) None) vs pair.first pair.rows valued r
+      valued-rows (row_of shape) (form_row (form_of pair.form) f pair.left.now (Some pair.right.now) None) vs shape.columns pair.first pair.rows valued r
       (subst (λ (q : Run). AreAlike q r) copied alike)
       (cells ∙ (ap (λ ws. valued_from 0 ws (all_cells run)) words_are
       ∙ ap (λ (q : Run). valued_from 0 (along vs pair.first pair.rows) (all_cells q)) copied))

@@ -8,7 +8,7 @@ use Rattle.csr_store.specs.Run.{Row, Run}
 use Rattle.entry_ops.specs.inner.Standing.{CanPush, FollowIn, with_cell, with_cells, with_end}
 use Rattle.entry_ops.specs.inner.SelectBuffer.{with_kept, placed, Fits}
 use Rattle.entry_ops.specs.declared.select_buffer.Mark.{Mark}
-use Rattle.entry_ops.specs.declared.select_buffer.Mark.TheVariants.{End, Kept}
+use Rattle.entry_ops.specs.declared.select_buffer.Mark.TheVariants.{End, Selected}
 use Rattle.entry_ops.proofs.Standing.{above_less}
 use Rattle.entry_ops.proofs.SelectBuffer.{IsSifting, end-placed, keep-within, keep-fits, keep-placed}
 
@@ -111,7 +111,7 @@ module _ (marks : List Mark) (values : List ℕ) (start : Run) (i next : ℕ) (w
         (with_none new ∙ is);
   }
 
-  module _ (c w : ℕ) (here : get_or marks i d ≡ Kept c w) where
+  module _ (c w : ℕ) (here : get_or marks i d ≡ Selected c w) where
     pub kept-within : next < length values
     kept-within = keep-within marks values start i next (with_cells waiting rows) d h.sifting l c w here
 

@@ -9,6 +9,7 @@ pub mod Merging
 pub mod OperandReader
 pub mod Mapped
 pub mod Whole
+pub mod Applying
 pub mod Paired
 pub mod PairCalls
 pub mod Filling

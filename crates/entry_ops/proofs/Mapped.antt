@@ -48,11 +48,11 @@ module _ (f : Accepted) where
 
   pub record IsMapping (all : List Operands) (old : Mapping) (left : List Operands) (now : Mapping) : Type 0 where
     pub entries : HasEntries now (length left)
-    pub room : now.steps + steps_of (calls_on f left) < 2 ^ 64
+    pub capacity : now.steps + steps_of (calls_on f left) < 2 ^ 64
     pub ends : (n : Mapping) → IsFurther f left now n → IsFurther f all old n
 
   pub mapping-start : (all : List Operands) (old : Mapping) → HasEntries old (length all) → old.steps + steps_of (calls_on f all) < 2 ^ 64 → IsMapping all old all old
-  mapping-start all old e r = record { entries = e; room = r; ends = λ n a. a }
+  mapping-start all old e r = record { entries = e; capacity = r; ends = λ n a. a }
 
   pub mapping-end : (all : List Operands) (old : Mapping) (left : List Operands) (now : Mapping) → IsMapping all old left now → left ≡ [] → IsFurther f all old now
   mapping-end all old left now i e = i.ends now (subst (λ os. IsFurther f os now now) (sym e) (further-none now))
@@ -68,12 +68,12 @@ module _ (f : Accepted) where
     mapping-entries = let e = i.entries in let n = many in omega (arith, e, n)
 
     pub mapping-room : now.steps + steps_of (calls_on f first) < 2 ^ 64
-    mapping-room = let r = i.room in let s = cost in omega (arith, r, s)
+    mapping-room = let r = i.capacity in let s = cost in omega (arith, r, s)
 
     pub mapping-step : (m : Mapping) → IsFurther f first now m → IsMapping all old rest m
     mapping-step m a = record {
       entries = let e = i.entries in let l = a.number in let k = alike_entries now.rows.run m.rows.run a.alike in let n = many in omega (arith, e, l, k, n);
-      room = let r = i.room in let t = a.steps in let s = cost in omega (arith, r, t, s);
+      capacity = let r = i.capacity in let t = a.steps in let s = cost in omega (arith, r, t, s);
       ends = λ q b. i.ends q (subst (λ os. IsFurther f os now q) (sym p) (further-then first rest now m q a b));
     }
 

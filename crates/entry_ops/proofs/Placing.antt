@@ -228,7 +228,7 @@ module _ (f : Accepted) where
     does-call c x o n k l is more =
         let vs = values_on f g.operands in
         let count : length g.operands ≡ length vs = sym (values-count f g.operands) in
-        let room : length vs < length e.indices = omega arith in
+        let capacity : length vs < length e.indices = omega arith in
         let indices : n.indices ≡ set e.indices (length vs) (entries_of e.rows) =
         ap (λ (m : Emission). m.indices) is ∙ ap (λ i. set e.indices i (entries_of e.rows)) count in
         let rows : n.rows ≡ with_cell c x e.rows = ap (λ (m : Emission). m.rows) is in
@@ -237,9 +237,9 @@ module _ (f : Accepted) where
         let calls : calls_on f k.operands ≡ calls_on f g.operands ++ call_of f o ∷ [] = ap (calls_on f) operands ∙ calls_on-append f g.operands (o ∷ []) in
         let pushed : entries_of (with_cell c x e.rows) ≡ entries_of e.rows + 1 = entries_push e.rows (c, x) in
         let here : HavePlaces (set e.indices (length vs) (entries_of e.rows)) (vs ++ value_of f o ∷ []) (entries_of (with_cell c x e.rows))
-        = have-set e.indices vs (entries_of e.rows) (value_of f o) _ room (omega arith) (have-more e.indices vs (entries_of e.rows) _ (omega arith) h.indices) in
+        = have-set e.indices vs (entries_of e.rows) (value_of f o) _ capacity (omega arith) (have-more e.indices vs (entries_of e.rows) _ (omega arith) h.indices) in
         let behind : Rise 0 (set e.indices (length vs) (entries_of e.rows)) (vs ++ value_of f o ∷ [])
-        = rise-set 0 e.indices vs (entries_of e.rows) (value_of f o) (entries_of e.rows) room (omega arith) (omega arith) h.indices h.rise in record {
+        = rise-set 0 e.indices vs (entries_of e.rows) (value_of f o) (entries_of e.rows) capacity (omega arith) (omega arith) h.indices h.rise in record {
           holds = record {
             kind = ap (λ (m : Gathered). m.kind) more ∙ h.kind;
             indices = subst (λ (r : Run). HavePlaces n.indices (values_on f k.operands) (entries_of r)) (sym rows)
@@ -252,7 +252,7 @@ module _ (f : Accepted) where
               (ap (placed n.indices (values_on f k.operands)) rows
               ∙ (ap (λ ps. placed ps (values_on f k.operands) (with_cell c x e.rows)) indices
               ∙ (ap (λ us. placed (set e.indices (length vs) (entries_of e.rows)) us (with_cell c x e.rows)) values
-              ∙ (placed-set e.indices vs (entries_of e.rows) (value_of f o) (with_cell c x e.rows) room
+              ∙ (placed-set e.indices vs (entries_of e.rows) (value_of f o) (with_cell c x e.rows) capacity
               ∙ (ap (with_value (entries_of e.rows) (value_of f o)) (placed-push c x e.indices vs e.rows h.indices)
               ∙ (ap (λ p. with_value p (value_of f o) (with_cell c x (placed e.indices vs e.rows))) (sym (placed-entries e.indices vs e.rows))
               ∙ with_value_last c x (value_of f o) (placed e.indices vs e.rows)))))))
@@ -261,10 +261,10 @@ module _ (f : Accepted) where
 
 -- ---- the same by what an emitter keeps, after room was made
 
-module _ (f : Accepted) (e : Emission) (g : Gathered) (m : Emission) (h : Gathered) (room : Does f [] (λ run. run) e g m h)
+module _ (f : Accepted) (e : Emission) (g : Gathered) (m : Emission) (h : Gathered) (capacity : Does f [] (λ run. run) e g m h)
     (rows : Run) (indices : List ℕ) (steps : ℕ) (is : record { rows = rows; indices = indices; steps = steps } ≡ m) where
   kept : Does f [] (λ run. run) e g (record { rows = rows; indices = indices; steps = steps }) h
-  kept = subst (λ (n : Emission). Does f [] (λ run. run) e g n h) (sym is) room
+  kept = subst (λ (n : Emission). Does f [] (λ run. run) e g n h) (sym is) capacity
 
   pub called-fits : (c : ℕ) → CanPush c (final f e g) → CanPush c rows
   called-fits c p = can-push f (record { rows = rows; indices = indices; steps = steps }) h kept.holds c (subst (CanPush c) (sym kept.adds.rows) p)

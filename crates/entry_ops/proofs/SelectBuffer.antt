@@ -8,7 +8,7 @@ use Rattle.bpf_run.specs.Meaning.{value_of}
 use Rattle.bpf_run.specs.Calls.{Call, Gathered, call_of, calls_on, values_on, steps_of}
 use Rattle.bpf_run.proofs.Charging.{Spends, spends-start, spends-step, calls_on-append, values_on-append}
 use Rattle.entry_ops.specs.declared.select_buffer.Mark.{Mark}
-use Rattle.entry_ops.specs.declared.select_buffer.Mark.TheVariants.{End, Kept}
+use Rattle.entry_ops.specs.declared.select_buffer.Mark.TheVariants.{End, Selected}
 use Rattle.entry_ops.specs.inner.Standing.{CanPush, with_end}
 use Rattle.entry_ops.specs.inner.SelectBuffer.{placed, Fits, with_kept, SelectState, final, Holds, standing, Does}
 use Rattle.entry_ops.proofs.Standing.{adds-nothing, adds-then, adds-waiting}
@@ -25,15 +25,15 @@ placed-append : (ms ns : List Mark) (vs ws : List ℕ) (run : Run) → Fits ms v
     → placed (ms ++ ns) (vs ++ ws) run ≡ placed ns ws (placed ms vs run)
 placed-append [] ns vs ws run h = ap (λ us. placed ns (us ++ ws) run) h
 placed-append (End ∷ ms) ns vs ws run h = placed-append ms ns vs ws (with_end run) h
-placed-append (Kept c w ∷ ms) ns [] ws run h = absurd h
-placed-append (Kept c w ∷ ms) ns (v ∷ vs) ws run h = placed-append ms ns vs ws (with_kept c w v run) h.1
+placed-append (Selected c w ∷ ms) ns [] ws run h = absurd h
+placed-append (Selected c w ∷ ms) ns (v ∷ vs) ws run h = placed-append ms ns vs ws (with_kept c w v run) h.1
 
 fits-append : (ms ns : List Mark) (vs ws : List ℕ) (run : Run) → Fits ms vs run → Fits ns ws (placed ms vs run)
     → Fits (ms ++ ns) (vs ++ ws) run
 fits-append [] ns vs ws run h k = subst (λ us. Fits ns (us ++ ws) run) (sym h) k
 fits-append (End ∷ ms) ns vs ws run h k = fits-append ms ns vs ws (with_end run) h k
-fits-append (Kept c w ∷ ms) ns [] ws run h k = absurd h
-fits-append (Kept c w ∷ ms) ns (v ∷ vs) ws run h k = (h.0, fits-append ms ns vs ws (with_kept c w v run) h.1 k)
+fits-append (Selected c w ∷ ms) ns [] ws run h k = absurd h
+fits-append (Selected c w ∷ ms) ns (v ∷ vs) ws run h k = (h.0, fits-append ms ns vs ws (with_kept c w v run) h.1 k)
 
 pub placing-at : (marks : List Mark) (values : List ℕ) (start : Run) (i next now_next : ℕ) (now : Run) → now_next ≡ next
     → IsSifting marks values start i next now → IsSifting marks values start i now_next now
@@ -53,32 +53,32 @@ module _ (marks : List Mark) (values : List ℕ) (start : Run) (i next : ℕ) (n
     few = h.few;
   }
 
-  kept-some : (c w : ℕ) (ms : List Mark) (vs : List ℕ) (run : Run) → Fits (Kept c w ∷ ms) vs run → 0 < length vs
+  kept-some : (c w : ℕ) (ms : List Mark) (vs : List ℕ) (run : Run) → Fits (Selected c w ∷ ms) vs run → 0 < length vs
   kept-some c w ms [] run f = absurd f
   kept-some c w ms (v ∷ vs) run f = omega arith
 
-  pub keep-within : (c w : ℕ) → get_or marks i d ≡ Kept c w → next < length values
+  pub keep-within : (c w : ℕ) → get_or marks i d ≡ Selected c w → next < length values
   keep-within c w here =
-      let f = kept-some c w (drop (i + 1) marks) (drop next values) now (subst (λ ms. Fits ms (drop next values) now) (left_marks (Kept c w) here) h.fits) in
+      let f = kept-some c w (drop (i + 1) marks) (drop next values) now (subst (λ ms. Fits ms (drop next values) now) (left_marks (Selected c w) here) h.fits) in
       let n = length-drop next values in omega arith
 
   module _ (ll : next < length values) where
     left_values : drop next values ≡ get_or values next 0 ∷ drop (next + 1) values
     left_values = drop_more values next 0 ll
 
-    pub keep-fits : (c w : ℕ) → get_or marks i d ≡ Kept c w → CanPush c now
-    keep-fits c w here = (subst (λ vs. Fits (Kept c w ∷ drop (i + 1) marks) vs now) left_values
-        (subst (λ ms. Fits ms (drop next values) now) (left_marks (Kept c w) here) h.fits)).0
+    pub keep-fits : (c w : ℕ) → get_or marks i d ≡ Selected c w → CanPush c now
+    keep-fits c w here = (subst (λ vs. Fits (Selected c w ∷ drop (i + 1) marks) vs now) left_values
+        (subst (λ ms. Fits ms (drop next values) now) (left_marks (Selected c w) here) h.fits)).0
 
-    pub keep-placed : (c w : ℕ) → get_or marks i d ≡ Kept c w → (new : Run) → new ≡ with_kept c w (get_or values next 0) now
+    pub keep-placed : (c w : ℕ) → get_or marks i d ≡ Selected c w → (new : Run) → new ≡ with_kept c w (get_or values next 0) now
         → IsSifting marks values start (i + 1) (next + 1) new
     keep-placed c w here new is = record {
       fits = subst (Fits (drop (i + 1) marks) (drop (next + 1) values)) (sym is)
-          (subst (λ vs. Fits (Kept c w ∷ drop (i + 1) marks) vs now) left_values
-          (subst (λ ms. Fits ms (drop next values) now) (left_marks (Kept c w) here) h.fits)).1;
+          (subst (λ vs. Fits (Selected c w ∷ drop (i + 1) marks) vs now) left_values
+          (subst (λ ms. Fits ms (drop next values) now) (left_marks (Selected c w) here) h.fits)).1;
       same = ap (placed (drop (i + 1) marks) (drop (next + 1) values)) is
-          ∙ ap (λ vs. placed (Kept c w ∷ drop (i + 1) marks) vs now) (sym left_values)
-          ∙ ap (λ ms. placed ms (drop next values) now) (sym (left_marks (Kept c w) here)) ∙ h.same;
+          ∙ ap (λ vs. placed (Selected c w ∷ drop (i + 1) marks) vs now) (sym left_values)
+          ∙ ap (λ ms. placed ms (drop next values) now) (sym (left_marks (Selected c w) here)) ∙ h.same;
       few = omega arith;
     }
 
@@ -136,19 +136,19 @@ module _ (f : Accepted) where
       }
 
   -- a mark after room was made
-  module _ (e m n : SelectState) (g h k : Gathered) (room : Does f [] (λ run. run) e g m h) where
-    pub does-keep : (c w : ℕ) (o : Operands) → CanPush c (final f e g) → n ≡ record m { marks = m.marks ++ Kept c w ∷ [] }
+  module _ (e m n : SelectState) (g h k : Gathered) (capacity : Does f [] (λ run. run) e g m h) where
+    pub does-keep : (c w : ℕ) (o : Operands) → CanPush c (final f e g) → n ≡ record m { marks = m.marks ++ Selected c w ∷ [] }
         → k ≡ record h { operands = h.operands ++ o ∷ [] } → Does f (call_of f o ∷ []) (with_kept c w (value_of f o)) e g n k
-    does-keep c w o p is more = does-then [] (call_of f o ∷ []) (λ run. run) (with_kept c w (value_of f o)) e m n g h k room
-        (does-mark m n h k (Kept c w) (o ∷ []) (with_kept c w (value_of f o)) room.holds (
-          subst (CanPush c) (sym room.adds.rows) p,
+    does-keep c w o p is more = does-then [] (call_of f o ∷ []) (λ run. run) (with_kept c w (value_of f o)) e m n g h k capacity
+        (does-mark m n h k (Selected c w) (o ∷ []) (with_kept c w (value_of f o)) capacity.holds (
+          subst (CanPush c) (sym capacity.adds.rows) p,
           refl,
         ) refl is
         (ap (λ (x : Gathered). x.kind) more) (ap (λ (x : Gathered). x.operands) more))
 
     pub does-end : n ≡ record m { marks = m.marks ++ End ∷ [] } → k ≡ h → Does f [] with_end e g n k
-    does-end is more = does-then [] [] (λ run. run) with_end e m n g h k room
-        (does-mark m n h k End [] with_end room.holds refl refl is
+    does-end is more = does-then [] [] (λ run. run) with_end e m n g h k capacity
+        (does-mark m n h k End [] with_end capacity.holds refl refl is
         (ap (λ (x : Gathered). x.kind) more) (ap (λ (x : Gathered). x.operands) more ∙ sym (append-nil h.operands)))
 
 -- a mark was pushed to what is kept of an emission

@@ -109,62 +109,73 @@ pub record AreMapped (form : Form) (f : Accepted) (a : Grid) (b : Option Grid) (
   pub rows : (i : ℕ) → first ≤ i → i < first + n → form_row form f a b None i ≡ with_values (row_of a i) (values_on f (os i))
   pub calls : (i : ℕ) → first ≤ i → i < first + n → form_row_calls form f a b None i ≡ calls_on f (os i)
 
-module _ {T : Type 0} (a : Grid) (os : ℕ → List T) where
-  range-count : (first n : ℕ) → ((i : ℕ) → first ≤ i → i < first + n → length (os i) ≡ length (row_of a i))
-      → length (along os first n) ≡ length (cells a first n)
+module _ {T : Type 0} (base : ℕ → Row) (os : ℕ → List T) where
+  range-count : (first n : ℕ) → ((i : ℕ) → first ≤ i → i < first + n → length (os i) ≡ length (base i))
+      → length (along os first n) ≡ length (cells_in (along (λ i. base i ∷ []) first n))
   range-count first zero h = refl
   range-count first (suc n) h =
       let l = h first (omega arith) (omega arith) in
       let r = range-count (suc first) n (λ i m u. h i (omega (arith, m)) (omega (arith, u))) in
-      omega (arith, l, r, length-append (os first) (along os (suc first) n), length-append (row_of a first) (cells a (suc first) n))
+      omega (
+        arith,
+        l,
+        r,
+        length-append (os first) (along os (suc first) n),
+        length-append (base first) (cells_in (along (λ i. base i ∷ []) (suc first) n)),
+      )
 
+module _ {T : Type 0} (a : Grid) (os : ℕ → List T) where
   pub copied-entries : (first n : ℕ) → ((i : ℕ) → first ≤ i → i < first + n → length (os i) ≡ length (row_of a i))
       → length (along os first n) ≡ entries_in_run (rows_of a first n)
   copied-entries first n h =
-      range-count first n h ∙ (ap (λ (cs : Row). length cs) (sym (append-nil (cells a first n))) ∙ sym (entries_are (rows_of a first n)))
+      range-count (row_of a) os first n h
+      ∙ (ap (λ (cs : Row). length cs) (sym (append-nil (cells a first n))) ∙ sym (entries_are (rows_of a first n)))
 
 -- ---- copied rows that get values are other rows
 
--- each of these rows is that of a matrix, with a value for each of its cells
-pub record AreValued (a : Grid) (row : ℕ → Row) (vs : ℕ → List ℕ) (first n : ℕ) : Type 0 where
-  pub many : (i : ℕ) → first ≤ i → i < first + n → length (vs i) ≡ length (row_of a i)
-  pub rows : (i : ℕ) → first ≤ i → i < first + n → row i ≡ with_values (row_of a i) (vs i)
+-- each of these rows is another one, with a value for each of its cells
+pub record AreValued (base row : ℕ → Row) (vs : ℕ → List ℕ) (first n : ℕ) : Type 0 where
+  pub many : (i : ℕ) → first ≤ i → i < first + n → length (vs i) ≡ length (base i)
+  pub rows : (i : ℕ) → first ≤ i → i < first + n → row i ≡ with_values (base i) (vs i)
 
-module _ (a : Grid) (row : ℕ → Row) (vs : ℕ → List ℕ) where
-  valued_behind : (first n : ℕ) → AreValued a row vs first (suc n) → AreValued a row vs (suc first) n
+module _ (base row : ℕ → Row) (vs : ℕ → List ℕ) where
+  valued_behind : (first n : ℕ) → AreValued base row vs first (suc n) → AreValued base row vs (suc first) n
   valued_behind first n h = record {
     many = λ i l u. h.many i (omega (arith, l)) (omega (arith, u));
     rows = λ i l u. h.rows i (omega (arith, l)) (omega (arith, u));
   }
 
-  range-lengths : (first n : ℕ) → AreValued a row vs first n
-      → map (λ (r : Row). length r) (along (λ i. row_of a i ∷ []) first n) ≡ map (λ (r : Row). length r) (along (λ i. row i ∷ []) first n)
+  range-lengths : (first n : ℕ) → AreValued base row vs first n
+      → map (λ (r : Row). length r) (along (λ i. base i ∷ []) first n) ≡ map (λ (r : Row). length r) (along (λ i. row i ∷ []) first n)
   range-lengths first zero h = refl
   range-lengths first (suc n) h =
-      ap (λ m. m ∷ map (λ (r : Row). length r) (along (λ i. row_of a i ∷ []) (suc first) n))
+      ap (λ m. m ∷ map (λ (r : Row). length r) (along (λ i. base i ∷ []) (suc first) n))
       (sym (ap (λ (r : Row). length r) (h.rows first (omega arith) (omega arith))
-      ∙ length-with_values (row_of a first) _ (h.many first (omega arith) (omega arith))))
+      ∙ length-with_values (base first) _ (h.many first (omega arith) (omega arith))))
       ∙ ap (λ ms. length (row first) ∷ ms) (range-lengths (suc first) n (valued_behind first n h))
 
-  range-cells : (first n : ℕ) → AreValued a row vs first n
-      → cells_in (along (λ i. row i ∷ []) first n) ≡ with_values (cells a first n) (along vs first n)
+  range-cells : (first n : ℕ) → AreValued base row vs first n
+      → cells_in (along (λ i. row i ∷ []) first n) ≡ with_values (cells_in (along (λ i. base i ∷ []) first n)) (along vs first n)
   range-cells first zero h = refl
   range-cells first (suc n) h =
       ap (λ (r : Row). r ++ cells_in (along (λ i. row i ∷ []) (suc first) n)) (h.rows first (omega arith) (omega arith))
-      ∙ (ap (λ (r : Row). with_values (row_of a first) (vs first) ++ r) (range-cells (suc first) n (valued_behind first n h))
-      ∙ sym (with_values-append (row_of a first) (cells a (suc first) n) (vs first) (along vs (suc first) n)
+      ∙ (ap (λ (r : Row). with_values (base first) (vs first) ++ r) (range-cells (suc first) n (valued_behind first n h))
+      ∙ sym (with_values-append (base first) (cells_in (along (λ i. base i ∷ []) (suc first) n)) (vs first) (along vs (suc first) n)
       (h.many first (omega arith) (omega arith))))
 
   -- the copied rows, when all their entries have got their values
-  pub valued-rows : (first n : ℕ) → AreValued a row vs first n → (r : Run) → AreAlike (rows_of a first n) r
-      → all_cells r ≡ valued_from 0 (along vs first n) (all_cells (rows_of a first n))
-      → r ≡ record { first = first; columns = a.columns; ended = along (λ i. row i ∷ []) first n; opened = [] }
-  valued-rows first n m r h c =
+  pub valued-rows : (columns first n : ℕ) → AreValued base row vs first n → (r : Run)
+      → AreAlike (record { first = first; columns = columns; ended = along (λ i. base i ∷ []) first n; opened = [] }) r
+      → all_cells r ≡ valued_from 0 (along vs first n) (cells_in (along (λ i. base i ∷ []) first n) ++ [])
+      → r ≡ record { first = first; columns = columns; ended = along (λ i. row i ∷ []) first n; opened = [] }
+  valued-rows columns first n m r h c =
+      let base_run : Run = record { first = first; columns = columns; ended = along (λ i. base i ∷ []) first n; opened = [] } in
+      let cells = cells_in (along (λ i. base i ∷ []) first n) in
       alike_equal r _
-      (alike_then r (rows_of a first n) _ (record { first = sym h.first; columns = sym h.columns; ended = sym h.ended; opened = sym h.opened })
+      (alike_then r base_run _ (record { first = sym h.first; columns = sym h.columns; ended = sym h.ended; opened = sym h.opened })
       (record { first = refl; columns = refl; ended = range-lengths first n m; opened = refl }))
-      (c ∙ (ap (valued_from 0 (along vs first n)) (append-nil (cells a first n))
-      ∙ (given-all (along vs first n) (cells a first n) (range-count a vs first n m.many)
+      (c ∙ (ap (valued_from 0 (along vs first n)) (append-nil cells)
+      ∙ (given-all (along vs first n) cells (range-count base vs first n m.many)
       ∙ (sym (range-cells first n m) ∙ sym (append-nil (cells_in (along (λ i. row i ∷ []) first n)))))))
 
 module _ (form : Form) (f : Accepted) (a : Grid) (b : Option Grid) (os : ℕ → List Operands) where
@@ -192,7 +203,7 @@ module _ (form : Form) (f : Accepted) (a : Grid) (b : Option Grid) (os : ℕ →
       → all_cells r ≡ valued_from 0 (values_on f (along os first n)) (all_cells (rows_of a first n))
       → r ≡ record { first = first; columns = a.columns; ended = form_rows form f a b None first n; opened = [] }
   whole-rows first n m r h c =
-      valued-rows a (form_row form f a b None) (λ i. values_on f (os i)) first n
+      valued-rows (row_of a) (form_row form f a b None) (λ i. values_on f (os i)) a.columns first n
       (record { many = λ i l u. length_values f (os i) ∙ m.many i l u; rows = m.rows }) r h
       (c ∙ ap (λ vs. valued_from 0 vs (all_cells (rows_of a first n))) (values-along first n))
 

@@ -8,6 +8,7 @@ pub mod Paired
 pub mod PairCalls
 pub mod Placing
 pub mod SelectBuffer
+pub mod Shown
 pub mod Standing
 pub mod Walking
 pub mod Forms

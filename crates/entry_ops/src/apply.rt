@@ -12,6 +12,7 @@ use crate::rows::fill_region;
 use crate::runs::is_in_run;
 use crate::select::{Masked, sift_region};
 use crate::select_unmasked::keep_region;
+use crate::shown::{apply_shown, shows_few};
 use bpf_run::Calls;
 use bpf_verify::Operator;
 use csr_store::Matrix;
@@ -21,7 +22,7 @@ use std::alloc::Global;
 /// An operator applied to each word of a region: a unary one to the word alone, an index operator
 /// to the word, its row, its column and the thunk.
 ///
-/// With a mask, calls are made only for the positions that it stores. `calls` is scratch that
+/// With a mask, calls run only for the positions that it stores. `calls` is scratch that
 /// regions share.
 pub fn apply_region<'m>(
     alloc: Global,
@@ -44,6 +45,13 @@ pub fn apply_region<'m>(
     if region.mask.is_none() && is_in_run(region.range.start..region.range.end) {
         return map_region(alloc, calls, a, operator, thunk, region.range);
     }
+    // Under a mask, the cells that it shows are copied first.
+    if let (Some(mask), None) = (region.mask, thunk) {
+        let masked = Masked { a, mask };
+        if !shows_few(masked, &region.range) {
+            return apply_shown(alloc, calls, operator, masked, region.range);
+        }
+    }
     let sources = Sources {
         left: a,
         right: None,
@@ -61,7 +69,7 @@ pub fn apply_region<'m>(
 
 /// The words of a region for which an index operator doesn't return 0.
 ///
-/// With a mask, calls are made only for the positions that it stores. `calls` is scratch that
+/// With a mask, calls run only for the positions that it stores. `calls` is scratch that
 /// regions share.
 pub fn select_region<'m>(
     alloc: Global,
@@ -79,7 +87,7 @@ pub fn select_region<'m>(
     if is_blank_under(a, region.mask, &region.range) {
         return blank_region(alloc, a.columns(), region.range);
     }
-    // Without a mask all calls are made first, and the selected cells are copied once.
+    // Without a mask all calls run first, and the selected cells are copied once.
     let Some(mask) = region.mask else {
         return keep_region(alloc, calls, a, operator, thunk, region.range);
     };

@@ -1,5 +1,5 @@
 //! A column reduced: each of its rows has one word, which is its result, so the rows are copied,
-//! and no call is made.
+//! and no call runs.
 ghost use Rattle.std.specs.Prelude.{◌≡◌, ◌≤◌, ◌-◌, [], None, IsTrue};
 ghost use Rattle.csr_store.specs.Mask.{mask_of};
 ghost use Rattle.csr_store.specs.Run.{IsInRun};

@@ -1,4 +1,4 @@
-//! Rows whose cells are added at once, and whose values are written when gathered calls are made.
+//! Rows whose cells are added at once, and whose values are written when gathered calls run.
 ghost use Rattle.std.specs.Prelude.{◌≡◌, ◌<◌, ◌+◌, ◌^◌, ◌∷◌, [], length, OnOk, OnErr};
 ghost use Rattle.bpf_insn.specs.Machine.{kind_of};
 ghost use Rattle.bpf_run.specs.Meaning.{value_of};
@@ -17,8 +17,8 @@ use job_forms::{Chunk, Making};
 use std::alloc::{AllocError, Global};
 use std::marker::Model;
 
-/// Rows, the entries whose values are those of gathered calls, and the steps of the calls that were
-/// made.
+/// Rows, the entries whose values are those of gathered calls, and the steps of the calls that
+/// ran.
 #[derive(Drop)]
 pub struct Emitter {
     rows: Rows,
@@ -77,10 +77,10 @@ impl Emitter {
     /// Makes the calls that were gathered, and writes their values.
     pub fn flush(&mut self, operator: &Operator, calls: &mut Calls)
         requires holds { Holds operator.now self.old calls.old }
-        requires room { self.old.steps + steps_of (calls_on operator.now calls.old.operands) < 2 ^ 64 }
+        requires capacity { self.old.steps + steps_of (calls_on operator.now calls.old.operands) < 2 ^ 64 }
         ensures { IsFlushed operator.now self.old calls.old self.new calls.new }
     {
-        // Charged whatever comes after: the calls are made.
+        // Charged whatever comes after: the calls ran.
         self.steps += calls.make(operator);
         put_values(&self.indices, calls.values(), &mut self.rows);
     }
@@ -89,7 +89,7 @@ impl Emitter {
     #[inline(always)]
     fn make_room(&mut self, operator: &Operator, calls: &mut Calls)
         requires holds { Holds operator.now self.old calls.old }
-        requires room { self.old.steps + steps_of (calls_on operator.now calls.old.operands) < 2 ^ 64 }
+        requires capacity { self.old.steps + steps_of (calls_on operator.now calls.old.operands) < 2 ^ 64 }
         ensures does { Does operator.now [] (λ run. run) self.old calls.old self.new calls.new }
         ensures calls { length calls.new.operands < 64 }
     {
@@ -116,8 +116,8 @@ impl Emitter {
         // The index of the cell that is pushed below.
         self.indices[calls.len()] = self.rows.entries();
         calls.gather(operands);
-        // 0 until the call is made. If memory is refused here, the gathered calls aren't made, nor
-        // charged.
+        // 0 until the call runs. If memory is refused here, the gathered calls neither run, nor are
+        // they charged.
         self.rows.push(column, 0)?;
         Ok(())
     }
@@ -127,7 +127,7 @@ impl Emitter {
     pub fn copy(&mut self, column: u64, value: u64) -> Result<(), AllocError>
         requires { CanPush column self.old.rows }
         ensures copied { OnOk result (self.new ≡ record self.old { rows = with_cell column value self.old.rows }) }
-        ensures kept { OnErr result (self.new.steps ≡ self.old.steps) }
+        ensures unchanged { OnErr result (self.new.steps ≡ self.old.steps) }
     {
         self.rows.push(column, value)
     }
@@ -136,7 +136,7 @@ impl Emitter {
     pub fn copy_all(&mut self, cells: &[Cell]) -> Result<(), AllocError>
         requires { FollowIn cells.now self.old.rows }
         ensures copied { OnOk result (self.new ≡ record self.old { rows = with_cells cells.now self.old.rows }) }
-        ensures kept { OnErr result (self.new.steps ≡ self.old.steps) }
+        ensures unchanged { OnErr result (self.new.steps ≡ self.old.steps) }
     {
         push_all(&mut self.rows, cells)
     }
@@ -144,7 +144,7 @@ impl Emitter {
     /// Ends the open row.
     pub fn end_row(&mut self) -> Result<(), AllocError>
         ensures ended { OnOk result (self.new ≡ record self.old { rows = with_end self.old.rows }) }
-        ensures kept { OnErr result (self.new.steps ≡ self.old.steps) }
+        ensures unchanged { OnErr result (self.new.steps ≡ self.old.steps) }
     {
         self.rows.end_row()
     }

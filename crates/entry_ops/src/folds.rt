@@ -1,4 +1,4 @@
-//! Folding many rows at once: each open row has a lane, and a call for each is made together with
+//! Folding many rows at once: each open row has a lane, and a call for each runs together with
 //! the others'.
 ghost use Rattle.std.specs.Prelude.{◌≡◌, ◌<◌, ◌≤◌, ◌+◌, ◌++◌, ◌∷◌, [], ℕ, if◌then◌else◌, length, map, IfOk, OnOk};
 ghost use Rattle.bpf_insn.specs.declared.operands.Kind.TheVariants as kinds;
@@ -42,8 +42,8 @@ pub struct Block {
     pub many: usize,
 }
 
-/// The folds of a block of rows, up to 64 of them at once, and the steps of the calls that were
-/// made.
+/// The folds of a block of rows, up to 64 of them at once, and the steps of the calls that
+/// ran.
 #[derive(Drop)]
 pub struct Folds<'m> {
     lanes: OpenRows<'m>,
@@ -76,7 +76,7 @@ impl<'m> Folds<'m> {
         })
     }
 
-    /// The steps of the calls that were made.
+    /// The steps of the calls that ran.
     pub fn steps(&self) -> u64
         ensures { result ≡ self.now.steps }
     {
@@ -85,7 +85,7 @@ impl<'m> Folds<'m> {
 
     /// Begins the next row of the block, by its cells.
     fn begin_row(&mut self, cells: &'m [Cell])
-        requires room { (length self.old.lanes < 64) × (length self.old.results < 256) }
+        requires capacity { (length self.old.lanes < 64) × (length self.old.results < 256) }
         ensures rows { length self.new.results ≡ length self.old.results + 1 }
         ensures steps { self.new.steps ≡ self.old.steps }
         ensures folds { (f : Accepted) → Begins f cells.entry.now self.old self.new }

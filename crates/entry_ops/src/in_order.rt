@@ -24,7 +24,7 @@ struct Folded {
 /// Folds the cells of a row.
 fn fold_row(operator: &Operator, cells: &[Cell]) -> Folded
     requires kind { operator.now.kind ≡ kinds.Binary }
-    requires room { steps_of (folds.fold_calls operator.now (words cells.now)) < 2 ^ 64 }
+    requires capacity { steps_of (folds.fold_calls operator.now (words cells.now)) < 2 ^ 64 }
     ensures value { result.value ≡ folds.fold operator.now (words cells.now) }
     ensures steps { result.steps ≡ steps_of (folds.fold_calls operator.now (words cells.now)) }
 {

@@ -15,12 +15,13 @@ pub const MOST_KEPT: usize = 64;
 /// in any case, so that no branch depends on the result: no processor predicts which cells are
 /// selected.
 #[inline(always)]
-pub fn keep_if(kept: &mut [Cell; MOST_KEPT], many: usize, cell: Cell, answer: u64) -> usize
+pub fn keep_if(selected: &mut [Cell; MOST_KEPT], many: usize, cell: Cell, answer: u64) -> usize
     requires { many < 64 }
     ensures few { result ≤ 64 }
-    ensures kept { take result kept.new ≡ (if nat_eq answer 0 then take many kept.old else take many kept.old ++ cell ∷ []) }
+    ensures selected { take result selected.new
+        ≡ (if nat_eq answer 0 then take many selected.old else take many selected.old ++ cell ∷ []) }
 {
-    kept[many] = cell;
+    selected[many] = cell;
     // The next cell overwrites one that isn't counted.
     many + usize::from(answer != 0)
 }
@@ -30,27 +31,28 @@ pub fn keep_if(kept: &mut [Cell; MOST_KEPT], many: usize, cell: Cell, answer: u6
 #[inline(always)]
 pub fn make_place(
     rows: &mut Rows,
-    kept: &[Cell; MOST_KEPT],
+    selected: &[Cell; MOST_KEPT],
     many: usize,
 ) -> Result<usize, AllocError>
     requires few { many ≤ 64 }
-    requires follow { FollowIn (take many kept.now) rows.old }
-    ensures place { IfOk result (λ left. left < 64) }
-    ensures follow { IfOk result (λ left. FollowIn (take left kept.now) rows.new) }
-    ensures same { IfOk result (λ left. with_cells (take left kept.now) rows.new ≡ with_cells (take many kept.now) rows.old) }
+    requires follow { FollowIn (take many selected.now) rows.old }
+    ensures few_left { IfOk result (λ left. left < 64) }
+    ensures follow { IfOk result (λ left. FollowIn (take left selected.now) rows.new) }
+    ensures same { IfOk result (λ left. with_cells (take left selected.now) rows.new
+        ≡ with_cells (take many selected.now) rows.old) }
 {
     if many < MOST_KEPT {
         return Ok(many);
     }
-    push_all(rows, kept)?;
+    push_all(rows, selected)?;
     Ok(0)
 }
 
 /// Adds the cells of the buffer, and ends the open row.
-pub fn end_kept(rows: &mut Rows, kept: &[Cell]) -> Result<(), AllocError>
-    requires { FollowIn kept.now rows.old }
-    ensures { OnOk result (rows.new ≡ with_end (with_cells kept.now rows.old)) }
+pub fn end_kept(rows: &mut Rows, selected: &[Cell]) -> Result<(), AllocError>
+    requires { FollowIn selected.now rows.old }
+    ensures { OnOk result (rows.new ≡ with_end (with_cells selected.now rows.old)) }
 {
-    push_all(rows, kept)?;
+    push_all(rows, selected)?;
     rows.end_row()
 }

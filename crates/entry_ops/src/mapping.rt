@@ -33,7 +33,7 @@ use std::ops::Range;
 #[derive(Drop)]
 pub struct Mapping<'m> {
     rows: RowCopy<'m>,
-    /// The steps of the calls that were made for the entries that were written.
+    /// The steps of the calls that ran for the entries that were written.
     steps: u64,
 }
 
@@ -41,7 +41,7 @@ impl Mapping<'_> {
     /// Makes the calls that were gathered, and writes the next entries with their values.
     fn make(&mut self, operator: &Operator, calls: &mut Calls)
         requires kind { calls.old.kind ≡ operator.now.kind }
-        requires room { HasRoom operator.now calls.old.operands self.old }
+        requires capacity { HasRoom operator.now calls.old.operands self.old }
         ensures waits { NoneWaits calls.old.kind calls.new }
         ensures further { IsFurther operator.now calls.old.operands self.old self.new }
     {
@@ -54,7 +54,7 @@ impl Mapping<'_> {
     fn make_on_words(&mut self, operator: &Operator, calls: &mut Calls, many: usize)
         requires kind { operator.now.kind ≡ kinds.Unary }
         requires few { (many ≤ 64) × HasEntries self.old many }
-        requires room { HasRoom operator.now (next_words self.old many) self.old }
+        requires capacity { HasRoom operator.now (next_words self.old many) self.old }
         ensures waits { NoneWaits kinds.Unary calls.new }
         ensures further { IsFurther operator.now (next_words self.old many) self.old self.new }
     {
@@ -66,7 +66,7 @@ impl Mapping<'_> {
     fn add_words(&mut self, operator: &Operator, calls: &mut Calls)
         requires kind { operator.now.kind ≡ kinds.Unary }
         requires waits { NoneWaits kinds.Unary calls.old }
-        requires room { (self.old.rows.written ≡ 0)
+        requires capacity { (self.old.rows.written ≡ 0)
             × (self.old.steps + steps_of (calls_on operator.now (words_of (all_cells self.old.rows.run))) < 2 ^ 64) }
         ensures { IsFurther operator.now (words_of (all_cells self.old.rows.run)) self.old self.new }
     {
@@ -81,7 +81,7 @@ impl Mapping<'_> {
     fn add_entries(&mut self, operator: &Operator, calls: &mut Calls, mut index_calls: IndexCalls)
         requires kind { operator.now.kind ≡ kinds.Index }
         requires waits { NoneWaits kinds.Index calls.old }
-        requires room { HasRoom operator.now index_calls self.old }
+        requires capacity { HasRoom operator.now index_calls self.old }
         ensures { IsFurther operator.now index_calls.entry self.old self.new }
     {
         while index_calls.gather(calls) {
@@ -101,7 +101,7 @@ impl Mapping<'_> {
         requires kind { operator.now.kind ≡ kinds.Binary }
         requires waits { NoneWaits kinds.Binary calls.old }
         requires pairs { ArePairs next }
-        requires room { HasRoom operator.now (pairs_in next.left.now next.right.now) self.old }
+        requires capacity { HasRoom operator.now (pairs_in next.left.now next.right.now) self.old }
         ensures waits { NoneWaits kinds.Binary calls.new }
         ensures further { IsFurther operator.now (pairs_in next.entry.left.now next.entry.right.now) self.old self.new }
     {
@@ -123,7 +123,7 @@ impl Mapping<'_> {
     fn add_pairs(&mut self, operator: &Operator, calls: &mut Calls, mut pairs: Pairs)
         requires kind { operator.now.kind ≡ kinds.Binary }
         requires waits { NoneWaits operator.now.kind calls.old }
-        requires room { HasRoom operator.now pairs self.old }
+        requires capacity { HasRoom operator.now pairs self.old }
         ensures { IsFurther operator.now pairs.entry self.old self.new }
     {
         let mut values = [0; MOST_CALLS];
@@ -132,7 +132,7 @@ impl Mapping<'_> {
         }
     }
 
-    /// The rows, when all calls were made.
+    /// The rows, when all calls ran.
     fn finish(self) -> Chunk
         requires { self.rows.written ≡ entries_of self.rows.run }
         ensures { result ≡ record { result = Ok self.entry.rows.run; steps = self.entry.steps } }
@@ -167,7 +167,7 @@ impl Mapping<'_> {
 }
 
 /// The rows of a range, all in one run, with an operator applied to each word, without a mask.
-/// Their memory is allocated first, so that no call was made if it is refused.
+/// Their memory is allocated first, so that no call ran if it is refused.
 pub fn map_region(
     alloc: Global,
     calls: &mut Calls,
@@ -195,7 +195,7 @@ pub fn map_region(
 
 /// The rows of a range of a union, or of positions that both operands have. If these rows are in
 /// one run and alike in both operands, and there is no mask, they are copied with the values of
-/// calls, and their memory is allocated first, so that no call was made if it is refused.
+/// calls, and their memory is allocated first, so that no call ran if it is refused.
 pub fn merge_region(
     alloc: Global,
     calls: &mut Calls,
@@ -213,7 +213,7 @@ pub fn merge_region(
     // have to be read side by side.
     let Some(pairs) = Pairs::of_rows(sources, range.start..range.end) else {
         return match join_columns(alloc, form, operator, sources, range.start..range.end) {
-            Some(made) => made,
+            Some(chunk) => chunk,
             None => fill_region(alloc, calls, form, operator, sources, range),
         };
     };

@@ -18,7 +18,7 @@ fn add_rest(form: EntryForm, emitter: &mut Emitter, cells: &[Cell]) -> Result<()
     requires { FollowIn cells.now emitter.old.rows }
     ensures copied { OnOk result
         (emitter.new ≡ record emitter.old { rows = with_cells (left_over (form_of form) cells.now) emitter.old.rows }) }
-    ensures kept { OnErr result (emitter.new.steps ≡ emitter.old.steps) }
+    ensures unchanged { OnErr result (emitter.new.steps ≡ emitter.old.steps) }
 {
     match form {
         EntryForm::Union => emitter.copy_all(cells),

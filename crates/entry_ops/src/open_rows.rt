@@ -80,7 +80,7 @@ impl<'m> OpenRows<'m> {
 
     /// Opens another row.
     pub fn push(&mut self, row: OpenRow<'m>)
-        requires room { length self.old < 64 }
+        requires capacity { length self.old < 64 }
         ensures { self.new ≡ self.old ++ open_of row.entry ∷ [] }
     {
         let lane = Lane {

@@ -89,7 +89,7 @@ impl<'m> Pairs<'m> {
 /// Gathers the words of cells, each with that of the cell at the same index of another list.
 pub fn gather_each(calls: &mut Calls, left: &[Cell], right: &[Cell])
     requires same { length right.now ≡ length left.now }
-    requires room { length calls.old.operands + length left.now ≤ 64 }
+    requires capacity { length calls.old.operands + length left.now ≤ 64 }
     requires kind { calls.old.kind ≡ kinds.Binary }
     ensures { calls.new ≡ record calls.old { operands = calls.old.operands ++ pairs_in left.now right.now } }
 {

@@ -54,9 +54,9 @@ fn fill_in_blocks<'m>(
 /// The reduction of each row of a region to one value, in the one column of the result.
 ///
 /// A row is folded by ascending column, beginning with its first word. So without a mask a column
-/// is its own result, and is copied. With a mask, of one column, calls are made only for the rows
+/// is its own result, and is copied. With a mask, of one column, calls run only for the rows
 /// at which it stores something. With a short operator rows are folded one by one; with a longer
-/// one up to 64 of them at once, a call for each made together with the others', in the scratch.
+/// one up to 64 of them at once, a call for each run together with the others', in the scratch.
 pub fn reduce_region<'m>(
     alloc: Global,
     calls: &mut Calls,

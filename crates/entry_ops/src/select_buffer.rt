@@ -27,10 +27,10 @@ pub enum Mark {
     /// The end of the open row.
     End,
     /// A cell that is added if the value of the next call is not 0.
-    Kept { column: u64, word: u64 },
+    Selected { column: u64, word: u64 },
 }
 
-/// Rows, the marks that wait for calls after them, and the steps of the calls that were made.
+/// Rows, the marks that wait for calls after them, and the steps of the calls that ran.
 #[derive(Drop)]
 pub struct SelectBuffer {
     rows: Rows,
@@ -76,8 +76,8 @@ impl SelectBuffer {
     /// Makes the calls that were gathered, and adds what is marked.
     pub fn flush(&mut self, operator: &Operator, calls: &mut Calls) -> Result<(), AllocError>
         requires holds { Holds operator.now self.old calls.old }
-        requires room { self.old.steps + steps_of (calls_on operator.now calls.old.operands) < 2 ^ 64 }
-        ensures made { OnOk result (IsFlushed operator.now self.old calls.old self.new calls.new) }
+        requires capacity { self.old.steps + steps_of (calls_on operator.now calls.old.operands) < 2 ^ 64 }
+        ensures flushed { OnOk result (IsFlushed operator.now self.old calls.old self.new calls.new) }
         ensures spent { OnErr result (self.new.steps ≡ self.old.steps + steps_of (calls_on operator.now calls.old.operands)) }
     {
         // Charged first: adding cells may be refused memory.
@@ -91,7 +91,7 @@ impl SelectBuffer {
     #[inline(always)]
     pub fn make_room(&mut self, operator: &Operator, calls: &mut Calls) -> Result<(), AllocError>
         requires holds { Holds operator.now self.old calls.old }
-        requires room { self.old.steps + steps_of (calls_on operator.now calls.old.operands) < 2 ^ 64 }
+        requires capacity { self.old.steps + steps_of (calls_on operator.now calls.old.operands) < 2 ^ 64 }
         ensures puts { Puts operator.now [] (λ run. run) self.old calls.old self.new calls.new result }
         ensures fits { OnOk result ((length self.new.marks < 256) × (length calls.new.operands < 64)) }
     {
@@ -119,7 +119,7 @@ impl SelectBuffer {
     {
         self.make_room(operator, calls)?;
         // After `make_room` this can't be refused.
-        self.marks.push(Mark::Kept { column, word }).unwrap();
+        self.marks.push(Mark::Selected { column, word }).unwrap();
         calls.gather(operands);
         Ok(())
     }
@@ -127,7 +127,7 @@ impl SelectBuffer {
     /// Ends the open row.
     pub fn end_row(&mut self, operator: &Operator, calls: &mut Calls) -> Result<(), AllocError>
         requires holds { Holds operator.now self.old calls.old }
-        requires room { self.old.steps + steps_of (calls_on operator.now calls.old.operands) < 2 ^ 64 }
+        requires capacity { self.old.steps + steps_of (calls_on operator.now calls.old.operands) < 2 ^ 64 }
         ensures { Puts operator.now [] with_end self.old calls.old self.new calls.new result }
     {
         self.make_room(operator, calls)?;
@@ -143,22 +143,22 @@ fn put_values(marks: &[Mark], values: &[u64], rows: &mut Rows) -> Result<(), All
     requires few { length marks.now ≤ 256 }
     ensures { OnOk result (rows.new ≡ placed marks.now values.now rows.old) }
 {
-    let mut kept = [(0, 0); MOST_KEPT];
+    let mut selected = [(0, 0); MOST_KEPT];
     let mut many = 0;
     let mut next: usize = 0;
     for mark in marks {
         match *mark {
             Mark::End => {
-                end_kept(rows, &kept[..many])?;
+                end_kept(rows, &selected[..many])?;
                 many = 0;
             }
-            Mark::Kept { column, word } => {
+            Mark::Selected { column, word } => {
                 // Before the cell is written, which happens whether it is selected or not.
-                many = make_place(rows, &kept, many)?;
-                many = keep_if(&mut kept, many, (column, word), values[next]);
+                many = make_place(rows, &selected, many)?;
+                many = keep_if(&mut selected, many, (column, word), values[next]);
                 next += 1;
             }
         }
     }
-    push_all(rows, &kept[..many])
+    push_all(rows, &selected[..many])
 }

@@ -15,24 +15,24 @@ use job_forms::Chunk;
 use std::alloc::{AllocError, Global};
 use std::ops::Range;
 
-/// The results of an operator on all entries that come, in their order. Memory for `room` results
-/// is allocated first. Counts the steps of the calls that were made.
+/// The results of an operator on all entries that come, in their order. Memory for `count` results
+/// is allocated first. Counts the steps of the calls that ran.
 fn answers_of(
     alloc: Global,
     calls: &mut Calls,
     operator: &Operator,
     mut index_calls: IndexCalls,
-    room: usize,
+    count: usize,
     steps: &mut u64,
 ) -> Result<Vec<u64>, AllocError>
     requires kind { (operator.now.kind ≡ kinds.Index) × NoneWaits kinds.Index calls.old }
     requires few { steps.old + steps_of (calls_on operator.now index_calls) < 2 ^ 64 }
-    ensures made { IfOk result (λ answers. (answers.items ≡ values_on operator.now index_calls.entry)
+    ensures answers { IfOk result (λ answers. (answers.items ≡ values_on operator.now index_calls.entry)
         × (steps.new ≡ steps.old + steps_of (calls_on operator.now index_calls.entry))) }
     ensures spent { OnErr result (Charges (calls_on operator.now index_calls.entry) steps.old steps.new) }
 {
-    // For all entries at once: if it is refused, no call was made.
-    let mut answers = Vec::with_capacity(alloc, room)?;
+    // For all entries at once: if it is refused, no call ran.
+    let mut answers = Vec::with_capacity(alloc, count)?;
     while index_calls.gather(calls) {
         *steps += calls.make(operator);
         answers.extend_from_slice(calls.values())?;
@@ -41,7 +41,7 @@ fn answers_of(
 }
 
 /// The rows of a range of what an operator selects, without a mask. If memory for the results is
-/// refused, no call was made.
+/// refused, no call ran.
 pub fn keep_region(
     alloc: Global,
     calls: &mut Calls,
@@ -57,14 +57,14 @@ pub fn keep_region(
 {
     operator.recall();
     a.recall();
-    let room = entries_between(a, range.start, range.end);
+    let count = entries_between(a, range.start, range.end);
     let index_calls = IndexCalls::of_rows(a, thunk, range.start..range.end);
     let mut steps = 0;
     calls.begin(operator.kind());
-    match answers_of(alloc, calls, operator, index_calls, room, &mut steps) {
+    match answers_of(alloc, calls, operator, index_calls, count, &mut steps) {
         // The number of selected cells is known by now, so the rows are allocated exactly.
         Ok(answers) => Chunk {
-            result: Rows::kept(alloc, a, range, &answers),
+            result: Rows::selected(alloc, a, range, &answers),
             steps,
         },
         Err(error) => Chunk {

@@ -17,7 +17,7 @@ use std::alloc::Global;
 /// A region of the union of two matrices: the operator where both have a word, and a copy where one
 /// has.
 ///
-/// With a mask, calls are made only for the positions that it stores. `calls` is scratch that
+/// With a mask, calls run only for the positions that it stores. `calls` is scratch that
 /// regions share.
 pub fn union_region<'m>(
     alloc: Global,
@@ -56,7 +56,7 @@ pub fn union_region<'m>(
 
 /// The operator where two matrices both have a word, in a region.
 ///
-/// With a mask, calls are made only for the positions that it stores. `calls` is scratch that
+/// With a mask, calls run only for the positions that it stores. `calls` is scratch that
 /// regions share.
 pub fn both_region<'m>(
     alloc: Global,

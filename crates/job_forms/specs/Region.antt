@@ -1,5 +1,5 @@
--- What is made of a part of a result: rows of a range, under a structural mask (GraphBLAS C API Specification 2.0, "Masks"), with
--- the steps of the calls. That calls have steps, and what want of memory leaves, is this project's own.
+-- What is computed of a part of a result: rows of a range, under a structural mask (GraphBLAS C API Specification 2.0, "Masks"),
+-- with the steps of the calls. That calls have steps, and what want of memory leaves, is this project's own.
 use Rattle.std.specs.Prelude.{◌≡◌, ◌≤◌, ◌+◌, ◌-◌, ◌⊎◌, ◌++◌, ℕ, List, [], Option, None, Some}
 use Rattle.std.specs.Prelude.{Result, Ok, Err, IfOk, OnOk, OnErr}
 use Rattle.std.specs.declared.alloc.AllocError.{AllocError}

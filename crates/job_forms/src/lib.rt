@@ -1,4 +1,4 @@
-//! The meaning of a form of job: the entry at each position of a result, which calls are made for
+//! The meaning of a form of job: the entry at each position of a result, which calls run for
 //! it, and how many multiplications a product takes.
 //!
 //! The one contract: `specs/Forms.antt` and `specs/Product.antt` are operations of the GraphBLAS,
@@ -7,7 +7,7 @@
 //! depends on the other. Rows are computed for a [`Region`] of a result, and returned with the
 //! steps of the calls ([`Chunk`], by `specs/Region.antt`). What is computed here is what several of
 //! them need: [`mult_count`] and [`mult_count_in`] count the multiplications of a product, before
-//! any is made; [`is_blank_under`] finds rows of which no call is made; and a [`RowCursor`] reads a
+//! any is made; [`is_blank_under`] finds rows of which no call runs; and a [`RowCursor`] reads a
 //! row alongside another by ascending columns.
 //!
 //! Read `specs/Forms.antt` first, then `specs/Product.antt` and `specs/Region.antt` with `region`,

@@ -33,7 +33,7 @@ pub fn is_blank_under(a: &Matrix, mask: Option<&Matrix>, range: &Range<u64>) -> 
     }
 }
 
-/// The rows of a part of a result, or "out of memory"; and the steps of the calls that were made.
+/// The rows of a part of a result, or "out of memory"; and the steps of the calls that ran.
 #[derive(Drop)]
 pub struct Chunk {
     pub result: Result<Rows, AllocError>,
@@ -41,7 +41,7 @@ pub struct Chunk {
 }
 
 impl Chunk {
-    /// Out of memory, before any call was made.
+    /// Out of memory, before any call ran.
     pub fn refused(error: AllocError) -> Self
         ensures { (run : Run) (calls : List Call) → IsMade run calls result }
     {
@@ -80,7 +80,7 @@ impl Making {
                 result: Ok(rows),
                 steps,
             },
-            // The steps stay: calls that were made are charged, whatever came after them.
+            // The steps stay: calls that ran are charged, whatever came after them.
             Err(error) => Chunk {
                 result: Err(error),
                 steps,

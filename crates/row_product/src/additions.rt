@@ -1,4 +1,4 @@
-//! Additions to the sums of different columns, which are made together.
+//! Additions to the sums of different columns, which run together.
 ghost use Rattle.std.specs.Prelude.{◌≡◌, ◌<◌, length, IfOk};
 ghost use Rattle.bpf_insn.specs.declared.operands.Kind.TheVariants as kinds;
 ghost use Rattle.row_product.specs.inner.Adding.{written, gathered_one, none_gathered, AreAdded, AreBelow};
@@ -48,7 +48,7 @@ impl Additions {
     /// Gathers the addition of a term to the sum so far of a column.
     #[inline(always)]
     pub(crate) fn gather(&mut self, column: u64, so_far: u64, term: u64)
-        requires room { length self.old.operands < 64 }
+        requires capacity { length self.old.operands < 64 }
         ensures { self.new ≡ gathered_one self.old column so_far term }
     {
         self.columns.push_reserved(column);

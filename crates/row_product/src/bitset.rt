@@ -29,7 +29,7 @@ pub(crate) fn set_bit(bits: &mut [u64], column: u64)
 /// Clears the bits of so many columns, as far as there are any, and of others in their words.
 pub(crate) fn clear_bits(columns: u64, bits: &mut Vec<u64>)
     ensures clear { (j : ℕ) → j < columns → bit_of bits.new.items j ≡ 0 }
-    ensures kept { (j : ℕ) → bit_of bits.old.items j ≡ 0 → bit_of bits.new.items j ≡ 0 }
+    ensures unchanged { (j : ℕ) → bit_of bits.old.items j ≡ 0 → bit_of bits.new.items j ≡ 0 }
     ensures long { length bits.new.items ≡ length bits.old.items }
 {
     // The list may be longer, from a product with more columns, whose bits are clear already.
@@ -42,7 +42,7 @@ pub(crate) fn clear_bits(columns: u64, bits: &mut Vec<u64>)
 /// Clears the bits of listed columns, as far as there are any, and of others in their words.
 pub(crate) fn clear_listed(listed: &[u64], bits: &mut Vec<u64>)
     ensures clear { (j : ℕ) → Contains listed.now j → bit_of bits.new.items j ≡ 0 }
-    ensures kept { (j : ℕ) → bit_of bits.old.items j ≡ 0 → bit_of bits.new.items j ≡ 0 }
+    ensures unchanged { (j : ℕ) → bit_of bits.old.items j ≡ 0 → bit_of bits.new.items j ≡ 0 }
     ensures long { length bits.new.items ≡ length bits.old.items }
 {
     for column in listed {

@@ -53,7 +53,7 @@ fn multiply<F: Function>(
 ) -> u64
     requires computes { Computes mul.now F.meaning F.price }
     requires may { MayMultiply mul.now b.now column cells.now }
-    requires room { HasRoom terms.old }
+    requires capacity { HasRoom terms.old }
     ensures { AreMultiplied mul.now b.now cells.now terms.new result }
 {
     terms.clear();
@@ -69,10 +69,10 @@ fn multiply<F: Function>(
 /// call, if it stays.
 #[inline(always)]
 fn list_if(terms: &mut Vec<(u64, u64)>, called: Outcome, stands: bool) -> u64
-    requires room { length terms.old.items < vec_capacity terms.old }
+    requires capacity { length terms.old.items < vec_capacity terms.old }
     ensures listed { terms.new.items
         ≡ (if stands then terms.old.items ++ (0, called.value) ∷ [] else terms.old.items) }
-    ensures room { vec_capacity terms.old ≤ vec_capacity terms.new }
+    ensures capacity { vec_capacity terms.old ≤ vec_capacity terms.new }
     ensures steps { result ≡ (if stands then called.steps else 0) }
 {
     terms.push_reserved((0, called.value));
@@ -117,7 +117,7 @@ pub(crate) fn gather(cells: &[(u64, u64)], b: &Matrix, column: Option<&Column>, 
 /// Gathers a pair of words, if `stands`.
 #[inline(always)]
 fn gather_if(calls: &mut Calls, x: u64, word: u64, stands: bool)
-    requires room { length calls.old.operands < 64 }
+    requires capacity { length calls.old.operands < 64 }
     requires kind { calls.old.kind ≡ kinds.Binary }
     ensures gathered { calls.new.operands
         ≡ (if stands then calls.old.operands ++ Binary x word ∷ [] else calls.old.operands) }
@@ -131,9 +131,9 @@ fn gather_if(calls: &mut Calls, x: u64, word: u64, stands: bool)
 /// Lists terms, each at column 0.
 pub(crate) fn list_terms(values: &[u64], terms: &mut Vec<(u64, u64)>)
     requires few { length values.now ≤ 64 }
-    requires room { HasRoom terms.old }
+    requires capacity { HasRoom terms.old }
     ensures listed { terms_of terms.new.items ≡ values.now }
-    ensures room { HasRoom terms.new }
+    ensures capacity { HasRoom terms.new }
 {
     terms.clear();
     for value in values {

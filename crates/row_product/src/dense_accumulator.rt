@@ -54,10 +54,10 @@ impl DenseAccumulator {
     }
 
     /// How many columns the buffers hold.
-    pub(crate) fn room(&self) -> usize
+    pub(crate) fn capacity(&self) -> usize
         ensures { length self.now ≤ result }
     {
-        self.sums.room()
+        self.sums.capacity()
     }
 
     /// Makes the buffers hold at least so many columns, none of which has a sum.
@@ -93,8 +93,8 @@ impl DenseAccumulator {
             )
     }
 
-    /// Appends a word times each of up to 64 cells to the open row, without a sum. The calls are
-    /// made, and charged, before memory may be refused.
+    /// Appends a word times each of up to 64 cells to the open row, without a sum. The calls
+    /// run, and are charged, before memory may be refused.
     pub(crate) fn push_products(
         &mut self,
         factors: &MaskedFactors,

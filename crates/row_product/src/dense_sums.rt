@@ -45,7 +45,7 @@ impl DenseSums {
     }
 
     /// How many columns the buffers hold.
-    pub(crate) fn room(&self) -> usize
+    pub(crate) fn capacity(&self) -> usize
         ensures { length self.now ≤ result }
     {
         self.words.len()

@@ -42,7 +42,7 @@ pub(crate) fn emit_listed(
     dense: &DenseSums,
     rows: &mut Rows,
 ) -> Result<(), AllocError>
-    requires room { MayEmit columns dense.now rows.old }
+    requires capacity { MayEmit columns dense.now rows.old }
     requires listed { AreInOrder listed.now dense.now }
     ensures { OnOk result (rows.new ≡ record rows.old { opened = row_by rows.old.columns (slot dense.now) }) }
 {
@@ -66,7 +66,7 @@ pub(crate) fn emit_marked(
     dense: &DenseSums,
     rows: &mut Rows,
 ) -> Result<(), AllocError>
-    requires room { MayEmit columns dense.now rows.old }
+    requires capacity { MayEmit columns dense.now rows.old }
     requires long { columns ≤ 64 * length bits.now }
     requires covers { AreMarked bits.now dense.now }
     ensures { OnOk result (rows.new ≡ record rows.old { opened = row_by rows.old.columns (slot dense.now) }) }

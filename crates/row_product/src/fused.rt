@@ -43,7 +43,7 @@ fn with_term<A: Function>(add: &Operator, so_far: Option<u64>, term: u64) -> Out
 }
 
 /// Adds a term to a sum, or begins it, if there is a word for it. Returns the steps. The addition
-/// is made before it is known whether there is: no processor predicts which cells name a word.
+/// runs before it is known whether there is: no processor predicts which cells name a word.
 #[inline(always)]
 fn add_if<A: Function>(add: &Operator, sum: &mut Option<u64>, term: Outcome, stands: bool) -> u64
     requires computes { Computes add.now A.meaning A.price }
@@ -170,11 +170,11 @@ impl<'r, 'f, 'm, A: Function> Loop for RowsBy<'r, 'f, 'm, A> {
     #[inline(never)]
     fn run<M: Function>(&self, mul: &Operator, filling: &mut Filling) -> u64 {
         let rows = self.rows;
-        let mut room = Fused::<A, M>(PhantomData);
+        let mut fused = Fused::<A, M>(PhantomData);
         let range = rows.range.start..rows.range.end;
-        filling.filled = Some(fill_rows(rows.factors, range, &mut room, &mut filling.making));
+        filling.filled = Some(fill_rows(rows.factors, range, &mut fused, &mut filling.making));
         // Taken apart, as above.
-        let Fused(_) = room;
+        let Fused(_) = fused;
         // The steps are in `making`.
         0
     }
@@ -206,9 +206,9 @@ pub(crate) fn fill_fused(
     // The number says nothing here: `filled` tells whether the loop ran.
     let _ = run_usual(&ColumnRows { factors, range }, factors.add, &mut filling);
     let Filling {
-        making: made,
+        making: after,
         filled,
     } = filling;
-    *making = made;
+    *making = after;
     filled
 }

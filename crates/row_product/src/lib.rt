@@ -3,7 +3,7 @@
 //! The one contract is over `Product` and `Region` of job_forms: at each position that passes the
 //! mask, `add` folded over `mul` of the words of A's row and B's column, ascending, starting with
 //! the first. [`product_rows`] computes a range of rows of a product, with the exact steps of its
-//! calls, or, if memory is refused, the steps of calls that were made. [`product_region`] computes
+//! calls, or, if memory is refused, the steps of calls that ran. [`product_region`] computes
 //! the same of [`Factors`] in a [`Scratch`], as workers do. [`mult_count`] counts the
 //! multiplications of a product.
 //!

@@ -50,12 +50,12 @@ fn list_cells<C: Caller>(
     requires kind { mul.now.kind ≡ kinds.Binary }
     requires serves { C.serves mul.now × IsAccepted mul.now }
     requires few { length cells.now < limit }
-    requires room { length listed.old.items + length cells.now ≤ vec_capacity listed.old }
+    requires capacity { length listed.old.items + length cells.now ≤ vec_capacity listed.old }
     ensures listed { listed.new.items
         ≡ listed.old.items ++ multiplied mul.now x (taking (λ j. passes (mask_of mask.entry) (i, j)) cells.now) }
     ensures steps { result ≡ steps_of (calls_on mul.now (pairs_with x (taking (λ j. passes (mask_of mask.entry) (i, j)) cells.now))) }
     ensures few { result ≤ 4096 * length cells.now }
-    ensures room { vec_capacity listed.new ≡ vec_capacity listed.old }
+    ensures capacity { vec_capacity listed.new ≡ vec_capacity listed.old }
 {
     let mut steps = 0;
     for cell in cells {

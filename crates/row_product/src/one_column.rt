@@ -53,7 +53,7 @@ pub(crate) fn lets_pass(mask: Option<&Matrix>, i: u64) -> bool
 #[inline(always)]
 fn fold_terms(add: &Operator, so_far: u64, terms: &[(u64, u64)]) -> Outcome
     requires add { add.now.kind ≡ kinds.Binary }
-    requires room { steps_of (fold_calls_from add.now so_far (terms_of terms.now)) < 2 ^ 64 }
+    requires capacity { steps_of (fold_calls_from add.now so_far (terms_of terms.now)) < 2 ^ 64 }
     ensures value { result.value ≡ fold_from add.now so_far (terms_of terms.now) }
     ensures steps { result.steps ≡ steps_of (fold_calls_from add.now so_far (terms_of terms.now)) }
 {
@@ -69,7 +69,7 @@ fn fold_terms(add: &Operator, so_far: u64, terms: &[(u64, u64)]) -> Outcome
 /// Folds the words of further terms into a sum, or begins it with the first. Returns the steps.
 fn add_terms(add: &Operator, terms: &[(u64, u64)], sum: &mut Option<u64>) -> u64
     requires add { add.now.kind ≡ kinds.Binary }
-    requires room { steps_of (fold_on_calls add.now sum.old (terms_of terms.now)) < 2 ^ 64 }
+    requires capacity { steps_of (fold_on_calls add.now sum.old (terms_of terms.now)) < 2 ^ 64 }
     ensures { AddsListed add.now (terms_of terms.now) sum.old sum.new result }
 {
     let (so_far, further) = match *sum {
@@ -107,7 +107,7 @@ impl Summing {
     ) -> u64
         requires mul { mul.now.kind ≡ kinds.Binary }
         requires may { MayMultiply mul.now b.now column cells.now }
-        requires room { HasRoom self.old.terms }
+        requires capacity { HasRoom self.old.terms }
         ensures { AreMultiplied mul.now b.now cells.now self.new.terms result }
     {
         // A compiled loop lists its terms directly. Gathering them would cost more than the calls.
@@ -123,15 +123,15 @@ impl Summing {
     /// Sums the terms of cells of a row of A.
     fn sum_cells(&mut self, factors: &MaskedFactors, row: &[(u64, u64)]) -> Summed
         requires row { MaySum factors.now row.now }
-        requires room { HasRoom self.old.terms }
+        requires capacity { HasRoom self.old.terms }
         ensures summed { IsSummed factors.now row.now result.sum result.steps }
-        ensures room { HasRoom self.new.terms }
+        ensures capacity { HasRoom self.new.terms }
     {
         let mut sum = None;
         let mut steps = 0;
         let mut cells = row;
         while !cells.is_empty() {
-            // In parts of 64 cells, which is as many as calls are made at once.
+            // In parts of 64 cells, which is as many calls as run at once.
             let (now, rest) = cells.split_at(cells.len().min(MOST_CALLS));
             let multiplied = self.multiply(factors.mul, now, factors.b, factors.column);
             steps += multiplied + add_terms(factors.add, &self.terms, &mut sum);
@@ -140,7 +140,7 @@ impl Summing {
         Summed { sum, steps }
     }
 
-    /// Adds row `i` of the product, whose one position passes. All its calls are made, and charged,
+    /// Adds row `i` of the product, whose one position passes. All its calls run, and are charged,
     /// before memory may be refused.
     fn fill_open(
         &mut self,
@@ -149,9 +149,9 @@ impl Summing {
         making: &mut Making,
     ) -> Result<(), AllocError>
         requires next { IsNextOpen factors.now i making.old }
-        requires room { HasRoom self.old.terms }
+        requires capacity { HasRoom self.old.terms }
         ensures added { AddsCharged factors.now i making.old making.new result }
-        ensures room { HasRoom self.new.terms }
+        ensures capacity { HasRoom self.new.terms }
     {
         let summed = self.sum_cells(factors, factors.a.row(i));
         end_summed(factors, i, &summed, making)

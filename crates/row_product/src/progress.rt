@@ -82,7 +82,7 @@ impl Progress {
         let mut cells = factors.b.row(k);
         let mut steps = 0;
         while !cells.is_empty() {
-            // In parts of 64 cells, which is as many as calls are made at once.
+            // In parts of 64 cells, which is as many calls as run at once.
             let (now, rest) = cells.split_at(cells.len().min(MOST_CALLS));
             steps += self.add_part(factors, x, now, masked);
             cells = rest;
@@ -112,11 +112,11 @@ impl Progress {
 /// copied, allowed or not, and the next overwrites one that isn't: no processor predicts which are
 /// allowed, so no jump depends on it.
 fn choose(cells: &[(u64, u64)], allowed: &[bool], passing: &mut [(u64, u64)]) -> usize
-    requires room { length cells.now ≤ length passing.old }
+    requires capacity { length cells.now ≤ length passing.old }
     requires within { Ascends 0 (length allowed.now) cells.now }
     ensures taking { take result passing.new ≡ taking (flag allowed.now) cells.now }
     ensures few { result ≤ length cells.now }
-    ensures room { length passing.new ≡ length passing.old }
+    ensures capacity { length passing.new ≡ length passing.old }
 {
     let mut count = 0;
     for cell in cells {

@@ -32,7 +32,7 @@ fn sum_under(factors: &MaskedFactors, i: u64, progress: &mut Progress) -> u64
     }
 }
 
-/// Adds row `i` of the product, by its sums. All its calls are made, and charged, before memory may
+/// Adds row `i` of the product, by its sums. All its calls run, and are charged, before memory may
 /// be refused.
 fn fill_summed(
     factors: &MaskedFactors,

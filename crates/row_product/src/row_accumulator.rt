@@ -35,17 +35,17 @@ pub(crate) trait RowAccumulator {
 pub(crate) fn fill_rows<R: RowAccumulator>(
     factors: &MaskedFactors,
     range: Range<u64>,
-    room: &mut R,
+    accumulator: &mut R,
     making: &mut Making,
 ) -> Result<(), AllocError>
     requires begun { IsBegun factors.now range.start range.end making.old }
-    requires ready { R.is_ready factors.now.b.now.columns room.old }
+    requires ready { R.is_ready factors.now.b.now.columns accumulator.old }
     requires may { (i : ℕ) → range.start ≤ i → i < range.end → R.may_fill factors.now i }
     ensures rows { AddsRows factors.now range.start range.end making.old making.new result }
-    ensures ready { R.is_ready factors.now.b.now.columns room.new }
+    ensures ready { R.is_ready factors.now.b.now.columns accumulator.new }
 {
     for i in range.start..range.end {
-        room.fill_row(factors, i, making)?;
+        accumulator.fill_row(factors, i, making)?;
     }
     // Rows that grew by doubling give back what they don't use: they become the result.
     making.rows.trim();

@@ -25,7 +25,7 @@ pub(crate) fn list_passing<'r>(
         → IsRowUnderMask whole n result.0.cells.now result.0.mask
         × (take result.1 passing.new ++ taking (stores whole) result.0.cells.now ≡ taking (stores whole) row.entry.cells.now) }
     ensures few { result.1 ≤ 64 }
-    ensures room { length passing.new ≡ length passing.old }
+    ensures capacity { length passing.new ≡ length passing.old }
     ensures fewer { 0 < length row.entry.cells.now → length result.0.cells.now < length row.entry.cells.now }
 {
     let RowUnderMask {

@@ -61,7 +61,7 @@ fn push_row(
     ensures sums { sums.new ≡ sums.old }
 {
     let mut cells = factors.b.row(k);
-    // Reserve first: once calls are made, nothing may fail for want of memory.
+    // Reserve first: once calls ran, nothing may fail for want of memory.
     making.rows.reserve(cells.len())?;
     while !cells.is_empty() {
         let (now, rest) = cells.split_at(cells.len().min(MOST_CALLS));
@@ -84,12 +84,12 @@ fn push_row_under(
         (calls_on factors.now.mul.now (pairs_with cell.1 (taking (stores stored.now) (row_of factors.now.b.now cell.0))))
         making.old making.new result }
     ensures little { making.new.steps ≤ making.old.steps + 8192 * limit }
-    ensures kept { (progress.new.sums ≡ progress.old.sums) × (progress.new.allowed ≡ progress.old.allowed)
+    ensures unchanged { (progress.new.sums ≡ progress.old.sums) × (progress.new.allowed ≡ progress.old.allowed)
         × (64 ≤ length progress.new.passing.items) }
 {
     let (k, x) = cell;
     let cells = factors.b.row(k);
-    // Reserve first: once calls are made, nothing may fail for want of memory.
+    // Reserve first: once calls ran, nothing may fail for want of memory.
     // No more cells pass than the shorter of the two rows has.
     making.rows.reserve(cells.len().min(stored.len()))?;
     let mut row = RowUnderMask {

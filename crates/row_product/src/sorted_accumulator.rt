@@ -57,7 +57,7 @@ impl SortedAccumulator {
     fn sum_row(&mut self, factors: &MaskedFactors, i: u64) -> u64
         requires row { IsRowOfA factors.now i }
         requires few { mults_of factors.now.b.now (row_of factors.now.a.now i) < limit }
-        requires room { HaveRoom (mults_of factors.now.b.now (row_of factors.now.a.now i)) self.old }
+        requires capacity { HaveRoom (mults_of factors.now.b.now (row_of factors.now.a.now i)) self.old }
         ensures { IsInLists factors.now i self.new.sums.items result }
     {
         let naming = Naming {
@@ -86,7 +86,7 @@ impl SortedAccumulator {
     ) -> Result<(), AllocError>
         requires next { IsNext factors.now i making.old }
         requires few { mults_of factors.now.b.now (row_of factors.now.a.now i) < limit }
-        requires room { HaveRoom (mults_of factors.now.b.now (row_of factors.now.a.now i)) self.old }
+        requires capacity { HaveRoom (mults_of factors.now.b.now (row_of factors.now.a.now i)) self.old }
         ensures { AddsCharged factors.now i making.old making.new result }
     {
         // Charged first: the push may be refused memory.

@@ -52,10 +52,10 @@ impl Sums {
     }
 
     /// How many columns the buffers hold.
-    pub(crate) fn room(&self) -> usize
+    pub(crate) fn capacity(&self) -> usize
         ensures { length self.now ≤ result }
     {
-        self.dense.room()
+        self.dense.capacity()
     }
 
     /// Makes the buffers hold so many columns, none of which has a sum.

@@ -1,5 +1,5 @@
 //! Terms added to the sums of their columns by recognised operators: in sequence, since nothing is
-//! gathered for a call that is compiled in place.
+//! gathered for a call that is compiled inline.
 ghost use Rattle.std.specs.Prelude.{◌<◌, ◌^◌, length};
 ghost use Rattle.bpf_run.specs.Calls.{steps_of};
 ghost use Rattle.bpf_run.specs.Known.{Computes};
@@ -27,7 +27,7 @@ fn add_terms<F: Function>(
 ) -> u64
     requires computes { Computes add.now F.meaning F.price }
     requires terms { AreTerms (length sums.old) cells.now terms.now }
-    requires room { steps_of (put_calls add.now sums.old cells.now terms.now) < 2 ^ 64 }
+    requires capacity { steps_of (put_calls add.now sums.old cells.now terms.now) < 2 ^ 64 }
     ensures { ArePut add.now cells.now terms.now sums.old sums.new result }
 {
     let mut steps = 0;

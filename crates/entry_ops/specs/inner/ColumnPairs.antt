@@ -62,7 +62,8 @@ pub record IsPairOf (form : EntryForm) (sources : Sources) (first n : ℕ) (pair
 -- an operator may join them
 pub record MayJoin (f : Accepted) (pair : ColumnPair) : Type 0 where
   pub is : IsPair pair
-  pub room : steps_of (form_all_calls (form_of pair.form) f pair.left.now (Some pair.right.now) None pair.first pair.rows) < 2 ^ 64
+  pub capacity : steps_of (form_all_calls (form_of pair.form) f pair.left.now (Some pair.right.now) None pair.first pair.rows)
+      < 2 ^ 64
 
 -- it did: their words are in front, and this is the sum of the steps
 pub record AreJoined (f : Accepted) (pair : ColumnPair) (joined : JoinedWords) (steps : ℕ) : Type 0 where

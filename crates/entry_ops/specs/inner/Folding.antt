@@ -45,7 +45,7 @@ in_two_columns (l ∷ ls) [] = []
 in_two_columns (l ∷ ls) (v ∷ vs) = record { number = l.number; so_far = v; terms = words l.rest.now } ∷ in_two_columns ls vs
 
 -- the open rows, what each row that was begun comes to unless it is open, by its number in the block, and the steps of the
--- calls that were made
+-- calls that ran
 pub record Folding : Type 0 where
   pub lanes : List Open
   pub results : List (Option ℕ)
@@ -76,14 +76,14 @@ pub record LeadsTo (f : Accepted) (target : ℕ → Option ℕ) (lanes : List Op
   pub opened : AllByRecursion (λ (l : Open). Some (fold_from f l.so_far l.terms) ≡ target l.number) lanes
   pub known : (k : ℕ) → k < length results → (slice_index_or results k None ≡ target k) ⊎ IsAmong k (indices lanes)
 
--- some of the calls to come were made, by so many steps, and some rows now have their results
+-- some of the calls to come ran, by so many steps, and some rows now have their results
 pub record Gives (f : Accepted) (steps : ℕ) (lanes : List Open) (results : List (Option ℕ)) (left : List Open)
     (found : List (Option ℕ)) : Type 0 where
   pub rows : length found ≡ length results
   pub leads : (target : ℕ → Option ℕ) → LeadsTo f target lanes results → LeadsTo f target left found
   pub costs : steps + due f left ≡ due f lanes
 
--- the same with the steps so far: the next call of each open row was made, or all of the last one
+-- the same with the steps so far: the next call of each open row ran, or all of the last one
 pub record Goes (f : Accepted) (old new : Folding) : Type 0 where
   pub rows : length new.results ≡ length old.results
   pub leads : (target : ℕ → Option ℕ) → LeadsTo f target old.lanes old.results → LeadsTo f target new.lanes new.results
@@ -97,7 +97,7 @@ TakesSteps old new = 0 < length old.lanes → old.steps < new.steps
 pub record CanGo (f : Accepted) (e : Folding) : Type 0 where
   pub kind : f.kind ≡ kinds.Binary
   pub accepted : IsAccepted f
-  pub room : e.steps + due f e.lanes < 2 ^ 64
+  pub capacity : e.steps + due f e.lanes < 2 ^ 64
 
 -- a block is of at most 256 rows, and the matrix has them
 pub record IsBlock (a : Grid) (block : Block) : Type 0 where
@@ -145,7 +145,7 @@ pub record CanReduce (f : Accepted) (a : Grid) (region : Region) (making : Makin
   pub kind : f.kind ≡ kinds.Binary
   pub region_is : IsRegion a.rows 1 region
   pub begun : making ≡ nothing_made region.range.start 1
-  pub room : steps_of (region_calls f a region) < 2 ^ 64
+  pub capacity : steps_of (region_calls f a region) < 2 ^ 64
 
 -- the reductions of the rows of a region are added
 abbrev pub AddsReduced : Accepted → Grid → Region → Making → Making → Result (Unit {0}) AllocError → Type 0
@@ -158,7 +158,7 @@ pub record CanFold (f : Accepted) (a : Grid) (mask : Option Grid) (block : Block
   pub kind : f.kind ≡ kinds.Binary
   pub accepted : IsAccepted f
   pub block_is : IsBlock a block
-  pub room : e.steps + steps_of (all_listed_under mask 1 (reduce_calls_at f a) block.first block.many) < 2 ^ 64
+  pub capacity : e.steps + steps_of (all_listed_under mask 1 (reduce_calls_at f a) block.first block.many) < 2 ^ 64
 
 -- the results of a block are known, and the steps of its calls are counted
 pub record IsFolded (f : Accepted) (a : Grid) (mask : Option Grid) (block : Block) (old new : Folding) : Type 0 where

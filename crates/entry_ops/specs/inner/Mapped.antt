@@ -34,9 +34,9 @@ pub record HasRoom (f : Accepted) (operands : List Operands) (m : Mapping) : Typ
 pub record IsCopied (f : Accepted) (thunk : Option ℕ) (a : Grid) (first n : ℕ) (m : Mapping) : Type 0 where
   pub copied : m.rows.run ≡ rows_of a first n
   pub none : m.rows.written ≡ 0
-  pub room : m.steps + steps_of (calls_on f (range_operands thunk a first n)) < 2 ^ 64
+  pub capacity : m.steps + steps_of (calls_on f (range_operands thunk a first n)) < 2 ^ 64
 
--- calls were made, whose values the next entries have
+-- calls ran, whose values the next entries have
 pub record IsFurther (f : Accepted) (operands : List Operands) (old new : Mapping) : Type 0 where
   pub alike : AreAlike old.rows.run new.rows.run
   pub number : new.rows.written ≡ old.rows.written + length operands

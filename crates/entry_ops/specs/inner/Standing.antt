@@ -1,4 +1,4 @@
--- Rows as if the calls that wait were made, and what is added to them. This project's own.
+-- Rows as if the calls that wait had run, and what is added to them. This project's own.
 use Rattle.std.specs.Prelude.{◌≡◌, ◌<◌, ℕ, List, [], ◌∷◌, ◌++◌}
 use Rattle.std.specs.List.{AllByRecursion}
 use Rattle.csr_store.specs.Grid.{Cell}
@@ -34,13 +34,13 @@ pub record FollowIn (cells : Row) (run : Run) : Type 0 where
   pub above : AllByRecursion (λ (c : Cell). c.0 < low) run.opened
   pub ascend : Ascends low run.columns cells
 
--- the rows as if the calls that wait were made, those calls, and the steps of the calls that were made
+-- the rows as if the calls that wait had run, those calls, and the steps of the calls that ran
 pub record Standing : Type 0 where
   pub rows : Run
   pub waiting : List Call
   pub steps : ℕ
 
--- calls were added, made or not yet, and the rows are what `change` makes of them
+-- calls were added, run or not yet, and the rows are what `change` makes of them
 pub record Adds (calls : List Call) (change : Run → Run) (old new : Standing) : Type 0 where
   pub rows : new.rows ≡ change old.rows
   pub spends : (rest : List Call) → Spends (old.waiting ++ (calls ++ rest)) old.steps (new.waiting ++ rest) new.steps

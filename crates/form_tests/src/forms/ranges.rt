@@ -116,9 +116,9 @@ fn patterned(alloc: Global, columns: u64, one_of: u64) -> Result<Matrix, Fail> {
     let mut entries: Vec<Triple> = Vec::new(alloc);
     for row in 0..ROWS {
         for column in 0..columns {
-            let place = row.wrapping_mul(5).wrapping_add(column);
-            if place.checked_rem(one_of) != Some(0) && (row < 400 || row >= 450) {
-                entries.push((row, column, place ^ column))?;
+            let index = row.wrapping_mul(5).wrapping_add(column);
+            if index.checked_rem(one_of) != Some(0) && (row < 400 || row >= 450) {
+                entries.push((row, column, index ^ column))?;
             }
         }
     }

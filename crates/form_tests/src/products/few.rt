@@ -1,5 +1,5 @@
 //! Products with few terms beside the columns, against the slow reference at the columns that have
-//! any: what stands there, and the steps. The same in a scratch that has room for all columns.
+//! any: what stands there, and the steps. The same in a scratch that holds all columns.
 use super::{Operators, all_operators, assert_count, chunk_of, finished, reference, scattered};
 use crate::masks::passes;
 use bpf_verify::Operator;
@@ -27,8 +27,8 @@ fn sparse(
     assert!(rt; choice.rows() <= 100);
     let mut builder = Builder::new(alloc, choice.rows(), WIDTH);
     for i in 0..choice.rows() {
-        for (place, column) in COLUMNS.iter().enumerate() {
-            if let Some(word) = choice.get(i, place as u64) {
+        for (index, column) in COLUMNS.iter().enumerate() {
+            if let Some(word) = choice.get(i, index as u64) {
                 builder.put(i, *column, word)?;
             }
         }
@@ -77,7 +77,7 @@ fn assert_cells(
     Ok(())
 }
 
-/// A scratch that has room for all columns: a product with many terms made it.
+/// A scratch that holds all columns: a product with many terms allocated it.
 fn wide_scratch(rt: &impl Abort, alloc: Global, operators: &Operators) -> Result<Scratch, Fail> {
     let a = scattered(rt, 1, 1, 3, 1, alloc)?;
     let b = scattered(rt, 1, WIDTH, 4, 4, alloc)?;
@@ -87,8 +87,8 @@ fn wide_scratch(rt: &impl Abort, alloc: Global, operators: &Operators) -> Result
     Ok(scratch)
 }
 
-/// The same of several operators, whole and under a mask, in a scratch with no room and in one with
-/// room.
+/// The same of several operators, whole and under a mask, in a scratch without columns and in
+/// one with all.
 fn assert_density(
     rt: &impl Abort,
     alloc: Global,

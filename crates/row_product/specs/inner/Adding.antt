@@ -55,9 +55,9 @@ pub record ArePut (add : Accepted) (cs : List Cell) (ts : List ℕ) (old new : L
 pub record MayPut (add : Accepted) (sums : List (Option ℕ)) (cs : List Cell) (ts : List ℕ) : Type 0 where
   pub terms : AreTerms (length sums) cs ts
   pub kind : add.kind ≡ kinds.Binary
-  pub room : steps_of (put_calls add sums cs ts) < 2 ^ 64
+  pub capacity : steps_of (put_calls add sums cs ts) < 2 ^ 64
 
--- additions that are made together, and the column of each
+-- additions that run together, and the column of each
 pub record Gathered : Type 0 where
   pub columns : List ℕ
   pub operands : List Operands
@@ -78,12 +78,12 @@ written sums [] vs = sums
 abbrev pub AreBelow : ℕ → List ℕ → Type 0
 AreBelow n ks = AllByRecursion (λ k. k < n) ks
 
--- gathered additions are made: their sums are written at their columns, and the steps are those of the calls
+-- gathered additions run: their sums are written at their columns, and the steps are those of the calls
 pub record AreAdded (add : Accepted) (g : Gathered) (old new : List (Option ℕ)) (s : ℕ) : Type 0 where
   pub sums : new ≡ written old g.columns (values_on add g.operands)
   pub steps : s ≡ steps_of (calls_on add g.operands)
 
--- terms that are written at the columns of cells, where the additions that are gathered are still to be made
+-- terms that are written at the columns of cells, where the additions that are gathered are still to run
 pub record IsMet (add : Accepted) (first : List (Option ℕ)) (cs : List Cell) (ts : List ℕ) (sums : List (Option ℕ))
     (g : Gathered) : Type 0 where
   pub sums_are : written sums g.columns (values_on add g.operands) ≡ put_terms add first cs ts

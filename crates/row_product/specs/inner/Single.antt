@@ -34,7 +34,7 @@ pub record IsBehind (n : ℕ) (row cells : List Cell) : Type 0 where
 pub record MayPutProducts (f : MaskedFactors) (cells : List Cell) (making : Making) : Type 0 where
   pub factors : AreMasked f
   pub few : length cells ≤ 64
-  pub room : making.steps + 8192 * length cells < 2 ^ 64
+  pub capacity : making.steps + 8192 * length cells < 2 ^ 64
   pub behind : IsBehind making.rows.columns making.rows.opened cells
 
 -- x was multiplied by each of these cells, and the steps of all these calls are charged
@@ -58,11 +58,11 @@ pub record MayPush (f : MaskedFactors) (k : ℕ) (making : Making) : Type 0 wher
   pub row : k < f.b.now.rows
   pub columns : making.rows.columns ≡ f.b.now.columns
   pub none_open : making.rows.opened ≡ []
-  pub room : making.steps + 8192 * limit < 2 ^ 64
+  pub capacity : making.steps + 8192 * limit < 2 ^ 64
 
 -- so it may as far as a mask's row stores its columns, and there is a buffer for a part of it
 pub record MayPushUnder (f : MaskedFactors) (k : ℕ) (stored : List Cell) (progress : Progress) (making : Making)
     : Type 0 where
   pub push : MayPush f k making
   pub order : Ascends 0 f.b.now.columns stored
-  pub room : 64 ≤ length progress.passing.items
+  pub capacity : 64 ≤ length progress.passing.items

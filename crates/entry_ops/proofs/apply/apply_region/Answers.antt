@@ -1,4 +1,4 @@
-use Rattle.std.proofs.Common.{◌≡◌, ◌-◌, false, None, Some, Option, refl, sym, subst}
+use Rattle.std.proofs.Common.{◌≡◌, ◌-◌, ℕ, false, None, Some, Option, refl, sym, subst, ap}
 use Rattle.std.specs.Option.{is_some}
 use denote.Ref.{Bor}
 use Rattle.csr_store.specs.Grid.{Grid}
@@ -30,3 +30,15 @@ returns-then-is_blank_under c =
     let mask = mask_of c.args.region.mask in
     part_of_blank a.columns c.columns.result c.columns.ensures.columns (apply_at f c.args.thunk a) (apply_calls_at f c.args.thunk a) c.args.region c.blank_region.result a
     (c.is_blank_under.ensures.0 c.if-is_blank_under.true) (λ i j l u e. apply_nothing f c.args.thunk a mask i j e) c.blank_region.ensures
+
+pub returns-then-not-shows_few : goal.returns-then-not-shows_few
+returns-then-not-shows_few c =
+    let f = c.args.operator.now in
+    let a = c.args.a.now in
+    let first = c.args.region.range.start in
+    let n = c.args.region.range.end - first in
+    let chunk = c.apply_shown.result in
+    apply_is f a c.args.region _ c.args.thunk
+    (subst (λ (t : Option ℕ). IsFormMade (Apply t) f a None (mask_of c.args.region.mask) first n chunk) (sym c.in-Some-None.is-1)
+    (subst (λ (m : Option Grid). IsFormMade (Apply None) f a None m first n chunk) (sym (ap mask_of c.in-Some-None.is-0))
+    c.apply_shown.ensures))

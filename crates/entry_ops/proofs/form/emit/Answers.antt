@@ -15,7 +15,7 @@ returns-in-Some-None c = record {
   does = rw (c.in-Union.is, c.in-Some-None.is-0, c.in-Some-None.is-1) (on_ok_then c.copy.result
       (does-copy c.args.operator.now c.args.emitter.now c.args.calls.now c.requires.can.holds c.args.pair.column c.in-Some-None.x
       c.copy.new.self) c.copy.ensures.copied);
-  spent = on_err_then c.copy.result (charges-kept _ _ _) c.copy.ensures.kept;
+  spent = on_err_then c.copy.result (charges-kept _ _ _) c.copy.ensures.unchanged;
 }
 
 pub returns-in-None-Some : goal.returns-in-None-Some
@@ -23,5 +23,5 @@ returns-in-None-Some c = record {
   does = rw (c.in-Union.is, c.in-None-Some.is-0, c.in-None-Some.is-1) (on_ok_then c.copy-in-None-Some.result
       (does-copy c.args.operator.now c.args.emitter.now c.args.calls.now c.requires.can.holds c.args.pair.column c.in-None-Some.y
       c.copy-in-None-Some.new.self) c.copy-in-None-Some.ensures.copied);
-  spent = on_err_then c.copy-in-None-Some.result (charges-kept _ _ _) c.copy-in-None-Some.ensures.kept;
+  spent = on_err_then c.copy-in-None-Some.result (charges-kept _ _ _) c.copy-in-None-Some.ensures.unchanged;
 }

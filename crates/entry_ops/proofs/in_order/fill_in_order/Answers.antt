@@ -49,22 +49,22 @@ loop-row-init c = record {
       c.args.making.now _ c.requires.region_is.range c.requires.begun (c.reserve.ensures ∙ c.reserve_rows.ensures) refl;
 }
 
-pub fold_row-folded-requires-clause-room : goal.fold_row-folded-requires-clause-room
-fold_row-folded-requires-clause-room c =
+pub fold_row-folded-requires-clause-capacity : goal.fold_row-folded-requires-clause-capacity
+fold_row-folded-requires-clause-capacity c =
     let within : c.loop-row.row + 1 ≤ c.args.region.range.end = let t = c.loop-row-test.true in omega (arith, t) in
-    let room = reducing-room _ _ _ _ _ _ _ _ c.loop-row.invariant.reducing 1 within c.requires.begun c.requires.room in
+    let capacity = reducing-room _ _ _ _ _ _ _ _ c.loop-row.invariant.reducing 1 within c.requires.begun c.requires.capacity in
     let one = one-steps c.args.operator.now c.args.a.now (mask_of c.args.region.mask) c.loop-row.row c.shown.result.now
     (seen c.args.a.now (mask_of c.args.region.mask) c.loop-row.row c.loop-row.reader _ _ c.loop-row.invariant.reads c.next_row-cells.ensures.row c.shown.ensures) in
-    omega (arith, room, one)
+    omega (arith, capacity, one)
 
 pub overflow_add-making : goal.overflow_add-making
 overflow_add-making c =
     let within : c.loop-row.row + 1 ≤ c.args.region.range.end = let t = c.loop-row-test.true in omega (arith, t) in
-    let room = reducing-room _ _ _ _ _ _ _ _ c.loop-row.invariant.reducing 1 within c.requires.begun c.requires.room in
+    let capacity = reducing-room _ _ _ _ _ _ _ _ c.loop-row.invariant.reducing 1 within c.requires.begun c.requires.capacity in
     let one = one-steps c.args.operator.now c.args.a.now (mask_of c.args.region.mask) c.loop-row.row c.shown.result.now
     (seen c.args.a.now (mask_of c.args.region.mask) c.loop-row.row c.loop-row.reader _ _ c.loop-row.invariant.reads c.next_row-cells.ensures.row c.shown.ensures) in
     let made = c.fold_row-folded.ensures.steps in
-    omega (arith, room, one, made)
+    omega (arith, capacity, one, made)
 
 pub returns-in_err-add_row : goal.returns-in_err-add_row
 returns-in_err-add_row c =

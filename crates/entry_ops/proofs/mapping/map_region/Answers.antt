@@ -18,7 +18,7 @@ add_all-requires-clause-copied c =
     record {
       copied = ap (λ (d : Copied). d.run) copied;
       none = ap (λ (d : Copied). d.written) copied;
-      room = whole-room (Apply thunk) f a None (λ i. row_operands thunk i (row_of a i)) first n
+      capacity = whole-room (Apply thunk) f a None (λ i. row_operands thunk i (row_of a i)) first n
           (apply_mapped f a g thunk first n) g (c.requires.kind ∙ sym (apply_kind_is thunk)) c.recall.ensures
           (let w = c.requires.within in omega (arith, w));
     }

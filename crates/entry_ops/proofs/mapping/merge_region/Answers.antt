@@ -15,8 +15,8 @@ use Rattle.entry_ops.proofs.mapping.merge_region.Goals as goal
 pub add_pairs-requires-clause-kind : goal.add_pairs-requires-clause-kind
 add_pairs-requires-clause-kind c = c.requires.form.suits.kind ∙ joint_kind (form_of c.args.form) c.requires.form.joint_is
 
-pub add_pairs-requires-clause-room : goal.add_pairs-requires-clause-room
-add_pairs-requires-clause-room c =
+pub add_pairs-requires-clause-capacity : goal.add_pairs-requires-clause-capacity
+add_pairs-requires-clause-capacity c =
     let f = c.args.operator.now in
     let a = c.args.sources.left.now in
     let first = c.args.range.start in

@@ -19,7 +19,7 @@ pub emit-requires-clause-can : goal.emit-requires-clause-can
 emit-requires-clause-can c = record {
   holds = c.loop-shown.invariant.0;
   fits = masking-fits _ _ _ _ _ _ _ _ _ _ _ c.loop-shown.invariant.1 _ _ c.in-Some.ensures.cases.0;
-  room = completes-room _ _ _ _ _ _ c.loop-shown.invariant.1.completes c.requires.ready.room;
+  capacity = completes-room _ _ _ _ _ _ c.loop-shown.invariant.1.completes c.requires.ready.capacity;
 }
 
 pub returns-in_err-emit : goal.returns-in_err-emit

@@ -41,7 +41,7 @@ returns-in_default-split_first c = record {
       }) c.add_rest.ensures.copied;
   spent = on_err_then c.add_rest.result (λ same. completes-stop _ _ _ _ _ _ c.loop-x.invariant.1.completes _
       (charges-kept _ _ _ same))
-      c.add_rest.ensures.kept;
+      c.add_rest.ensures.unchanged;
 }
 
 pub add_rest-requires-2 : goal.add_rest-requires-2
@@ -61,7 +61,7 @@ returns c = record {
       }) c.add_rest-2.ensures.copied;
   spent = on_err_then c.add_rest-2.result (λ same. completes-stop _ _ _ _ _ _ c.loop-x.invariant.1.completes _
       (charges-kept _ _ _ same))
-      c.add_rest-2.ensures.kept;
+      c.add_rest-2.ensures.unchanged;
 }
 
 -- ---- a cell that the left row alone has
@@ -73,7 +73,7 @@ emit-requires-clause-can c =
       holds = c.loop-x.invariant.0;
       fits = merging-fits _ _ _ _ _ _ _ _ _ _ i _ _ _ _ _ (first_left c.args.sides.columns i.low _ _ i.left_row i.right_row _ _ _ _
           c.in-Some.ensures.cases.0 c.in-Some-split_first.ensures.cases.0 c.if-x-y.true);
-      room = completes-room _ _ _ _ _ _ i.completes c.requires.ready.room;
+      capacity = completes-room _ _ _ _ _ _ i.completes c.requires.ready.capacity;
     })
 
 pub returns-in_err-emit : goal.returns-in_err-emit
@@ -100,7 +100,7 @@ emit-requires-then-y-x-clause-can c =
       holds = c.loop-x.invariant.0;
       fits = merging-fits _ _ _ _ _ _ _ _ _ _ i _ _ _ _ _ (first_right c.args.sides.columns i.low _ _ i.left_row i.right_row _ _ _ _
           c.in-Some.ensures.cases.0 c.in-Some-split_first.ensures.cases.0 c.if-y-x.true);
-      room = completes-room _ _ _ _ _ _ i.completes c.requires.ready.room;
+      capacity = completes-room _ _ _ _ _ _ i.completes c.requires.ready.capacity;
     })
 
 pub returns-in_err-emit-2 : goal.returns-in_err-emit-2
@@ -128,7 +128,7 @@ emit-requires-else-y-x-clause-can c =
       holds = c.loop-x.invariant.0;
       fits = merging-fits _ _ _ _ _ _ _ _ _ _ i _ _ _ _ _ (together c.args.sides.columns i.low _ _ i.left_row i.right_row _ _ _ _
           c.in-Some.ensures.cases.0 c.in-Some-split_first.ensures.cases.0 (omega (arith, c.if-x-y.false, c.if-y-x.false)));
-      room = completes-room _ _ _ _ _ _ i.completes c.requires.ready.room;
+      capacity = completes-room _ _ _ _ _ _ i.completes c.requires.ready.capacity;
     }
 
 pub returns-in_err-emit-3 : goal.returns-in_err-emit-3

@@ -7,10 +7,10 @@ use Rattle.entry_ops.proofs.pairs.gather_each.Goals as goal
 pub loop-cell-init : goal.loop-cell-init
 loop-cell-init c = record { next = refl; gathering = gathering-start c.args.left.now c.args.right.now c.args.calls.now c.requires.same }
 
-pub gather_pair-requires-clause-room : goal.gather_pair-requires-clause-room
-gather_pair-requires-clause-room c =
+pub gather_pair-requires-clause-capacity : goal.gather_pair-requires-clause-capacity
+gather_pair-requires-clause-capacity c =
     let m = c.loop-cell.invariant.gathering.many in
-    let r = c.requires.room in
+    let r = c.requires.capacity in
     let t = c.loop-cell-test.true in
     omega (arith, m, r, t)
 

@@ -27,8 +27,8 @@ pub fold-requires : goal.fold-requires
 fold-requires c =
     let within : c.loop-first.first + c.min-many.result ≤ c.args.region.range.end = let m = c.min-many.ensures in let t =
     c.loop-first-test.true in omega (arith, m, t) in
-    let room = reducing-room _ _ _ _ _ _ _ _ c.loop-first.invariant.reducing c.min-many.result within
-    c.requires.can.begun c.requires.can.room in
+    let capacity = reducing-room _ _ _ _ _ _ _ _ c.loop-first.invariant.reducing c.min-many.result within
+    c.requires.can.begun c.requires.can.capacity in
     let same = c.loop-first.invariant.counted in
     let all = c.requires.can.region_is.within in
     let few = c.min-many.ensures in
@@ -36,7 +36,7 @@ fold-requires c =
       kind = c.requires.can.kind;
       accepted = c.requires.accepted;
       block_is = record { fits = omega (arith, within); within = omega (arith, within, all); few = omega (arith, few) };
-      room = omega (arith, room, same);
+      capacity = omega (arith, capacity, same);
     }
 
 pub returns-in_err-add_to : goal.returns-in_err-add_to

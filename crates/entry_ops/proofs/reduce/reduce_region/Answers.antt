@@ -13,7 +13,7 @@ fill_in_order-filled-requires c =
       kind = c.requires.kind;
       region_is = c.requires.region;
       begun = c.begin-making.ensures;
-      room = few_reduced c.args.operator.now c.args.a.now (mask_of c.args.region.mask) c.args.region.range.start
+      capacity = few_reduced c.args.operator.now c.args.a.now (mask_of c.args.region.mask) c.args.region.range.start
           (c.args.region.range.end - c.args.region.range.start)
           c.recall.ensures c.requires.kind c.recall-2.ensures
           (omega (arith, w));
@@ -26,7 +26,7 @@ fill_in_blocks-filled-requires-clause-can c =
       kind = c.requires.kind;
       region_is = c.requires.region;
       begun = c.begin-making.ensures;
-      room = few_reduced c.args.operator.now c.args.a.now (mask_of c.args.region.mask) c.args.region.range.start
+      capacity = few_reduced c.args.operator.now c.args.a.now (mask_of c.args.region.mask) c.args.region.range.start
           (c.args.region.range.end - c.args.region.range.start)
           c.recall.ensures c.requires.kind c.recall-2.ensures
           (omega (arith, w));

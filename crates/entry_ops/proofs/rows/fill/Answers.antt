@@ -19,15 +19,15 @@ loop-row-init c = (c.requires.ready.holds, filling-start _ _ _ _ _ _ _ _ c.requi
 
 pub fill_operands-requires-clause-ready : goal.fill_operands-requires-clause-ready
 fill_operands-requires-clause-ready c =
-    let room = filling-room _ _ _ _ _ _ _ _ _ _ c.loop-row.invariant.1
-    c.loop-row-test.true c.requires.ready.room in
+    let capacity = filling-room _ _ _ _ _ _ _ _ _ _ c.loop-row.invariant.1
+    c.loop-row-test.true c.requires.ready.capacity in
     let same = ap steps_of (c.next_operands-sides.ensures.sides.calls (form_of c.args.form) c.args.operator.now) in
     let begun = filling-open _ _ _ _ _ _ _ _ _ _ c.loop-row.invariant.1
     c.requires.ready.open_row in
     record {
       holds = c.loop-row.invariant.0;
       open_row = record { columns_are = begun.columns_are ∙ sym c.next_operands-sides.ensures.sides.columns; none = begun.none };
-      room = omega (arith, room, same);
+      capacity = omega (arith, capacity, same);
     }
 
 pub returns-in_err-fill_operands : goal.returns-in_err-fill_operands
@@ -45,7 +45,7 @@ returns-in_err-end_row c = record {
       (filling-stop_end _ _ _ _ _ _ _ _ _ _ c.loop-row.invariant.1
       c.loop-row-test.true
       _ _ _ _ (c.next_operands-sides.ensures.sides.calls (form_of c.args.form) c.args.operator.now) c.in_ok-fill_operands.ensures.does.adds
-      (charges-kept _ _ _ c.in_err-end_row.ensures.kept));
+      (charges-kept _ _ _ c.in_err-end_row.ensures.unchanged));
 }
 
 pub loop-row-preserved : goal.loop-row-preserved

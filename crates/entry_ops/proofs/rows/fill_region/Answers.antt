@@ -27,7 +27,7 @@ fill-requires-clause-ready c =
         none = ap
             (λ (r : Run). r.opened) begun;
       };
-      room = begin-room c.args.operator.now (form_of c.args.form) c.args.sources.left.now
+      capacity = begin-room c.args.operator.now (form_of c.args.form) c.args.sources.left.now
           (mask_of c.args.sources.right) (mask_of c.args.sources.mask) c.args.range.start c.args.range.end
           (standing c.args.operator.now c.reserve.new.self c.begin.new.self)
           (ap (λ (e : Emission). e.steps) c.reserve.ensures ∙ c.begin-emitter.ensures.steps)
@@ -49,9 +49,9 @@ returns-in-Err-fill c =
           (ap (λ (e : Emission). e.steps) c.reserve.ensures ∙ c.begin-emitter.ensures.steps) all _ c.in-Err-fill.ensures.spent;
     })
 
-pub flush-requires-clause-room : goal.flush-requires-clause-room
-flush-requires-clause-room c =
-    let room = begin-room c.args.operator.now (form_of c.args.form) c.args.sources.left.now
+pub flush-requires-clause-capacity : goal.flush-requires-clause-capacity
+flush-requires-clause-capacity c =
+    let capacity = begin-room c.args.operator.now (form_of c.args.form) c.args.sources.left.now
     (mask_of c.args.sources.right) (mask_of c.args.sources.mask) c.args.range.start c.args.range.end
     (standing c.args.operator.now c.reserve.new.self c.begin.new.self)
     (ap (λ (e : Emission). e.steps) c.reserve.ensures ∙ c.begin-emitter.ensures.steps)
@@ -62,7 +62,7 @@ flush-requires-clause-room c =
     (ap (λ (e : Emission). e.rows) c.reserve.ensures ∙ c.begin-emitter.ensures.rows) c.begin.ensures.none)
     (ap (calls_on c.args.operator.now) c.begin.ensures.none)
     (ap (λ (e : Emission). e.steps) c.reserve.ensures ∙ c.begin-emitter.ensures.steps) _ _ _ c.in-Ok-fill.ensures.does.adds in
-    omega (arith, room, costs)
+    omega (arith, capacity, costs)
 
 pub returns : goal.returns
 returns c =

@@ -34,7 +34,7 @@ pub keep-requires-clause-can : goal.keep-requires-clause-can
 keep-requires-clause-can c = record {
   holds = c.loop-shown.invariant.0;
   fits = masking-fits _ _ _ _ _ _ _ _ _ _ _ c.loop-shown.invariant.1 _ _ c.in-Some.ensures.cases.0;
-  room = completes-room _ _ _ _ _ _ c.loop-shown.invariant.1.completes c.requires.ready.room;
+  capacity = completes-room _ _ _ _ _ _ c.loop-shown.invariant.1.completes c.requires.ready.capacity;
 }
 
 pub returns-in_err-keep : goal.returns-in_err-keep

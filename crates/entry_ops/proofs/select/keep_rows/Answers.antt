@@ -18,7 +18,7 @@ pub keep_row-requires-clause-ready : goal.keep_row-requires-clause-ready
 keep_row-requires-clause-ready c = record {
   holds = c.loop-row.invariant.0;
   open_row = filling-open _ _ _ _ _ _ _ _ _ _ c.loop-row.invariant.1 c.requires.ready.open_row;
-  room = filling-room _ _ _ _ _ _ _ _ _ _ c.loop-row.invariant.1 c.loop-row-test.true c.requires.ready.room;
+  capacity = filling-room _ _ _ _ _ _ _ _ _ _ c.loop-row.invariant.1 c.loop-row-test.true c.requires.ready.capacity;
 }
 
 pub returns-in_err-keep_row : goal.returns-in_err-keep_row
@@ -29,11 +29,11 @@ returns-in_err-keep_row c = record {
       refl c.in_err-keep_row.ensures.spent);
 }
 
-pub end_row-requires-clause-room : goal.end_row-requires-clause-room
-end_row-requires-clause-room c =
-    let room = filling-room _ _ _ _ _ _ _ _ _ _ c.loop-row.invariant.1 c.loop-row-test.true c.requires.ready.room in
+pub end_row-requires-clause-capacity : goal.end_row-requires-clause-capacity
+end_row-requires-clause-capacity c =
+    let capacity = filling-room _ _ _ _ _ _ _ _ _ _ c.loop-row.invariant.1 c.loop-row-test.true c.requires.ready.capacity in
     let costs = adds-costs _ _ _ _ c.in_ok-keep_row.ensures.does.adds in
-    omega (arith, room, costs)
+    omega (arith, capacity, costs)
 
 pub returns-in_err-end_row : goal.returns-in_err-end_row
 returns-in_err-end_row c = record {

@@ -22,7 +22,7 @@ keep_rows-requires-clause-ready c =
         none = ap
             (λ (r : Run). r.opened) begun;
       };
-      room = begin-room c.args.operator.now (Select c.args.thunk) c.args.masked.a.now None
+      capacity = begin-room c.args.operator.now (Select c.args.thunk) c.args.masked.a.now None
           (Some c.args.masked.mask.now) c.args.range.start c.args.range.end
           (standing c.args.operator.now c.in-Ok.sieve c.begin-2.new.self) (ap (λ (e : SelectState). e.steps) c.in-Ok.ensures)
           (ap (calls_on c.args.operator.now) c.begin-2.ensures.none) c.recall.ensures c.requires.kind
@@ -42,9 +42,9 @@ returns-in-Err-keep_rows c =
           c.in-Err-keep_rows.ensures.spent;
     })
 
-pub flush-flushed-requires-clause-room : goal.flush-flushed-requires-clause-room
-flush-flushed-requires-clause-room c =
-    let room = begin-room c.args.operator.now (Select c.args.thunk) c.args.masked.a.now None
+pub flush-flushed-requires-clause-capacity : goal.flush-flushed-requires-clause-capacity
+flush-flushed-requires-clause-capacity c =
+    let capacity = begin-room c.args.operator.now (Select c.args.thunk) c.args.masked.a.now None
     (Some c.args.masked.mask.now) c.args.range.start c.args.range.end
     (standing c.args.operator.now c.in-Ok.sieve c.begin-2.new.self) (ap (λ (e : SelectState). e.steps) c.in-Ok.ensures)
     (ap (calls_on c.args.operator.now) c.begin-2.ensures.none) c.recall.ensures c.requires.kind
@@ -53,7 +53,7 @@ flush-flushed-requires-clause-room c =
     (ap (λ (e : SelectState). final c.args.operator.now e c.begin-2.new.self) c.in-Ok.ensures)
     (ap (calls_on c.args.operator.now) c.begin-2.ensures.none) (ap (λ (e : SelectState). e.steps) c.in-Ok.ensures) _ _ _
     c.in-Ok-keep_rows.ensures.does.adds in
-    omega (arith, room, costs)
+    omega (arith, capacity, costs)
 
 pub returns : goal.returns
 returns c =
@@ -65,7 +65,7 @@ returns c =
     let costs = whole-costs _ _ start begun none zero _ _ _ c.in-Ok-keep_rows.ensures.does.adds in
     let rows = whole-rows _ _ start begun none zero _ _ _ c.in-Ok-keep_rows.ensures.does.adds in
     told_is c.flush-flushed.result _ _ _ _ c.finish-2.ensures
-    (on_ok_weaker c.flush-flushed.result (λ m. ap (λ (e : SelectState). e.rows) m.made ∙ rows) c.flush-flushed.ensures.made)
-    (on_ok_weaker c.flush-flushed.result (λ m. ap (λ (e : SelectState). e.steps) m.made ∙ costs) c.flush-flushed.ensures.made)
+    (on_ok_weaker c.flush-flushed.result (λ m. ap (λ (e : SelectState). e.rows) m.state ∙ rows) c.flush-flushed.ensures.flushed)
+    (on_ok_weaker c.flush-flushed.result (λ m. ap (λ (e : SelectState). e.steps) m.state ∙ costs) c.flush-flushed.ensures.flushed)
     (on_err_weaker c.flush-flushed.result
     (λ e. whole-spent _ _ start begun none zero _ _ _ c.in-Ok-keep_rows.ensures.does.adds _ e) c.flush-flushed.ensures.spent)

@@ -23,9 +23,9 @@ answers_of-requires-clause-few c =
     (c.args.range.end - c.args.range.start))) in
     omega (arith, few, s)
 
-pub kept-requires-clause-answers : goal.kept-requires-clause-answers
-kept-requires-clause-answers c =
-    ap length (c.deref.ensures.value ∙ (c.in-Ok.ensures.made.0 ∙ ap (values_on c.args.operator.now) c.of_rows-index_calls.ensures))
+pub selected-requires-clause-answers : goal.selected-requires-clause-answers
+selected-requires-clause-answers c =
+    ap length (c.deref.ensures.value ∙ (c.in-Ok.ensures.answers.0 ∙ ap (values_on c.args.operator.now) c.of_rows-index_calls.ensures))
     ∙ length_along c.args.operator.now c.args.a.now c.args.thunk c.args.range.start (c.args.range.end - c.args.range.start)
 
 pub returns-in-Ok : goal.returns-in-Ok
@@ -33,16 +33,16 @@ returns-in-Ok c =
     let s = ap steps_of (ap (calls_on c.args.operator.now) c.of_rows-index_calls.ensures
     ∙ sym (calls_along c.args.operator.now c.args.a.now c.args.thunk c.recall-2.ensures c.args.range.start
     (c.args.range.end - c.args.range.start))) in
-    let t = c.in-Ok.ensures.made.1 in
+    let t = c.in-Ok.ensures.answers.1 in
     record {
-      rows = subst (λ (rows : List Row). IfOk c.kept.result
+      rows = subst (λ (rows : List Row). IfOk c.selected.result
           (λ (r : Run). r ≡ record { first = c.args.range.start; columns = c.args.a.now.columns; ended = rows; opened = [] }))
           (kept_along c.args.operator.now c.args.a.now c.args.thunk c.recall-2.ensures c.args.range.start
           (c.args.range.end - c.args.range.start) c.deref.result.now
-          (c.deref.ensures.value ∙ (c.in-Ok.ensures.made.0 ∙ ap (values_on c.args.operator.now) c.of_rows-index_calls.ensures)))
-          c.kept.ensures;
-      steps = on_ok c.kept.result (omega (arith, s, t));
-      spent = on_err c.kept.result (charges-all _ 0 c.answers_of.new.steps (omega (arith, s, t)));
+          (c.deref.ensures.value ∙ (c.in-Ok.ensures.answers.0 ∙ ap (values_on c.args.operator.now) c.of_rows-index_calls.ensures)))
+          c.selected.ensures;
+      steps = on_ok c.selected.result (omega (arith, s, t));
+      spent = on_err c.selected.result (charges-all _ 0 c.answers_of.new.steps (omega (arith, s, t)));
     }
 
 pub returns-in-Err : goal.returns-in-Err

@@ -5,5 +5,5 @@ use Rattle.row_product.proofs.column_terms.list_terms.Given as goal
 abbrev pub invariant-loop-value : goal.invariant-loop-value
 invariant-loop-value l = record {
   listed : terms_of l.terms.items ≡ take l.value-index l.values;
-  room : 64 ≤ vec_capacity l.terms;
+  capacity : 64 ≤ vec_capacity l.terms;
 }

@@ -8,20 +8,20 @@ use Rattle.row_product.proofs.emit.emit_listed.Goals.{then-is_due+in_ok-put_sum,
 
 pub loop-column-init : goal.loop-column-init
 loop-column-init c =
-    listing_start c.args.rows.now.columns (slot c.args.dense.now) c.args.rows.now c.args.listed.now c.requires.room.none_open
+    listing_start c.args.rows.now.columns (slot c.args.dense.now) c.args.rows.now c.args.listed.now c.requires.capacity.none_open
     c.requires.listed.order c.requires.listed.covers
 
 pub put_sum-requires-clause-dense : goal.put_sum-requires-clause-dense
 put_sum-requires-clause-dense c =
     let d = (c.is_due.ensures.due c.if-is_due.true).1 in
-    let m = c.requires.room.columns in
-    let w = c.requires.room.wide in
+    let m = c.requires.capacity.columns in
+    let w = c.requires.capacity.wide in
     omega (arith, d, m, w)
 
 pub put_sum-requires-clause-within : goal.put_sum-requires-clause-within
 put_sum-requires-clause-within c =
     let d = (c.is_due.ensures.due c.if-is_due.true).1 in
-    let m = c.requires.room.columns in
+    let m = c.requires.capacity.columns in
     let r = ap (λ (u : Run). u.columns) c.loop-column.invariant.putting.run in
     omega (arith, d, m, r)
 
@@ -31,7 +31,7 @@ put_sum-requires-clause-above c =
     let k = c.loop-column.column-index in
     let d = c.is_due.ensures.due c.if-is_due.true in
     let b = d.1 in
-    let m = c.requires.room.columns in
+    let m = c.requires.capacity.columns in
     (listing_reach c.args.rows.now.columns (slot c.args.dense.now) c.args.rows.now c.loop-column.next (drop k listed)
     c.loop-column.rows (get_or listed k 0) (drop (k + 1) listed) c.loop-column.invariant
     (drop_more listed k 0 c.loop-column-test.true) d.0 (omega (arith, b, m))).below
@@ -45,7 +45,7 @@ loop-column-preserved c =
     let k = c.loop-column.column-index in
     let column = get_or listed k 0 in
     let rest = drop_more listed k 0 c.loop-column-test.true in
-    let m = c.requires.room.columns in
+    let m = c.requires.capacity.columns in
     elim c.if-is_due.branch [
       | then-is_due+in_ok-put_sum w ↦
           let d = c.is_due.ensures.due w.if-is_due.true in

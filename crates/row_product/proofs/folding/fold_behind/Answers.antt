@@ -59,7 +59,7 @@ loop-key-preserved g c =
             counted = omega (arith, counted, before, q, p, s, cost);
             few = omega (arith, few, s, cost, u);
             long = omega (arith, long, l);
-            room = ap (λ (l : Vec Cell). vec_capacity l) v.sums-is ∙ inv.room;
+            capacity = ap (λ (l : Vec Cell). vec_capacity l) v.sums-is ∙ inv.capacity;
           }
       | else-column-so_far v ↦
           let e = v.if-column-so_far.false in
@@ -79,6 +79,6 @@ loop-key-preserved g c =
             counted = omega (arith, counted, before, q, p, s);
             few = omega (arith, few, s);
             long = omega (arith, long, l, m);
-            room = ap (λ (l : Vec Cell). vec_capacity l) v.sums-is ∙ (v.push_reserved.ensures.capacity ∙ inv.room);
+            capacity = ap (λ (l : Vec Cell). vec_capacity l) v.sums-is ∙ (v.push_reserved.ensures.capacity ∙ inv.capacity);
           }
     ]

@@ -12,5 +12,5 @@ invariant-loop-key g l =
       counted : l.steps + steps_of (folded_calls_on l.add l.so_far rest) ≡ steps_of (folded_calls_on l.add l.fn.first all);
       few : l.steps ≤ 4096 * l.key-index;
       long : length l.sums.items ≤ length l.fn.sums.items + l.key-index;
-      room : vec_capacity l.sums ≡ vec_capacity l.fn.sums;
+      capacity : vec_capacity l.sums ≡ vec_capacity l.fn.sums;
     }

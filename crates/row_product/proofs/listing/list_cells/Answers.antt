@@ -60,7 +60,7 @@ loop-cell-preserved g c =
             counted = omega (arith, q, s, cost);
             few = omega (arith, few, s, cost, u);
             long = omega (arith, long, l, p);
-            room = ap (λ (l : Vec Cell). vec_capacity l) v.listed-is ∙ (v.push_reserved.ensures.capacity ∙ inv.room);
+            capacity = ap (λ (l : Vec Cell). vec_capacity l) v.listed-is ∙ (v.push_reserved.ensures.capacity ∙ inv.capacity);
           }
       | else-lets_pass v ↦
           let e = sym c.lets_pass.ensures ∙ v.if-lets_pass.false in
@@ -73,6 +73,6 @@ loop-cell-preserved g c =
             counted = omega (arith, q, s);
             few = omega (arith, few, s);
             long = omega (arith, long, l);
-            room = ap (λ (l : Vec Cell). vec_capacity l) v.listed-is ∙ inv.room;
+            capacity = ap (λ (l : Vec Cell). vec_capacity l) v.listed-is ∙ inv.capacity;
           }
     ]

@@ -15,5 +15,5 @@ invariant-loop-cell g l =
       counted : l.steps + steps_of (calls_on l.mul (pairs_with l.x rest)) ≡ steps_of (calls_on l.mul (pairs_with l.x all));
       few : l.steps ≤ 4096 * l.cell-index;
       long : length l.listed.items ≤ length l.fn.listed.items + l.cell-index;
-      room : vec_capacity l.listed ≡ vec_capacity l.fn.listed;
+      capacity : vec_capacity l.listed ≡ vec_capacity l.fn.listed;
     }

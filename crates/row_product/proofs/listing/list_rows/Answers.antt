@@ -36,7 +36,7 @@ loop-nth-preserved g c =
       counted = list_steps mul b t c.loop-nth.steps c.list_cells-steps.result _ cell more (drop k row) s d inv.counted;
       little = omega (arith, little, few, m, l);
       long = list_long mul b t now _ cell more (drop k row) _ n d inv.long;
-      room = finished.room ∙ inv.room;
+      capacity = finished.capacity ∙ inv.capacity;
     }
 
 pub list_cells-steps-requires-clause-few : goal.list_cells-steps-requires-clause-few

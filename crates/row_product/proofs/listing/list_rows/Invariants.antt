@@ -15,5 +15,5 @@ invariant-loop-nth g l =
       counted : l.steps + steps_of (listed_calls l.mul b t rest) ≡ steps_of (listed_calls l.mul b t all);
       little : l.steps + 4096 * mults_of b rest ≤ 4096 * mults_of b all;
       long : length l.listed.items + mults_of b rest ≤ length l.fn.listed.items + mults_of b all;
-      room : vec_capacity l.listed ≡ vec_capacity l.fn.listed;
+      capacity : vec_capacity l.listed ≡ vec_capacity l.fn.listed;
     }

@@ -12,7 +12,7 @@ use Rattle.row_product.proofs.one_column.end_summed.Goals as goal
 pub overflow_add-making : goal.overflow_add-making
 overflow_add-making c =
     let l = c.requires.summed.little in
-    let m = c.requires.next.next.room in
+    let m = c.requires.next.next.capacity in
     omega (arith, l, m)
 
 pub returns-in_err-put_sum : goal.returns-in_err-put_sum

@@ -16,12 +16,12 @@ loop-cell-preserved c =
     let i = c.loop-cell.cell-index in
     let passes = t (get_or cells i (0, 0)).0 in
     let few = c.loop-cell.invariant.few in
-    let room = c.requires.room in
+    let capacity = c.requires.capacity in
     let one = byte_few passes in
     let e = c.from-count.ensures in
     record {
       chosen = put_next c.loop-cell.passing c.loop-cell.count _ (get_or cells i (0, 0)) (taking t (drop i cells))
-          (taking t (drop (i + 1) cells)) (taking t cells) passes (ap (λ n. c.loop-cell.count + n) e) (omega (arith, few, room))
+          (taking t (drop (i + 1) cells)) (taking t cells) passes (ap (λ n. c.loop-cell.count + n) e) (omega (arith, few, capacity))
           (ap (taking t) (drop_more cells i (0, 0) c.loop-cell-test.true)) c.loop-cell.invariant.chosen;
       few = omega (arith, few, one, e);
     }

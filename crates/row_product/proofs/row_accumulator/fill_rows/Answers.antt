@@ -34,7 +34,7 @@ fill_row-requires-clause-next g c =
       row = omega arith;
       columns = ap (λ (u : Run). u.columns) i.fills.run ∙ c.requires.begun.columns;
       none_open = i.fills.closed;
-      room = omega (arith, f, n, w);
+      capacity = omega (arith, f, n, w);
     }
 
 pub returns-in_err-fill_row-clause-rows : goal.returns-in_err-fill_row-clause-rows

@@ -11,5 +11,5 @@ invariant-loop-i g l = record {
   spends : Spends (calls_of_rows l.factors l.fn.range.start (l.fn.range.end - l.fn.range.start)) l.fn.making.steps
       (calls_of_rows l.factors l.i (l.fn.range.end - l.i)) l.making.steps;
   few : l.making.steps ≤ 8192 * limit * row_start l.factors.a.now l.i;
-  ready : g.R.RowAccumulator.is_ready l.factors.b.now.columns l.room;
+  ready : g.R.RowAccumulator.is_ready l.factors.b.now.columns l.accumulator;
 }

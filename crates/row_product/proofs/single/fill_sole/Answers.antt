@@ -25,7 +25,7 @@ push_row_under-requires c =
       push = search rules;
       order = subst (Ascends 0 f.b.now.columns) (sym c.row.ensures)
           (subst (λ n. Ascends 0 n (row_of mask c.args.i)) shape.1 (row_of-ascends mask c.args.i c.recall.ensures));
-      room = search rules;
+      capacity = search rules;
     }
 
 pub returns-in-None-clause-row : goal.returns-in-None-clause-row

@@ -92,14 +92,14 @@ push_products-requires c =
     let a = length-append cs ds in
     let f = c.loop-cells.invariant.few in
     let r = row_few c.args.factors.now.b.now c.args.k c.requires.factors.b_grid in
-    let left = c.requires.room in
+    let left = c.requires.capacity in
     let now = c.loop-cells.making.rows in
     let m = c.loop-cells.invariant.pushing in
     let n = c.args.making.now.rows.columns in
     record {
       factors = c.requires.factors;
       few = search rules;
-      room = omega (arith, p, a, f, r, left);
+      capacity = omega (arith, p, a, f, r, left);
       behind = subst (λ w. IsBehind w now.opened cs) (sym (ap (λ (u : Run). u.columns) m.run))
           (behind_first n now.opened cs ds (subst (IsBehind n now.opened) parts m.behind));
     }

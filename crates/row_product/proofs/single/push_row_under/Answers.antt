@@ -57,7 +57,7 @@ loop-row-init c =
       };
       sums = refl;
       allowed = refl;
-      room = c.requires.room;
+      capacity = c.requires.capacity;
     }
 
 pub returns-in_err-push_products-clause-row : goal.returns-in_err-push_products-clause-row
@@ -71,7 +71,7 @@ returns-in_err-push_products-clause-row c =
     let ds = taking t listed.result.0.cells.now in
     let next = listed.ensures.listed c.args.stored.now c.args.factors.now.b.now.columns c.loop-row.invariant.beside in
     let put = c.deref.ensures.value ∙ with_items_is c.loop-row.progress.passing listed.new.passing
-    (listed.ensures.room ∙ c.deref_mut.ensures.len) in
+    (listed.ensures.capacity ∙ c.deref_mut.ensures.len) in
     let parts : taking t c.loop-row.row.cells.now ≡ cs ++ ds = sym (ap (λ us. take n us ++ ds) put ∙ next.1) in
     record {
       rows = search rules;
@@ -91,7 +91,7 @@ returns-in_err-push_products-clause-little c =
     let ds = taking t listed.result.0.cells.now in
     let next = listed.ensures.listed c.args.stored.now c.args.factors.now.b.now.columns c.loop-row.invariant.beside in
     let put = c.deref.ensures.value ∙ with_items_is c.loop-row.progress.passing listed.new.passing
-    (listed.ensures.room ∙ c.deref_mut.ensures.len) in
+    (listed.ensures.capacity ∙ c.deref_mut.ensures.len) in
     let parts : taking t c.loop-row.row.cells.now ≡ cs ++ ds = sym (ap (λ us. take n us ++ ds) put ∙ next.1) in
     let p = ap length parts in
     let a = length-append cs ds in
@@ -110,14 +110,14 @@ push_products-requires c =
     let ds = taking t listed.result.0.cells.now in
     let next = listed.ensures.listed c.args.stored.now c.args.factors.now.b.now.columns c.loop-row.invariant.beside in
     let put = c.deref.ensures.value ∙ with_items_is c.loop-row.progress.passing listed.new.passing
-    (listed.ensures.room ∙ c.deref_mut.ensures.len) in
+    (listed.ensures.capacity ∙ c.deref_mut.ensures.len) in
     let parts : taking t c.loop-row.row.cells.now ≡ cs ++ ds = sym (ap (λ us. take n us ++ ds) put ∙ next.1) in
     let p = ap length parts in
     let a = length-append cs ds in
     let f = c.loop-row.invariant.few in
     let w = taking_few t (row_of c.args.factors.now.b.now c.args.cell.0) in
     let r = row_few c.args.factors.now.b.now c.args.cell.0 c.requires.push.factors.b_grid in
-    let left = c.requires.push.room in
+    let left = c.requires.push.capacity in
     let now = c.loop-row.making.rows in
     let m = c.loop-row.invariant.pushing in
     let columns = c.args.making.now.rows.columns in
@@ -125,7 +125,7 @@ push_products-requires c =
     record {
       factors = c.requires.push.factors;
       few = omega (arith, length-take n c.deref.result.now, most);
-      room = omega (arith, p, a, f, w, r, left);
+      capacity = omega (arith, p, a, f, w, r, left);
       behind = subst (λ w. IsBehind w now.opened cs) (sym (ap (λ (u : Run). u.columns) m.run))
           (behind_first columns now.opened cs ds (subst (IsBehind columns now.opened) parts m.behind));
     }
@@ -141,16 +141,16 @@ loop-row-preserved c =
     let ds = taking t listed.result.0.cells.now in
     let next = listed.ensures.listed c.args.stored.now c.args.factors.now.b.now.columns c.loop-row.invariant.beside in
     let put = c.deref.ensures.value ∙ with_items_is c.loop-row.progress.passing listed.new.passing
-    (listed.ensures.room ∙ c.deref_mut.ensures.len) in
+    (listed.ensures.capacity ∙ c.deref_mut.ensures.len) in
     let parts : taking t c.loop-row.row.cells.now ≡ cs ++ ds = sym (ap (λ us. take n us ++ ds) put ∙ next.1) in
     let p = ap length parts in
     let a = length-append cs ds in
     let i = c.loop-row.invariant in
     let f = i.few in
     let l = c.push_products.ensures.charged.little in
-    let many = ap length (with_items_is c.loop-row.progress.passing listed.new.passing (listed.ensures.room ∙ c.deref_mut.ensures.len)) in
-    let same = listed.ensures.room ∙ ap length c.deref_mut.ensures.value in
-    let room = i.room in
+    let many = ap length (with_items_is c.loop-row.progress.passing listed.new.passing (listed.ensures.capacity ∙ c.deref_mut.ensures.len)) in
+    let same = listed.ensures.capacity ∙ ap length c.deref_mut.ensures.value in
+    let capacity = i.capacity in
     record {
       pushing = pushing_part mul x c.args.making.now.rows (multiplied mul x (taking t
           (row_of c.args.factors.now.b.now c.args.cell.0)))
@@ -162,7 +162,7 @@ loop-row-preserved c =
       beside = next.0;
       sums = c.push_products.ensures.sums ∙ i.sums;
       allowed = i.allowed;
-      room = omega (arith, many, same, room);
+      capacity = omega (arith, many, same, capacity);
     }
 
 pub returns-clause-little : goal.returns-clause-little

@@ -23,5 +23,5 @@ invariant-loop-row l = record {
   beside : IsRowUnderMask l.stored l.factors.b.now.columns l.row.cells.now l.row.mask;
   sums : l.progress.sums ≡ l.fn.progress.sums;
   allowed : l.progress.allowed ≡ l.fn.progress.allowed;
-  room : 64 ≤ length l.progress.passing.items;
+  capacity : 64 ≤ length l.progress.passing.items;
 }

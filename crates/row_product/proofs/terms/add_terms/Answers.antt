@@ -13,8 +13,8 @@ pub overflow_add-steps : goal.overflow_add-steps
 overflow_add-steps g c =
     let fits = summing_fits _ _ _ _ _ _ _ c.loop-k.invariant
     (0, 0) c.loop-k-test.true c.requires.terms.paired _ c.add-steps.ensures.steps in
-    let room = c.requires.room in
-    omega (arith, fits, room)
+    let capacity = c.requires.capacity in
+    omega (arith, fits, capacity)
 
 pub loop-k-preserved : goal.loop-k-preserved
 loop-k-preserved g c =

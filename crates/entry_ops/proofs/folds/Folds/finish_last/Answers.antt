@@ -4,18 +4,18 @@ use Rattle.entry_ops.specs.inner.Folding.{ArePlaced}
 use Rattle.entry_ops.proofs.Singly.{last_placed, last_room, last_goes, last_more}
 use Rattle.entry_ops.proofs.folds.Folds.finish_last.Goals as goal
 
-pub fold-folded-requires-clause-room : goal.fold-folded-requires-clause-room
-fold-folded-requires-clause-room c =
+pub fold-folded-requires-clause-capacity : goal.fold-folded-requires-clause-capacity
+fold-folded-requires-clause-capacity c =
     let r = last_room c.args.operator.now c.self.inside.lanes c.pop-row.new.self c.self.inside.results.items c.self.inside.steps
     c.args.self.now
-    c.self.view_is c.pop-row.result c.pop-row.ensures c.requires.can.room in
+    c.self.view_is c.pop-row.result c.pop-row.ensures c.requires.can.capacity in
     omega (arith, r)
 
 pub overflow_add-self : goal.overflow_add-self
 overflow_add-self c =
     let r = last_room c.args.operator.now c.self.inside.lanes c.pop-row.new.self c.self.inside.results.items c.self.inside.steps
     c.args.self.now
-    c.self.view_is c.pop-row.result c.pop-row.ensures c.requires.can.room in
+    c.self.view_is c.pop-row.result c.pop-row.ensures c.requires.can.capacity in
     let e = c.fold-folded.ensures.steps in
     omega (arith, r, e)
 

@@ -26,17 +26,17 @@ loop-block-init c =
 pub go-requires-clause-can : goal.go-requires-clause-can
 go-requires-clause-can c =
     let r = folding-room _ _ _ _ _ _ _ c.loop-block.invariant.folding in
-    let room = c.requires.room in
+    let capacity = c.requires.capacity in
     let l : length c.self-in-loop-block.inside.lanes ≡ length c.loop-block.self.lanes =
     ap (λ (e : Folding). length e.lanes) c.self-in-loop-block.view_is in
     let o = c.len.ensures.len in
     let t = c.loop-block-test.true in
-    (record { kind = c.requires.kind; accepted = c.requires.accepted; room = omega (arith, r, room) }, omega (arith, l, o, t))
+    (record { kind = c.requires.kind; accepted = c.requires.accepted; capacity = omega (arith, r, capacity) }, omega (arith, l, o, t))
 
 pub loop-block-smaller : goal.loop-block-smaller
 loop-block-smaller c =
     let r = folding-room _ _ _ _ _ _ _ c.loop-block.invariant.folding in
-    let t = c.requires.room in
+    let t = c.requires.capacity in
     let m = c.go.ensures.goes.1 in
     let s = c.fill-in-loop-block.ensures.begun.steps in
     omega (arith, r, t, m, s)

@@ -6,11 +6,11 @@ pub loop-index_calls-init : goal.loop-index_calls-init
 loop-index_calls-init c = record {
   kind = c.requires.waits.begun;
   none = c.requires.waits.none;
-  mapping = mapping-start c.args.operator.now c.args.index_calls c.args.self.now c.requires.room.entries c.requires.room.steps;
+  mapping = mapping-start c.args.operator.now c.args.index_calls c.args.self.now c.requires.capacity.entries c.requires.capacity.steps;
 }
 
-pub make-requires-clause-room : goal.make-requires-clause-room
-make-requires-clause-room c = record {
+pub make-requires-clause-capacity : goal.make-requires-clause-capacity
+make-requires-clause-capacity c = record {
   entries = mapping-entries c.args.operator.now _ _ _ c.gather.new.calls.operands _ _ c.loop-index_calls.invariant.mapping
       c.gather.ensures.gathers.parts;
   steps = mapping-room c.args.operator.now _ _ _ c.gather.new.calls.operands _ _ c.loop-index_calls.invariant.mapping

@@ -9,7 +9,7 @@ write_values-requires c =
     let w = c.requires.pairs.few in
     let v = length-take-le (length c.args.next.left.now) c.call_known_pairs.new.values (omega (arith, w)) in
     let n = length_pairs c.args.next.left.now c.args.next.right.now c.requires.pairs.same in
-    let e = c.requires.room.entries in
+    let e = c.requires.capacity.entries in
     omega (arith, v, n, e)
 
 pub returns-in-Some-clause-further : goal.returns-in-Some-clause-further

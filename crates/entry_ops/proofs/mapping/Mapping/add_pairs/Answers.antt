@@ -9,11 +9,11 @@ pub loop-next-init : goal.loop-next-init
 loop-next-init c = record {
   kind = c.requires.waits.begun ∙ c.requires.kind;
   none = c.requires.waits.none;
-  mapping = mapping-start c.args.operator.now c.args.pairs c.args.self.now c.requires.room.entries c.requires.room.steps;
+  mapping = mapping-start c.args.operator.now c.args.pairs c.args.self.now c.requires.capacity.entries c.requires.capacity.steps;
 }
 
-pub add_next-requires-clause-room : goal.add_next-requires-clause-room
-add_next-requires-clause-room c = record {
+pub add_next-requires-clause-capacity : goal.add_next-requires-clause-capacity
+add_next-requires-clause-capacity c = record {
   entries = mapping-entries c.args.operator.now _ _ _ (pairs_in c.in-Some.next.left.now c.in-Some.next.right.now) _ _
       c.loop-next.invariant.mapping c.in-Some.ensures.some.2;
   steps = mapping-room c.args.operator.now _ _ _ (pairs_in c.in-Some.next.left.now c.in-Some.next.right.now) _ _

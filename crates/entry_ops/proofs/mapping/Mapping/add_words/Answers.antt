@@ -17,7 +17,7 @@ use Rattle.entry_ops.proofs.mapping.Mapping.add_words.Goals as goal
 
 pub loop-self-init : goal.loop-self-init
 loop-self-init c =
-    let z = c.requires.room.0 in
+    let z = c.requires.capacity.0 in
     let w = length_words (all_cells c.args.self.now.rows.run) in
     let e = entries_are c.args.self.now.rows.run in
     record {
@@ -27,7 +27,7 @@ loop-self-init c =
           c.args.self.now)
           (sym (ap (λ k. words_of (drop k (all_cells c.args.self.now.rows.run))) z))
           (mapping-start c.args.operator.now (words_of (all_cells c.args.self.now.rows.run)) c.args.self.now
-          (omega (arith, z, w, e)) c.requires.room.1);
+          (omega (arith, z, w, e)) c.requires.capacity.1);
       many = refl;
     }
 
@@ -38,8 +38,8 @@ make_on_words-requires-clause-few c =
     c.written.ensures in let t = c.loop-self-test.true in
     (omega (arith, m), omega (arith, s, m, a, w, u, t))
 
-pub make_on_words-requires-clause-room : goal.make_on_words-requires-clause-room
-make_on_words-requires-clause-room c =
+pub make_on_words-requires-clause-capacity : goal.make_on_words-requires-clause-capacity
+make_on_words-requires-clause-capacity c =
     let s = c.loop-self.invariant.many in
     let m = c.min-many.ensures in let a = c.entries-entries.ensures in let w = c.written-in-loop-self.ensures in let u =
     c.written.ensures in let t = c.loop-self-test.true in

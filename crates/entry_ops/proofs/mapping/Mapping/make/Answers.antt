@@ -8,7 +8,7 @@ pub write_values-requires : goal.write_values-requires
 write_values-requires c =
     let v = ap (λ (vs : List ℕ). length vs) (c.values.ensures ∙ (ap (λ (g : Gathered). g.values) c.make.ensures.values)) in
     let n = length_values c.args.operator.now c.args.calls.now.operands in
-    let e = c.requires.room.entries in
+    let e = c.requires.capacity.entries in
     omega (arith, v, n, e)
 
 pub returns-clause-further : goal.returns-clause-further

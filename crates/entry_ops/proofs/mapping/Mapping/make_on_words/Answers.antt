@@ -11,7 +11,7 @@ write_values-requires c =
     let v = ap (λ (vs : List ℕ). length vs) (c.values.ensures ∙ (ap (λ (g : Gathered). g.values) c.make_on_words.ensures.values
     ∙ ap (values_on c.args.operator.now) words)) in
     let n = length_values c.args.operator.now (next_words c.args.self.now c.args.many) in
-    let e = c.requires.room.entries in
+    let e = c.requires.capacity.entries in
     omega (arith, v, n, e)
 
 pub returns-clause-further : goal.returns-clause-further

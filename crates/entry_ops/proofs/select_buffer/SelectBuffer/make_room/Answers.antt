@@ -12,9 +12,9 @@ returns-in_err-flush-clause-puts c = record {
 
 pub returns-clause-puts : goal.returns-clause-puts
 returns-clause-puts c =
-    let e = c.in_ok-flush.ensures.made in
+    let e = c.in_ok-flush.ensures.flushed in
     record {
-      does = does-flush c.args.operator.now c.args.self.now c.flush.new.self c.args.calls.now c.flush.new.calls e.made e.none
+      does = does-flush c.args.operator.now c.args.self.now c.flush.new.self c.args.calls.now c.flush.new.calls e.state e.none
           e.kind;
       spent = tt;
     }

@@ -21,7 +21,7 @@ add_terms-requires-clause-add c =
     record {
       terms = record { few = w; paired = omega (arith, v, l, p); apart = search rules };
       kind = c.requires.factors.add;
-      room = omega (arith, t, f, w);
+      capacity = omega (arith, t, f, w);
     }
 
 pub overflow_add-result : goal.overflow_add-result

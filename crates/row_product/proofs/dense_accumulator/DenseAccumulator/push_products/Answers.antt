@@ -22,7 +22,7 @@ overflow_add-making c =
     let cells = c.args.cells.now in
     let mul = c.args.factors.now.mul.now in
     let s = c.make_with.ensures.steps in
-    let r = c.requires.room in
+    let r = c.requires.capacity in
     let f = with_few mul c.args.x cells c.requires.factors.mul_accepted c.requires.factors.mul
     in
     omega (arith, s, f, r)

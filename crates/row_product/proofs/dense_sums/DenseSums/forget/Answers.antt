@@ -7,7 +7,7 @@ pub returns-clause-none : goal.returns-clause-none
 returns-clause-none c = λ j.
     let i = c.self.inside in
     words_none c.clear_bits.new.bits.items i.words.items i.columns
-    (all_cleared i.bits.items i.words.items c.clear_bits.new.bits.items i.columns c.self.invariant.2 c.clear_bits.ensures.kept
+    (all_cleared i.bits.items i.words.items c.clear_bits.new.bits.items i.columns c.self.invariant.2 c.clear_bits.ensures.unchanged
     (λ j l v e. c.clear_bits.ensures.clear j l)) j
 
 pub returns-clause-long : goal.returns-clause-long

@@ -8,7 +8,7 @@ pub returns-clause-none : goal.returns-clause-none
 returns-clause-none c = λ j.
     let i = c.self.inside in
     words_none c.clear_listed.new.bits.items i.words.items i.columns
-    (all_cleared i.bits.items i.words.items c.clear_listed.new.bits.items i.columns c.self.invariant.2 c.clear_listed.ensures.kept
+    (all_cleared i.bits.items i.words.items c.clear_listed.new.bits.items i.columns c.self.invariant.2 c.clear_listed.ensures.unchanged
     (λ j l v e. c.clear_listed.ensures.clear j (c.requires j v (ap (λ us. slot us j) (sym c.self.view_is) ∙ e)))) j
 
 pub returns-clause-long : goal.returns-clause-long

@@ -14,7 +14,7 @@ pub loop-cells-init : goal.loop-cells-init
 loop-cells-init c = record {
   sums = sums_up_starts c.args.factors.now.add.now c.args.factors.now.mul.now c.args.factors.now.b.now c.args.row.now;
   named = c.requires.row.named.rows;
-  room = c.requires.room;
+  capacity = c.requires.capacity;
 }
 
 pub multiply-multiplied-requires-clause-may : goal.multiply-multiplied-requires-clause-may
@@ -38,11 +38,11 @@ multiply-multiplied-requires-clause-may c =
         few = few;
         copy = c.requires.row.factors.column;
       };
-      room = omega (arith, m, few);
+      capacity = omega (arith, m, few);
     }
 
-pub add_terms-requires-clause-room : goal.add_terms-requires-clause-room
-add_terms-requires-clause-room c =
+pub add_terms-requires-clause-capacity : goal.add_terms-requires-clause-capacity
+add_terms-requires-clause-capacity c =
     let f = c.args.factors.now in
     let cs = c.split_at.result.0.now in
     let few : length cs ≤ 64 = search rules in
@@ -113,7 +113,7 @@ loop-cells-preserved c =
           c.requires.row.factors.mul_accepted c.requires.row.factors.add c.requires.row.factors.mul
           ts m.steps_are c.add_terms.ensures.sum c.add_terms.ensures.steps_are;
       named = (all_parts f.b.now.rows cs ds (subst (λ us. AllByRecursion (λ (d : Cell). d.0 < f.b.now.rows) us) parts i.named)).1;
-      room = c.multiply-multiplied.ensures.room;
+      capacity = c.multiply-multiplied.ensures.capacity;
     }
 
 pub returns-clause-summed : goal.returns-clause-summed

@@ -11,5 +11,5 @@ abbrev pub invariant-loop-cells : goal.invariant-loop-cells
 invariant-loop-cells l = record {
   sums : SumsUp l.factors.add.now l.factors.mul.now l.factors.b.now l.row l.cells l.sum l.steps;
   named : AllByRecursion (λ (c : Cell). c.0 < l.factors.b.now.rows) l.cells;
-  room : 64 ≤ vec_capacity l.self.terms;
+  capacity : 64 ≤ vec_capacity l.self.terms;
 }

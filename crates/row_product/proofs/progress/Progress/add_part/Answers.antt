@@ -39,7 +39,7 @@ choose-count-requires-clause-within c =
 
 pub add_cells-requires-2 : goal.add_cells-requires-2
 add_cells-requires-2 c =
-    let put = with_items_is c.args.self.now.passing c.choose-count.new.passing (c.choose-count.ensures.room ∙ c.deref_mut.ensures.len) in
+    let put = with_items_is c.args.self.now.passing c.choose-count.new.passing (c.choose-count.ensures.capacity ∙ c.deref_mut.ensures.len) in
     let chosen = ap (take c.choose-count.result) (c.deref-2.ensures.value ∙ put) ∙ c.choose-count.ensures.taking in
     let f = c.requires.part.few in
     let t = taking_few (flag c.deref.result.now) c.args.cells.now in
@@ -54,7 +54,7 @@ add_cells-requires-2 c =
 pub returns-clause-added : goal.returns-clause-added
 returns-clause-added c =
     let cells = c.args.cells.now in
-    let put = with_items_is c.args.self.now.passing c.choose-count.new.passing (c.choose-count.ensures.room ∙ c.deref_mut.ensures.len) in
+    let put = with_items_is c.args.self.now.passing c.choose-count.new.passing (c.choose-count.ensures.capacity ∙ c.deref_mut.ensures.len) in
     let chosen = ap (take c.choose-count.result) (c.deref-2.ensures.value ∙ put)
     ∙ (c.choose-count.ensures.taking ∙ (ap (λ fs. taking (flag fs) cells) c.deref.ensures.value
     ∙ ap (λ m. taking (takes m c.args.self.now.allowed.items) cells) (sym c.if-not-masked.false))) in
@@ -67,8 +67,8 @@ returns-clause-ready c =
     let s = r.sums in
     let p = r.passing in
     let put = ap length (with_items_is c.args.self.now.passing c.choose-count.new.passing
-    (c.choose-count.ensures.room ∙ c.deref_mut.ensures.len)) in
-    let m = c.choose-count.ensures.room ∙ ap length c.deref_mut.ensures.value in
+    (c.choose-count.ensures.capacity ∙ c.deref_mut.ensures.len)) in
+    let m = c.choose-count.ensures.capacity ∙ ap length c.deref_mut.ensures.value in
     let l = ap length c.add_cells-2.ensures.sums
     ∙ length_after c.args.factors.now.add.now c.args.factors.now.mul.now c.args.x c.args.self.now.sums
     (take c.choose-count.result c.deref-2.result.now) in

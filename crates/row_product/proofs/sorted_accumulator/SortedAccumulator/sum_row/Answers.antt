@@ -14,10 +14,10 @@ use Rattle.row_product.proofs.sorted_accumulator.SortedAccumulator.sum_row.Goals
 pub list_terms-multiplied-requires : goal.list_terms-multiplied-requires
 list_terms-multiplied-requires c =
     let f = c.args.factors.now in
-    let none = ap length c.requires.room.none in
+    let none = ap length c.requires.capacity.none in
     let m = ap (mults_of f.b.now) c.row.ensures in
     let few = c.requires.few in
-    let room = c.requires.room.listed in
+    let capacity = c.requires.capacity.listed in
     record {
       may = record {
         kind = c.requires.row.factors.mul;
@@ -25,7 +25,7 @@ list_terms-multiplied-requires c =
         rows = subst (λ (row : List Cell). AllByRecursion (λ (d : Cell). d.0 < f.b.now.rows) row) (sym c.row.ensures)
             (row_within f.a.now c.args.i f.b.now.rows c.requires.row.factors.a_grid c.requires.row.factors.shapes);
         few = omega (arith, m, few);
-        room = omega (arith, none, m, room);
+        capacity = omega (arith, none, m, capacity);
       };
     }
 
@@ -37,18 +37,18 @@ put_in_order-requires c =
     let all = listed_terms f.mul.now f.b.now t row in
     let is : c.deref.result.now ≡ all =
     c.deref.ensures.value ∙ (c.list_terms-multiplied.ensures.terms
-    ∙ (ap (λ (us : List Cell). us ++ listed_terms f.mul.now f.b.now t c.row.result.now) c.requires.room.none
+    ∙ (ap (λ (us : List Cell). us ++ listed_terms f.mul.now f.b.now t c.row.result.now) c.requires.capacity.none
     ∙ ap (listed_terms f.mul.now f.b.now t) c.row.ensures)) in
     let l = ap length is in
     let m = length_listed f.mul.now f.b.now t row in
     let few = c.requires.few in
-    let room = c.requires.room.keys in
+    let capacity = c.requires.capacity.keys in
     record {
       columns = subst (AllByRecursion (λ (d : Cell). d.0 < limit)) (sym is)
           (cells_below f.b.now.columns limit all c.requires.row.factors.b_grid.columns_small
           (listed_below f.mul.now f.b.now c.requires.row.factors.b_grid t row));
       few = omega (arith, l, m, few);
-      room = omega (arith, l, m, room);
+      capacity = omega (arith, l, m, capacity);
     }
 
 pub fold_terms-requires : goal.fold_terms-requires
@@ -59,13 +59,13 @@ fold_terms-requires c =
     let all = listed_terms f.mul.now f.b.now t row in
     let is : c.deref.result.now ≡ all =
     c.deref.ensures.value ∙ (c.list_terms-multiplied.ensures.terms
-    ∙ (ap (λ (us : List Cell). us ++ listed_terms f.mul.now f.b.now t c.row.result.now) c.requires.room.none
+    ∙ (ap (λ (us : List Cell). us ++ listed_terms f.mul.now f.b.now t c.row.result.now) c.requires.capacity.none
     ∙ ap (listed_terms f.mul.now f.b.now t) c.row.ensures)) in
     let same : c.deref-2.result.now ≡ c.deref.result.now = c.deref-2.ensures.value ∙ sym c.deref.ensures.value in
     let l = ap length is in
     let m = length_listed f.mul.now f.b.now t row in
     let few = c.requires.few in
-    let room = c.requires.room.sums in
+    let capacity = c.requires.capacity.sums in
     let long = c.put_in_order.ensures.long in
     let k = ap length c.deref-3.ensures.value in
     record {
@@ -77,7 +77,7 @@ fold_terms-requires c =
               (subst (AllByRecursion (λ k. k % limit < length c.deref.result.now)) (sym c.deref-3.ensures.value) c.put_in_order.ensures.within);
           few = omega (arith, l, m, few, long, k);
         };
-        room = omega (arith, l, m, room, long, k);
+        capacity = omega (arith, l, m, capacity, long, k);
       };
     }
 
@@ -89,7 +89,7 @@ overflow_add-result c =
     let all = listed_terms f.mul.now f.b.now t row in
     let is : c.deref.result.now ≡ all =
     c.deref.ensures.value ∙ (c.list_terms-multiplied.ensures.terms
-    ∙ (ap (λ (us : List Cell). us ++ listed_terms f.mul.now f.b.now t c.row.result.now) c.requires.room.none
+    ∙ (ap (λ (us : List Cell). us ++ listed_terms f.mul.now f.b.now t c.row.result.now) c.requires.capacity.none
     ∙ ap (listed_terms f.mul.now f.b.now t) c.row.ensures)) in
     let l = ap length is in
     let m = length_listed f.mul.now f.b.now t row in
@@ -109,7 +109,7 @@ returns c =
     let all = listed_terms f.mul.now f.b.now t row in
     let is : c.deref.result.now ≡ all =
     c.deref.ensures.value ∙ (c.list_terms-multiplied.ensures.terms
-    ∙ (ap (λ (us : List Cell). us ++ listed_terms f.mul.now f.b.now t c.row.result.now) c.requires.room.none
+    ∙ (ap (λ (us : List Cell). us ++ listed_terms f.mul.now f.b.now t c.row.result.now) c.requires.capacity.none
     ∙ ap (listed_terms f.mul.now f.b.now t) c.row.ensures)) in
     let cells = picked c.deref-2.result.now c.deref-3.result.now in
     let finished : picked c.deref.result.now c.put_in_order.new.keys.items ≡ cells =

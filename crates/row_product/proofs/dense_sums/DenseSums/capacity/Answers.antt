@@ -1,7 +1,7 @@
 use Rattle.std.proofs.Common.{◌≡◌, length, ap, arith}
 use Rattle.row_product.specs.inner.DenseSums.{words_of}
 use Rattle.row_product.proofs.Flags.{length_words}
-use Rattle.row_product.proofs.dense_sums.DenseSums.room.Goals as goal
+use Rattle.row_product.proofs.dense_sums.DenseSums.capacity.Goals as goal
 
 pub returns : goal.returns
 returns c =
