@@ -22,7 +22,7 @@ pub const LAST_PORT: i64 = 65_535;
 /// The most sessions that can be asked for.
 pub const MOST_SESSIONS: i64 = 1_000_000;
 
-/// The longest that a session can be told to wait for its client, in seconds.
+/// The longest that a session may have to wait for its client, in seconds.
 pub const MOST_SECONDS: i64 = 1_000_000;
 
 /// The highest rate that a command can be required to arrive with, in bytes a second.

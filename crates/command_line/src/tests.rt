@@ -79,7 +79,7 @@ fn words_that_are_taken(rt: HostRuntime) {
         log_format: None,
         log_every: None,
     };
-    let told = Settings::Run {
+    let expected = Settings::Run {
         steps: 1,
         workers: 1,
         idle: None,
@@ -108,7 +108,7 @@ fn words_that_are_taken(rt: HostRuntime) {
         ("spmat run --idle 1000000 --steps 1 --workers 1", patient),
         (
             "spmat run --log --steps 1 --workers 1 --log-every 1 --log-format json",
-            told,
+            expected,
         ),
     ];
     for (line, settings) in cases {
@@ -320,7 +320,7 @@ fn faults_tell_their_causes(rt: HostRuntime) -> Result<(), Fail> {
         port: 7171,
         cause: cause(98),
     };
-    let told = [
+    let expected = [
         (
             "spmat: network failed",
             in_use,
@@ -342,7 +342,7 @@ fn faults_tell_their_causes(rt: HostRuntime) -> Result<(), Fail> {
             "spmat: too many reads",
         ),
     ];
-    for (words, detail, line) in told {
+    for (words, detail, line) in expected {
         assert_told(&rt, rt.alloc(), words, detail, line)?;
     }
     Ok(())

@@ -31,7 +31,7 @@ const OTHER_COMMANDS: &str =
 fn fault_of(alloc: Global, error: &clap::Error) -> SettingsFault
     ensures memory { kind_of error.now ≡ ErrorKind.OutOfMemory → result ≡ SettingsFault.Memory }
     ensures version { kind_of error.now ≡ ErrorKind.DisplayVersion → result ≡ SettingsFault.Version }
-    ensures told { result ≡ SettingsFault.Version → kind_of error.now ≡ ErrorKind.DisplayVersion }
+    ensures version_asked { result ≡ SettingsFault.Version → kind_of error.now ≡ ErrorKind.DisplayVersion }
 {
     // First: the text of this error would need memory as well.
     if error.kind() == ErrorKind::OutOfMemory {
@@ -198,7 +198,7 @@ pub fn settings<'a, S: AsStr>(alloc: Global, words: &'a [S]) -> Result<Settings,
         MatchResult result (λ t. t ≡ s) (λ fault. fault ≡ SettingsFault.Memory) }
     ensures version { AsksVersion (map S.text words.now) → result ≢ Err SettingsFault.Memory →
         result ≡ Err SettingsFault.Version }
-    ensures told { result ≡ Err SettingsFault.Version → MayAskVersion (map S.text words.now) }
+    ensures version_asked { result ≡ Err SettingsFault.Version → MayAskVersion (map S.text words.now) }
 {
     let matches = match program::<'a>(alloc)?.try_get_matches_from(words) {
         Ok(matches) => matches,

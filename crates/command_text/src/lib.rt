@@ -1,6 +1,6 @@
 //! The text of a session: what a command line asks for, and what a reply reads like.
 //!
-//! The one contract: a line asks for exactly one request, and a reply is its text, made from names
+//! The one contract: a line asks for exactly one request, and a reply is its text, built from names
 //! and numbers. `specs/Requests.antt` and `specs/Words.antt` say which words ask for what,
 //! `specs/Replies.antt` which bytes each reply has.
 //!

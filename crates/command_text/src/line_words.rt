@@ -11,7 +11,7 @@ const MOST_WORDS: usize = 7;
 /// The words behind the command of a job. They stand in front, in their order.
 #[derive(Clone, Copy)]
 pub struct LineWords<'a> {
-    room: [&'a [u8]; MOST_WORDS],
+    words: [&'a [u8]; MOST_WORDS],
     count: usize,
     ghost short: { count ≤ 7 },
 }
@@ -23,18 +23,18 @@ impl<'a> LineWords<'a> {
     pub fn read(text: &'a [u8]) -> Option<Self>
         ensures { MatchOption result (7 < length (words text.now)) (λ line. words_read line ≡ words text.now) }
     {
-        let mut room: [&[u8]; MOST_WORDS] = [&[]; MOST_WORDS];
+        let mut words: [&[u8]; MOST_WORDS] = [&[]; MOST_WORDS];
         let mut rest = text;
         for count in 0..MOST_WORDS {
             let Some((word, behind)) = first_word(rest) else {
-                return Some(LineWords { room, count });
+                return Some(LineWords { words, count });
             };
-            room[count] = word;
+            words[count] = word;
             rest = behind;
         }
         match first_word(rest) {
             None => Some(LineWords {
-                room,
+                words,
                 count: MOST_WORDS,
             }),
             Some(_) => None,
@@ -45,6 +45,6 @@ impl<'a> LineWords<'a> {
     pub fn as_slice(&self) -> &[&'a [u8]]
         ensures { map lent result.now ≡ words_read self.now }
     {
-        &self.room[..self.count]
+        &self.words[..self.count]
     }
 }

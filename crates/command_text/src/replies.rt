@@ -37,7 +37,7 @@ fn add_field(reply: &mut Reply, number: u64)
 /// Adds the name of a rule, which has at most three bytes, and where it is broken.
 fn add_place(reply: &mut Reply, rule: &str, number: u64)
     requires name { length rule.now ≤ 3 }
-    requires room { length reply.old.line + 24 ≤ 8192 }
+    requires capacity { length reply.old.line + 24 ≤ 8192 }
     ensures value { reply.new ≡
         record reply.old { line = reply.old.line ++ (rule.now ++ (codes " " ++ decimal number)) } }
     ensures short { length reply.new.line ≤ length reply.old.line + 24 }
@@ -193,7 +193,7 @@ pub fn begin_run(reply: &mut Reply, jobs: u64, spent: u64)
 /// The line has at most 117 bytes: a name of 32, four numbers of 20 digits, and 5 around them.
 pub fn add_job(reply: &mut Reply, job: &JobLine<'_>)
     requires name { length job.now.output.now ≤ 32 }
-    requires room { length reply.old.line + 117 ≤ 8192 }
+    requires capacity { length reply.old.line + 117 ≤ 8192 }
     ensures value { reply.new ≡ record reply.old { line = reply.old.line ++ job_text (line_of job.now) } }
     ensures short { length reply.new.line ≤ length reply.old.line + 117 }
 {

@@ -7,7 +7,7 @@ use std::alloc::{AllocError, Global};
 use std::marker::Model;
 
 /// How many bytes the lines of a reply have at most.
-pub const ROOM: usize = 8192;
+pub const REPLY_BYTES: usize = 8192;
 
 /// A reply: lines that take no further memory, and a text that may follow them.
 #[derive(Drop)]
@@ -38,7 +38,7 @@ impl Reply {
         ensures { IfOk result (λ r. r ≡ record { line = []; text = [] }) }
     {
         Ok(Reply {
-            line: Vec::with_capacity(alloc, ROOM)?,
+            line: Vec::with_capacity(alloc, REPLY_BYTES)?,
             text: Vec::new(alloc),
             alloc,
         })
@@ -84,7 +84,7 @@ impl Reply {
         self.add(buffer.format(number).as_bytes());
     }
 
-    /// Has a text follow the lines, in place of any that did.
+    /// Has a text follow the lines, instead of any that did.
     pub fn attach(&mut self, text: Vec<u8>)
         ensures { self.new ≡ record self.old { text = text.items } }
     {

@@ -83,12 +83,12 @@ copied_more jobs gs g job by new fits within a = record {
 }
 
 pub adds_nothing : (gs : List Grid) (job : Job) → Adds gs gs job None
-adds_nothing gs job = record { copied = λ jobs c a. a; kept = λ p g e. e; given = tt }
+adds_nothing gs job = record { copied = λ jobs c a. a; unchanged = λ p g e. e; given = tt }
 
 pub adds_found : (gs : List Grid) (g : Grid) (job : Job) (p : ℕ) → IsBy g job → IsAt gs p g → Adds gs gs job (Some p)
 adds_found gs g job p by at = record {
   copied = λ jobs c a. a;
-  kept = λ q h e. e;
+  unchanged = λ q h e. e;
   given = record { factor = g; by = by.factor; at = at };
 }
 
@@ -96,7 +96,7 @@ adds_one : (gs : List Grid) (g : Grid) (job : Job) → IsBy g job → IsNew gs g
     → Adds gs (gs ++ g ∷ []) job (Some (length gs))
 adds_one gs g job by new fits = record {
   copied = λ jobs c a. copied_more jobs gs g job by new fits c a;
-  kept = λ q h e. kept_more gs g q h e;
+  unchanged = λ q h e. kept_more gs g q h e;
   given = record { factor = g; by = by.factor; at = record { copy = g; there = last_there gs g; same = refl } };
 }
 
@@ -150,7 +150,7 @@ for_more jobs gs after places k job nth now adds there l = record {
           record {
             factor = f.2.factor;
             by = f.2.by;
-            at = record { copy = at.copy; there = adds.kept p at.copy at.there; same = at.same };
+            at = record { copy = at.copy; there = adds.unchanged p at.copy at.there; same = at.same };
           },
         )
   ];

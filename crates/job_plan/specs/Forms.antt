@@ -1,6 +1,6 @@
 -- The six forms of jobs, in one table: GrB_apply, GrB_select, GrB_eWiseAdd (union), GrB_eWiseMult (both), GrB_mxm (product) and
 -- GrB_reduce of a matrix by rows, of the GraphBLAS C API Specification 2.0 ("Operations"). The entry at each position, and which
--- calls are made for it, is said in `Forms` and `Product` of job_forms.
+-- calls it takes, is said in `Forms` and `Product` of job_forms.
 use Rattle.std.specs.Prelude.{ℕ, Bool, true, false, ◌&&◌, nat_eq, List, Option, None, Some}
 use Rattle.bpf_insn.specs.declared.operands.Kind.{Kind}
 use Rattle.bpf_insn.specs.declared.operands.Kind.TheVariants.{Unary, Binary, Index}

@@ -1,4 +1,4 @@
--- What a job computes, cut to its mask: its matrix, row by row and position by position, and the calls that are made for it, by
+-- What a job computes, cut to its mask: its matrix, row by row and position by position, and its calls, by
 -- ascending position. GraphBLAS C API Specification 2.0, "Masks" and "Operations"; steps and bounds are this project's own.
 use Rattle.std.specs.Prelude.{◌≡◌, ℕ, List, Option}
 use Rattle.std.specs.FinMap as fin
@@ -31,7 +31,7 @@ pub record IsMatrixOf (job : Job) (g : Grid) : Type 0 where
 abbrev pub rows_in : Job → ℕ → ℕ → List Row
 rows_in job first n = rows_under job.mask (column_count job) (operation job.form).value_at first n
 
--- the calls that are made for these rows
+-- the calls for these rows
 abbrev pub calls_in : Job → ℕ → ℕ → List Call
 calls_in job first n = all_listed_under job.mask (column_count job) (operation job.form).calls_at first n
 

@@ -9,7 +9,7 @@ ghost use Rattle.job_plan.specs.inner.Copies.{Adds, AreFor, FitsBehind, IsFound}
 
 use crate::form::Form;
 use crate::priced::{Priced, price};
-use crate::queue::ROOM;
+use crate::queue::MOST_JOBS;
 use csr_store::{Column, Matrix, Version};
 use std::alloc::{AllocError, Global};
 use std::marker::Model;
@@ -217,7 +217,7 @@ fn place_for(alloc: Global, copies: &mut Vec<Copied>, priced: &Priced) -> Option
 pub(crate) struct Columns {
     copies: Vec<Copied>,
     // An array, since a batch has at most 64 jobs: it takes no memory that could be refused.
-    places: [Option<u64>; ROOM],
+    places: [Option<u64>; MOST_JOBS],
 }
 
 impl Columns {
@@ -227,7 +227,7 @@ impl Columns {
         ensures { AreFor jobs.now result.copies.items result.places }
     {
         let mut copies = Vec::new(alloc);
-        let mut places = [None; ROOM];
+        let mut places = [None; MOST_JOBS];
         for (job, priced) in jobs.iter().enumerate() {
             places[job] = place_for(alloc, &mut copies, priced);
         }

@@ -10,7 +10,7 @@ use std::marker::Model;
 use std::mem;
 
 /// How many jobs may wait.
-pub const ROOM: usize = 64;
+pub const MOST_JOBS: usize = 64;
 
 /// Jobs that wait, in order of submission, up to 64 of them. A contract sees their list.
 #[derive(Drop)]
@@ -48,7 +48,7 @@ impl Queue {
         Ok(Queue {
             alloc,
             // Here, so that submitting a job can't be refused memory.
-            jobs: Vec::with_capacity(alloc, ROOM)?,
+            jobs: Vec::with_capacity(alloc, MOST_JOBS)?,
         })
     }
 
@@ -56,7 +56,7 @@ impl Queue {
     pub fn has_room(&self) -> bool
         ensures { IsTrue result ↔ (length self.now < 64) }
     {
-        self.jobs.len() < ROOM
+        self.jobs.len() < MOST_JOBS
     }
 
     /// How many jobs wait.
@@ -105,13 +105,13 @@ impl Queue {
     pub fn take(&mut self) -> Result<Plan, AllocError>
         ensures plan { IfOk result (λ p. p ≡ self.old) }
         ensures empty { OnOk result (self.new ≡ []) }
-        ensures kept { OnErr result (self.new ≡ self.old) }
+        ensures unchanged { OnErr result (self.new ≡ self.old) }
     {
         // All that can be refused comes before the first change, so a refusal leaves the queue as
         // it was.
-        let room = Vec::with_capacity(self.alloc, ROOM)?;
+        let emptied = Vec::with_capacity(self.alloc, MOST_JOBS)?;
         let chunks = cut(self.alloc, &self.jobs)?;
-        let jobs = mem::replace(&mut self.jobs, room);
+        let jobs = mem::replace(&mut self.jobs, emptied);
         // Copies can't be refused: a job without one runs as well.
         let columns = Columns::of(self.alloc, &jobs);
         Ok(Plan::new(jobs, chunks, columns))

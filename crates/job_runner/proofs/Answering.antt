@@ -23,7 +23,7 @@ batch_gave workers jobs a priced within are by = record {
   raced = by;
   spent = tt;
   thread = tt;
-  told = gave workers jobs (map result_of a.results.items) by;
+  reported = gave workers jobs (map result_of a.results.items) by;
 }
 
 pub batch_broke : (workers count : ℕ) (jobs : List Job) (f : BatchFault) → count ≤ workers → Charges (all_calls jobs) 0 f.spent
@@ -36,5 +36,5 @@ batch_broke workers count jobs f few spent thread =
       raced = tt;
       spent = spent;
       thread = several;
-      told = broke workers jobs f.cause f.spent spent several;
+      reported = broke workers jobs f.cause f.spent spent several;
     }

@@ -78,10 +78,10 @@ pub room_of : (jobs : List Job) (next c spent steps : ℕ) → ((k : ℕ) (job :
     → AllByRecursion IsWithinPrice jobs → length jobs ≤ 64 → c < chunk_total jobs → spent ≤ summed (chunk_steps jobs) 0 next
     → next ≤ c → steps ≤ chunk_steps jobs c → spent + steps < 2 ^ 64
 room_of jobs next c spent steps cover p w few there sum below most =
-    let room = (spent_room (chunk_steps jobs) next c (chunk_total jobs) spent steps sum below there most).1 in
+    let capacity = (spent_room (chunk_steps jobs) next c (chunk_total jobs) spent steps sum below there most).1 in
     let all = total_of_jobs cover jobs in
     let small = steps_small jobs p w few in
-    omega (arith, room, all, small)
+    omega (arith, capacity, all, small)
 
 -- the prices of all chunks together
 sum_of_prices : (chunks : List Chunk) → sum (map (λ (c : Chunk). c.price) chunks) ≡ sum_by (λ (c : Chunk). c.price) chunks

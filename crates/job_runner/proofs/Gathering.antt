@@ -163,6 +163,6 @@ pub gathered_full : (board : BoardState) (jobs : List Job) (g : WorkerOutputs) �
     → board.prices ≡ prices_of jobs → 0 < length g.seats.items → length g.seats.items ≡ board.workers → g.failed ≡ false
     → (c : ℕ) → c < chunk_total jobs → IsFull g.completed_pieces.items c
 gathered_full board jobs g h completed prices some whole failed c l =
-    let told = h.told failed in
-    let done = completed (drained_finished board g.seats.items some whole told) (all_drained g.seats.items told) in
+    let drained = h.drained failed in
+    let done = completed (drained_finished board g.seats.items some whole drained) (all_drained g.seats.items drained) in
     h.there c (all_completed board (workers_of g.seats.items) (chunk_total jobs) c (all_listed jobs board.prices prices) done l)

@@ -5,12 +5,15 @@ use Rattle.std.specs.List.{AllByRecursion}
 use Rattle.std.proofs.lemmas.Bool.{lt-ltb, le-ltb}
 use Rattle.std.proofs.lemmas.List.{drop_more, take_more, map-append}
 use Rattle.csr_store.specs.Along.{along, summed}
-use Rattle.csr_store.specs.Grid.{Grid, IsGrid}
+use Rattle.csr_store.specs.Grid.{Grid, IsGrid, limit}
 use Rattle.csr_store.specs.ByRows.{grid}
-use Rattle.csr_store.specs.Run.{AreEven, Run, Follow, all_ended, numbered}
+use Rattle.csr_store.specs.Run.{Run, all_ended, numbered}
+use Rattle.csr_store.specs.Stacked.{IsNext}
+use Rattle.csr_store.specs.Mask.{row_under}
 use Rattle.csr_store.proofs.Along.{along-split, along-same}
 use Rattle.bpf_run.specs.Calls.{Call, steps_of, Charges}
 use Rattle.bpf_run.proofs.Charging.{steps-append, charges-le}
+use Rattle.job_plan.specs.Forms.{operation}
 use Rattle.job_plan.specs.Job.{Job}
 use Rattle.job_plan.specs.Meaning.{IsMatrixOf, row_count, column_count, rows_in, calls_in, steps_of_job}
 use Rattle.job_plan.specs.Price.{IsWithinPrice}
@@ -21,7 +24,8 @@ use Rattle.job_runner.specs.Batch.{Result, IsResultOf, AreResultsOf, total_steps
 use Rattle.job_runner.specs.Chunk.{chunks_in, chunk_total, chunk_rows, run_in_job, calls_in_job, steps_in_job, at_chunk, calls_of, chunk_steps}
 use Rattle.job_runner.specs.inner.Pieces.{listed}
 use Rattle.job_runner.proofs.Located.{ones-length}
-use Rattle.job_runner.proofs.Faultless.{faultless}
+use Rattle.job_runner.proofs.Entries.{length-numbered}
+use Rattle.job_runner.proofs.Faultless.{faultless, job_entries}
 use Rattle.job_runner.proofs.Matrix.{matrix_of}
 use Rattle.job_runner.proofs.Listed.{along-shift, summed-split, summed-shift, summed-same}
 
@@ -59,55 +63,74 @@ steps_low job p w =
     let l = (faultless job p).price in
     omega (arith, a, b, l)
 
--- its runs follow one another
-follows : (job : Job) (k m : ℕ) → k + m ≡ chunk_count (row_count job)
-    → Follow (column_count job) (min (256 * k) (row_count job)) (row_count job) (along (λ c. run_in_job job c ∷ []) k m)
-follows job k zero e = omega (arith, e)
-follows job k (suc m) e =
-    let rest = follows job (suc k) m (omega (arith, e)) in
-    let size : length (rows_in job (chunk_first k) (chunk_rows job k)) ≡ chunk_rows job k = ones-length _ (chunk_first k)
-    (chunk_rows job k) in
-    let at : min (256 * suc k) (row_count job) ≡ min (256 * k) (row_count job) + length
-    (rows_in job (chunk_first k) (chunk_rows job k)) = omega (arith, e, size) in
-    let first : 256 * k ≡ min (256 * k) (row_count job) = omega (arith, e) in (
-      first,
-      refl,
-      refl,
-      subst (λ a. Follow (column_count job) a (row_count job) (along (λ c. run_in_job job c ∷ []) (suc k) m)) at
-          rest,
+-- the first rows have no more entries than all
+first_few : (job : Job) (m : ℕ) → IsPriced job → m ≤ row_count job → length (numbered 0 (rows_in job 0 m)) ≤ limit
+first_few job m p l =
+    let row = row_under job.mask (column_count job) (operation job.form).value_at in
+    let all = length-numbered 0 row 0 (row_count job) in
+    let first = length-numbered 0 row 0 m in
+    let split = summed-split (λ i. length (row i)) 0 m (row_count job - m) in
+    let e : m + (row_count job - m) ≡ row_count job = omega (arith, l) in
+    let a = ap (summed (λ i. length (row i)) 0) e in
+    let few = job_entries job p in
+    omega (arith, all, first, split, a, few)
+
+-- the rows of its first chunks, n of them
+abbrev pub first_rows : Job → ℕ → Run
+first_rows job n = record {
+  first = 0;
+  columns = column_count job;
+  ended = rows_in job 0 (min (256 * n) (row_count job));
+  opened = [];
+}
+
+pub length_first : (job : Job) (n : ℕ) → length (first_rows job n).ended ≡ min (256 * n) (row_count job)
+length_first job n = ones-length _ 0 (min (256 * n) (row_count job))
+
+-- the rows of the next chunk come behind them
+next_chunk : (job : Job) (n : ℕ) → n < chunks_in job → (first_rows job n).ended ++ (run_in_job job n).ended ≡ (first_rows job (n + 1)).ended
+next_chunk job n l =
+    let row = row_under job.mask (column_count job) (operation job.form).value_at in
+    let first = min (256 * n) (row_count job) in
+    let e : first + chunk_rows job n ≡ min (256 * (n + 1)) (row_count job) = omega (arith, l) in
+    let f : 256 * n ≡ 0 + first = omega (arith, l) in
+    ap (λ k. rows_in job 0 first ++ rows_in job k (chunk_rows job n)) f
+    ∙ sym (along-split (λ i. row i ∷ []) 0 first (chunk_rows job n)) ∙ ap (rows_in job 0) e
+
+pub next_run : (job : Job) (n : ℕ) (stack run : Run) → IsPriced job → n < chunks_in job → stack ≡ first_rows job n
+    → run ≡ run_in_job job n
+    → IsNext run stack × (record stack { ended = stack.ended ++ run.ended } ≡ first_rows job (n + 1))
+next_run job n stack run p l s r =
+    let first = length_first job n in
+    let next : length (rows_in job (chunk_first n) (chunk_rows job n)) ≡ chunk_rows job n = ones-length _ (chunk_first n)
+    (chunk_rows job n) in
+    let is_next : IsNext (run_in_job job n) (first_rows job n) = record {
+      first = omega (arith, first, l);
+      columns = refl;
+      none_open = refl;
+      full = omega (arith, first, l);
+      some = omega (arith, next, l);
+      even = omega (arith, next, l);
+      small = subst (λ rs. length (numbered 0 rs) ≤ limit) (sym (next_chunk job n l))
+          (first_few job (min (256 * (n + 1)) (row_count job)) p (omega (arith, l)));
+    } in (
+      subst (λ x. IsNext x stack) (sym r) (subst (IsNext (run_in_job job n)) (sym s) is_next),
+      ap (λ (x : Run). record x { ended = x.ended ++ run.ended }) s
+          ∙ ap (λ (x : Run). record (first_rows job n) { ended = (first_rows job n).ended ++ x.ended }) r
+          ∙ ap (λ rs. record (first_rows job n) { ended = rs }) (next_chunk job n l),
     )
 
-pub follow_all : (job : Job) → Follow (column_count job) 0 (row_count job) (listed (run_in_job job) (chunks_in job))
-follow_all job =
-    let z : min (256 * 0) (row_count job) ≡ 0 = omega arith in
-    subst (λ a. Follow (column_count job) a (row_count job) (listed (run_in_job job) (chunks_in job))) z
-    (follows job 0 (chunks_in job) (omega arith))
-
--- 256 rows each, and the last no more
-evens : (job : Job) (k m : ℕ) → k + m ≡ chunk_count (row_count job) → AreEven (along (λ c. run_in_job job c ∷ []) k m)
-evens job k zero e = tt
-evens job k (suc zero) e =
-    let size : length (rows_in job (chunk_first k) (chunk_rows job k)) ≡ chunk_rows job k = ones-length _ (chunk_first k)
-    (chunk_rows job k) in
-    omega (arith, e, size)
-evens job k (suc (suc m)) e =
-    let size : length (rows_in job (chunk_first k) (chunk_rows job k)) ≡ chunk_rows job k = ones-length _ (chunk_first k)
-    (chunk_rows job k) in
-    (omega (arith, e, size), evens job (suc k) (suc m) (omega (arith, e)))
-
-pub even_all : (job : Job) → AreEven (listed (run_in_job job) (chunks_in job))
-even_all job = evens job 0 (chunks_in job) (omega arith)
-
 -- its matrix
-pub joined_matrix : (k : ℕ) (job : Job) (runs : List Run) (rows columns : ℕ) (g : Grid) → Cover k job
-    → runs ≡ listed (run_in_job job) (chunks_in job)
-    → rows ≡ row_count job → columns ≡ column_count job → g ≡ grid rows columns (numbered 0 (all_ended runs)) → IsGrid g
-    → IsMatrixOf job g
-joined_matrix k job runs rows columns g c r a b e within =
+pub joined_matrix : (job : Job) (n : ℕ) (stack : Run) (g : Grid) → chunks_in job ≤ n → stack ≡ first_rows job n
+    → g ≡ grid (length stack.ended) stack.columns (numbered 0 stack.ended) → IsGrid g → IsMatrixOf job g
+joined_matrix job n stack g l s e within =
+    let all : min (256 * n) (row_count job) ≡ row_count job = omega (arith, l) in
+    let ended = ap (rows_in job 0) all in
+    let rows : length (rows_in job 0 (row_count job)) ≡ row_count job = ones-length _ 0 (row_count job) in
     let whole : Grid = grid (row_count job) (column_count job) (numbered 0 (rows_in job 0 (row_count job))) in
-    let same : g ≡ whole = e ∙ ap (λ n. grid n columns (numbered 0 (all_ended runs))) a
-    ∙ ap (λ n. grid (row_count job) n (numbered 0 (all_ended runs))) b
-    ∙ ap (λ rs. grid (row_count job) (column_count job) (numbered 0 rs)) (ap all_ended r ∙ ended_all k job c) in
+    let same : g ≡ whole = e ∙ ap (λ (r : Run). grid (length r.ended) r.columns (numbered 0 r.ended)) s
+    ∙ ap (λ rs. grid (length rs) (column_count job) (numbered 0 rs)) ended
+    ∙ ap (λ m. grid m (column_count job) (numbered 0 (rows_in job 0 (row_count job)))) rows in
     subst (IsMatrixOf job) (sym same) (matrix_of job (subst IsGrid same within))
 
 -- ---- the first job, and those behind it

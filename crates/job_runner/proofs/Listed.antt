@@ -2,7 +2,7 @@
 use Rattle.std.proofs.Common.{◌≡◌, ◌<◌, ◌≤◌, ℕ, zero, suc, ◌+◌, ◌-◌, List, [], ◌∷◌, ◌++◌, length, drop, refl, sym, ap, ◌∙◌, arith}
 use Rattle.std.proofs.Math.Seq.{drop-append_seam}
 use Rattle.csr_store.specs.Along.{along, summed}
-use Rattle.csr_store.proofs.Along.{along-next, along-snoc}
+use Rattle.csr_store.proofs.Along.{along-next}
 use Rattle.job_runner.specs.inner.Pieces.{listed, BeginsWith}
 use Rattle.job_runner.proofs.Located.{ones-length}
 
@@ -21,12 +21,6 @@ module _ {T : Type 0} where
       → length xs ≡ 0 → ⊥
   none-listed f i n xs others l h z =
       let e = ap length (h ∙ ap (λ ys. ys ++ others) (along-next (λ c. f c ∷ []) i n l)) in omega (arith, e, z)
-
-  -- one more at the end
-  pub listed-more : (f : ℕ → T) (i : ℕ) (x : T) (xs : List T) → xs ≡ listed f i → x ≡ f i → xs ++ x ∷ [] ≡ listed f (i + 1)
-  listed-more f i x xs h e =
-      let z : i ≡ 0 + i = omega arith in
-      ap (λ ys. ys ++ x ∷ []) h ∙ ap (λ y. listed f i ++ y ∷ []) (e ∙ ap f z) ∙ sym (along-snoc (λ c. f c ∷ []) 0 i)
 
   pub listed-length : (f : ℕ → T) (n : ℕ) → length (listed f n) ≡ n
   listed-length f n = ones-length f 0 n

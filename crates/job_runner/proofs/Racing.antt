@@ -31,9 +31,9 @@ pub gathered_whole : (board : BoardState) (jobs : List Job) (g : WorkerOutputs) 
     → board.prices ≡ prices_of jobs → 0 < length g.seats.items → length g.seats.items ≡ board.workers → g.failed ≡ false
     → IsWhole jobs (workers_of g.seats.items)
 gathered_whole board jobs g h completed prices some all failed =
-    let told = h.told failed in
-    let ended = all_drained g.seats.items told in
-    let done = completed (drained_finished board g.seats.items some all told) ended in
+    let drained = h.drained failed in
+    let ended = all_drained g.seats.items drained in
+    let done = completed (drained_finished board g.seats.items some all drained) ended in
     record {
       once = subst (λ n. AreEachOnce n (completed_by (workers_of g.seats.items))) (all_listed jobs board.prices prices)
           (closed_completed (length board.prices) (workers_of g.seats.items) done);

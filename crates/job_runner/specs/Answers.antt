@@ -37,4 +37,4 @@ pub record IsBatch (workers : ℕ) (jobs : List Job) (result : std.Result BatchA
   pub raced : IfOk result (λ a. IsRaced (crew_of workers jobs) jobs (map result_of a.results.items))
   pub spent : IfErr result (λ f. Charges (all_calls jobs) 0 f.spent)
   pub thread : IfErr result (λ f. f.cause ≡ Thread → 1 < workers)
-  pub told : MaySay workers jobs (said_of result)
+  pub reported : MaySay workers jobs (said_of result)

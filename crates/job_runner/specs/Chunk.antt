@@ -18,7 +18,7 @@ chunk_total (job ∷ jobs) = chunks_in job + chunk_total jobs
 abbrev pub chunk_rows : Job → ℕ → ℕ
 chunk_rows job c = chunk_last (row_count job) c - chunk_first c
 
--- the rows of chunk c of a job, the calls that are made for them, and the steps that these take
+-- the rows of chunk c of a job, their calls, and the steps that these take
 abbrev pub run_in_job : Job → ℕ → Run
 run_in_job job c = record {
   first = chunk_first c;
@@ -42,7 +42,7 @@ at_chunk said none (job ∷ jobs) c = if nat_lt c (chunks_in job) then said job 
 abbrev pub none_run : Run
 none_run = record { first = 0; columns = 0; ended = []; opened = [] }
 
--- the rows of chunk c of the jobs, the calls that are made for them, and the steps that these take
+-- the rows of chunk c of the jobs, their calls, and the steps that these take
 abbrev pub run_of : List Job → ℕ → Run
 run_of jobs c = at_chunk run_in_job none_run jobs c
 

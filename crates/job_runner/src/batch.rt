@@ -44,7 +44,7 @@ pub fn run_batch<H: Threads + Wait, G: Gate + Sync>(
     ensures raced { IfOk result (λ a. IsRaced (crew_of workers plan.now) plan.now (map result_of a.results.items)) }
     ensures spent { IfErr result (λ f. Charges (all_calls plan.now) 0 f.spent) }
     ensures thread { IfErr result (λ f. f.cause ≡ Cause.Thread → 1 < workers) }
-    ensures told { MaySay workers plan.now (said_of result) }
+    ensures reported { MaySay workers plan.now (said_of result) }
 {
     let mut spare = SpareScratch::new();
     run_batch_with(rt, alloc, plan, workers, gate, &mut spare)

@@ -25,7 +25,7 @@ pub struct Scratch {
 }
 
 impl Scratch {
-    /// Room for the work on any chunk; a product's row grows with the first product.
+    /// Memory for the work on any chunk; a product's row grows with the first product.
     pub fn new(alloc: Global) -> Result<Scratch, AllocError> {
         Ok(Scratch {
             calls: Calls::new(alloc)?,

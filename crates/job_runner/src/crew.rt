@@ -74,7 +74,7 @@ fn start<'s, 'a, H, G: Gate + Sync>(
     handles: &mut Vec<Handle<'a>>,
 ) -> bool
     requires fresh { AreFresh task.board.now task.plan.now seats.items }
-    requires room { (vec_len handles.old ≡ 0) × (vec_len seats ≤ vec_capacity handles.old) }
+    requires capacity { (vec_len handles.old ≡ 0) × (vec_len seats ≤ vec_capacity handles.old) }
     ensures promised { AllByRecursion (λ h. h.promise ≡ task.entry) handles.new.items }
     ensures started { IsStarted (vec_len seats) (vec_len handles.new) result }
 {
@@ -106,7 +106,7 @@ fn join_all<H: Threads>(
     outputs: &mut WorkerOutputs,
 )
     requires promised { AllByRecursion (λ h. h.promise ≡ task) handles.items }
-    requires room { vec_len outputs.old.seats + vec_len handles ≤ vec_capacity outputs.old.seats }
+    requires capacity { vec_len outputs.old.seats + vec_len handles ≤ vec_capacity outputs.old.seats }
     requires outputs { AreWorkerOutputs task.board.now task.plan.now outputs.old }
     ensures outputs { AreWorkerOutputs task.entry.board.now task.entry.plan.now outputs.new }
     ensures len { vec_len outputs.new.seats ≡ vec_len outputs.old.seats + vec_len handles.entry }
@@ -130,7 +130,7 @@ fn work_in_scope<'s, 'a, H: Threads, G: Gate + Sync>(
     spare: &mut SpareScratch,
 ) -> (WorkerOutputs, Option<Cause>)
     requires fresh { AreFresh task.board.now task.plan.now seats.items }
-    requires room { IsRoomFor task.board.now task.plan.now (vec_len seats) outputs }
+    requires capacity { IsRoomFor task.board.now task.plan.now (vec_len seats) outputs }
     ensures { IsWorked task.entry.board.now task.entry.plan.now (vec_len seats) result.0 result.1 }
 {
     let BatchContext { rt, alloc, gate } = context;
@@ -170,7 +170,7 @@ pub(crate) fn work_all<H: Threads + Wait, G: Gate + Sync>(
     spare: &mut SpareScratch,
 ) -> (WorkerOutputs, Option<Cause>)
     requires fresh { AreFresh task.board.now task.plan.now seats.items }
-    requires room { IsRoomFor task.board.now task.plan.now (vec_len seats) outputs }
+    requires capacity { IsRoomFor task.board.now task.plan.now (vec_len seats) outputs }
     ensures { IsWorked task.entry.board.now task.entry.plan.now (vec_len seats) result.0 result.1 }
 {
     let BatchContext { rt, alloc, gate } = context;
@@ -181,7 +181,7 @@ pub(crate) fn work_all<H: Threads + Wait, G: Gate + Sync>(
             rt,
             move |scope| -> (WorkerOutputs, Option<Cause>)
                 requires fresh { AreFresh board.now plan.now seats.items }
-                requires room { IsRoomFor board.now plan.now (vec_len seats) outputs }
+                requires capacity { IsRoomFor board.now plan.now (vec_len seats) outputs }
                 ensures { IsWorked board.entry.now plan.entry.now (vec_len seats) result.0 result.1 }
             {
                 let context = BatchContext { rt, alloc, gate };

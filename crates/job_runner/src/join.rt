@@ -1,17 +1,17 @@
 //! The pieces of a batch as the matrices of its jobs.
-ghost use Rattle.std.specs.Prelude.{◌≡◌, ◌<◌, ◌^◌, map, IfOk, OnOk};
+ghost use Rattle.std.specs.Prelude.{◌≡◌, ◌≤◌, map, IfOk, OnOk};
 ghost use Rattle.std.specs.Vec.Iter.{into_iter_items};
-ghost use Rattle.csr_store.specs.Along.{summed};
+ghost use Rattle.csr_store.specs.Grid.{limit};
 ghost use Rattle.job_plan.specs.Meaning.{row_count, column_count};
 ghost use Rattle.job_plan.specs.Price.{IsWithinPrice};
 ghost use Rattle.job_plan.specs.Refusal.{IsPriced};
 ghost use Rattle.job_runner.specs.Batch.{AreResultsOf, IsResultOf, result_of};
-ghost use Rattle.job_runner.specs.Chunk.{chunks_in, run_in_job, steps_in_job};
-ghost use Rattle.job_runner.specs.inner.Pieces.{AreAll, AreBehind, BeginWith, listed};
+ghost use Rattle.job_runner.specs.Chunk.{chunks_in};
+ghost use Rattle.job_runner.specs.inner.Pieces.{AreAll, AreBehind, BeginWith};
 
 use crate::answer::JobResult;
 use crate::piece::Piece;
-use csr_store::{Matrix, RUN_ROWS, Rows, stack_runs};
+use csr_store::{Matrix, RUN_ROWS, Stack};
 use job_plan::{Job, Plan, Priced, price};
 use std::alloc::{AllocError, Global};
 use std::sync::Arc;
@@ -53,44 +53,27 @@ fn join_job(
     let for_proof_price = price(job);
     let job = job.job();
     let (rows, columns) = sizes(job);
-    let (runs, steps) = gather(alloc, job, rows.div_ceil(RUN_ROWS), completed_pieces)?;
-    let matrix = stack_runs(alloc, rows, columns, runs, first_operand(job))?;
-    matrix.recall();
-    let version = Arc::new(alloc, matrix)?;
-    Ok(JobResult { version, steps })
-}
-
-/// The rows of the next `count` pieces, and the sum of their steps.
-fn gather(
-    alloc: Global,
-    job: &Job,
-    count: u64,
-    completed_pieces: &mut IntoIter<Option<Piece>>,
-) -> Result<(Vec<Rows>, u64), AllocError>
-    requires few { summed (steps_in_job job.now) 0 count < 2 ^ 64 }
-    requires begin { BeginWith job.now count (into_iter_items completed_pieces.old) }
-    ensures outputs { IfOk result (λ r. (r.0.items ≡ listed (run_in_job job.now) count)
-        × (r.1 ≡ summed (steps_in_job job.now) 0 count)) }
-    ensures left { OnOk result (AreBehind count (into_iter_items completed_pieces.old) (into_iter_items completed_pieces.new)) }
-{
-    let _ = job;
-    let mut runs = Vec::with_capacity(alloc, count as usize)?;
+    let mut stack = Stack::begin(alloc, rows, columns, first_operand(job))?;
     let mut steps = 0;
-    for _next in 0..count {
+    for _next in 0..rows.div_ceil(RUN_ROWS) {
         let Some(nth) = completed_pieces.next() else {
             unreachable!()
         };
         let Some(piece) = nth else { unreachable!() };
         steps += piece.steps;
-        runs.push(piece.rows)?;
+        stack = stack.add(piece.rows)?;
     }
-    Ok((runs, steps))
+    let matrix = stack.finish()?;
+    matrix.recall();
+    let version = Arc::new(alloc, matrix)?;
+    Ok(JobResult { version, steps })
 }
 
 /// How many rows and columns a job's matrix has.
 fn sizes(job: &Job) -> (u64, u64)
     requires { IsPriced job.now }
     ensures rows { result.0 ≡ row_count job.now }
+    ensures few { result.0 ≤ limit }
     ensures columns { result.1 ≡ column_count job.now }
 {
     let form = job.form();

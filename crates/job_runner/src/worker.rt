@@ -142,7 +142,7 @@ fn record_chunk(
     pieces: &mut Vec<Piece>,
 ) -> ChunkEnd
     requires holds { IsHolding task.board.now chunk seat.old }
-    requires made { IsMadeFor task.plan.now chunk computed }
+    requires computed { IsMadeFor task.plan.now chunk computed }
     requires prices { task.board.now.prices ≡ prices_of task.plan.now }
     ensures { IsRecorded task.entry.board.now task.entry.plan.now chunk result seat.old seat.new pieces.old.items pieces.new.items }
 {
@@ -168,7 +168,7 @@ fn record_chunk(
 fn add_piece(chunk: u64, computed: Chunk, pieces: &mut Vec<Piece>) -> Result<(), AllocError>
     ensures put { OnOk result ((rows : Run) × (computed.result ≡ Ok rows) × (pieces.new.items ≡ pieces.old.items ++
         record { chunk = chunk; rows = rows; steps = computed.steps } ∷ [])) }
-    ensures kept { OnErr result (pieces.new.items ≡ pieces.old.items) }
+    ensures unchanged { OnErr result (pieces.new.items ≡ pieces.old.items) }
 {
     let Chunk { result, steps } = computed;
     let rows = result?;

@@ -31,7 +31,7 @@ impl WorkerOutputs {
     /// For so many workers, of whom none has ended.
     pub fn new(alloc: Global, plan: &Plan, workers: u64) -> Result<WorkerOutputs, AllocError>
         ensures outputs { IfOk result (λ g. (board : BoardState) → AreWorkerOutputs board plan.now g) }
-        ensures room { IfOk result (λ g. (vec_len g.seats ≡ 0) × (vec_capacity g.seats ≡ workers)) }
+        ensures capacity { IfOk result (λ g. (vec_len g.seats ≡ 0) × (vec_capacity g.seats ≡ workers)) }
     {
         Ok(WorkerOutputs {
             seats: Vec::with_capacity(alloc, workers as usize)?,
@@ -46,7 +46,7 @@ impl WorkerOutputs {
         requires outputs { AreWorkerOutputs task.board.now task.plan.now self.old
             × (vec_len self.old.seats < vec_capacity self.old.seats) }
         ensures outputs { AreWorkerOutputs task.entry.board.now task.entry.plan.now self.new }
-        ensures room { (vec_len self.new.seats ≡ vec_len self.old.seats + 1)
+        ensures capacity { (vec_len self.new.seats ≡ vec_len self.old.seats + 1)
             × (vec_capacity self.old.seats ≤ vec_capacity self.new.seats) }
     {
         let Ended { seat, worked } = ended;

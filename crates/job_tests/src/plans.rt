@@ -95,7 +95,7 @@ fn accepted(alloc: Global, form: Form, mask: Option<Version>) -> Result<Priced, 
     }
 }
 
-/// Puts such a job into a queue, where there is room. Its number, or 0.
+/// Puts such a job into a queue, if it is not full. Its number, or 0.
 fn submit(
     alloc: Global,
     queue: &mut Queue,
@@ -221,7 +221,7 @@ struct Case {
 }
 
 /// The matrix that is given.
-fn made(alloc: Global, given: Given) -> Result<Version, Fail> {
+fn version_of(alloc: Global, given: Given) -> Result<Version, Fail> {
     match given {
         Of(rows, columns, entries) => matrix(alloc, rows, columns, entries),
         Full(rows, columns) => full(alloc, rows, columns),
@@ -232,7 +232,7 @@ fn made(alloc: Global, given: Given) -> Result<Version, Fail> {
 fn maybe_made(alloc: Global, maybe: Option<Given>) -> Result<Option<Version>, Fail> {
     match maybe {
         None => Ok(None),
-        Some(some) => Ok(Some(made(alloc, some)?)),
+        Some(some) => Ok(Some(version_of(alloc, some)?)),
     }
 }
 
@@ -269,7 +269,7 @@ fn assert_priced(
 /// A case has its price, or its fault.
 fn assert_case(rt: &impl Abort, alloc: Global, case: &Case) -> Result<(), Fail> {
     let right = maybe_made(alloc, case.right)?;
-    let form = form_on(alloc, case.tried, made(alloc, case.left)?, right)?;
+    let form = form_on(alloc, case.tried, version_of(alloc, case.left)?, right)?;
     assert_priced(rt, alloc, form, maybe_made(alloc, case.mask)?, case.wanted)
 }
 

@@ -13,11 +13,11 @@ use Rattle.metered_session.proofs.Metering.{gained, counted}
 use Rattle.metered_session.proofs.Serving.{calls_in}
 
 -- a session that had spent nothing made calls of its pass, and what they spent is told
-pub called : (room : SessionState) (old new : Outside Metered) (result : Result End ServeFault) → old.budget.spent ≡ 0
-    → Outcome Meters room old new result
+pub called : (session : SessionState) (old new : Outside Metered) (result : Result End ServeFault) → old.budget.spent ≡ 0
+    → Outcome Meters session old new result
     → (calls : List Dealing) × Deals Draws old.budget.pass calls new.budget.pass × (new.budget.spent ≡ told_steps (spent_by calls))
-called room old new result none said =
-    let made = calls_in room old new result said in
+called session old new result none said =
+    let made = calls_in session old new result said in
     let drawn = gained old.budget made.0 new.budget made.1 in
     let small : old.budget.spent ≤ 2 ^ 64 - 1 = omega (arith, none) in
     let from_none : old.budget.spent + spent_by made.0 ≡ spent_by made.0 = omega (arith, none) in (

@@ -22,12 +22,12 @@ use std::thread::{Scope, Threads};
 use std::time::Clock;
 use step_purse::{Pass, Purse};
 
-/// What the next session is started with: a pass, of which its own is split off, and its room, if
+/// What the next session is started with: a pass, of which its own is split off, and its memory, if
 /// there was memory for it.
 #[derive(Drop)]
 struct Ready {
     pass: Pass,
-    room: Option<Session>,
+    session: Option<Session>,
 }
 
 /// Accepts connections until a session was started for one. Answers with what the one after it is
@@ -55,18 +55,21 @@ fn start_next<
     ensures accepted { OnOk result ((E.state acceptor.old).accepted < (E.state acceptor.new).accepted) }
     ensures failures { (E.state acceptor.new).failures ≡ (E.state acceptor.old).failures + failures_in result }
 {
-    let Ready { mut pass, mut room } = ready;
+    let Ready {
+        mut pass,
+        mut session,
+    } = ready;
     for _ in rt.forever() {
         let caller = match acceptor.accept() {
             Ok(caller) => caller,
             Err(refused) => return Err(refused),
         };
-        let (kept, given) = server.purse.split(rt, pass);
-        pass = kept;
-        let is_started = admit(scope, rt, server, room, given, caller);
-        room = server.room();
+        let (remaining, given) = server.purse.split(rt, pass);
+        pass = remaining;
+        let is_started = admit(scope, rt, server, session, given, caller);
+        session = server.new_session();
         if is_started {
-            return Ok(Ready { pass, room });
+            return Ok(Ready { pass, session });
         }
     }
     unreachable!()
@@ -152,7 +155,8 @@ fn start<'s, 'a, E: Acceptor + Drop, R: Threads + Wait + Clock + Sync, L: Ledger
 
 /// Serves the connections of an acceptor, and hands it back: up to sixteen sessions at once, each
 /// in a thread of its own, with a pass of the server's purse. A connection for which there is no
-/// seat, no room or no thread is told so and doesn't count. It ends once all sessions have ended.
+/// seat, no memory or no thread is turned away and doesn't count. It ends once all sessions have
+/// ended.
 ///
 /// # Errors
 ///
@@ -171,11 +175,11 @@ pub fn serve_acceptor<
     requires own { IsPassOf server.now.purse.now pass }
     ensures { Listened server.now.terms.sessions (E.state acceptor) (E.state result.0) result.1 }
 {
-    let room = server.room();
-    if room.is_none() {
+    let session = server.new_session();
+    if session.is_none() {
         return (acceptor, Err(ListenFault::Memory));
     }
-    let ready = Ready { pass, room };
+    let ready = Ready { pass, session };
     thread::scope(
         thread::scope_env(),
         rt,
@@ -228,13 +232,13 @@ fn serve_counted<
 }
 
 /// Serves the connections of a listener: up to sixteen sessions at once, each in a thread of its
-/// own, with a pass of one purse. A further connection, and one for which there is no room or no
+/// own, with a pass of one purse. A further connection, and one for which there is no memory or no
 /// thread, gets `no busy` and is closed. With a number of sessions it ends once so many were
 /// started and have ended.
 ///
 /// # Errors
 ///
-/// `Memory` where the room of the first session was refused, before any connection was accepted.
+/// `Memory` where the memory of the first session was refused, before any connection was accepted.
 /// `Network` where a connection could not be accepted; sessions that run go on to their ends first.
 pub fn serve_listener<N: OpenListener<Stream = TcpStream>, R: Threads + Wait + Clock + Sync>(
     rt: &R,

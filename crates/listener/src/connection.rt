@@ -39,10 +39,10 @@ fn hang_up(stream: &TcpStream) {
     if stream.shutdown(Shutdown::Write).is_err() || stream.set_nonblocking(true).is_err() {
         return;
     }
-    let mut room = [0u8; 4096];
+    let mut buffer = [0u8; 4096];
     let mut from = stream;
     for _ in 0..LAST_READS {
-        match from.read(&mut room) {
+        match from.read(&mut buffer) {
             Ok(0) | Err(_) => return,
             Ok(_) => {}
         }
@@ -67,8 +67,8 @@ fn note_turned_away<R: Wait + Clock, L: Ledger>(
     }
 }
 
-/// Serves a session of a server over these devices: by a pass of its purse, in the room of each of
-/// its sessions, and within the limits of its terms.
+/// Serves a session of a server over these devices: by a pass of its purse, in the memory of each
+/// of its sessions, and within the limits of its terms.
 fn serve_sides<I: Source, O: Sink, H: Threads + Wait, L: Ledger>(
     rt: &H,
     server: &ServerState<'_, L>,
@@ -78,7 +78,7 @@ fn serve_sides<I: Source, O: Sink, H: Threads + Wait, L: Ledger>(
 ) -> Served
     requires own { IsPassOf server.now.purse.now given.pass }
     requires within { IsWithin (beginning given.pass server.now.terms.limits) }
-    requires full { (given.room ≡ full_session server.now.terms.workers) × (given.limits ≡ server.now.terms.limits) }
+    requires full { (given.session ≡ full_session server.now.terms.workers) × (given.limits ≡ server.now.terms.limits) }
     ensures said { Outcome Meters (full_session server.now.terms.workers)
         (record {
           budget = beginning given.entry.pass server.now.terms.limits;
@@ -115,7 +115,7 @@ fn serve_counted<
 ) -> Served
     requires own { IsPassOf server.now.purse.now given.pass }
     requires within { IsWithin (beginning given.pass server.now.terms.limits) }
-    requires full { (given.room ≡ full_session server.now.terms.workers) × (given.limits ≡ server.now.terms.limits) }
+    requires full { (given.session ≡ full_session server.now.terms.workers) × (given.limits ≡ server.now.terms.limits) }
     requires reads { IsNewCount blanks.0 A.name A.parts × IsNewCount blanks.1 B.name B.parts }
     requires writes { IsNewCount blanks.2 C.name C.parts × IsNewCount blanks.3 D.name D.parts }
     ensures { IsServedBy server.now.purse.now given.entry.pass server.now.terms.limits result }
@@ -136,7 +136,7 @@ fn serve_over<R: Read + Drop, W: Write + Drop, H: Threads + Wait, L: Ledger>(
 ) -> Served
     requires own { IsPassOf server.now.purse.now given.pass }
     requires within { IsWithin (beginning given.pass server.now.terms.limits) }
-    requires full { (given.room ≡ full_session server.now.terms.workers) × (given.limits ≡ server.now.terms.limits) }
+    requires full { (given.session ≡ full_session server.now.terms.workers) × (given.limits ≡ server.now.terms.limits) }
     ensures { IsServedBy server.now.purse.now given.entry.pass server.now.terms.limits result }
 {
     let blanks = (Blank::new(1), Blank::new(1), Blank::new(1), Blank::new(1));
@@ -160,20 +160,20 @@ fn ending_within(outcome: Result<End, ServeFault>, is_idle: bool, cut: Cut) -> E
     }
 }
 
-/// A session from its start to its end, in a thread of its own, by this pass and in this room; what
+/// This session from its start to its end, in a thread of its own, by this pass; what
 /// it leaves is answered. Its seat is free before its connection is closed, so that a client that
 /// saw the end finds it.
 fn attend<'a, R: Threads + Wait + Clock, L: Ledger>(
     rt: &'a R,
     server: &'a ServerState<'a, L>,
-    room: Session,
+    session: Session,
     pass: Pass,
     caller: Caller,
     seat: Seat<'a, R, L>,
 ) -> Served
     requires own { IsPassOf server.now.purse.now pass }
     requires within { IsWithin (beginning pass server.now.terms.limits) }
-    requires full { room ≡ full_session server.now.terms.workers }
+    requires full { session ≡ full_session server.now.terms.workers }
     ensures { IsServedBy server.now.purse.now pass server.now.terms.limits result }
 {
     let Caller { stream, address } = caller;
@@ -188,7 +188,7 @@ fn attend<'a, R: Threads + Wait + Clock, L: Ledger>(
     let sending = Watching::new(Retrying::new(outgoing, &mut wrote), rt, watch);
     let writer = Noticing::new(sending, notice, &mut refused);
     let given = Given {
-        room,
+        session,
         pass,
         limits: server.terms.limits,
         watch,
@@ -208,18 +208,18 @@ fn attend<'a, R: Threads + Wait + Clock, L: Ledger>(
 }
 
 /// Starts a session for a connection, or tells the client that there is none, where there is no
-/// room, no seat or no thread. Answers whether one was started.
+/// memory, no seat or no thread. Answers whether one was started.
 pub fn admit<'s, 'a, R: Threads + Wait + Clock + Sync, L: Ledger + Send + Sync>(
     scope: &Scope<'s, &'a ()>,
     rt: &'a R,
     server: &'a ServerState<'a, L>,
-    room: Option<Session>,
+    session: Option<Session>,
     pass: Pass,
     caller: Caller,
 ) -> bool
     requires own { IsPassOf server.now.purse.now pass }
     requires within { IsWithin (beginning pass server.now.terms.limits) }
-    requires full { IfSome room (λ r. r ≡ full_session server.now.terms.workers) }
+    requires full { IfSome session (λ r. r ≡ full_session server.now.terms.workers) }
 {
     let client = Origin::Address(caller.address);
     let _ = caller.stream.set_nodelay(true);
@@ -228,13 +228,13 @@ pub fn admit<'s, 'a, R: Threads + Wait + Clock + Sync, L: Ledger + Send + Sync>(
         note_turned_away(rt, server, client);
         return false;
     }
-    let (Some(room), Some(seat)) = (room, take_seat(rt, &server.seats)) else {
+    let (Some(session), Some(seat)) = (session, take_seat(rt, &server.seats)) else {
         turn_away(&caller.stream);
         note_turned_away(rt, server, client);
         return false;
     };
     let second = caller.stream.try_clone();
-    match scope.spawn(move || attend(rt, server, room, pass, caller, seat)) {
+    match scope.spawn(move || attend(rt, server, session, pass, caller, seat)) {
         Ok(_running) => true,
         Err(refused) => {
             drop(refused);

@@ -2,8 +2,8 @@
 //! of steps.
 //!
 //! The contracts: each session of a server is one by a pass of its purse within limits of its own
-//! (`metered_session::serve_within`), in the room of 4,294,967,296 reads and with the workers that
-//! were asked for (`ServerState::room`). `serve_acceptor` ends well only after the number of
+//! (`metered_session::serve_within`), with 4,294,967,296 reads and with the workers that
+//! were asked for (`ServerState::new_session`). `serve_acceptor` ends well only after the number of
 //! connections that was asked for, and else by one accept that failed, the last
 //! (`specs/Listening.antt`). No more than sixteen seats are taken at any time: that is the
 //! invariant of `Seats`.

@@ -45,7 +45,7 @@ impl LastCall {
     }
 }
 
-/// A side of a connection whose calls are made again where a signal cut them short, as where the
+/// A side of a connection whose calls are repeated where a signal cut them short, as where the
 /// process was stopped and goes on. The client's time begins anew then. Its bytes are those of the
 /// device below.
 #[derive(Drop)]

@@ -69,7 +69,7 @@ impl<L: Ledger> Seats<L> {
 }
 
 /// A seat that is taken. It is free again where this is dropped: at the end of a session, and where
-/// no thread could be made for one.
+/// no thread could be started for one.
 pub struct Seat<'h, R: Wait, L: Ledger> {
     rt: &'h R,
     seats: &'h Mutex<Seats<L>>,

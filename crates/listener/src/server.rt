@@ -101,7 +101,7 @@ impl<'p, L: Ledger> ServerState<'p, L> {
 
     /// The next session, if there is memory for it: that of 4,294,967,296 reads, with the workers
     /// of the terms.
-    pub fn room(&self) -> Option<Session>
+    pub fn new_session(&self) -> Option<Session>
         ensures { IfSome result (λ r. r ≡ full_session self.now.terms.workers) }
     {
         Session::new(self.alloc, self.terms.workers).ok()

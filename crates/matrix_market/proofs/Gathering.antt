@@ -277,7 +277,7 @@ room_behind h old new rest end at given last most more r a l =
     record {
       rows_same = a.rows_same ∙ r.rows_same;
       columns_same = a.columns_same ∙ r.columns_same;
-      room = wide h.banner.symmetric (length old.entries) (length a.entries) (length new.entries) e t r.room;
+      capacity = wide h.banner.symmetric (length old.entries) (length a.entries) (length new.entries) e t r.capacity;
     }
   where
     wide : (symmetric : Bool) (m n k : ℕ) → k ≡ m + n → n ≤ width symmetric * given → m + width symmetric * most ≤ limit → k + width symmetric * more ≤ limit
@@ -286,7 +286,7 @@ room_behind h old new rest end at given last most more r a l =
 
 -- a list without an entry has room for all lines of a text
 pub room_at_first : (h : Header) (l : Listed) → l ≡ nothing h → HasRoom h l h.size.entries
-room_at_first h l e = rw e (record { rows_same = refl; columns_same = refl; room = all h.banner.symmetric h.entries_small h.halved })
+room_at_first h l e = rw e (record { rows_same = refl; columns_same = refl; capacity = all h.banner.symmetric h.entries_small h.halved })
   where
     all : (symmetric : Bool) → h.size.entries ≤ 16777216 → (symmetric ≡ true → h.size.entries ≤ 8388608) → 0 + width symmetric * h.size.entries ≤ limit
     all true a b = let c = b refl in omega (arith, c)

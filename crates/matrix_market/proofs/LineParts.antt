@@ -21,15 +21,15 @@ lines_cut row n cells front back f b =
     ∙ (λ i. entry_lines (at_row row (first i)) ++ entry_lines (at_row row (rest i)))
 
 -- sixteen bytes are put before a place, of which the last are a text
-pub put_before : (end start : ℕ) (room bytes new text : List ℕ) → 16 ≤ end → end ≤ length room → start ≤ 16 → length new ≡ 16 → new ≡ bytes
-    → drop start bytes ≡ text → drop (end - 16 + start) (put_mid (end - 16) (end - (end - 16)) room new) ≡ text ++ drop end room
-put_before end start room bytes new text low high within long is has =
-    let front : length (take (end - 16) room) ≡ end - 16 = length-take-le (end - 16) room (omega arith) in
-    let behind = post_of (end - 16) (end - (end - 16)) room in
+pub put_before : (end start : ℕ) (buffer bytes new text : List ℕ) → 16 ≤ end → end ≤ length buffer → start ≤ 16 → length new ≡ 16 → new ≡ bytes
+    → drop start bytes ≡ text → drop (end - 16 + start) (put_mid (end - 16) (end - (end - 16)) buffer new) ≡ text ++ drop end buffer
+put_before end start buffer bytes new text low high within long is has =
+    let front : length (take (end - 16) buffer) ≡ end - 16 = length-take-le (end - 16) buffer (omega arith) in
+    let behind = post_of (end - 16) (end - (end - 16)) buffer in
     let place : end - 16 + (end - (end - 16)) ≡ end = omega arith in
-    ap (λ n. drop (n + start) (take (end - 16) room ++ (new ++ behind))) (sym front)
-    ∙ drop-append-add (take (end - 16) room) (new ++ behind) start
+    ap (λ n. drop (n + start) (take (end - 16) buffer ++ (new ++ behind))) (sym front)
+    ∙ drop-append-add (take (end - 16) buffer) (new ++ behind) start
     ∙ drop-append-le start new behind (omega arith)
     ∙ ap (λ (bs : List ℕ). drop start bs ++ behind) is
     ∙ ap (λ (t : List ℕ). t ++ behind) has
-    ∙ ap (λ (r : List ℕ). text ++ r) (drop-drop (end - (end - 16)) (end - 16) room ∙ ap (λ n. drop n room) place)
+    ∙ ap (λ (r : List ℕ). text ++ r) (drop-drop (end - (end - 16)) (end - 16) buffer ∙ ap (λ n. drop n buffer) place)

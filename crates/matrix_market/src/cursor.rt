@@ -7,5 +7,5 @@ pub struct Cursor<'a> {
     pub rest: &'a [u8],
     pub at: u64,
     // So that counting lines can't overflow.
-    ghost room: { at + length rest.now < 2 ^ 63 },
+    ghost capacity: { at + length rest.now < 2 ^ 63 },
 }

@@ -30,7 +30,7 @@ struct Run {
 /// Gathers as many entries as the size line declares.
 pub fn gather(alloc: Global, header: Header, start: Cursor<'_>) -> Result<Gathering, AllocError>
     ensures read { IfOk result (λ g. IsRead header start.entry g.list) }
-    ensures told { IfOk result (λ g. Tells header start.entry g.list g.fault) }
+    ensures reported { IfOk result (λ g. Tells header start.entry g.list g.fault) }
 {
     let size = header.size;
     let mut list = EntryList::new(alloc, size.rows, size.columns);
@@ -62,7 +62,7 @@ fn gather_lines(
 ) -> Result<Option<MarketError>, AllocError>
     requires { list.old ≡ record { rows = header.size.rows; columns = header.size.columns; entries = [] } }
     ensures read { OnOk result (IsRead header start.entry list.new) }
-    ensures told { IfOk result (Tells header start.entry list.new) }
+    ensures reported { IfOk result (Tells header start.entry list.new) }
 {
     let mut cursor = start;
     // Once: searching for the last LF again after each odd line would be quadratic.
@@ -154,7 +154,7 @@ fn gather_line<'a>(
     requires { HasRoom header list.old 1 }
     ensures added { IfOk result (λ r. IfOk r (λ p.
         Adds header list.old list.new cursor.entry.rest.now cursor.entry.at 1 p.rest.now p.at)) }
-    ensures kept { IfOk result (λ r. OnErr r (list.new ≡ list.old)) }
+    ensures unchanged { IfOk result (λ r. OnErr r (list.new ≡ list.old)) }
     ensures fault { IfOk result (λ r. IfErr r (IsFaultAt header cursor.entry)) }
 {
     // The outer error is a refused allocation, the inner one the text's fault.
@@ -184,7 +184,7 @@ fn gather_line<'a>(
 /// Adds an entry and, in a symmetric matrix, its mirror.
 #[inline(always)]
 fn push_entry(list: &mut EntryList, header: Header, found: Found) -> Result<(), AllocError>
-    requires room { HasRoom header list.old 1 }
+    requires capacity { HasRoom header list.old 1 }
     requires row { found.row < header.size.rows }
     requires column { found.column < header.size.columns }
     ensures { OnOk result (Takes list.old header.banner.symmetric found list.new) }

@@ -13,7 +13,7 @@ pub const MOST_LINES: usize = 64;
 
 /// The buffer for these lines: 40 bytes hold any line, and a label is copied whole.
 // Two indices of eight digits, a value of twenty characters, two spaces and an LF are 39 bytes.
-pub const ROOM: usize = MOST_LINES * 40 + LABEL;
+pub const BUFFER_BYTES: usize = MOST_LINES * 40 + LABEL;
 
 /// The bytes of a label: a row has at most eight digits.
 const LABEL: usize = 16;
@@ -43,64 +43,64 @@ pub fn label_of(row: u64) -> Label
 
 /// Writes a label so that it ends at `end`. The bytes before it are overwritten too.
 #[inline(always)]
-fn write_label(label: &Label, room: &mut [u8], end: usize) -> usize
-    requires { (16 ≤ end) × (end ≤ length room.old) }
+fn write_label(label: &Label, buffer: &mut [u8], end: usize) -> usize
+    requires { (16 ≤ end) × (end ≤ length buffer.old) }
     ensures start { (result ≤ end) × (end ≤ result + 10) }
-    ensures written { drop result room.new ≡ label_text label.now.row ++ drop end room.old }
+    ensures written { drop result buffer.new ≡ label_text label.now.row ++ drop end buffer.old }
 {
     // All 16 bytes. Those before the label are free, as lines are written backwards.
-    room[end - LABEL..end].copy_from_slice(&label.bytes);
+    buffer[end - LABEL..end].copy_from_slice(&label.bytes);
     end - LABEL + label.start
 }
 
 /// Writes a value so that it ends at `end`, and returns where it starts.
 #[inline(always)]
-fn write_value(word: u64, room: &mut [u8], end: usize) -> usize
-    requires { (20 ≤ end) × (end ≤ length room.old) }
+fn write_value(word: u64, buffer: &mut [u8], end: usize) -> usize
+    requires { (20 ≤ end) × (end ≤ length buffer.old) }
     ensures start { (result ≤ end) × (end ≤ result + 20) }
-    ensures written { drop result room.new ≡ value_text word ++ drop end room.old }
+    ensures written { drop result buffer.new ≡ value_text word ++ drop end buffer.old }
 {
     // A word of 2^63 or more is a negative number.
     if word < 1 << 63 {
-        return write_digits(word, room, end);
+        return write_digits(word, buffer, end);
     }
     // Exact for -2^63 as well, whose magnitude is the word itself.
-    let start = write_digits(word.wrapping_neg(), room, end);
-    room[start - 1] = b'-';
+    let start = write_digits(word.wrapping_neg(), buffer, end);
+    buffer[start - 1] = b'-';
     start - 1
 }
 
 /// Writes what follows the label in an entry's line, and returns where it starts.
 #[inline(always)]
-fn write_rest(column: u64, word: u64, room: &mut [u8], end: usize) -> usize
+fn write_rest(column: u64, word: u64, buffer: &mut [u8], end: usize) -> usize
     requires column { column < limit }
-    requires room { (40 ≤ end) × (end ≤ length room.old) }
+    requires capacity { (40 ≤ end) × (end ≤ length buffer.old) }
     ensures start { (result ≤ end) × (end ≤ result + 30) }
-    ensures written { drop result room.new ≡ rest_of_line column word ++ drop end room.old }
+    ensures written { drop result buffer.new ≡ rest_of_line column word ++ drop end buffer.old }
 {
-    room[end - 1] = b'\n';
-    let space = write_value(word, room, end - 1) - 1;
-    room[space] = b' ';
+    buffer[end - 1] = b'\n';
+    let space = write_value(word, buffer, end - 1) - 1;
+    buffer[space] = b' ';
     // Columns count from 1 in text.
-    write_digits(column + 1, room, space)
+    write_digits(column + 1, buffer, space)
 }
 
 /// Writes the lines of some cells of a row so that they end with the buffer, and returns where they
 /// start.
-pub fn write_lines(label: &Label, cells: &[Cell], room: &mut [u8; ROOM]) -> usize
+pub fn write_lines(label: &Label, cells: &[Cell], buffer: &mut [u8; BUFFER_BYTES]) -> usize
     requires few { length cells.now ≤ 64 }
     requires columns { All (λ (c : Cell). c.0 < limit) cells.now }
     ensures within { result ≤ 2576 }
-    ensures written { drop result room.new ≡ entry_lines (at_row label.now.row cells.now) }
+    ensures written { drop result buffer.new ≡ entry_lines (at_row label.now.row cells.now) }
 {
-    let mut start = ROOM;
+    let mut start = BUFFER_BYTES;
     let mut left = cells.len();
     // Backwards, since the length of a number is known only once it is written.
     while left > 0 {
         left -= 1;
         let (column, word) = cells[left];
-        let end = write_rest(column, word, room, start);
-        start = write_label(label, room, end);
+        let end = write_rest(column, word, buffer, start);
+        start = write_label(label, buffer, end);
     }
     start
 }

@@ -5,7 +5,7 @@ ghost use Rattle.matrix_market.specs.CanonicalText.{canonical_text, entry_lines,
 ghost use Rattle.matrix_market.specs.Market.{IsTextOf};
 ghost use Rattle.matrix_market.specs.Refusal.{IsOnlyMatrix};
 
-use crate::line_writer::{MOST_LINES, ROOM, label_of, write_lines};
+use crate::line_writer::{BUFFER_BYTES, MOST_LINES, label_of, write_lines};
 use csr_store::Matrix;
 use csr_store::matrix::Cell;
 use itoa::Buffer;
@@ -29,10 +29,10 @@ fn push_sizes(out: &mut Vec<u8>, rows: u64, columns: u64, entries: u64) -> Resul
     Ok(())
 }
 
-/// Appends the lines of the entries of a row. `room` is a buffer that rows share.
+/// Appends the lines of the entries of a row. `buffer` is one that rows share.
 fn push_row(
     out: &mut Vec<u8>,
-    room: &mut [u8; ROOM],
+    buffer: &mut [u8; BUFFER_BYTES],
     row: u64,
     cells: &[Cell],
 ) -> Result<(), AllocError>
@@ -50,9 +50,9 @@ fn push_row(
     // The buffer holds 64 lines.
     while left.len() > 0 {
         let (now, later) = left.split_at(left.len().min(MOST_LINES));
-        let start = write_lines(&label, now, room);
+        let start = write_lines(&label, now, buffer);
         // The lines are at its end, as they were written backwards.
-        out.extend_from_slice(&room[start..])?;
+        out.extend_from_slice(&buffer[start..])?;
         left = later;
     }
     Ok(())
@@ -68,9 +68,9 @@ pub fn write(alloc: Global, matrix: &Matrix) -> Result<Vec<u8>, AllocError>
     let mut out = Vec::from_slice(alloc, BANNER)?;
     push_sizes(&mut out, matrix.rows(), matrix.columns(), matrix.entries())?;
     // On the stack: 2.5 KB, used for all rows.
-    let mut room = [0; ROOM];
+    let mut buffer = [0; BUFFER_BYTES];
     for row in 0..matrix.rows() {
-        push_row(&mut out, &mut room, row, matrix.row(row))?;
+        push_row(&mut out, &mut buffer, row, matrix.row(row))?;
     }
     Ok(out)
 }

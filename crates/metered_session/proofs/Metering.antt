@@ -8,7 +8,7 @@ use Rattle.step_purse.proofs.Chains.{own_along}
 use Rattle.step_purse.specs.Histories.{own_calls}
 use Rattle.step_purse.specs.Passes.{PassState}
 use Rattle.step_purse.specs.declared.dealings.Dealing.{Dealing}
-use Rattle.step_purse.specs.declared.dealings.Dealing.TheVariants.{Reserved, Settled, Told}
+use Rattle.step_purse.specs.declared.dealings.Dealing.TheVariants.{Reserved, Settled, Observed}
 use Rattle.metered_session.specs.declared.limits.Limits.{Limits}
 use Rattle.metered_session.specs.Limits.{IsWithin, Metered, Meters, StandsFor, allowed, unbounded}
 use Rattle.metered_session.specs.Metering.{spent_in, spent_by, spent_after, told_steps}
@@ -28,7 +28,7 @@ spent_behind : (m : Metered) (calls : List Dealing) (call : Dealing) → StandsF
 spent_behind m calls (Reserved amount reply) (inl (fits, is)) = ap spent_by is
 spent_behind m calls (Reserved amount reply) (inr (over, (totals, is, told))) = ap spent_by is
 spent_behind m calls (Settled amount spent) is = ap spent_by is ∙ omega arith
-spent_behind m calls (Told totals) is = ap spent_by is
+spent_behind m calls (Observed totals) is = ap spent_by is
 
 -- the calls of a session are calls of its pass, which spend as much
 pub gained : (old : Metered) (ds : List Dealing) (new : Metered) → Deals Meters old ds new
@@ -48,7 +48,7 @@ same_call m calls (Reserved amount reply) none (inl (fits, is)) = is
 same_call m calls (Reserved amount reply) none (inr (over, (totals, is, told))) =
     absurd (let all : allowed m amount ≡ amount = ap (λ (l : Limits). allowed (record m { limits = l }) amount) none in omega arith)
 same_call m calls (Settled amount spent) none is = is
-same_call m calls (Told totals) none is = is
+same_call m calls (Observed totals) none is = is
 
 pub drawn : (old : Metered) (ds : List Dealing) (new : Metered) → old.limits ≡ unbounded → Deals Meters old ds new
     → Deals Draws old.pass ds new.pass
@@ -62,7 +62,7 @@ drawn old (d ∷ ds) new none (mid, made, rest) =
 after_is : (count : ℕ) (call : Dealing) → count ≤ 2 ^ 64 - 1 → spent_after count call ≡ told_steps (count + spent_in call)
 after_is count (Reserved amount reply) fits = grind arith
 after_is count (Settled amount spent) fits = refl
-after_is count (Told totals) fits = grind arith
+after_is count (Observed totals) fits = grind arith
 
 -- what is told of one count and another is told of their sum
 told_twice : (a b c : ℕ) → told_steps (told_steps (a + b) + c) ≡ told_steps (a + (b + c))

@@ -31,7 +31,7 @@ said_drawn workers cut old new end none s = record {
   written = s.written;
   held = s.held;
   consumed = s.consumed;
-  told = s.told;
+  ends = s.ends;
   at_end = s.at_end;
   appended = s.appended;
   in_front = s.in_front;
@@ -49,22 +49,22 @@ counts_drawn : (limit m n : ℕ) (old new : Outside Metered) → Counts limit m 
 counts_drawn limit m n old new c = record { reads = c.reads; failed_reads = c.failed_reads; failed_writes = c.failed_writes }
 
 -- how a session by a meter without limits went is how one by its pass goes
-pub outcome_drawn : (room : SessionState) (old new : Outside Metered) (result : Result End ServeFault) → old.budget.limits ≡ unbounded
-    → Outcome Meters room old new result → Outcome Draws room (unmetered old) (unmetered new) result
-outcome_drawn room old new (Ok end) none o = (said_all_drawn room.workers old new (Some end) none o.0, counts_drawn room.reads 0 0 old new o.1)
-outcome_drawn room old new (Err faults.Read) none o = (said_all_drawn room.workers old new None none o.0, counts_drawn room.reads 1 0 old new o.1)
-outcome_drawn room old new (Err faults.Turns) none o = (said_all_drawn room.workers old new None none o.0, (counts_drawn room.reads 0 0 old new o.1.0, o.1.1))
-outcome_drawn room old new (Err faults.Write) none o = ((o.0.0, said_drawn room.workers true old new o.0.0 none o.0.1), counts_drawn room.reads 0 1 old new o.1)
-outcome_drawn room old new (Err faults.Memory) none o = ap unmetered o
+pub outcome_drawn : (session : SessionState) (old new : Outside Metered) (result : Result End ServeFault) → old.budget.limits ≡ unbounded
+    → Outcome Meters session old new result → Outcome Draws session (unmetered old) (unmetered new) result
+outcome_drawn session old new (Ok end) none o = (said_all_drawn session.workers old new (Some end) none o.0, counts_drawn session.reads 0 0 old new o.1)
+outcome_drawn session old new (Err faults.Read) none o = (said_all_drawn session.workers old new None none o.0, counts_drawn session.reads 1 0 old new o.1)
+outcome_drawn session old new (Err faults.Turns) none o = (said_all_drawn session.workers old new None none o.0, (counts_drawn session.reads 0 0 old new o.1.0, o.1.1))
+outcome_drawn session old new (Err faults.Write) none o = ((o.0.0, said_drawn session.workers true old new o.0.0 none o.0.1), counts_drawn session.reads 0 1 old new o.1)
+outcome_drawn session old new (Err faults.Memory) none o = ap unmetered o
 
 -- a session's calls of its meter
-pub calls_in : (room : SessionState) (old new : Outside Metered) (result : Result End ServeFault) → Outcome Meters room old new result
+pub calls_in : (session : SessionState) (old new : Outside Metered) (result : Result End ServeFault) → Outcome Meters session old new result
     → (ds : List Dealing) × Deals Meters old.budget ds new.budget
-calls_in room old new (Ok end) o = let said = o.0.0 in (_, said.dealt)
-calls_in room old new (Err faults.Read) o = let said = o.0.0 in (_, said.dealt)
-calls_in room old new (Err faults.Turns) o = let said = o.0.0 in (_, said.dealt)
-calls_in room old new (Err faults.Write) o = let said = o.0.1 in (_, said.dealt)
-calls_in room old new (Err faults.Memory) o = ([], ap (λ (x : Outside Metered). x.budget) o)
+calls_in session old new (Ok end) o = let said = o.0.0 in (_, said.dealt)
+calls_in session old new (Err faults.Read) o = let said = o.0.0 in (_, said.dealt)
+calls_in session old new (Err faults.Turns) o = let said = o.0.0 in (_, said.dealt)
+calls_in session old new (Err faults.Write) o = let said = o.0.1 in (_, said.dealt)
+calls_in session old new (Err faults.Memory) o = ([], ap (λ (x : Outside Metered). x.budget) o)
 
 -- a meter by its parts
 by_parts : (m : Metered) (p : PassState) (s : ℕ) (l : Limits) → p ≡ m.pass → s ≡ m.spent → l ≡ m.limits
@@ -74,9 +74,9 @@ by_parts m p s l pass spent limits =
     (subst (λ (k : ℕ). record { pass = m.pass; spent = k; limits = l } ≡ m) (sym spent)
     (ap (λ (x : Limits). record { pass = m.pass; spent = m.spent; limits = x }) limits)))
 
-module _ (room : SessionState) (old new : Metered) (pass left : PassState) (limits : Limits) (spent : ℕ) (src src' : SourceState) (snk snk' : SinkState)
+module _ (session : SessionState) (old new : Metered) (pass left : PassState) (limits : Limits) (spent : ℕ) (src src' : SourceState) (snk snk' : SinkState)
     (result : Result End ServeFault) (was : old ≡ record { pass = pass; spent = 0; limits = limits }) (is : left ≡ new.pass) (told : spent ≡ new.spent)
-    (said : Outcome Meters room (record { budget = old; source = src; sink = snk }) (record { budget = new; source = src'; sink = snk' }) result) where
+    (said : Outcome Meters session (record { budget = old; source = src; sink = snk }) (record { budget = new; source = src'; sink = snk' }) result) where
   abbrev first : Metered
   first = record { pass = pass; spent = 0; limits = limits }
 
@@ -85,17 +85,17 @@ module _ (room : SessionState) (old new : Metered) (pass left : PassState) (limi
 
   ends : new ≡ last
   ends =
-      let calls = calls_in room (record { budget = old; source = src; sink = snk }) (record { budget = new; source = src'; sink = snk' }) result said in
+      let calls = calls_in session (record { budget = old; source = src; sink = snk }) (record { budget = new; source = src'; sink = snk' }) result said in
       by_parts new left spent limits is told (sym (same_limits old calls.0 new calls.1 ∙ ap (λ (m : Metered). m.limits) was))
 
   -- a session by a meter that was made of a pass and limits
-  pub said_within : Outcome Meters room (record { budget = first; source = src; sink = snk }) (record { budget = last; source = src'; sink = snk' }) result
+  pub said_within : Outcome Meters session (record { budget = first; source = src; sink = snk }) (record { budget = last; source = src'; sink = snk' }) result
   said_within =
-      subst (λ (m : Metered). Outcome Meters room (record { budget = m; source = src; sink = snk }) (record { budget = last; source = src'; sink = snk' }) result) was
-      (subst (λ (m : Metered). Outcome Meters room (record { budget = old; source = src; sink = snk }) (record { budget = m; source = src'; sink = snk' }) result) ends said)
+      subst (λ (m : Metered). Outcome Meters session (record { budget = m; source = src; sink = snk }) (record { budget = last; source = src'; sink = snk' }) result) was
+      (subst (λ (m : Metered). Outcome Meters session (record { budget = old; source = src; sink = snk }) (record { budget = m; source = src'; sink = snk' }) result) ends said)
 
   calls_within : (ds : List Dealing) × Deals Meters first ds last
-  calls_within = calls_in room (record { budget = first; source = src; sink = snk }) (record { budget = last; source = src'; sink = snk' }) result said_within
+  calls_within = calls_in session (record { budget = first; source = src; sink = snk }) (record { budget = last; source = src'; sink = snk' }) result said_within
 
   -- the pass that is left is one of the same purse
   pub same_purse : (left.purse ≡ pass.purse) × (left.allowance ≡ pass.allowance)

@@ -4,7 +4,7 @@ use Rattle.step_budget.specs.Budget.{Deals}
 use Rattle.step_budget.specs.Drawing.{Draws}
 use Rattle.step_purse.specs.Passes.{PassState}
 use Rattle.step_purse.specs.declared.dealings.Dealing.{Dealing}
-use Rattle.step_purse.specs.declared.dealings.Dealing.TheVariants.{Reserved, Settled, Told}
+use Rattle.step_purse.specs.declared.dealings.Dealing.TheVariants.{Reserved, Settled, Observed}
 use Rattle.step_purse.specs.declared.dealings.Reply.TheVariants.{NotEnough}
 use Rattle.step_purse.specs.declared.dealings.Totals.{Totals}
 use Rattle.metered_session.specs.declared.limits.Limits.{Limits}
@@ -40,11 +40,12 @@ IsWithin m =
 abbrev pub StandsFor : Metered → List Dealing → Dealing → Type 0
 StandsFor m calls (Reserved amount reply) =
     ((amount ≤ allowed m amount) × (calls ≡ Reserved amount reply ∷ []))
-    ⊎ ((allowed m amount < amount) × ((totals : Totals) × (calls ≡ Told totals ∷ []) × (reply ≡ NotEnough (allowed m totals.left))))
+    ⊎ ((allowed m amount < amount) × ((totals : Totals) × (calls ≡ Observed totals ∷ [])
+    × (reply ≡ NotEnough (allowed m totals.left))))
 StandsFor m calls (Settled amount spent) = calls ≡ Settled amount spent ∷ []
-StandsFor m calls (Told totals) = calls ≡ Told totals ∷ []
+StandsFor m calls (Observed totals) = calls ≡ Observed totals ∷ []
 
--- a call of the session, with its reply: its pass has made the calls behind it, what it spends is counted, and the limits hold
+-- a call of the session, with its reply: its pass has the calls behind it, what it spends is counted, and the limits hold
 pub record Meters (old : Metered) (call : Dealing) (new : Metered) : Type 0 where
   pub calls : List Dealing
   pub stands : StandsFor old calls call

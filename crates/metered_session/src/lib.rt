@@ -2,10 +2,11 @@
 //!
 //! The contracts: `serve_pass` is one session over any source and any sink. It carries the session
 //! theorem (the session's own `specs/Talk.antt`): what was read and written, how many calls of each
-//! device were made and failed, and how it ended belong together. Its calls of the purse are those
+//! device ran and failed, and how it ended belong together. Its calls of the purse are those
 //! that its pass gained, in order, the pass that is handed back owes what it owed, and the steps
-//! that are told are those that these calls spent (`specs/Metering.antt`). `serve_within` is the
-//! same within limits of the session's own, which hold at each of its calls (`specs/Limits.antt`).
+//! that are reported are those that these calls spent (`specs/Metering.antt`). `serve_within` is
+//! the same within limits of the session's own, which hold at each of its calls
+//! (`specs/Limits.antt`).
 //!
 //! What the session reserves, spends and takes is noted in a log, where a watch is given. No
 //! contract speaks of that.

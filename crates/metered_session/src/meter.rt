@@ -31,7 +31,7 @@ impl<'p> Model for Meter<'p> {
 
 impl<'p> Meter<'p> {
     /// A budget that is this wallet, within these limits, of which nothing was spent yet. Where a
-    /// watch is given, it is told what is reserved and spent.
+    /// watch is given, it observes what is reserved and spent.
     pub fn new(wallet: Wallet<'p>, limits: Limits, watch: Option<Watch<'p>>) -> Self
         requires { IsWithin (record { pass = wallet; spent = 0; limits = limits }) }
         ensures { result ≡ record { pass = wallet.entry; spent = 0; limits = limits } }

@@ -31,11 +31,11 @@ pub struct Served {
     pub spent: u64,
 }
 
-/// What a session is given: its room, its pass, and within which limits it may draw on the purse;
+/// What is served: a session, its pass, and within which limits it may draw on the purse;
 /// and where it is noted what it has reserved and spent, if anywhere.
 #[derive(Drop)]
 pub struct Given<'w> {
-    pub room: Session,
+    pub session: Session,
     pub pass: Pass,
     pub limits: Limits,
     pub watch: Option<Watch<'w>>,
@@ -46,8 +46,8 @@ pub struct Given<'w> {
 /// session are what the pass gained, in order. At no point has the session spent and reserved more
 /// than its limits say.
 ///
-/// The outcome is an error where a device failed, or more reads were needed than a session in this
-/// room may make. On each end and each fault every reservation that is still held is settled with
+/// The outcome is an error where a device failed, or more reads were needed than this session
+/// may make. On each end and each fault every reservation that is still held is settled with
 /// 0.
 pub fn serve_within<I: Source, O: Sink, H: Threads + Wait>(
     rt: &H,
@@ -58,7 +58,7 @@ pub fn serve_within<I: Source, O: Sink, H: Threads + Wait>(
 ) -> Served
     requires own { IsPassOf purse.now given.pass }
     requires within { IsWithin (record { pass = given.pass; spent = 0; limits = given.limits }) }
-    ensures said { Outcome Meters given.entry.room
+    ensures said { Outcome Meters given.entry.session
         (record {
           budget = record { pass = given.entry.pass; spent = 0; limits = given.entry.limits };
           source = I.state source.old;
@@ -77,13 +77,13 @@ pub fn serve_within<I: Source, O: Sink, H: Threads + Wait>(
         result.spent ≡ told_steps (spent_by ds) }
 {
     let Given {
-        room,
+        session,
         pass,
         limits,
         watch,
     } = given;
     let mut meter = Meter::new(Wallet::new(purse, pass), limits, watch);
-    let (outcome, commands) = room.serve_counting(rt, source, sink, &mut meter);
+    let (outcome, commands) = session.serve_counting(rt, source, sink, &mut meter);
     if let Some(watch) = &watch {
         watch.note(rt, Note::Took(commands));
     }
@@ -110,7 +110,7 @@ pub fn serve_unlimited<I: Source, O: Sink, H: Threads + Wait>(
 ) -> Served
     requires own { IsPassOf purse.now given.pass }
     requires unlimited { given.limits ≡ unbounded }
-    ensures said { Outcome Draws given.entry.room
+    ensures said { Outcome Draws given.entry.session
         (record { budget = given.entry.pass; source = I.state source.old; sink = O.state sink.old })
         (record { budget = result.pass; source = I.state source.new; sink = O.state sink.new }) result.outcome }
     ensures own { IsPassOf purse.now result.pass }
@@ -125,19 +125,19 @@ pub fn serve_unlimited<I: Source, O: Sink, H: Threads + Wait>(
 /// Serves one session within a purse that others draw on too, by a pass of it, which is handed
 /// back. What the session called of the purse is what the pass gained, in order.
 ///
-/// The outcome is an error where a device failed, or more reads were needed than a session in this
-/// room may make. On each end and each fault every reservation that is still held is settled with
+/// The outcome is an error where a device failed, or more reads were needed than this session
+/// may make. On each end and each fault every reservation that is still held is settled with
 /// 0.
 pub fn serve_pass<I: Source, O: Sink, H: Threads + Wait>(
     rt: &H,
-    room: Session,
+    session: Session,
     source: &mut I,
     sink: &mut O,
     purse: &Purse,
     pass: Pass,
 ) -> Served
     requires own { IsPassOf purse.now pass }
-    ensures said { Outcome Draws room
+    ensures said { Outcome Draws session
         (record { budget = pass; source = I.state source.old; sink = O.state sink.old })
         (record { budget = result.pass; source = I.state source.new; sink = O.state sink.new }) result.outcome }
     ensures own { IsPassOf purse.now result.pass }
@@ -147,7 +147,7 @@ pub fn serve_pass<I: Source, O: Sink, H: Threads + Wait>(
         result.spent ≡ told_steps (spent_by ds) }
 {
     let given = Given {
-        room,
+        session,
         pass,
         limits: Limits::none(),
         watch: None,

@@ -33,13 +33,13 @@ draw_balanced prices count spent n d weigh later m h = go (nat_lt count (length 
         let h1 = h.draws in
         let h2 = h.counted in
         let h3 = h.steps in
-        let h4 = h.room in
+        let h4 = h.capacity in
         record {
           drawn = λ c. let a = mv (times_drawn c) in let b = h.drawn c in let e = below_taken count c (length prices) low in omega arith;
           draws = omega arith;
           counted = omega arith;
           steps = omega arith;
-          room = omega arith;
+          capacity = omega arith;
         }
     go false is mv =
         let high : length prices ≤ count = grind (arith, nat_tests) in
@@ -51,13 +51,13 @@ draw_balanced prices count spent n d weigh later m h = go (nat_lt count (length 
         let h1 = h.draws in
         let h2 = h.counted in
         let h3 = h.steps in
-        let h4 = h.room in
+        let h4 = h.capacity in
         record {
           drawn = λ c. let a = mv (times_drawn c) in let b = h.drawn c in let e = below_past count c (length prices) high in omega arith;
           draws = omega arith;
           counted = omega arith;
           steps = omega arith;
-          room = omega arith;
+          capacity = omega arith;
         }
 
 -- a worker that gives up the chunk that it held, with these steps
@@ -72,13 +72,13 @@ gives_up prices count spent s c weigh later old new mv le same d e st ho hn h =
     let h1 = h.draws in
     let h2 = h.counted in
     let h3 = h.steps in
-    let h4 = h.room in
+    let h4 = h.capacity in
     record {
       drawn = λ k. let a = mv (times_drawn k) in let b = h.drawn k in let x = same k in omega arith;
       draws = omega arith;
       counted = omega arith;
       steps = omega arith;
-      room = omega arith;
+      capacity = omega arith;
     }
 
 pub complete_balanced : (prices : List ℕ) (count spent n s c : ℕ) (d : List (ℕ × ℕ)) (weigh later : (Worker → ℕ) → ℕ) → Moves weigh later (worker n d (Holds c)) (worker n (d ++ (c, s) ∷ []) Free) → s ≤ slice_index prices c
@@ -103,7 +103,7 @@ balanced_same prices count spent weigh later same h = record {
   draws = same draws_of ∙ h.draws;
   counted = let a = same draws_of in let b = same ends_of in let c = h.counted in omega arith;
   steps = same steps_of ∙ h.steps;
-  room = let a = same (held_price prices) in let c = h.room in omega arith;
+  capacity = let a = same (held_price prices) in let c = h.capacity in omega arith;
 }
 
 -- the sound stay sound as the count grows

@@ -132,7 +132,7 @@ start_balanced prices weigh zeros = record {
   draws = zeros draws_of (λ k. refl) ∙ omega arith;
   counted = let a = zeros draws_of (λ k. refl) in let b = zeros ends_of (λ k. refl) in omega arith;
   steps = zeros steps_of (λ k. refl);
-  room = let a = zeros (held_price prices) (λ k. refl) in let b = prices_none prices in omega arith;
+  capacity = let a = zeros (held_price prices) (λ k. refl) in let b = prices_none prices in omega arith;
 }
 
 pub start_spent : (n : ℕ) → total_of steps_of (fresh_workers 0 n) ≡ 0

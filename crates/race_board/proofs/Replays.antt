@@ -135,7 +135,7 @@ pub records_fit : (r : RaceState) (w c s : ℕ) → IsRun r → true ≡ may_rec
 records_fit r w c s h e =
     let m = may_record_of r w c s e in
     let one = sum_has (held_price r.prices) r.workers w (worker m.number m.done (Holds c)) m.at in
-    let a = h.balanced.room in
+    let a = h.balanced.capacity in
     let b = prices_below r.prices r.count in
     let d = h.small in
     let p = m.price in

@@ -21,7 +21,7 @@ AreEachOnce n chunks = (c : ℕ) → times_in c chunks ≡ one_if_below c n
 abbrev pub AreOnceAtMost : ℕ → List (ℕ × ℕ) → Type 0
 AreOnceAtMost n chunks = (c : ℕ) → times_in c chunks ≤ one_if_below c n
 
--- the chunk c stands at just one place of the list
+-- the chunk c stands at just one index of the list
 pub record StandsOnce (c : ℕ) (chunks : List (ℕ × ℕ)) : Type 0 where
   pub nth : ℕ
   pub steps : ℕ

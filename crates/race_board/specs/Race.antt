@@ -126,7 +126,7 @@ IsWithinPrices prices w = AreWithin prices w.done × IsStateWithin prices w.stat
 abbrev pub IsDrained : Worker → Type 0
 IsDrained w = w.state ≡ Drained
 
--- 3. The race, event by event: the prices of its chunks, the count of draws, and the workers, each at the place of its number.
+-- 3. The race, event by event: the prices of its chunks, the count of draws, and the workers, each at the index of its number.
 pub record RaceState : Type 0 where
   pub prices : List ℕ
   pub count : ℕ
@@ -182,7 +182,7 @@ pub record IsLawful (prices : List ℕ) (count : ℕ) (workers : List Worker) : 
   pub all_completed : 0 < length workers → All IsDrained workers
       → (c : ℕ) → c < length prices → total_of (times_completed c) workers ≡ 1
 
--- each worker stands at the place of its number
+-- each worker stands at the index of its number
 abbrev pub AreInPlace : List Worker → Type 0
 AreInPlace workers = (k : ℕ) (w : Worker) → slice_get workers k ≡ Some w → w.number ≡ k
 

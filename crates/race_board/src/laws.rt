@@ -37,7 +37,7 @@ pub fn closed_lists()
     ensures steps { (workers : List Worker) → steps_in (recorded_by workers) ≡ total_of steps_of workers }
     ensures within { (board : BoardState) (workers : List Worker) (totals : Totals) → IsClosing board workers totals
         → CostAtMost (slice_index board.prices) (recorded_by workers) }
-    ensures told { (workers : List Worker) → All IsDrained workers → recorded_by workers ≡ completed_by workers }
+    ensures drained { (workers : List Worker) → All IsDrained workers → recorded_by workers ≡ completed_by workers }
 {}
 
 /// Each chunk that is there once stands at one index.

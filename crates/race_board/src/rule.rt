@@ -10,7 +10,7 @@ use std::alloc::Global;
 use std::collections::LinkedList;
 use std::marker::{Brand, PhantomData};
 
-/// What a seat knows: the records of its workers. No value of it is made.
+/// What a seat knows: the records of its workers. No value of it exists.
 pub type View = LinkedList<WorkerRecord>;
 
 /// The two words of a board: the count of draws, and the steps spent.

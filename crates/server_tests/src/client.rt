@@ -30,17 +30,17 @@ pub fn say(stream: &TcpStream, text: &str) -> io::Result<()> {
 /// Whether just this text comes next.
 pub fn hears(stream: &TcpStream, text: &str) -> io::Result<bool> {
     let mut from = stream;
-    let mut room = [0u8; 256];
+    let mut buffer = [0u8; 256];
     let length = text.len().min(256);
-    from.read_exact(&mut room[..length])?;
-    Ok(&room[..length] == text.as_bytes())
+    from.read_exact(&mut buffer[..length])?;
+    Ok(&buffer[..length] == text.as_bytes())
 }
 
 /// Whether nothing more comes.
 pub fn is_over(stream: &TcpStream) -> io::Result<bool> {
     let mut from = stream;
-    let mut room = [0u8; 256];
-    Ok(from.read(&mut room)? == 0)
+    let mut buffer = [0u8; 256];
+    Ok(from.read(&mut buffer)? == 0)
 }
 
 /// Sends a text, and says whether just this reply comes.

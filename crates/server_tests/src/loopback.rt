@@ -97,10 +97,10 @@ fn reset_and_next<N: Net<Listener = TcpListener, Stream = TcpStream>>(
     drop(stream);
     for _ in 0..1_000_000 {
         say(&witness, "budget\n")?;
-        let mut room = [0u8; 17];
+        let mut buffer = [0u8; 17];
         let mut from = &witness;
-        from.read_exact(&mut room)?;
-        if &room == b"ok budget 12 0 0\n" {
+        from.read_exact(&mut buffer)?;
+        if &buffer == b"ok budget 12 0 0\n" {
             return Ok(is_reserved && has_reply && quit(&witness)? && half_closed(rt, at)?);
         }
     }

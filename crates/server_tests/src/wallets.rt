@@ -38,16 +38,16 @@ impl Read for Given<'_> {
 #[derive(Drop)]
 struct Taking<'a> {
     text: &'a mut Vec<u8>,
-    room: usize,
+    capacity: usize,
 }
 
 impl Write for Taking<'_> {
     fn write(&mut self, buf: &[u8]) -> io::Result<usize> {
-        if self.room == 0 {
+        if self.capacity == 0 {
             return Err(io::Error::from(ErrorKind::BrokenPipe));
         }
-        let count = self.room.min(buf.len());
-        self.room -= count;
+        let count = self.capacity.min(buf.len());
+        self.capacity -= count;
         self.text.extend_from_slice(&buf[..count])?;
         Ok(count)
     }
@@ -72,11 +72,11 @@ fn serve_counted<A: Ledger, B: Ledger, C: Ledger, D: Ledger, H: Threads + Wait>(
     requires writes { (blanks.2.name ≡ C.name) × (blanks.2.parts ≡ C.parts) × (0 < blanks.2.parts) }
     requires failed_writes { (blanks.3.name ≡ D.name) × (blanks.3.parts ≡ D.parts) × (0 < blanks.3.parts) }
 {
-    let (room, pass) = given;
+    let (session, pass) = given;
     let (reads, failed_reads, writes, failed_writes) = blanks;
     let mut source = FromRead::<Given, A, B>::new(reader, reads, failed_reads);
     let mut sink = ToWrite::<Taking, C, D>::new(writer, writes, failed_writes);
-    serve_pass(rt, room, &mut source, &mut sink, purse, pass)
+    serve_pass(rt, session, &mut source, &mut sink, purse, pass)
 }
 
 /// As `serve_pass`, over memory.
@@ -127,14 +127,14 @@ fn assert_settled<H: Threads + Wait + Abort>(
     let mut text = Vec::new(alloc);
     let writer = Taking {
         text: &mut text,
-        room: if last.write_fails {
+        capacity: if last.write_fails {
             queued.len()
         } else {
             usize::MAX
         },
     };
-    let room = Session::with_reads(alloc, 2, last.reads)?;
-    let served = serve_over(rt, reader, writer, &purse, (room, pass));
+    let session = Session::with_reads(alloc, 2, last.reads)?;
+    let served = serve_over(rt, reader, writer, &purse, (session, pass));
     assert_eq!(rt; served.outcome, last.outcome);
     assert_eq!(rt; served.spent, 9);
     assert_eq!(rt; served.commands, last.commands.wrapping_add(7));

@@ -101,7 +101,7 @@ module _ {S : Type 0} (leads : S → Dealing → S → Type 0) (ahead : Ahead) (
         command = r.0;
         dealings = w.0;
         reply = w.1;
-        fetched = record { got = f.got; consumed = f.consumed; follows = f.follows; at_end = f.at_end; told = f.told; reads = f.reads; failures = f.failures; holds = r.1 };
+        fetched = record { got = f.got; consumed = f.consumed; follows = f.follows; at_end = f.at_end; ends = f.ends; reads = f.reads; failures = f.failures; holds = r.1 };
         turn = r.2;
         dealt = w.3;
         sent = sent_then true [] w.1 o was.out now.out first w.4;
@@ -111,7 +111,7 @@ module _ {S : Type 0} (leads : S → Dealing → S → Type 0) (ahead : Ahead) (
         record {
           dealings = w.0;
           text = w.1;
-          fetched = record { got = f.got; consumed = f.consumed; follows = f.follows; at_end = f.at_end; told = f.told; reads = f.reads; failures = f.failures; holds = stopping false (ahead t.held.ended (s.held.bytes ++ f.got)) was.state now.state r.0 e w.0 w.1 r.1 r.2 };
+          fetched = record { got = f.got; consumed = f.consumed; follows = f.follows; at_end = f.at_end; ends = f.ends; reads = f.reads; failures = f.failures; holds = stopping false (ahead t.held.ended (s.held.bytes ++ f.got)) was.state now.state r.0 e w.0 w.1 r.1 r.2 };
           dealt = w.3;
           sent = sent_then true [] w.1 o was.out now.out first w.4;
         },

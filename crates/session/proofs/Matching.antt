@@ -5,7 +5,7 @@ use Rattle.std.specs.Prelude.{nat_lt, length}
 use Rattle.hex.specs.Hex.{decode_of}
 use Rattle.step_purse.specs.declared.dealings.Reply.TheVariants.{Took, NotEnough}
 use Rattle.step_purse.specs.declared.dealings.Dealing.{Dealing}
-use Rattle.step_purse.specs.declared.dealings.Dealing.TheVariants.{Reserved, Settled, Told}
+use Rattle.step_purse.specs.declared.dealings.Dealing.TheVariants.{Reserved, Settled, Observed}
 use Rattle.step_budget.specs.Budget.{amounts_taken, amounts_settled}
 use Rattle.command_text.specs.Words.{is_name, kind_of_word}
 use Rattle.command_text.specs.Hexadecimal.{without_gaps}
@@ -34,13 +34,13 @@ taken-append [] es = refl
 taken-append (Reserved amount (Took taken) ∷ ds) es = ap (λ xs. amount ∷ xs) (taken-append ds es)
 taken-append (Reserved amount (NotEnough left) ∷ ds) es = taken-append ds es
 taken-append (Settled amount spent ∷ ds) es = taken-append ds es
-taken-append (Told totals ∷ ds) es = taken-append ds es
+taken-append (Observed totals ∷ ds) es = taken-append ds es
 
 pub settled-append : (ds es : List Dealing) → amounts_settled (ds ++ es) ≡ amounts_settled ds ++ amounts_settled es
 settled-append [] es = refl
 settled-append (Reserved amount reply ∷ ds) es = settled-append ds es
 settled-append (Settled amount spent ∷ ds) es = ap (λ xs. amount ∷ xs) (settled-append ds es)
-settled-append (Told totals ∷ ds) es = settled-append ds es
+settled-append (Observed totals ∷ ds) es = settled-append ds es
 
 pub settled-released : (jobs : List Job) → amounts_settled (released jobs) ≡ map price_of jobs
 settled-released [] = refl

@@ -55,7 +55,7 @@ pub record SoFar {S : Type 0} (leads : S → Dealing → S → Type 0) (old now 
   pub dealings : List Dealing
   pub text : List ℕ
   pub consumed : Consumes old.stream.source.remaining now.stream.source.remaining read
-  pub told : now.stream.source.told_end ≡ (old.stream.source.told_end || now.stream.held.ended)
+  pub ends : now.stream.source.told_end ≡ (old.stream.source.told_end || now.stream.held.ended)
   pub at_end : now.stream.held.ended ≡ true → IsAtEnd now.stream.source.remaining
   pub reads : now.stream.source.reads + now.stream.held.reads_left ≡ old.stream.source.reads + old.stream.held.reads_left
   pub no_failed_read : now.stream.source.failures ≡ old.stream.source.failures
@@ -84,7 +84,7 @@ module _ {S : Type 0} (leads : S → Dealing → S → Type 0) where
     dealings = [];
     text = [];
     consumed = consumes_nothing old.stream.source.remaining;
-    told = or_false old.stream.source.told_end ∙ ap (λ e. old.stream.source.told_end || e) (sym fresh);
+    ends = or_false old.stream.source.told_end ∙ ap (λ e. old.stream.source.told_end || e) (sym fresh);
     at_end = λ e. absurd (let bad : true ≡ false = sym e ∙ fresh in cc);
     reads = refl;
     no_failed_read = refl;
@@ -107,7 +107,7 @@ module _ {S : Type 0} (leads : S → Dealing → S → Type 0) where
           dealings = so.dealings ++ w.dealings;
           text = so.text ++ w.reply;
           consumed = consumes_more old.stream.source.remaining now.stream.source.remaining new.stream.source.remaining so.read w.fetched.got so.consumed w.fetched.consumed;
-          told = told_so_far old.stream.source.told_end now.stream.source.told_end new.stream.source.told_end h0.ended h1.ended w.fetched.got w.fetched.follows so.told w.fetched.told;
+          ends = told_so_far old.stream.source.told_end now.stream.source.told_end new.stream.source.told_end h0.ended h1.ended w.fetched.got w.fetched.follows so.ends w.fetched.ends;
           at_end = w.fetched.at_end so.at_end;
           reads = w.fetched.reads ∙ so.reads;
           no_failed_read = let a = so.no_failed_read in let b = w.fetched.failures in omega arith;
@@ -143,7 +143,7 @@ module _ {S : Type 0} (leads : S → Dealing → S → Type 0) where
           text = so.text ++ w.text;
           written = sent.written;
           consumed = consumes_more old.stream.source.remaining now.stream.source.remaining new.stream.source.remaining so.read got so.consumed w.fetched.consumed;
-          told = told_so_far old.stream.source.told_end now.stream.source.told_end new.stream.source.told_end h0.ended h1.ended got w.fetched.follows so.told w.fetched.told;
+          ends = told_so_far old.stream.source.told_end now.stream.source.told_end new.stream.source.told_end h0.ended h1.ended got w.fetched.follows so.ends w.fetched.ends;
           at_end = w.fetched.at_end so.at_end;
           reads = w.fetched.reads ∙ so.reads;
           failed_reads_are = let a = so.no_failed_read in let b = w.fetched.failures in omega arith;
@@ -175,8 +175,8 @@ module _ {S : Type 0} (leads : S → Dealing → S → Type 0) where
     conversed_fault fresh Write w = (w.0, spoken_last fresh true 0 false w.0 w.1)
     conversed_fault fresh Memory w = absurd w
 
-module _ {S : Type 0} (leads : S → Dealing → S → Type 0) (room : SessionState) (old mid : Scene S) (last : S) (start : old.stream.held.reads_left ≡ room.reads)
-    (crew : old.touched.state.workers ≡ room.workers)
+module _ {S : Type 0} (leads : S → Dealing → S → Type 0) (session : SessionState) (old mid : Scene S) (last : S) (start : old.stream.held.reads_left ≡ session.reads)
+    (crew : old.touched.state.workers ≡ session.workers)
     (end_of : Deals leads mid.touched.budget (released mid.touched.state.queue) last) where
   abbrev given : Outside S
   given = record { budget = old.touched.budget; source = old.stream.source; sink = old.touched.out.sink }
@@ -185,7 +185,7 @@ module _ {S : Type 0} (leads : S → Dealing → S → Type 0) (room : SessionSt
   left = record { budget = last; source = mid.stream.source; sink = mid.touched.out.sink }
 
   -- what is still held was settled
-  said_last : (cut : Bool) (m n : ℕ) (end : Option End) → Spoken cut leads m n old mid end → Said room.workers cut leads given left end
+  said_last : (cut : Bool) (m n : ℕ) (end : Option End) → Spoken cut leads m n old mid end → Said session.workers cut leads given left end
   said_last cut m n end s = record {
     read = s.read;
     ended = s.ended;
@@ -194,7 +194,7 @@ module _ {S : Type 0} (leads : S → Dealing → S → Type 0) (room : SessionSt
     written = s.written;
     held = mid.touched.state;
     consumed = s.consumed;
-    told = s.told;
+    ends = s.ends;
     at_end = s.at_end;
     appended = s.appended;
     in_front = s.in_front;
@@ -203,18 +203,18 @@ module _ {S : Type 0} (leads : S → Dealing → S → Type 0) (room : SessionSt
     talk = subst (λ n. Talk cut (empty n) s.read s.ended s.dealings s.text end mid.touched.state) crew s.talk;
   }
 
-  counts_of : (cut : Bool) (m n : ℕ) (end : Option End) → Spoken cut leads m n old mid end → Counts room.reads m n given left
+  counts_of : (cut : Bool) (m n : ℕ) (end : Option End) → Spoken cut leads m n old mid end → Counts session.reads m n given left
   counts_of cut m n end s = record {
     reads = let a = s.reads in omega arith;
     failed_reads = s.failed_reads_are;
     failed_writes = s.failed_writes_are;
   }
 
-  said_whole : (m : ℕ) (end : Option End) → SpokenWhole leads m old mid end → SaidAll room.workers leads given left end × Counts room.reads m 0 given left
+  said_whole : (m : ℕ) (end : Option End) → SpokenWhole leads m old mid end → SaidAll session.workers leads given left end × Counts session.reads m 0 given left
   unfolding said_last
   said_whole m end s = ((said_last false m 0 end s.0, s.1), counts_of false m 0 end s.0)
 
-  pub outcome_of : (result : Result End ServeFault) → Conversed leads old mid result → Outcome leads room given left result
+  pub outcome_of : (result : Result End ServeFault) → Conversed leads old mid result → Outcome leads session given left result
   outcome_of (Ok end) s = said_whole 0 (Some end) s
   outcome_of (Err Read) s = said_whole 1 None s
   outcome_of (Err Turns) s = let w = said_whole 0 None s.0 in (w.0, (w.1, let a = s.0.0.reads in let b = s.1 in omega arith))

@@ -1,4 +1,4 @@
--- What contracts see of the room of a session (this project's own).
+-- What contracts see of a session's memory (this project's own).
 use Rattle.std.specs.Prelude.{ℕ}
 
 -- how many reads the session may make, and how many workers each of its batches may have
@@ -6,6 +6,6 @@ pub record SessionState : Type 0 where
   pub reads : ℕ
   pub workers : ℕ
 
--- the room of a session that may make as many reads as any, 2^32
+-- a session that may make as many reads as any, 2^32
 abbrev pub full_session : ℕ → SessionState
 full_session workers = record { reads = 4294967296; workers = workers }

@@ -38,7 +38,7 @@ pub record Outside (S : Type 0) : Type 0 where
 
 -- What a session, each of whose batches may have so many workers, did from nothing bound or queued to an end or a fault: what it
 -- read, what it wrote, and its calls of the budget, by which each amount that was taken is settled, once and in the same order. The
--- talk is of a stream that has ended exactly where the source told its end.
+-- talk is of a stream that has ended exactly where the source reported its end.
 pub record Said {S : Type 0} (workers : ℕ) (cut : Bool) (leads : S → Dealing → S → Type 0) (old new : Outside S) (end : Option End)
     : Type 0 where
   pub read : List ℕ
@@ -48,7 +48,7 @@ pub record Said {S : Type 0} (workers : ℕ) (cut : Bool) (leads : S → Dealing
   pub written : List ℕ
   pub held : State
   pub consumed : Consumes old.source.remaining new.source.remaining read
-  pub told : new.source.told_end ≡ (old.source.told_end || ended)
+  pub ends : new.source.told_end ≡ (old.source.told_end || ended)
   pub at_end : ended ≡ true → IsAtEnd new.source.remaining
   pub appended : Appends old.sink.contents new.sink.contents written
   pub in_front : IsPrefixOf written text
@@ -60,22 +60,22 @@ pub record Said {S : Type 0} (workers : ℕ) (cut : Bool) (leads : S → Dealing
 abbrev pub SaidAll : {S : Type 0} → ℕ → (S → Dealing → S → Type 0) → Outside S → Outside S → Option End → Type 0
 SaidAll workers leads old new end = (said : Said workers false leads old new end) × (said.written ≡ said.text)
 
--- at most so many reads were made, m of them failed, and n writes failed
+-- there were at most so many reads, m of them failed, and n writes failed
 pub record Counts {S : Type 0} (limit m n : ℕ) (old new : Outside S) : Type 0 where
   pub reads : new.source.reads ≤ old.source.reads + limit
   pub failed_reads : new.source.failures ≡ old.source.failures + m
   pub failed_writes : new.sink.failures ≡ old.sink.failures + n
 
--- What a session in such a room leaves, by its answer. After a read that failed, or one too many, the text is that of the
+-- What such a session leaves, by its answer. After a read that failed, or one too many, the text is that of the
 -- complete commands. After a write that failed, what was written is a prefix of the text of some first commands. Out of memory is
--- answered only at the start: no read, no write and no call of the budget was made.
+-- answered only at the start: nothing was read or written, and the budget was not called.
 abbrev pub Outcome : {S : Type 0} → (S → Dealing → S → Type 0) → SessionState → Outside S → Outside S → Result End ServeFault
     → Type 0
-Outcome leads room old new (Ok end) = SaidAll room.workers leads old new (Some end) × Counts room.reads 0 0 old new
-Outcome leads room old new (Err faults.Read) = SaidAll room.workers leads old new None × Counts room.reads 1 0 old new
-Outcome leads room old new (Err faults.Turns) =
-    SaidAll room.workers leads old new None
-    × (Counts room.reads 0 0 old new × (new.source.reads ≡ old.source.reads + room.reads))
-Outcome leads room old new (Err faults.Write) =
-    ((end : Option End) × Said room.workers true leads old new end) × Counts room.reads 0 1 old new
-Outcome leads room old new (Err faults.Memory) = new ≡ old
+Outcome leads session old new (Ok end) = SaidAll session.workers leads old new (Some end) × Counts session.reads 0 0 old new
+Outcome leads session old new (Err faults.Read) = SaidAll session.workers leads old new None × Counts session.reads 1 0 old new
+Outcome leads session old new (Err faults.Turns) =
+    SaidAll session.workers leads old new None
+    × (Counts session.reads 0 0 old new × (new.source.reads ≡ old.source.reads + session.reads))
+Outcome leads session old new (Err faults.Write) =
+    ((end : Option End) × Said session.workers true leads old new end) × Counts session.reads 0 1 old new
+Outcome leads session old new (Err faults.Memory) = new ≡ old

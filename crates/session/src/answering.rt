@@ -101,7 +101,7 @@ pub fn respond_and_say<W: Sink, T: Steps, H: Threads + Wait>(
     steps: &mut T,
 ) -> Result<Option<End>, ServeFault>
     requires owed { total_price (state_of bench.old.workspace).queue ≤ T.owes steps.old }
-    ensures told { Tells T.leads
+    ensures reported { Tells T.leads
         (touched_at bench.old (W.state writer.old) steps.old)
         (touched_at bench.new (W.state writer.new) steps.new)
         received.entry result }

@@ -228,10 +228,10 @@ pub fn serve_turns<R: Source, W: Sink, T: Steps, H: Threads + Wait>(
         (record { budget = steps.new; source = R.state reader.new; sink = W.state writer.new }) result }
     ensures owed { T.owes steps.new ≡ T.owes steps.old }
 {
-    let Ok(room) = Session::with_reads(alloc, workers, turns) else {
+    let Ok(session) = Session::with_reads(alloc, workers, turns) else {
         return Err(ServeFault::Memory);
     };
-    room.serve(rt, reader, writer, steps)
+    session.serve(rt, reader, writer, steps)
 }
 
 /// For tests: the program makes a `Session` and calls `Session::serve_counting`. Serves one

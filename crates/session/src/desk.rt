@@ -32,7 +32,7 @@ pub struct Desk {
 }
 
 impl Desk {
-    /// Nothing read, nothing said, nothing bound, so many reads that may be made, and so many
+    /// Nothing read, nothing said, nothing bound, so many reads that are allowed, and so many
     /// workers for each batch.
     pub fn new(alloc: Global, workers: u64, reads: u64) -> Result<Desk, AllocError>
         requires some { 1 ≤ workers }

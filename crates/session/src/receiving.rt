@@ -55,7 +55,7 @@ fn fault_of(fault: ReadFault) -> ServeFault
 ///
 /// # Errors
 ///
-/// What waited could not be written; or a read failed, or no more reads may be made, before the
+/// What waited could not be written; or a read failed, or no more reads are allowed, before the
 /// line was there.
 pub fn receive_line<R: Source, W: Sink>(
     input: &mut Input,
@@ -64,13 +64,13 @@ pub fn receive_line<R: Source, W: Sink>(
     reader: &mut R,
     writer: &mut W,
 ) -> Result<Lined, ServeFault>
-    requires room { 1026 ≤ vec_capacity line.old }
+    requires capacity { 1026 ≤ vec_capacity line.old }
     ensures received { Awaited result (IsLineOf line.new.items input.new) (LacksLine input.new)
         (record { source = R.state reader.old; held = input.old })
         (record { source = R.state reader.new; held = input.new })
         (record { sink = W.state writer.old; waits = output.old })
         (record { sink = W.state writer.new; waits = output.new }) }
-    ensures room { 1026 ≤ vec_capacity line.new }
+    ensures capacity { 1026 ≤ vec_capacity line.new }
     ensures less { result ≡ Ok Lined.Whole → reach input.new < reach input.old }
 {
     if let Some(lined) = line_held(input, line) {
@@ -99,7 +99,7 @@ fn flush_where<W: Sink>(due: bool, output: &mut Output, writer: &mut W) -> Resul
 ///
 /// # Errors
 ///
-/// What waited could not be written; or a read failed, or no more reads may be made, before the
+/// What waited could not be written; or a read failed, or no more reads are allowed, before the
 /// body was there.
 pub fn receive<'a, R: Source, W: Sink>(
     alloc: Global,
@@ -115,7 +115,7 @@ pub fn receive<'a, R: Source, W: Sink>(
         (record { source = R.state reader.new; held = input.new })
         (record { sink = W.state writer.old; waits = bench.old.output })
         (record { sink = W.state writer.new; waits = bench.new.output }) }
-    ensures kept { state_of bench.new.workspace ≡ state_of bench.old.workspace }
+    ensures unchanged { state_of bench.new.workspace ≡ state_of bench.old.workspace }
     ensures bounded { reach input.new ≤ reach input.old }
 {
     match request {

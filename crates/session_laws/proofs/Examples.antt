@@ -7,7 +7,7 @@ use Rattle.command_text.specs.declared.rules.SessionRule.TheVariants.{MalformedW
 use Rattle.session.specs.Talk.{Talk, finish, stop, go}
 use Rattle.session.specs.declared.end.End.TheVariants.{InputEnd, Quit}
 use Rattle.session_laws.specs.Laws.{TellsWant, HasNoWant}
-use Rattle.step_purse.specs.declared.dealings.Dealing.TheVariants.{Told}
+use Rattle.step_purse.specs.declared.dealings.Dealing.TheVariants.{Observed}
 use Rattle.step_purse.specs.declared.dealings.Totals.{Totals}
 use Rattle.workspace.specs.State.{empty}
 
@@ -27,10 +27,10 @@ not_want at text a b c w = elim w [
   ]
 ]
 
-pub budget_talk : (totals : Totals) → (talk : Talk false (empty 1) (codes "budget\nquit\n") false (Told totals ∷ [])
+pub budget_talk : (totals : Totals) → (talk : Talk false (empty 1) (codes "budget\nquit\n") false (Observed totals ∷ [])
     (budget_text totals.left totals.reserved totals.spent ++ quit_text) (Some Quit) (empty 1)) × HasNoWant talk
 budget_talk totals = (
-  go false (empty 1) (empty 1) (empty 1) (codes "budget\nquit\n") (codes "quit\n") false ask.Budget (Told totals ∷ []) []
+  go false (empty 1) (empty 1) (empty 1) (codes "budget\nquit\n") (codes "quit\n") false ask.Budget (Observed totals ∷ []) []
       (budget_text totals.left totals.reserved totals.spent) quit_text (Some Quit) refl (totals, refl, refl, refl)
       (stop false (empty 1) (empty 1) (codes "quit\n") false ask.Quit Quit [] quit_text refl (refl, refl, refl)),
   (

@@ -2,7 +2,7 @@
 use Rattle.std.proofs.Common.{◌≡◌, ℕ, Bool, true, false, List, [], ◌∷◌, ◌++◌, map, Option, None, Some, refl, sym, ap, ◌∙◌, subst}
 use Rattle.std.proofs.lemmas.List.{append-nil}
 use Rattle.step_purse.specs.declared.dealings.Dealing.{Dealing}
-use Rattle.step_purse.specs.declared.dealings.Dealing.TheVariants.{Reserved, Settled, Told}
+use Rattle.step_purse.specs.declared.dealings.Dealing.TheVariants.{Reserved, Settled, Observed}
 use Rattle.command_text.specs.Requests.{Command}
 use Rattle.job_plan.specs.Job.{Job}
 use Rattle.workspace.specs.State.{State, empty}
@@ -122,7 +122,7 @@ budget_replies-append : (ds es : List Dealing) → budget_replies (ds ++ es) ≡
 budget_replies-append [] es = refl
 budget_replies-append (Reserved amount reply ∷ ds) es = ap (λ xs. ToReserve reply ∷ xs) (budget_replies-append ds es)
 budget_replies-append (Settled amount spent ∷ ds) es = budget_replies-append ds es
-budget_replies-append (Told totals ∷ ds) es = ap (λ xs. ToTotals totals ∷ xs) (budget_replies-append ds es)
+budget_replies-append (Observed totals ∷ ds) es = ap (λ xs. ToTotals totals ∷ xs) (budget_replies-append ds es)
 
 record IsSame (ds es : List Dealing) (text other : List ℕ) (end last : Option End) (u v : State) : Type 0 where
   dealings : ds ≡ es

@@ -17,7 +17,7 @@ use Rattle.bpf_verify.specs.Accepted.{Accepted, IsAcceptable}
 use Rattle.step_purse.specs.declared.dealings.Reply.TheVariants.{Took, NotEnough}
 use Rattle.step_purse.specs.declared.dealings.Totals.{Totals}
 use Rattle.step_purse.specs.declared.dealings.Dealing.{Dealing}
-use Rattle.step_purse.specs.declared.dealings.Dealing.TheVariants.{Reserved, Told}
+use Rattle.step_purse.specs.declared.dealings.Dealing.TheVariants.{Reserved, Observed}
 use Rattle.job_plan.specs.Job.{Job}
 use Rattle.job_plan.specs.Price.{price_of}
 use Rattle.job_plan.specs.Refusal.{job_fault}
@@ -324,7 +324,7 @@ module _ (s t u v : State) (ds es : List Dealing) (reply other : List ℕ) (xs y
       let said : ToTotals a.0 ∷ xs ≡ ToTotals b.0 ∷ ys = sym (ap (λ z. budget_replies z ++ xs) a.1) ∙ (heard ∙ ap (λ z. budget_replies z ++ ys) b.1) in
       let same : a.0 ≡ b.0 = same_totals a.0 b.0 (first_said (ToTotals a.0) (ToTotals b.0) xs ys said) in
       record {
-        dealings = a.1 ∙ (ap (λ x. Told x ∷ []) same ∙ sym b.1);
+        dealings = a.1 ∙ (ap (λ x. Observed x ∷ []) same ∙ sym b.1);
         replies = a.2 ∙ (ap (λ (x : Totals). budget_text x.left x.reserved x.spent) same ∙ sym b.2);
         states = stay a.3 b.3;
         rest = then_said (ToTotals a.0) (ToTotals b.0) xs ys said;

@@ -3,7 +3,7 @@ use Rattle.std.specs.Prelude.{ℕ, ◌≡◌, ◌⊎◌, Bool, false, List, [], 
 use Rattle.step_purse.specs.declared.dealings.Reply.{Reply}
 use Rattle.step_purse.specs.declared.dealings.Totals.{Totals}
 use Rattle.step_purse.specs.declared.dealings.Dealing.{Dealing}
-use Rattle.step_purse.specs.declared.dealings.Dealing.TheVariants.{Reserved, Settled, Told}
+use Rattle.step_purse.specs.declared.dealings.Dealing.TheVariants.{Reserved, Settled, Observed}
 use Rattle.command_text.specs.declared.refusal.Refusal.TheVariants as no
 use Rattle.command_text.specs.Replies.{refusal_text}
 use Rattle.workspace.specs.State.{State, empty}
@@ -21,7 +21,7 @@ abbrev pub budget_replies : List Dealing → List BudgetReply
 budget_replies [] = []
 budget_replies (Reserved amount reply ∷ ds) = ToReserve reply ∷ budget_replies ds
 budget_replies (Settled amount spent ∷ ds) = budget_replies ds
-budget_replies (Told totals ∷ ds) = ToTotals totals ∷ budget_replies ds
+budget_replies (Observed totals ∷ ds) = ToTotals totals ∷ budget_replies ds
 
 -- a reply for want of memory or of a thread: `no memory`, `no memory N` or `no thread N`
 abbrev pub TellsWant : List ℕ → Type 0

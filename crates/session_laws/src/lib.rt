@@ -11,7 +11,7 @@ ghost use Rattle.command_text.specs.declared.rules.SessionRule.TheVariants.{Malf
 ghost use Rattle.session.specs.Talk.{Talk};
 ghost use Rattle.session.specs.declared.end.End.TheVariants.{InputEnd, Quit};
 ghost use Rattle.session_laws.specs.Laws.{SameText, HasNoWant};
-ghost use Rattle.step_purse.specs.declared.dealings.Dealing.TheVariants.{Told};
+ghost use Rattle.step_purse.specs.declared.dealings.Dealing.TheVariants.{Observed};
 ghost use Rattle.step_purse.specs.declared.dealings.Totals.{Totals};
 ghost use Rattle.workspace.specs.State.{empty};
 
@@ -24,7 +24,7 @@ pub fn same_text()
 
 /// The law is of talks that there are: this one has no want, whatever the budget's totals are.
 pub fn budget_told()
-    ensures talk { (totals : Totals) → (talk : Talk false (empty 1) (codes "budget\nquit\n") false (Told totals ∷ [])
+    ensures talk { (totals : Totals) → (talk : Talk false (empty 1) (codes "budget\nquit\n") false (Observed totals ∷ [])
         (budget_text totals.left totals.reserved totals.spent ++ quit_text) (Some Quit) (empty 1)) × HasNoWant talk }
 {}
 

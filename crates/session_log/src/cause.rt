@@ -19,7 +19,7 @@ pub enum Cause {
 impl Cause {
     /// The cause that an error tells.
     pub fn of(error: &io::Error) -> Self
-        ensures told { (code : ℤ) → raw_os_error error.now ≡ Some code → result ≡ Cause.System code }
+        ensures reported { (code : ℤ) → raw_os_error error.now ≡ Some code → result ≡ Cause.System code }
         ensures untold { raw_os_error error.now ≡ None → result ≡ Cause.Unknown }
     {
         match error.raw_os_error() {

@@ -39,7 +39,7 @@ pub enum Ending {
     NoMemory,
     /// It waited for its client for as long as it may.
     Cut(Cut),
-    /// There was no seat, no room or no thread for it: the client was told `no busy`.
+    /// There was no seat, no memory or no thread for it: the client got `no busy`.
     TurnedAway,
 }
 

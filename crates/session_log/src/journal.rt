@@ -2,13 +2,13 @@
 //!
 //! A session never waits for the writer: it leaves its line in a queue, under a lock that nobody
 //! holds while it writes. Where the queue is full, since standard error takes nothing, the line is
-//! dropped and counted, and the count is written once there is room. Of each kind of line a second
-//! has only so many, and the others are counted (`Pace`).
+//! dropped and counted, and the count is written once there is capacity. Of each kind of line a
+//! second has only so many, and the others are counted (`Pace`).
 ghost use Rattle.std.specs.Prelude.{◌≡◌, ◌+◌, ◌-◌, ◌^◌, ◌++◌, ◌∷◌, [], min, true, false};
 ghost use Rattle.session_log.specs.inner.Waiting.{IsTaken};
 
 use crate::entry::{Account, Ending, Entry, Event};
-use crate::line::{CloseReason, Closing, Line, LoggedTerms, Opening, Place};
+use crate::line::{CloseReason, Closing, Context, Line, LoggedTerms, Opening};
 use crate::origin::Origin;
 use crate::pace::Pace;
 use crate::refusal::Refusal;
@@ -55,7 +55,7 @@ impl Waiting {
     /// Adds a line behind those that wait, or counts it as dropped, where they are too many. Tells
     /// which.
     fn add(&mut self, entry: Entry) -> bool
-        ensures kept { result ≡ true → (self.new.entries.items ≡ self.old.entries.items ++ entry ∷ [])
+        ensures unchanged { result ≡ true → (self.new.entries.items ≡ self.old.entries.items ++ entry ∷ [])
             × (self.new.dropped ≡ self.old.dropped) }
         ensures dropped { result ≡ false → (self.new.entries.items ≡ self.old.entries.items)
             × (self.new.dropped ≡ min (self.old.dropped + 1) (2 ^ 64 - 1)) }
@@ -123,7 +123,7 @@ pub struct Journal {
 }
 
 impl Journal {
-    /// A log of at most so many sessions at once, in which no line waits, with the room for all
+    /// A log of at most so many sessions at once, in which no line waits, with capacity for all
     /// that may. It has lines of this format. Where a number of seconds is given, it tells so often
     /// how each session stands, and also at the end of each batch, where it is to.
     ///
@@ -175,8 +175,8 @@ impl Journal {
             self.add(rt, entry);
             return;
         };
-        let told = self.tally.lock(rt).tell(kind, this_second(rt), steps);
-        if let Some(untold) = told {
+        let granted = self.tally.lock(rt).tell(kind, this_second(rt), steps);
+        if let Some(untold) = granted {
             entry.untold = untold;
             if !self.add(rt, entry) {
                 self.tally.lock(rt).take_back(kind, untold);
@@ -231,7 +231,7 @@ impl Journal {
         self.note(rt, watch.client, Event::End(account));
     }
 
-    /// Leaves a line of how a session stands whose batch has ended, if that is told, and this
+    /// Leaves a line of how a session stands whose batch has ended, if that is reported, and this
     /// second hasn't had too many.
     pub fn note_batch<R: Wait + Clock>(&self, rt: &R, watch: Watch<'_>) {
         let Some(batches) = &self.batches else {
@@ -240,8 +240,8 @@ impl Journal {
         let Some(row) = self.roster.spender(rt, watch.number) else {
             return;
         };
-        let told = batches.lock(rt).tell(this_second(rt), 0);
-        if told.is_some() {
+        let granted = batches.lock(rt).tell(this_second(rt), 0);
+        if granted.is_some() {
             let (time, standing) = (row.time(rt), row.standing);
             let runs = Event::Runs { time, standing };
             self.add(rt, Entry::new(rt, watch.client, runs));
@@ -293,8 +293,8 @@ impl Journal {
     }
 
     /// Where a line of the server stands that is written now.
-    fn place<R: Clock>(&self, rt: &R, address: Origin) -> Place {
-        Place {
+    fn context<R: Clock>(&self, rt: &R, address: Origin) -> Context {
+        Context {
             at: SystemTime::now(rt).ok(),
             address,
             format: self.format,
@@ -311,9 +311,9 @@ impl Journal {
         steps: u64,
         terms: LoggedTerms,
     ) {
-        let place = self.place(rt, address);
+        let context = self.context(rt, address);
         let _ = rt.eprintln(Opening {
-            place,
+            context,
             version,
             steps,
             terms,
@@ -329,10 +329,10 @@ impl Journal {
         reason: CloseReason,
         totals: Totals,
     ) {
-        let place = self.place(rt, address);
+        let context = self.context(rt, address);
         let tally = *self.tally.lock(rt);
         let _ = rt.eprintln(Closing {
-            place,
+            context,
             reason,
             counts: tally.counts,
             spent: totals.spent,

@@ -14,9 +14,9 @@
 //! **What no contract says** is what a line tells, and that it is written. Tests on the program
 //! show that.
 //!
-//! Read `entry` (what is told) with `origin`, `cause`, `listen_fault` and `refusal`; `line` (an entry as text or
-//! JSON); `pace` and `tally` (how many lines there are); `roster` (the sessions that run) with
-//! `watching`; `notice` (how refusals come to the log); then `journal`.
+//! Read `entry` (what is reported) with `origin`, `cause`, `listen_fault` and `refusal`; `line` (an
+//! entry as text or JSON); `pace` and `tally` (how many lines there are); `roster` (the sessions
+//! that run) with `watching`; `notice` (how refusals come to the log); then `journal`.
 #![tactic(auto)]
 
 mod cause;

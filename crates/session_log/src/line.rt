@@ -14,7 +14,7 @@ use std::time::{Duration, SystemTime};
 /// Where a line of a server stands: when it is written, where the clients of the server come in,
 /// and in which format.
 #[derive(Clone, Copy)]
-pub struct Place {
+pub struct Context {
     pub at: Option<SystemTime>,
     pub address: Origin,
     pub format: LogFormat,
@@ -51,7 +51,7 @@ pub enum CloseReason {
 /// A server that opens: its program's version, the steps of its purse, and its terms.
 #[derive(Clone, Copy)]
 pub struct Opening<'o> {
-    pub place: Place,
+    pub context: Context,
     pub version: &'o str,
     pub steps: u64,
     pub terms: LoggedTerms,
@@ -61,7 +61,7 @@ pub struct Opening<'o> {
 /// left, and what had no line.
 #[derive(Clone, Copy)]
 pub struct Closing {
-    pub place: Place,
+    pub context: Context,
     pub reason: CloseReason,
     pub counts: Counts,
     pub spent: u64,
@@ -265,11 +265,11 @@ impl fmt::Display for Line<'_> {
 
 impl fmt::Display for Opening<'_> {
     fn fmt<W: fmt::Write>(&self, f: &mut fmt::Formatter<W>) -> fmt::Result {
-        let Place {
+        let Context {
             at,
             address,
             format,
-        } = self.place;
+        } = self.context;
         let terms = self.terms;
         begin(f, format, at, "server-start")?;
         word(f, format, "address", address)?;
@@ -288,11 +288,11 @@ impl fmt::Display for Opening<'_> {
 
 impl fmt::Display for Closing {
     fn fmt<W: fmt::Write>(&self, f: &mut fmt::Formatter<W>) -> fmt::Result {
-        let Place {
+        let Context {
             at,
             address,
             format,
-        } = self.place;
+        } = self.context;
         begin(f, format, at, "server-end")?;
         word(f, format, "address", address)?;
         let why = match self.reason {

@@ -11,7 +11,7 @@ pub enum ListenFault {
     /// A connection could not be accepted, for this cause.
     #[error("network failed")]
     Network(Cause),
-    /// The room of the first session was refused. No connection was accepted.
+    /// The memory of the first session was refused. No connection was accepted.
     #[error("no memory")]
     Memory,
 }

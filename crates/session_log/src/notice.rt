@@ -10,7 +10,7 @@ use std::io::Write;
 use std::sync::Wait;
 use std::time::Clock;
 
-/// A log, and of which session it is told.
+/// A log, and which session it reports.
 #[derive(Drop)]
 pub struct Notice<'s, R> {
     pub rt: &'s R,
@@ -19,7 +19,7 @@ pub struct Notice<'s, R> {
 }
 
 impl<'s, R> Notice<'s, R> {
-    /// What is told to a log of a session, if there is one.
+    /// What is reported to a log of a session, if there is one.
     pub fn of(rt: &'s R, journal: Option<&'s Journal>, watch: Option<Watch<'s>>) -> Option<Self> {
         match (journal, watch) {
             (Some(journal), Some(watch)) => Some(Notice { rt, journal, watch }),
@@ -64,7 +64,7 @@ impl SentLine {
     }
 }
 
-/// Looks at what was sent, line by line. Each refusal is counted, and told to the log.
+/// Looks at what was sent, line by line. Each refusal is counted, and reported to the log.
 fn look<R: Wait + Clock>(
     notice: &Notice<'_, R>,
     line: &mut SentLine,
@@ -85,9 +85,9 @@ fn look<R: Wait + Clock>(
     }
 }
 
-/// The written side of a connection: each line that refuses something is counted, and told to the
-/// log; so is a batch, before its reply is sent. No line of a text that follows a reply begins as a
-/// refusal does. Its bytes are those of the side below.
+/// The written side of a connection: each line that refuses something is counted, and reported to
+/// the log; so is a batch, before its reply is sent. No line of a text that follows a reply begins
+/// as a refusal does. Its bytes are those of the side below.
 #[derive(Drop)]
 pub struct Noticing<'s, W: Drop, R> {
     side: W,

@@ -8,7 +8,7 @@ const FEW: u64 = 10;
 /// How many lines of a second tell that a session starts, or ends.
 const MANY: u64 = 100;
 
-/// What has no line of its own: so many lines, and the steps that they would have told.
+/// What has no line of its own: so many lines, and the steps that they would have reported.
 #[derive(Clone, Copy, Debug, PartialEq, Eq)]
 pub struct Untold {
     pub lines: u64,
@@ -40,22 +40,22 @@ impl Untold {
 pub struct Pace {
     most: u64,
     second: u64,
-    told: u64,
+    written: u64,
     untold: Untold,
     ghost some: { 1 ≤ most },
-    ghost few: { told ≤ most },
+    ghost few: { written ≤ most },
 }
 
 impl Pace {
     /// No line yet, of a kind with ten a second.
     pub fn few() -> Self
         ensures most { result.most ≡ 10 }
-        ensures none { (result.told ≡ 0) × (result.untold ≡ record { lines = 0; steps = 0 }) }
+        ensures none { (result.written ≡ 0) × (result.untold ≡ record { lines = 0; steps = 0 }) }
     {
         Pace {
             most: FEW,
             second: 0,
-            told: 0,
+            written: 0,
             untold: Untold::nothing(),
         }
     }
@@ -63,12 +63,12 @@ impl Pace {
     /// No line yet, of a kind with a hundred a second.
     pub fn many() -> Self
         ensures most { result.most ≡ 100 }
-        ensures none { (result.told ≡ 0) × (result.untold ≡ record { lines = 0; steps = 0 }) }
+        ensures none { (result.written ≡ 0) × (result.untold ≡ record { lines = 0; steps = 0 }) }
     {
         Pace {
             most: MANY,
             second: 0,
-            told: 0,
+            written: 0,
             untold: Untold::nothing(),
         }
     }
@@ -76,31 +76,32 @@ impl Pace {
     /// Notes something of this second that took so many steps: whether it has a line, and what
     /// before it had none.
     pub fn tell(&mut self, second: u64, steps: u64) -> Option<Untold>
-        ensures told { IfSome result (λ u. (u ≡ self.old.untold) × (self.new.untold ≡ record { lines = 0; steps = 0 })) }
+        ensures reported { IfSome result (λ u. (u ≡ self.old.untold) × (self.new.untold ≡ record { lines = 0; steps = 0 })) }
         ensures counted { result ≡ None → self.new.untold ≡ joined self.old.untold (record { lines = 1; steps = steps }) }
-        ensures full { result ≡ None → (self.new.told ≡ self.old.most) × (self.old.second ≡ second) }
+        ensures full { result ≡ None → (self.new.written ≡ self.old.most) × (self.old.second ≡ second) }
         ensures second { self.new.second ≡ second }
         ensures most { self.new.most ≡ self.old.most }
-        ensures same { self.old.second ≡ second → self.old.told ≤ self.new.told }
+        ensures same { self.old.second ≡ second → self.old.written ≤ self.new.written }
     {
         if self.second != second {
             self.second = second;
-            self.told = 0;
+            self.written = 0;
         }
-        if self.told == self.most {
+        if self.written == self.most {
             self.untold = self.untold.and(Untold { lines: 1, steps });
             return None;
         }
         let untold = self.untold;
-        self.told += 1;
+        self.written += 1;
         self.untold = Untold::nothing();
         Some(untold)
     }
 
-    /// Takes back what a line would have told that could not be written.
+    /// Takes back what a line would have reported that could not be written.
     pub fn take_back(&mut self, untold: Untold)
         ensures untold { self.new.untold ≡ joined self.old.untold untold }
-        ensures same { (self.new.most ≡ self.old.most) × (self.new.second ≡ self.old.second) × (self.new.told ≡ self.old.told) }
+        ensures same { (self.new.most ≡ self.old.most) × (self.new.second ≡ self.old.second)
+            × (self.new.written ≡ self.old.written) }
     {
         self.untold = self.untold.and(untold);
     }

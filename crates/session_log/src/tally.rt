@@ -1,4 +1,4 @@
-//! What a log has told, and what it has only counted.
+//! What a log has reported, and what it has only counted.
 ghost use Rattle.std.specs.Prelude.{◌≡◌, IfSome};
 ghost use Rattle.session_log.specs.inner.Telling.{counts_after, untold_of};
 ghost use Rattle.session_log.specs.inner.Untold.{joined};
@@ -60,7 +60,7 @@ impl Tally {
     /// Counts something of this second that took so many steps: whether it has a line, and what of
     /// its kind had none before.
     pub fn tell(&mut self, kind: Kind, second: u64, steps: u64) -> Option<Untold>
-        ensures told { IfSome result (λ u. u ≡ untold_of self.old kind) }
+        ensures reported { IfSome result (λ u. u ≡ untold_of self.old kind) }
         ensures counted { self.new.counts ≡ counts_after self.old.counts kind steps }
     {
         let counts = &mut self.counts;
@@ -82,7 +82,7 @@ impl Tally {
         }
     }
 
-    /// Takes back what a line would have told that could not be written.
+    /// Takes back what a line would have reported that could not be written.
     pub fn take_back(&mut self, kind: Kind, untold: Untold)
         ensures untold { untold_of self.new kind ≡ joined (untold_of self.old kind) untold }
         ensures same { self.new.counts ≡ self.old.counts }

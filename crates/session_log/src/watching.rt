@@ -1,4 +1,4 @@
-//! Sides of a connection whose calls a roster is told of.
+//! Sides of a connection whose calls a roster observes.
 
 ghost use Rattle.std.specs.Prelude.{◌≡◌};
 

@@ -21,10 +21,10 @@ use Rattle.command_line.specs.declared.ending.Failure.{Failure}
 use Rattle.command_line.specs.declared.ending.Failure.TheVariants as failures
 use Rattle.spmat.specs.inner.Running.{Devices, Spoke, Ran, IsRunOf, IsServed, IsVersionTold, IsRefused, IsAnswer, IsOfSession, MayEnd, explained}
 
-module _ (steps workers : ℕ) (room : SessionState) (first last : PassState) (src src' : SourceState) (snk snk' : SinkState)
-    (is_full : room ≡ full_session workers) (allowance : first.allowance ≡ steps) (unused : first.known ≡ newcomer [] whole) where
+module _ (steps workers : ℕ) (session : SessionState) (first last : PassState) (src src' : SourceState) (snk snk' : SinkState)
+    (is_full : session ≡ full_session workers) (allowance : first.allowance ≡ steps) (unused : first.known ≡ newcomer [] whole) where
   spoke : (result : Result End ServeFault)
-      → Outcome Draws room (record { budget = first; source = src; sink = snk }) (record { budget = last; source = src'; sink = snk' }) result
+      → Outcome Draws session (record { budget = first; source = src; sink = snk }) (record { budget = last; source = src'; sink = snk' }) result
       → Spoke steps workers (record { source = src; sink = snk }) (record { source = src'; sink = snk' }) result
   spoke result said = (
     first,
@@ -37,7 +37,7 @@ module _ (steps workers : ℕ) (room : SessionState) (first last : PassState) (s
 
   -- a session in a full room, whose pass had made no call, that had memory to begin
   pub ran_from : (result : Result End ServeFault) → result ≢ Err Memory
-      → Outcome Draws room (record { budget = first; source = src; sink = snk }) (record { budget = last; source = src'; sink = snk' }) result
+      → Outcome Draws session (record { budget = first; source = src; sink = snk }) (record { budget = last; source = src'; sink = snk' }) result
       → Ran steps workers (record { source = src; sink = snk }) (record { source = src'; sink = snk' }) result
   ran_from (Ok end) begun said = spoke (Ok end) said
   ran_from (Err Read) begun said = spoke (Err Read) said
@@ -46,7 +46,7 @@ module _ (steps workers : ℕ) (room : SessionState) (first last : PassState) (s
   ran_from (Err Memory) begun said = absurd (begun refl)
 
 -- the devices may be left out of what became of an answer
-of_session : (steps workers : ℕ) (old new : Devices) (told : Result Done Failure) → IsRunOf steps workers old new told → IsOfSession told
+of_session : (steps workers : ℕ) (old new : Devices) (outcome : Result Done Failure) → IsRunOf steps workers old new outcome → IsOfSession outcome
 of_session steps workers old new (Ok (done.Session end)) said = tt
 of_session steps workers old new (Ok done.Sessions) said = said
 of_session steps workers old new (Ok done.Version) said = said
@@ -57,15 +57,15 @@ of_session steps workers old new (Err (failures.Output cause)) said = said
 of_session steps workers old new (Err (failures.Binding port cause)) said = said
 of_session steps workers old new (Err (failures.Listening fault)) said = said
 
-pub may_end : (asked : Result Settings SettingsFault) (old new : Devices) (told : Result Done Failure) → IsAnswer asked old new told
-    → MayEnd asked told
-may_end (Ok (Run steps workers idle log log_format log_every)) old new told said = of_session steps workers old new told said
-may_end (Ok (Serve port steps workers sessions idle session_seconds min_rate session_steps session_reserve log log_format log_every)) old new told said = said.1
-may_end (Err fault) old new told said = said.1
+pub may_end : (asked : Result Settings SettingsFault) (old new : Devices) (outcome : Result Done Failure) → IsAnswer asked old new outcome
+    → MayEnd asked outcome
+may_end (Ok (Run steps workers idle log log_format log_every)) old new outcome said = of_session steps workers old new outcome said
+may_end (Ok (Serve port steps workers sessions idle session_seconds min_rate session_steps session_reserve log log_format log_every)) old new outcome said = said.1
+may_end (Err fault) old new outcome said = said.1
 
 -- nor does the cause of a device matter for how it may end
 module _ (unread unwritten : Option Cause) where
-  explained_session : (told : Result Done Failure) → IsOfSession told → IsOfSession (explained unread unwritten told)
+  explained_session : (outcome : Result Done Failure) → IsOfSession outcome → IsOfSession (explained unread unwritten outcome)
   explained_session (Ok d) said = said
   explained_session (Err (failures.Session fault cause)) said = tt
   explained_session (Err (failures.Settings fault)) said = said
@@ -74,8 +74,8 @@ module _ (unread unwritten : Option Cause) where
   explained_session (Err (failures.Binding port cause)) said = said
   explained_session (Err (failures.Listening fault)) said = said
 
-  explained_server : (port : ℕ) (sessions : Option ℕ) (told : Result Done Failure) → IsServed port sessions told
-      → IsServed port sessions (explained unread unwritten told)
+  explained_server : (port : ℕ) (sessions : Option ℕ) (outcome : Result Done Failure) → IsServed port sessions outcome
+      → IsServed port sessions (explained unread unwritten outcome)
   explained_server port sessions (Ok d) said = said
   explained_server port sessions (Err (failures.Session fault cause)) said = said
   explained_server port sessions (Err (failures.Settings fault)) said = said
@@ -84,7 +84,7 @@ module _ (unread unwritten : Option Cause) where
   explained_server port sessions (Err (failures.Binding bound cause)) said = said
   explained_server port sessions (Err (failures.Listening fault)) said = said
 
-  explained_version : (told : Result Done Failure) → IsVersionTold told → IsVersionTold (explained unread unwritten told)
+  explained_version : (outcome : Result Done Failure) → IsVersionTold outcome → IsVersionTold (explained unread unwritten outcome)
   explained_version (Ok d) said = said
   explained_version (Err (failures.Session fault cause)) said = said
   explained_version (Err (failures.Settings fault)) said = said
@@ -93,15 +93,15 @@ module _ (unread unwritten : Option Cause) where
   explained_version (Err (failures.Binding port cause)) said = said
   explained_version (Err (failures.Listening fault)) said = said
 
-  explained_refusal : (fault : SettingsFault) (told : Result Done Failure) → IsRefused fault told
-      → IsRefused fault (explained unread unwritten told)
-  explained_refusal asked.Version told said = explained_version told said
-  explained_refusal (asked.Words text) told said = ap (explained unread unwritten) said
-  explained_refusal asked.Memory told said = ap (explained unread unwritten) said
+  explained_refusal : (fault : SettingsFault) (outcome : Result Done Failure) → IsRefused fault outcome
+      → IsRefused fault (explained unread unwritten outcome)
+  explained_refusal asked.Version outcome said = explained_version outcome said
+  explained_refusal (asked.Words text) outcome said = ap (explained unread unwritten) said
+  explained_refusal asked.Memory outcome said = ap (explained unread unwritten) said
 
-  pub may_end_explained : (asked : Result Settings SettingsFault) (told : Result Done Failure) → MayEnd asked told
-      → MayEnd asked (explained unread unwritten told)
-  may_end_explained (Ok (Run steps workers idle log log_format log_every)) told said = explained_session told said
-  may_end_explained (Ok (Serve port steps workers sessions idle session_seconds min_rate session_steps session_reserve log log_format log_every)) told said =
-      explained_server port sessions told said
-  may_end_explained (Err fault) told said = explained_refusal fault told said
+  pub may_end_explained : (asked : Result Settings SettingsFault) (outcome : Result Done Failure) → MayEnd asked outcome
+      → MayEnd asked (explained unread unwritten outcome)
+  may_end_explained (Ok (Run steps workers idle log log_format log_every)) outcome said = explained_session outcome said
+  may_end_explained (Ok (Serve port steps workers sessions idle session_seconds min_rate session_steps session_reserve log log_format log_every)) outcome said =
+      explained_server port sessions outcome said
+  may_end_explained (Err fault) outcome said = explained_refusal fault outcome said

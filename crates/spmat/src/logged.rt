@@ -25,8 +25,8 @@ pub struct Alone {
 }
 
 /// How the log reports the end of a session.
-fn ending_told(told: &Result<Done, Failure>) -> Option<Ending> {
-    match told {
+fn ending_told(outcome: &Result<Done, Failure>) -> Option<Ending> {
+    match outcome {
         Ok(Done::Session(end)) => Some(ending_of(Ok(*end))),
         Err(
             Failure::Session {
@@ -48,17 +48,17 @@ pub fn note_end<R: Wait + Clock>(
     rt: &R,
     journal: Option<&Journal>,
     watch: Option<Watch<'_>>,
-    told: &Result<Done, Failure>,
+    outcome: &Result<Done, Failure>,
     refused: u64,
 ) {
-    if let (Some(journal), Some(watch), Some(ending)) = (journal, watch, ending_told(told)) {
+    if let (Some(journal), Some(watch), Some(ending)) = (journal, watch, ending_told(outcome)) {
         journal.note_end(rt, watch, ending, refused);
     }
 }
 
 /// Why the process serves no further session.
-fn close_reason(told: &Result<Done, Failure>) -> CloseReason {
-    match told {
+fn close_reason(outcome: &Result<Done, Failure>) -> CloseReason {
+    match outcome {
         // The one fault that a server would have as well: no session could be set up.
         Err(
             Failure::Session {
@@ -84,7 +84,7 @@ where
         + Wait
         + Sync
         + AllocGlobal,
-    requires room { HasRoom alone.steps alone.workers }
+    requires capacity { HasRoom alone.steps alone.workers }
     requires idle { IsWithin 1000000 alone.idle }
     ensures { IsOfSession result }
 {
@@ -111,7 +111,7 @@ where
         session_reserve: None,
     };
     journal.write_opening(rt, Origin::Streams, VERSION, steps, terms);
-    let told = serve_logged(rt, &journal, alone);
+    let outcome = serve_logged(rt, &journal, alone);
     let spent = journal.spent(rt);
     let totals = Totals {
         // No contract relates the journal's sum to the steps, hence saturating.
@@ -119,8 +119,8 @@ where
         reserved: 0,
         spent,
     };
-    journal.write_closing(rt, Origin::Streams, close_reason(&told), totals);
-    told
+    journal.write_closing(rt, Origin::Streams, close_reason(&outcome), totals);
+    outcome
 }
 
 /// The session, while another thread writes its log.
@@ -135,12 +135,12 @@ where
         + Wait
         + Sync
         + AllocGlobal,
-    requires room { HasRoom alone.steps alone.workers }
+    requires capacity { HasRoom alone.steps alone.workers }
     requires idle { IsWithin 1000000 alone.idle }
     ensures { IsOfSession result }
 {
     let session = move || -> Result<Done, Failure>
-        requires room { HasRoom alone.steps alone.workers }
+        requires capacity { HasRoom alone.steps alone.workers }
         requires idle { IsWithin 1000000 alone.idle }
         ensures { IsOfSession result }
     {
@@ -153,12 +153,12 @@ where
             log_format: None,
             log_every: None,
         };
-        let told = respond_on(rt, Ok(settings), Some(journal));
+        let outcome = respond_on(rt, Ok(settings), Some(journal));
         // The writing thread waits for more until the journal ends.
         journal.end(rt);
-        told
+        outcome
     };
     let written = || journal.write_out(rt);
-    let ((), told) = join(rt, written, session);
-    told
+    let ((), outcome) = join(rt, written, session);
+    outcome
 }

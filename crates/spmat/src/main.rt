@@ -217,13 +217,13 @@ fn idle_of(asked: &Result<Settings, SettingsFault>) -> Option<u64>
 
 /// Adds the cause of a device's failure to the outcome of a session.
 fn explain(
-    told: Result<Done, Failure>,
+    outcome: Result<Done, Failure>,
     unread: Option<Cause>,
     unwritten: Option<Cause>,
 ) -> Result<Done, Failure>
-    ensures { result ≡ explained unread unwritten told }
+    ensures { result ≡ explained unread unwritten outcome }
 {
-    match told {
+    match outcome {
         Err(Failure::Session { fault, cause: _ }) => {
             let cause = match fault {
                 ServeFault::Read => unread,
@@ -233,7 +233,7 @@ fn explain(
             };
             Err(Failure::Session { fault, cause })
         }
-        told => told,
+        outcome => outcome,
     }
 }
 
@@ -271,10 +271,10 @@ where
     );
     // Outermost: it finds refusals in the bytes of the replies.
     let writer = Noticing::new(writing, notice, &mut refused);
-    let told = answer_over(rt, asked, reader, writer, watch);
-    let told = explain(told, unread, unwritten);
-    note_end(rt, journal, watch, &told, refused);
-    told
+    let outcome = answer_over(rt, asked, reader, writer, watch);
+    let outcome = explain(outcome, unread, unwritten);
+    note_end(rt, journal, watch, &outcome, refused);
+    outcome
 }
 
 /// Does what the words of the command line ask for.
@@ -320,14 +320,14 @@ where
 }
 
 /// Reports how it ended, and returns the status for the system.
-fn tell<H: Eprint>(rt: &H, told: Result<Done, Failure>) -> ExitCode
-    ensures { exit_status result ≡ code_of (status_of told) }
+fn tell<H: Eprint>(rt: &H, outcome: Result<Done, Failure>) -> ExitCode
+    ensures { exit_status result ≡ code_of (status_of outcome) }
 {
-    finish(rt, ending_of(told))
+    finish(rt, ending_of(outcome))
 }
 
 fn main(rt: HostRuntime) -> ExitCode {
     let asked = read_settings(&rt);
-    let told = respond(&rt, asked);
-    tell(&rt, told)
+    let outcome = respond(&rt, asked);
+    tell(&rt, outcome)
 }

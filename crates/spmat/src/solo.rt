@@ -21,7 +21,7 @@ use wire::{Sink, Source};
 struct Prepared {
     purse: Purse,
     pass: Pass,
-    room: Session,
+    session: Session,
 }
 
 /// A purse of `steps`, and the memory of a session whose batches run on `workers`.
@@ -29,12 +29,16 @@ fn prepare(alloc: Global, steps: u64, workers: u64) -> Result<Prepared, AllocErr
     requires { HasRoom steps workers }
     ensures own { IfOk result (λ p. IsPassOf p.purse p.pass × (p.purse.allowance ≡ steps)) }
     ensures unused { IfOk result (λ p. p.pass.known ≡ newcomer [] whole) }
-    ensures room { IfOk result (λ p. p.room ≡ full_session workers) }
+    ensures session { IfOk result (λ p. p.session ≡ full_session workers) }
 {
     let (purse, pass) = Purse::open(alloc, steps)?;
     // All memory comes before the first read or write, so a refusal has no effect outside.
-    let room = Session::new(alloc, workers)?;
-    Ok(Prepared { purse, pass, room })
+    let session = Session::new(alloc, workers)?;
+    Ok(Prepared {
+        purse,
+        pass,
+        session,
+    })
 }
 
 /// Serves one session on these devices, with a purse of `steps`, of which nobody else has a pass.
@@ -59,9 +63,13 @@ pub fn run<I: Source, O: Sink, H: Threads + Wait + AllocGlobal>(
     let Ok(prepared) = prepare(rt.alloc(), steps, workers) else {
         return Err(ServeFault::Memory);
     };
-    let Prepared { purse, pass, room } = prepared;
+    let Prepared {
+        purse,
+        pass,
+        session,
+    } = prepared;
     let given = Given {
-        room,
+        session,
         pass,
         limits: Limits::none(),
         watch,

@@ -17,6 +17,6 @@ pub gains : (old : PassState) (ds : List Dealing) (new : PassState) → Deals Dr
 gains old [] new e = ap (λ (p : PassState). p.known) e
 gains old (d ∷ ds) new (mid, made, rest) = (
   mid.known,
-  made.made,
+  made.recorded,
   subst (λ (a : ℕ). Leads a mid.known ds new.known) made.allowance (gains mid ds new rest),
 )

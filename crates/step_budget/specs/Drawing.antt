@@ -8,4 +8,4 @@ use Rattle.step_purse.specs.declared.dealings.Dealing.{Dealing}
 pub record Draws (old : PassState) (call : Dealing) (new : PassState) : Type 0 where
   pub purse : new.purse ≡ old.purse
   pub allowance : new.allowance ≡ old.allowance
-  pub made : Makes old.allowance old.known call new.known
+  pub recorded : Makes old.allowance old.known call new.known

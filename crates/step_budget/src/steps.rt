@@ -1,7 +1,7 @@
 //! The calls that a session makes on its budget.
 ghost use Rattle.std.specs.Prelude.{◌≡◌, ◌≤◌, ◌+◌, ℕ};
 ghost use Rattle.step_purse.specs.declared.dealings.Dealing.{Dealing};
-ghost use Rattle.step_purse.specs.declared.dealings.Dealing.TheVariants.{Reserved, Settled, Told};
+ghost use Rattle.step_purse.specs.declared.dealings.Dealing.TheVariants.{Reserved, Settled, Observed};
 ghost use Rattle.step_purse.specs.Plain.{IsReplyTo};
 
 use std::sync::Wait;
@@ -22,7 +22,7 @@ pub trait Steps {
         ensures dealt { leads self.old (Reserved amount result) self.new }
         ensures reply { IsReplyTo amount result }
         ensures took { (taken : ℕ) → result ≡ Reply.Took taken → owes self.new ≡ owes self.old + amount }
-        ensures kept { (left : ℕ) → result ≡ Reply.NotEnough left → owes self.new ≡ owes self.old };
+        ensures unchanged { (left : ℕ) → result ≡ Reply.NotEnough left → owes self.new ≡ owes self.old };
 
     /// Settles an amount that this caller has reserved: `spent` of it is spent, and the rest is
     /// left again.
@@ -34,7 +34,7 @@ pub trait Steps {
 
     /// How many steps are left, reserved and spent.
     fn totals<H: Wait>(&mut self, rt: &H) -> Totals
-        ensures dealt { leads self.old (Told result) self.new }
+        ensures dealt { leads self.old (Observed result) self.new }
         ensures owed { owes self.new ≡ owes self.old };
 
     /// How many steps this caller has reserved and not settled.

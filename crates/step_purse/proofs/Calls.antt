@@ -5,7 +5,7 @@ use Rattle.std.proofs.lemmas.Bool.Decides.{nat_tests}
 use Rattle.step_purse.specs.declared.dealings.Totals.{Totals}
 use Rattle.step_purse.specs.declared.dealings.Reply.TheVariants.{Took, NotEnough}
 use Rattle.step_purse.specs.declared.dealings.Dealing.{Dealing}
-use Rattle.step_purse.specs.declared.dealings.Dealing.TheVariants.{Reserved, Settled, Told}
+use Rattle.step_purse.specs.declared.dealings.Dealing.TheVariants.{Reserved, Settled, Observed}
 use Rattle.step_purse.specs.Plain.{opened, total, reply_to, IsAnswered, after, after_all, IsLegal, owed_after, owed_after_all, MayMake, amount_taken, amount_settled}
 
 -- what was taken is what was asked for, and was left
@@ -25,7 +25,7 @@ pub after_total : (t : Totals) (d : Dealing) → IsAnswered t d → total (after
 after_total t (Reserved amount (Took a)) r = let h = taken t amount a r in omega arith
 after_total t (Reserved amount (NotEnough left)) r = refl
 after_total t (Settled amount spent) r = omega arith
-after_total t (Told reply) r = refl
+after_total t (Observed reply) r = refl
 
 pub legal_total : (t : Totals) (history : List Dealing) → IsLegal t history → total (after_all t history) ≡ total t
 legal_total t [] l = refl
@@ -49,7 +49,7 @@ pub owed_step : (t : Totals) (d : Dealing) (mine all now : ℕ) → IsAnswered t
 owed_step t (Reserved amount (Took a)) mine all now r m s le e = omega arith
 owed_step t (Reserved amount (NotEnough left)) mine all now r m s le e = omega arith
 owed_step t (Settled amount spent) mine all now r m s le e = omega arith
-owed_step t (Told reply) mine all now r m s le e = omega arith
+owed_step t (Observed reply) mine all now r m s le e = omega arith
 
 -- no more is reserved than the allowance
 pub reserved_most : (allowance : ℕ) (history : List Dealing) → IsLegal (opened allowance) history → (after_all (opened allowance) history).reserved ≤ allowance
@@ -64,14 +64,14 @@ owed_by_one t (d ∷ ds) l = ap (λ (n : ℕ). owed_after_all n ds) (one t d l.0
     one t (Reserved amount (Took a)) r = refl
     one t (Reserved amount (NotEnough left)) r = refl
     one t (Settled amount spent) r = refl
-    one t (Told reply) r = refl
+    one t (Observed reply) r = refl
 
 -- a call adds to what its caller owes what it takes, and takes from it what it settles
 pub owed_balance : (owed : ℕ) (d : Dealing) → MayMake owed d → owed_after owed d + amount_settled d ≡ owed + amount_taken d
 owed_balance owed (Reserved amount (Took a)) m = omega arith
 owed_balance owed (Reserved amount (NotEnough left)) m = omega arith
 owed_balance owed (Settled amount spent) m = omega arith
-owed_balance owed (Told reply) m = omega arith
+owed_balance owed (Observed reply) m = omega arith
 
 -- the last call of a legal history is answered
 pub legal_last : (t : Totals) (history : List Dealing) (d : Dealing) → IsLegal t (history ++ d ∷ []) → IsAnswered (after_all t history) d

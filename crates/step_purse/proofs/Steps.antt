@@ -9,7 +9,7 @@ use Rattle.crossbeam_utils.specs.Register.{Turns, Forks, Merges}
 use Rattle.step_purse.specs.declared.dealings.Totals.{Totals}
 use Rattle.step_purse.specs.declared.dealings.Reply.TheVariants.{NotEnough}
 use Rattle.step_purse.specs.declared.dealings.Dealing.{Dealing}
-use Rattle.step_purse.specs.declared.dealings.Dealing.TheVariants.{Reserved, Told}
+use Rattle.step_purse.specs.declared.dealings.Dealing.TheVariants.{Reserved, Observed}
 use Rattle.step_purse.specs.declared.views.View.{View}
 use Rattle.step_purse.specs.declared.views.Share.{Share}
 use Rattle.step_purse.specs.Shares.{half, IsWhole}
@@ -223,7 +223,7 @@ asks id v amount m x views k at = go (nat_le amount (totals_in v.allowance x).le
 pub counts : (id : ℕ) (v : View) → MayCall v → Turns Kept id v (λ x. x) counted
 counts id v m x views k at =
     let last = opened_of x views id v k at m.opened m.part in
-    let t = unmoved x views id v (Told (totals_in v.allowance x)) last at m refl tt refl in
+    let t = unmoved x views id v (Observed (totals_in v.allowance x)) last at m refl tt refl in
     (t.0, t.1, (adds v.allowance x views last, t.2, t.3, λ is_whole. reserved_at v.allowance x views last ∙ (sym last.owed ∙ alone (λ (u : View). u.known.owes) refl v.allowance x views id v last at is_whole)))
 
 pub peeks : (id : ℕ) (v : View) → MayCall v → Turns Kept id v (λ x. x) peeked

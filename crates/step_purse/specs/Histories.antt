@@ -38,7 +38,7 @@ gives_half k = record { seen = k.seen; calls = k.calls; owes = k.owes; share = h
 pub record IsSound (allowance : ℕ) (k : Books) : Type 0 where
   pub legal : IsLegal (opened allowance) k.seen
   pub stand : Stand k.seen k.calls
-  pub once : (place : ℕ) → times_at place k.calls ≤ 1
+  pub once : (index : ℕ) → times_at index k.calls ≤ 1
   pub reserved : k.owes ≤ (after_all (opened allowance) k.seen).reserved
 
 -- A call: the history now seen begins with all that was seen before, and ends with the call, which is one more of the pass's

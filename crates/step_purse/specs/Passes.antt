@@ -20,6 +20,6 @@ pub record PassState : Type 0 where
 abbrev pub IsPassOf : PurseState → PassState → Type 0
 IsPassOf purse pass = (pass.purse ≡ purse.name) × (pass.allowance ≡ purse.allowance)
 
--- a pass of this purse made the call, and is one of it still
+-- a pass of this purse called, and is one of it still
 abbrev pub Calls : PurseState → PassState → Dealing → PassState → Type 0
 Calls purse old call new = IsPassOf purse new × Makes purse.allowance old.known call new.known

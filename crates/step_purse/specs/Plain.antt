@@ -5,7 +5,7 @@ use Rattle.step_purse.specs.declared.dealings.Totals.{Totals}
 use Rattle.step_purse.specs.declared.dealings.Reply.{Reply}
 use Rattle.step_purse.specs.declared.dealings.Reply.TheVariants.{Took, NotEnough}
 use Rattle.step_purse.specs.declared.dealings.Dealing.{Dealing}
-use Rattle.step_purse.specs.declared.dealings.Dealing.TheVariants.{Reserved, Settled, Told}
+use Rattle.step_purse.specs.declared.dealings.Dealing.TheVariants.{Reserved, Settled, Observed}
 
 -- a purse as it is opened: its whole allowance is left
 abbrev pub opened : ℕ → Totals
@@ -24,11 +24,11 @@ abbrev pub IsReplyTo : ℕ → Reply → Type 0
 IsReplyTo amount (Took taken) = taken ≡ amount
 IsReplyTo amount (NotEnough left) = left < amount
 
--- the call may be made of this purse, and the reply is the one that it gives
+-- this purse allows the call, and the reply is the one that it gives
 abbrev pub IsAnswered : Totals → Dealing → Type 0
 IsAnswered t (Reserved amount reply) = reply ≡ reply_to t amount
 IsAnswered t (Settled amount spent) = (spent ≤ amount) × (amount ≤ t.reserved)
-IsAnswered t (Told reply) = reply ≡ t
+IsAnswered t (Observed reply) = reply ≡ t
 
 -- what a call leaves
 abbrev pub after : Totals → Dealing → Totals
@@ -36,13 +36,13 @@ after t (Reserved amount (Took taken)) = record { left = t.left - taken; reserve
 after t (Reserved amount (NotEnough left)) = t
 after t (Settled amount spent) =
     record { left = t.left + (amount - spent); reserved = t.reserved - amount; spent = t.spent + spent }
-after t (Told reply) = t
+after t (Observed reply) = t
 
 -- the call with its reply leads from these totals to those
 abbrev pub PlainlyLeads : Totals → Dealing → Totals → Type 0
 PlainlyLeads t d now = IsAnswered t d × (now ≡ after t d)
 
--- what the calls of a history leave, made from the first to the last
+-- what the calls of a history leave, one by one from the first to the last
 abbrev pub after_all : Totals → List Dealing → Totals
 after_all t [] = t
 after_all t (d ∷ ds) = after_all (after t d) ds
@@ -57,7 +57,7 @@ abbrev pub owed_after : ℕ → Dealing → ℕ
 owed_after owed (Reserved amount (Took taken)) = owed + taken
 owed_after owed (Reserved amount (NotEnough left)) = owed
 owed_after owed (Settled amount spent) = owed - amount
-owed_after owed (Told reply) = owed
+owed_after owed (Observed reply) = owed
 
 -- what it owes after several
 abbrev pub owed_after_all : ℕ → List Dealing → ℕ
@@ -68,20 +68,20 @@ owed_after_all owed (d ∷ ds) = owed_after_all (owed_after owed d) ds
 abbrev pub MayMake : ℕ → Dealing → Type 0
 MayMake owed (Reserved amount reply) = Unit {0}
 MayMake owed (Settled amount spent) = amount ≤ owed
-MayMake owed (Told reply) = Unit {0}
+MayMake owed (Observed reply) = Unit {0}
 
 -- what a call takes for its caller
 abbrev pub amount_taken : Dealing → ℕ
 amount_taken (Reserved amount (Took taken)) = taken
 amount_taken (Reserved amount (NotEnough left)) = 0
 amount_taken (Settled amount spent) = 0
-amount_taken (Told reply) = 0
+amount_taken (Observed reply) = 0
 
 -- what a call settles
 abbrev pub amount_settled : Dealing → ℕ
 amount_settled (Reserved amount reply) = 0
 amount_settled (Settled amount spent) = amount
-amount_settled (Told reply) = 0
+amount_settled (Observed reply) = 0
 
 -- what several take
 abbrev pub total_taken : List Dealing → ℕ

@@ -11,7 +11,7 @@ use Rattle.step_purse.specs.Histories.{newcomer}
 abbrev pub blank : View
 blank = record { opened = false; allowance = 0; known = newcomer [] no_share; beside = [] }
 
--- a view that has made no call
+-- a view without a call
 abbrev pub idle : ℕ → List Dealing → Share → View
 idle allowance seen share = record { opened = true; allowance = allowance; known = newcomer seen share; beside = [] }
 

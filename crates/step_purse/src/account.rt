@@ -9,7 +9,7 @@ ghost use Rattle.step_purse.specs.Shares.{whole, half, IsWhole};
 ghost use Rattle.step_purse.specs.Histories.{Makes};
 ghost use Rattle.step_purse.specs.Rule.{blank, idle};
 ghost use Rattle.step_purse.specs.inner.Rule.{AddsUp, SeesBoth, giving, joined, words_of, totals_in, withheld};
-ghost use Rattle.step_purse.specs.declared.dealings.Dealing.TheVariants.{Reserved, Settled, Told};
+ghost use Rattle.step_purse.specs.declared.dealings.Dealing.TheVariants.{Reserved, Settled, Observed};
 ghost use Rattle.step_purse.specs.declared.dealings.Reply.TheVariants.{NotEnough};
 
 use crate::dealings::{Dealing, Reply, Totals};
@@ -63,7 +63,7 @@ impl Account {
     /// Moves the amount from left to reserved, or changes nothing if less is left.
     pub fn reserve<R: Wait>(&self, rt: &R, seat: &mut Seat, amount: u64) -> Reply
         requires { IsSeatOf self.now seat.old }
-        ensures made { CallsAt self.now seat.old (Reserved amount result) seat.new }
+        ensures recorded { CallsAt self.now seat.old (Reserved amount result) seat.new }
         ensures amount { IsReplyTo amount result }
     {
         // No bound on the tries: other calls may always come between.
@@ -93,7 +93,7 @@ impl Account {
         requires own { IsSeatOf self.now seat.old }
         requires spent { spent ≤ amount }
         requires owed { amount ≤ (cell_view seat.old).known.owes }
-        ensures made { CallsAt self.now seat.old (Settled amount spent) seat.new }
+        ensures recorded { CallsAt self.now seat.old (Settled amount spent) seat.new }
     {
         for _ in rt.forever() {
             // A plain look: what a caller owes is reserved, so `settle` is never refused.
@@ -168,7 +168,7 @@ impl Account {
     /// Reads the totals.
     pub fn count<R: Wait>(&self, rt: &R, seat: &mut Seat) -> Totals
         requires { IsSeatOf self.now seat.old }
-        ensures made { CallsAt self.now seat.old (Told result) seat.new }
+        ensures recorded { CallsAt self.now seat.old (Observed result) seat.new }
         ensures adds_up { total result ≡ self.now.allowance }
         ensures owed { IsWhole (cell_view seat.old).known.share →
             result.reserved ≡ (cell_view seat.old).known.owes }
@@ -190,7 +190,7 @@ impl Account {
         requires seat { IsSeatOf self.now seat.old }
         requires call { (total now ≡ self.now.allowance) × PlainlyLeads now call next ×
             MayMake (cell_view seat.old).known.owes call }
-        ensures made { IsSeatOf self.now seat.new × (let v = (cell_view seat.old).known in
+        ensures recorded { IsSeatOf self.now seat.new × (let v = (cell_view seat.old).known in
             let w = (cell_view seat.new).known in
             MatchBool result (Makes self.now.allowance v call w) (w ≡ v)) }
     {

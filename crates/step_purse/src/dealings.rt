@@ -28,5 +28,5 @@ pub enum Dealing {
     /// `settle`: the amount given back, and how much of it was spent.
     Settled(u64, u64),
     /// `totals`: the reply.
-    Told(Totals),
+    Observed(Totals),
 }

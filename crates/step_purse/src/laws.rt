@@ -47,7 +47,7 @@ pub fn calls_in_a_row()
         → Leads allowance first ds next → Makes allowance next d last → Leads allowance first (ds ++ d ∷ []) last }
 {}
 
-/// Calls in order are the pass's own, after those that it had made. It sees a longer history, and
+/// Calls in order are the pass's own, after those that it had before. It sees a longer history, and
 /// its share stays.
 pub fn calls_in_order()
     ensures own { (allowance : ℕ) (before : Books) (ds : List Dealing) (now : Books) → Leads allowance before ds now

@@ -4,7 +4,7 @@ ghost use Rattle.step_purse.specs.Shares.{whole, half, IsWhole};
 ghost use Rattle.step_purse.specs.Histories.{newcomer, gives_half, Joins};
 ghost use Rattle.step_purse.specs.Plain.{total, IsReplyTo};
 ghost use Rattle.step_purse.specs.Passes.{IsPassOf, Calls};
-ghost use Rattle.step_purse.specs.declared.dealings.Dealing.TheVariants.{Reserved, Settled, Told};
+ghost use Rattle.step_purse.specs.declared.dealings.Dealing.TheVariants.{Reserved, Settled, Observed};
 
 use crate::account::Account;
 use crate::dealings::{Reply, Totals};
@@ -14,8 +14,8 @@ use std::marker::Model;
 use std::sync::Wait;
 
 /// A right to call one purse, for one caller at a time. Contracts see it as a `PassState` of
-/// `specs/Passes.antt`: it knows which calls it made, what it owes, and how much of the purse is
-/// its own.
+/// `specs/Passes.antt`: it knows which calls are its own, what it owes, and how much of the purse
+/// is its own.
 #[derive(Drop)]
 pub struct Pass {
     seat: Seat,
@@ -123,7 +123,7 @@ impl Purse {
     /// came between, it tries again.
     pub fn reserve<R: Wait>(&self, rt: &R, pass: &mut Pass, amount: u64) -> Reply
         requires { IsPassOf self.now pass.old }
-        ensures made { Calls self.now pass.old (Reserved amount result) pass.new }
+        ensures recorded { Calls self.now pass.old (Reserved amount result) pass.new }
         ensures amount { IsReplyTo amount result }
     {
         let reply = self.account.reserve(rt, &mut pass.seat, amount);
@@ -140,7 +140,7 @@ impl Purse {
         requires own { IsPassOf self.now pass.old }
         requires spent { spent ≤ amount }
         requires owed { amount ≤ pass.old.known.owes }
-        ensures made { Calls self.now pass.old (Settled amount spent) pass.new }
+        ensures recorded { Calls self.now pass.old (Settled amount spent) pass.new }
     {
         self.account.settle(rt, &mut pass.seat, amount, spent);
         pass.owed -= amount;
@@ -150,7 +150,7 @@ impl Purse {
     /// it owes.
     pub fn totals<R: Wait>(&self, rt: &R, pass: &mut Pass) -> Totals
         requires { IsPassOf self.now pass.old }
-        ensures made { Calls self.now pass.old (Told result) pass.new }
+        ensures recorded { Calls self.now pass.old (Observed result) pass.new }
         ensures adds_up { total result ≡ self.now.allowance }
         ensures owed { IsWhole pass.old.known.share → result.reserved ≡ pass.old.known.owes }
     {

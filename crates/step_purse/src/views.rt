@@ -12,7 +12,7 @@ pub struct Share {
 pub struct Books {
     /// The history as the pass last saw it.
     pub seen: LinkedList<Dealing>,
-    /// The calls that were made by this pass, each with its index in the history.
+    /// The calls of this pass, each with its index in the history.
     pub calls: LinkedList<(u64, Dealing)>,
     /// What was reserved by these calls and is not yet settled.
     pub owes: u64,

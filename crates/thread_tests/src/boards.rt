@@ -121,11 +121,11 @@ fn draw_each(
     requires prices { prices.now ≡ board.now.prices }
     ensures { IfOk result (λ v. All (IsSeatOf board.now) v.items) }
 {
-    let mut told = Vec::new(alloc);
+    let mut drained = Vec::new(alloc);
     for seat in seats {
-        told.push(draw_all(board, prices, seat))?;
+        drained.push(draw_all(board, prices, seat))?;
     }
-    Ok(told)
+    Ok(drained)
 }
 
 /// What a board answers for so many chunks of price 1 when each of its workers, in a thread of its

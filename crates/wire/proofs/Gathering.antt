@@ -47,16 +47,16 @@ skipped_behind len came front rest new (Err OutOfReads) f c s = (let n = s.0 in 
 -- The first part of a body and all bytes behind it are what came of the body, which stands first in its room, and what is held
 -- behind it.
 abbrev pub IsKeeping : List ℕ → ℕ → List ℕ → List ℕ → List ℕ → Type 0
-IsKeeping first came room behind bytes = first ++ bytes ≡ take came room ++ behind
+IsKeeping first came buffer behind bytes = first ++ bytes ≡ take came buffer ++ behind
 
-module _ (first bytes room behind : List ℕ) (came : ℕ) (k : IsKeeping first came room behind bytes) (c : came ≤ length room) where
+module _ (first bytes buffer behind : List ℕ) (came : ℕ) (k : IsKeeping first came buffer behind bytes) (c : came ≤ length buffer) where
   -- all of the room is the body
-  pub keeping_whole : (len : ℕ) → came ≡ len → length room ≤ len → (first ++ bytes ≡ room ++ behind) × (length room ≡ len)
-  keeping_whole len e l = (k ∙ ap (λ xs. xs ++ behind) (take_all came room (omega arith)), omega arith)
+  pub keeping_whole : (len : ℕ) → came ≡ len → length buffer ≤ len → (first ++ bytes ≡ buffer ++ behind) × (length buffer ≡ len)
+  keeping_whole len e l = (k ∙ ap (λ xs. xs ++ behind) (take_all came buffer (omega arith)), omega arith)
 
   -- nothing is held behind it
   pub keeping_count : behind ≡ [] → length (first ++ bytes) ≡ came
-  keeping_count e = omega (arith, ap length k, length-append (take came room) behind, ap (λ (xs : List ℕ). length xs) e, length-take-le came room c)
+  keeping_count e = omega (arith, ap length k, length-append (take came buffer) behind, ap (λ (xs : List ℕ). length xs) e, length-take-le came buffer c)
 
   -- nothing was read, and something is missing
   pub keeping_short : (len : ℕ) (fault : ReadFault) (old new : InputState) (got : List ℕ) → behind ≡ [] → came < len → old.ended ≡ false → IsFilled (Err fault) old new (old.bytes ++ got)
@@ -65,8 +65,8 @@ module _ (first bytes room behind : List ℕ) (came : ℕ) (k : IsKeeping first 
   keeping_short len OutOfReads old new got e s fresh h = (let n = keeping_count e in omega (arith, ap length (append_assoc first bytes got), length-append (first ++ bytes) got, length-append old.bytes got, ap length h.1.0), (ap (λ (x : InputState). x.ended) h.0 ∙ fresh, h.1.1))
 
   -- more was read into a room with the same front
-  pub keeping_more : (filled got after : List ℕ) (n : ℕ) → take came filled ≡ take came room → behind ++ got ≡ take n (drop came filled) → after ≡ [] → IsKeeping first (came + n) filled after (bytes ++ got)
+  pub keeping_more : (filled got after : List ℕ) (n : ℕ) → take came filled ≡ take came buffer → behind ++ got ≡ take n (drop came filled) → after ≡ [] → IsKeeping first (came + n) filled after (bytes ++ got)
   keeping_more filled got after n same e none =
-      sym (append_assoc first bytes got) ∙ (ap (λ xs. xs ++ got) k ∙ (append_assoc (take came room) behind got
+      sym (append_assoc first bytes got) ∙ (ap (λ xs. xs ++ got) k ∙ (append_assoc (take came buffer) behind got
       ∙ (ap (λ xs. xs ++ (behind ++ got)) (sym same) ∙ (ap (λ xs. take came filled ++ xs) e
       ∙ (sym (take-add came n filled) ∙ (sym (append_nil (take (came + n) filled)) ∙ ap (λ xs. take (came + n) filled ++ xs) (sym none)))))))

@@ -59,15 +59,15 @@ pub drop_window : (xs : List ℕ) (from to n : ℕ) → n ≤ to - from → take
 drop_window xs from to n h = ap (λ ys. take (to - (from + n)) ys) (drop_drop n from xs) ∙ (sym (drop-take n (to - (from + n)) (drop from xs)) ∙ ap (λ m. drop n (take m (drop from xs))) (let e : n + (to - (from + n)) ≡ to - from = omega arith in e))
 
 -- what a read puts behind the bytes that are held
-pub filled : (xs room items : List ℕ) (from to n len : ℕ) → from ≤ to → to ≤ length xs → length room ≡ len → (to - from) + n ≤ len
-    → take (to - from) room ≡ take (to - from) (drop from xs ++ take from xs)
-    → take (((to - from) + n) - 0) (take len (room ++ drop (length room) items)) ≡ take (to - from) (drop from xs) ++ take n (drop (to - from) room)
-filled xs room items from to n len a b l f e =
+pub filled : (xs buffer items : List ℕ) (from to n len : ℕ) → from ≤ to → to ≤ length xs → length buffer ≡ len → (to - from) + n ≤ len
+    → take (to - from) buffer ≡ take (to - from) (drop from xs ++ take from xs)
+    → take (((to - from) + n) - 0) (take len (buffer ++ drop (length buffer) items)) ≡ take (to - from) (drop from xs) ++ take n (drop (to - from) buffer)
+filled xs buffer items from to n len a b l f e =
     let w = to - from in
-    let whole : take len (room ++ drop (length room) items) ≡ room = take_at room (drop (length room) items) len l in
+    let whole : take len (buffer ++ drop (length buffer) items) ≡ buffer = take_at buffer (drop (length buffer) items) len l in
     let count : (w + n) - 0 ≡ w + n = omega arith in
-    let front : take w room ≡ take w (drop from xs) = e ∙ take-append-le w (drop from xs) (take from xs) (omega (arith, length-drop from xs)) in
-    rw (whole, count, take-add w n room, front) refl
+    let front : take w buffer ≡ take w (drop from xs) = e ∙ take-append-le w (drop from xs) (take from xs) (omega (arith, length-drop from xs)) in
+    rw (whole, count, take-add w n buffer, front) refl
 
 -- a read of some bytes is no end
 pub still_open : (ended : Bool) (got : List ℕ) → 0 < length got → ended_after ended got ≡ ended
@@ -75,11 +75,11 @@ still_open ended [] h = absurd (omega arith)
 still_open ended (b ∷ bs) h = refl
 
 -- a read into some of the room got as many bytes as it said
-pub length_got : (room : List ℕ) (w n : ℕ) → w + n ≤ length room → length (take n (drop w room)) ≡ n
-length_got room w n h = length-take-le n (drop w room) (omega (arith, length-drop w room))
+pub length_got : (buffer : List ℕ) (w n : ℕ) → w + n ≤ length buffer → length (take n (drop w buffer)) ≡ n
+length_got buffer w n h = length-take-le n (drop w buffer) (omega (arith, length-drop w buffer))
 
-pub not_end : (room : List ℕ) (w n : ℕ) → w + n ≤ length room → (n ≡ 0 → ⊥) → 0 < length (take n (drop w room))
-not_end room w n h e = let l = length_got room w n h in omega arith
+pub not_end : (buffer : List ℕ) (w n : ℕ) → w + n ≤ length buffer → (n ≡ 0 → ⊥) → 0 < length (take n (drop w buffer))
+not_end buffer w n h e = let l = length_got buffer w n h in omega arith
 
 pub none_got : (xs : List ℕ) (n : ℕ) → n ≡ 0 → take n xs ≡ []
 none_got xs n h = ap (λ k. take k xs) h

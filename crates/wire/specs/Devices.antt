@@ -5,15 +5,15 @@ use Rattle.std.specs.Prelude.{ℕ, ◌≡◌, ◌<◌, ◌+◌, ◌==◌, ◌&&�
 use Rattle.std.specs.Prelude.{List, Option, Result, Ok, Err}
 use Rattle.std.specs.declared.sync.ledger.Blank.{Blank}
 
--- A source: the bytes that it has left, how many reads into a buffer were made, how many reads failed, and whether one has told
--- the end.
+-- A source: the bytes that it has left, how many reads into a buffer there were, how many reads failed, and whether one has
+-- reported the end.
 pub record SourceState : Type 0 where
   pub remaining : Option (List ℕ)
   pub reads : ℕ
   pub failures : ℕ
   pub told_end : Bool
 
--- A sink: the bytes that it took, how many writes were made, and how many of them failed.
+-- A sink: the bytes that it took, how many writes there were, and how many of them failed.
 pub record SinkState : Type 0 where
   pub contents : Option (List ℕ)
   pub writes : ℕ
@@ -21,7 +21,7 @@ pub record SinkState : Type 0 where
 
 -- A read into an empty buffer is not counted.
 abbrev pub reads_in : ℕ → ℕ
-reads_in room = if room == 0 then 0 else 1
+reads_in capacity = if capacity == 0 then 0 else 1
 
 -- 1 for a call that failed
 abbrev pub failures_in : {A E : Type 0} → Result A E → ℕ
@@ -30,14 +30,14 @@ failures_in (Err e) = 1
 
 -- a read into a buffer that got nothing means the end
 abbrev pub is_end : {E : Type 0} → ℕ → Result ℕ E → Bool
-is_end room (Ok got) = not (room == 0) && (got == 0)
-is_end room (Err e) = false
+is_end capacity (Ok got) = not (capacity == 0) && (got == 0)
+is_end capacity (Err e) = false
 
 -- what a read into so large a buffer adds to the counts, and whether it means the end
-pub record IsRead {E : Type 0} (room : ℕ) (result : Result ℕ E) (old new : SourceState) : Type 0 where
-  pub reads : new.reads ≡ old.reads + reads_in room
+pub record IsRead {E : Type 0} (capacity : ℕ) (result : Result ℕ E) (old new : SourceState) : Type 0 where
+  pub reads : new.reads ≡ old.reads + reads_in capacity
   pub failures : new.failures ≡ old.failures + failures_in result
-  pub told : new.told_end ≡ (old.told_end || is_end room result)
+  pub ends : new.told_end ≡ (old.told_end || is_end capacity result)
 
 -- 1 for a write that failed, or that took nothing of some bytes
 abbrev pub write_failures_in : {E : Type 0} → ℕ → Result ℕ E → ℕ

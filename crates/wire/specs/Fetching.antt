@@ -30,7 +30,7 @@ pub record Fetched (failed : ℕ) (old new : Stream) (P : List ℕ → Type 0) :
   pub follows : Follows old.held.ended got new.held.ended
   pub at_end : (old.held.ended ≡ true → IsAtEnd old.source.remaining) → new.held.ended ≡ true
       → IsAtEnd new.source.remaining
-  pub told : new.source.told_end ≡ (old.source.told_end || (new.held.ended && not old.held.ended))
+  pub ends : new.source.told_end ≡ (old.source.told_end || (new.held.ended && not old.held.ended))
   pub reads : new.source.reads + new.held.reads_left ≡ old.source.reads + old.held.reads_left
   pub failures : new.source.failures ≡ old.source.failures + failed
   pub holds : P (old.held.bytes ++ got)
@@ -43,9 +43,9 @@ IsFilled (Err OutOfReads) old new bytes = (new ≡ old) × ((bytes ≡ old.bytes
 
 -- After one more read the bytes are those that it put into a buffer, from an index on, and none are held; after a fault there
 -- are no more than before.
-abbrev pub IsReadBehind : Result ℕ ReadFault → (room : List ℕ) (at : ℕ) → InputState → InputState → List ℕ → Type 0
-IsReadBehind (Ok n) room at old new bytes = (bytes ≡ take n (drop at room)) × (new.bytes ≡ [])
-IsReadBehind (Err fault) room at old new bytes = IsFilled (Err fault) old new bytes
+abbrev pub IsReadBehind : Result ℕ ReadFault → (buffer : List ℕ) (at : ℕ) → InputState → InputState → List ℕ → Type 0
+IsReadBehind (Ok n) buffer at old new bytes = (bytes ≡ take n (drop at buffer)) × (new.bytes ≡ [])
+IsReadBehind (Err fault) buffer at old new bytes = IsFilled (Err fault) old new bytes
 
 -- a read into a buffer, from an index on, keeps its length and its front, and goes no further than its end
 pub record IsPut {E : Type 0} (at : ℕ) (result : Result ℕ E) (old new : List ℕ) : Type 0 where
@@ -57,7 +57,7 @@ pub record IsPut {E : Type 0} (at : ℕ) (result : Result ℕ E) (old new : List
 abbrev pub MayFill : InputState → Type 0
 MayFill held = (length held.bytes < 8192) × (held.ended ≡ false)
 
--- no more reads are left than before, and fewer if one was made
+-- no more reads are left than before, and fewer after one
 abbrev pub IsSpent : {A : Type 0} → Result A ReadFault → InputState → InputState → Type 0
 IsSpent result old new = (new.reads_left ≤ old.reads_left) × OnOk result (new.reads_left < old.reads_left)
 

@@ -2,7 +2,7 @@
 use Rattle.std.specs.Prelude.{ℕ, Bool, List}
 use Rattle.wire.specs.Devices.{SourceState}
 
--- the bytes, whether the stream has ended after them, and how many reads may still be made
+-- the bytes, whether the stream has ended after them, and how many reads are left
 pub record InputState : Type 0 where
   pub bytes : List ℕ
   pub ended : Bool

@@ -8,7 +8,7 @@ pub enum ReadFault {
     /// A read failed.
     #[error("a read failed")]
     Failed,
-    /// More reads are needed than may be made.
+    /// More reads are needed than are allowed.
     #[error("too many reads")]
     OutOfReads,
 }

@@ -35,12 +35,12 @@ pub enum Body {
 /// Takes the first line of the buffered bytes, which is copied out, if they have one. Nothing is
 /// read.
 pub fn line_held(input: &mut Input, line: &mut Vec<u8>) -> Option<Lined>
-    requires room { 1026 ≤ vec_capacity line.old }
+    requires capacity { 1026 ≤ vec_capacity line.old }
     ensures fetched { IfSome result (λ lined. (s : SourceState) → Fetched 0
         (record { source = s; held = input.old }) (record { source = s; held = input.new })
         (IsLined (Ok lined) line.new.items input.new)) }
     ensures none { IfNone result (input.new ≡ input.old) }
-    ensures room { 1026 ≤ vec_capacity line.new }
+    ensures capacity { 1026 ≤ vec_capacity line.new }
     ensures less { result ≡ Some Lined.Whole → reach input.new < reach input.old }
 {
     match find_first(input.bytes(), input.has_ended()) {
@@ -59,19 +59,19 @@ pub fn line_held(input: &mut Input, line: &mut Vec<u8>) -> Option<Lined>
 ///
 /// # Errors
 ///
-/// A read failed, or no more reads may be made, before a line was complete. The bytes that arrived
+/// A read failed, or no more reads are allowed, before a line was complete. The bytes that arrived
 /// stay in the input.
 pub fn next_line<R: Source>(
     input: &mut Input,
     reader: &mut R,
     line: &mut Vec<u8>,
 ) -> Result<Lined, ReadFault>
-    requires room { 1026 ≤ vec_capacity line.old }
+    requires capacity { 1026 ≤ vec_capacity line.old }
     ensures fetched { Fetched (failed_reads result)
         (record { source = R.state reader.old; held = input.old })
         (record { source = R.state reader.new; held = input.new })
         (IsLined result line.new.items input.new) }
-    ensures room { 1026 ≤ vec_capacity line.new }
+    ensures capacity { 1026 ≤ vec_capacity line.new }
     ensures less { result ≡ Ok Lined.Whole → reach input.new < reach input.old }
 {
     // The label is the loop's name in its proof.
@@ -104,12 +104,12 @@ const PIECE: usize = 262_144;
 ///
 /// There is no memory for them.
 fn begin(alloc: Global, part: &[u8], length: u64) -> Result<Vec<u8>, AllocError>
-    ensures { IfOk result (λ kept. kept.items ≡ part.now) }
+    ensures { IfOk result (λ body. body.items ≡ part.now) }
 {
     // Not `length`: announcing a large body costs the server nothing.
-    let mut kept = Vec::with_capacity(alloc, (length as usize).min(STEP))?;
-    kept.extend_from_slice(part)?;
-    Ok(kept)
+    let mut body = Vec::with_capacity(alloc, (length as usize).min(STEP))?;
+    body.extend_from_slice(part)?;
+    Ok(body)
 }
 
 /// Prepares memory after the bytes of a body of `length` bytes that arrived. The memory doubles,
@@ -118,30 +118,30 @@ fn begin(alloc: Global, part: &[u8], length: u64) -> Result<Vec<u8>, AllocError>
 /// # Errors
 ///
 /// There is no memory to grow.
-fn extend(kept: &mut Vec<u8>, came: usize, length: usize) -> Result<(), AllocError>
+fn extend(body: &mut Vec<u8>, came: usize, length: usize) -> Result<(), AllocError>
     requires missing { came < length }
-    requires within { (came ≤ vec_len kept.old) × (vec_len kept.old ≤ length) }
-    ensures ready { OnOk result ((came < vec_len kept.new) × (take came kept.new.items ≡ take came kept.old.items)) }
-    ensures within { vec_len kept.new ≤ length }
+    requires within { (came ≤ vec_len body.old) × (vec_len body.old ≤ length) }
+    ensures ready { OnOk result ((came < vec_len body.new) × (take came body.new.items ≡ take came body.old.items)) }
+    ensures within { vec_len body.new ≤ length }
 {
     // Bytes that were zeroed before are still free.
-    if came < kept.len() {
+    if came < body.len() {
         return Ok(());
     }
     let missing = length - came;
-    if kept.capacity() == came {
+    if body.capacity() == came {
         // Exact, so that the last step stops at the body's end.
-        kept.reserve_exact(missing.min(came.max(STEP)))?;
+        body.reserve_exact(missing.min(came.max(STEP)))?;
     }
     // Zeroing far ahead would cost a client's announcement, not its bytes.
-    let ready = missing.min(kept.capacity() - came).min(PIECE);
+    let ready = missing.min(body.capacity() - came).min(PIECE);
     // Zeroed, since a read fills initialised bytes.
-    kept.resize(came + ready, 0)
+    body.resize(came + ready, 0)
 }
 
 /// A body that is being stored.
 #[derive(Drop)]
-enum Kept {
+enum Received {
     /// It came whole.
     Whole(Vec<u8>),
     /// There was no memory for what follows so many bytes of it. They were dropped.
@@ -154,14 +154,14 @@ enum Kept {
 ///
 /// # Errors
 ///
-/// A read failed, or no more reads may be made, before the body was complete. What arrived of it is
+/// A read failed, or no more reads are allowed, before the body was complete. What arrived of it is
 /// dropped.
 fn keep<R: Source>(
     input: &mut Input,
     reader: &mut R,
     first: Vec<u8>,
     length: usize,
-) -> Result<Kept, ReadFault>
+) -> Result<Received, ReadFault>
     requires within { vec_len first ≤ length }
     requires next { vec_len first < length → input.old.bytes ≡ [] }
     ensures fetched { Fetched (failed_reads result)
@@ -169,23 +169,23 @@ fn keep<R: Source>(
         (record { source = R.state reader.new; held = input.new }) (IsKept length first.items result input.new) }
     ensures bounded { reach input.new ≤ reach input.old }
 {
-    let mut kept = first;
-    let mut came = kept.len();
+    let mut body = first;
+    let mut came = body.len();
     'reading: loop {
         // Before the end of the input is tested: it may end right after the body.
         if came == length {
-            return Ok(Kept::Whole(kept));
+            return Ok(Received::Whole(body));
         }
         if input.has_ended() {
-            return Ok(Kept::Cut);
+            return Ok(Received::Cut);
         }
-        match extend(&mut kept, came, length) {
+        match extend(&mut body, came, length) {
             Ok(()) => {}
             // No fault of the stream: the rest is skipped, and the next command is found after it.
-            Err(_) => return Ok(Kept::Full(came)),
+            Err(_) => return Ok(Received::Full(came)),
         }
         // Straight into the body's memory, without a copy in the buffer.
-        match input.fill_behind(reader, &mut kept, came) {
+        match input.fill_behind(reader, &mut body, came) {
             Ok(n) => came += n,
             Err(fault) => return Err(fault),
         }
@@ -196,7 +196,7 @@ fn keep<R: Source>(
 ///
 /// # Errors
 ///
-/// A read failed, or no more reads may be made, before they arrived.
+/// A read failed, or no more reads are allowed, before they arrived.
 fn skip<R: Source>(input: &mut Input, reader: &mut R, count: u64) -> Result<Body, ReadFault>
     ensures fetched { Fetched (failed_reads result)
         (record { source = R.state reader.old; held = input.old })
@@ -229,7 +229,7 @@ fn skip<R: Source>(input: &mut Input, reader: &mut R, count: u64) -> Result<Body
 ///
 /// # Errors
 ///
-/// A read failed, or no more reads may be made, before the body was complete. What arrived of it is
+/// A read failed, or no more reads are allowed, before the body was complete. What arrived of it is
 /// dropped.
 fn read_rest<R: Source>(
     input: &mut Input,
@@ -246,10 +246,10 @@ fn read_rest<R: Source>(
     ensures bounded { reach input.new ≤ reach input.old }
 {
     match keep(input, reader, first, length as usize) {
-        Ok(Kept::Whole(body)) => Ok(Body::Whole(body)),
-        Ok(Kept::Cut) => Ok(Body::Cut),
+        Ok(Received::Whole(body)) => Ok(Body::Whole(body)),
+        Ok(Received::Cut) => Ok(Body::Cut),
         // Only what didn't arrive yet has to be skipped.
-        Ok(Kept::Full(came)) => skip(input, reader, length - came as u64),
+        Ok(Received::Full(came)) => skip(input, reader, length - came as u64),
         Err(fault) => Err(fault),
     }
 }
@@ -259,7 +259,7 @@ fn read_rest<R: Source>(
 ///
 /// # Errors
 ///
-/// A read failed, or no more reads may be made, before the body was complete. What arrived of it is
+/// A read failed, or no more reads are allowed, before the body was complete. What arrived of it is
 /// dropped.
 pub fn read_body<R: Source>(
     alloc: Global,

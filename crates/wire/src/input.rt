@@ -14,13 +14,13 @@ use std::io;
 use std::marker::Model;
 
 /// How many bytes are buffered at most.
-pub const ROOM: usize = 8192;
+pub const BUFFER_BYTES: usize = 8192;
 
 /// Bytes that were read and not used yet, whether the stream has ended after them, and how many
-/// reads may still be made.
+/// reads are left.
 #[derive(Drop)]
 pub struct Input {
-    room: Vec<u8>,
+    buffer: Vec<u8>,
     from: usize,
     to: usize,
     ended: bool,
@@ -34,28 +34,28 @@ impl Model for Input {
     ghost Value = { InputState };
 
     ghost view = { λ i. record {
-      bytes = take (i.to - i.from) (drop i.from i.room.items);
+      bytes = take (i.to - i.from) (drop i.from i.buffer.items);
       ended = i.ended;
       reads_left = i.reads_left;
     } };
 
-    ghost invariant = { λ i. (i.from ≤ i.to) × (i.to ≤ vec_len i.room) × (vec_len i.room ≡ 8192) };
+    ghost invariant = { λ i. (i.from ≤ i.to) × (i.to ≤ vec_len i.buffer) × (vec_len i.buffer ≡ 8192) };
 }
 
 /// Reads into the part of a buffer from an index on. In the counts, a read into one byte is as good
 /// as any.
-fn read_behind<S: Source>(source: &mut S, room: &mut [u8], at: usize) -> io::Result<usize>
-    requires { at < length room.old }
-    ensures put { IsPut at result room.old room.new }
-    ensures bytes { ReadConsumes (S.state source.old).remaining (S.state source.new).remaining result (drop at room.new) }
+fn read_behind<S: Source>(source: &mut S, buffer: &mut [u8], at: usize) -> io::Result<usize>
+    requires { at < length buffer.old }
+    ensures put { IsPut at result buffer.old buffer.new }
+    ensures bytes { ReadConsumes (S.state source.old).remaining (S.state source.new).remaining result (drop at buffer.new) }
     ensures counted { IsRead 1 result (S.state source.old) (S.state source.new) }
 {
-    source.read(&mut room[at..])
+    source.read(&mut buffer[at..])
 }
 
 impl Input {
-    /// No bytes, of a stream that has not ended and of which so many reads may be made, with a
-    /// buffer of `ROOM` bytes.
+    /// No bytes, of a stream that has not ended and of which so many reads are allowed, with a
+    /// buffer of `BUFFER_BYTES` bytes.
     ///
     /// # Errors
     ///
@@ -65,7 +65,7 @@ impl Input {
     {
         Ok(Input {
             // Zeroed once. Reads overwrite it.
-            room: vec![in alloc; 0; ROOM]?,
+            buffer: vec![in alloc; 0; BUFFER_BYTES]?,
             from: 0,
             to: 0,
             ended: false,
@@ -77,7 +77,7 @@ impl Input {
     pub fn bytes(&self) -> &[u8]
         ensures { result.now ≡ self.now.bytes }
     {
-        &self.room[self.from..self.to]
+        &self.buffer[self.from..self.to]
     }
 
     /// Whether the stream has ended after these bytes.
@@ -105,14 +105,14 @@ impl Input {
         ensures counted { IsCounted result
             (record { source = S.state source.old; held = self.old })
             (record { source = S.state source.new; held = self.new }) }
-        ensures room { length self.new.bytes ≤ 8192 }
+        ensures capacity { length self.new.bytes ≤ 8192 }
     {
         // The bytes that are left move to the front, so a line is always in one piece.
-        self.room.rotate_left(self.from);
+        self.buffer.rotate_left(self.from);
         self.to -= self.from;
         self.from = 0;
         // A failed read leaves the bytes that are left.
-        let n = read_behind(source, &mut self.room, self.to)?;
+        let n = read_behind(source, &mut self.buffer, self.to)?;
         self.to += n;
         // The buffer wasn't full, so 0 bytes are the end of the stream.
         if n == 0 {
@@ -125,7 +125,7 @@ impl Input {
     ///
     /// # Errors
     ///
-    /// No more reads may be made.
+    /// No more reads are allowed.
     fn count_read(&mut self) -> Result<(), ReadFault>
         ensures ok { OnOk result
             (self.old ≡ record self.new { reads_left = self.new.reads_left + 1 }) }
@@ -144,13 +144,13 @@ impl Input {
     ///
     /// # Errors
     ///
-    /// No more reads may be made, or the source failed. The bytes are then as before.
+    /// No more reads are allowed, or the source failed. The bytes are then as before.
     pub fn fill<S: Source>(&mut self, source: &mut S) -> Result<(), ReadFault>
         requires { MayFill self.old }
         ensures fetched { Fetched (failed_reads result)
             (record { source = S.state source.old; held = self.old })
             (record { source = S.state source.new; held = self.new }) (IsFilled result self.old self.new) }
-        ensures room { length self.new.bytes ≤ 8192 }
+        ensures capacity { length self.new.bytes ≤ 8192 }
         ensures spent { IsSpent result self.old self.new }
     {
         // Before the read, as a read that fails counts as well.
@@ -168,23 +168,23 @@ impl Input {
     ///
     /// # Errors
     ///
-    /// No more reads may be made, or the source failed.
+    /// No more reads are allowed, or the source failed.
     pub fn fill_behind<S: Source>(
         &mut self,
         source: &mut S,
-        room: &mut [u8],
+        buffer: &mut [u8],
         at: usize,
     ) -> Result<usize, ReadFault>
         requires open { (self.old.bytes ≡ []) × (self.old.ended ≡ false) }
-        requires place { at < length room.old }
+        requires within { at < length buffer.old }
         ensures fetched { Fetched (failed_reads result)
             (record { source = S.state source.old; held = self.old })
-            (record { source = S.state source.new; held = self.new }) (IsReadBehind result room.new at self.old self.new) }
-        ensures put { IsPut at result room.old room.new }
+            (record { source = S.state source.new; held = self.new }) (IsReadBehind result buffer.new at self.old self.new) }
+        ensures put { IsPut at result buffer.old buffer.new }
         ensures spent { IsSpent result self.old self.new }
     {
         self.count_read()?;
-        let Ok(n) = read_behind(source, room, at) else {
+        let Ok(n) = read_behind(source, buffer, at) else {
             return Err(ReadFault::Failed);
         };
         if n == 0 {
@@ -197,7 +197,7 @@ impl Input {
     /// with its line end. The copy allocates nothing.
     pub fn take_line(&mut self, length: usize, taken: usize, line: &mut Vec<u8>)
         requires line { MayBeLine length taken self.old.bytes }
-        requires room { 1026 ≤ vec_capacity line.old }
+        requires capacity { 1026 ≤ vec_capacity line.old }
         ensures copied { (line.new.items ≡ take length self.old.bytes) × (1026 ≤ vec_capacity line.new) }
         ensures left { self.new ≡ record self.old { bytes = drop taken self.old.bytes } }
     {

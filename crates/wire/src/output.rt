@@ -3,15 +3,15 @@ ghost use Rattle.std.specs.Prelude.{◌≡◌, ◌≤◌, ◌+◌, [], true, fal
 ghost use Rattle.wire.specs.Sending.{Sent};
 
 use crate::device::{Sink, WriteFailed, put};
-use crate::input::ROOM;
+use crate::input::BUFFER_BYTES;
 use std::alloc::{AllocError, Global};
 use std::marker::Model;
 
-/// Text that waits to be written: up to `ROOM` bytes, so that many short texts are one write. A
-/// contract sees the bytes.
+/// Text that waits to be written: up to `BUFFER_BYTES` bytes, so that many short texts are one
+/// write. A contract sees the bytes.
 #[derive(Drop)]
 pub struct Output {
-    room: Vec<u8>,
+    buffer: Vec<u8>,
 }
 
 impl Model for Output {
@@ -19,13 +19,13 @@ impl Model for Output {
 
     ghost Value = { List ℕ };
 
-    ghost view = { λ o. o.room.items };
+    ghost view = { λ o. o.buffer.items };
 
     ghost invariant = { λ o. Unit {0} };
 }
 
 impl Output {
-    /// Nothing waits, and the buffer has `ROOM` bytes.
+    /// Nothing waits, and the buffer has `BUFFER_BYTES` bytes.
     ///
     /// # Errors
     ///
@@ -34,7 +34,7 @@ impl Output {
         ensures { IfOk result (λ o. o ≡ []) }
     {
         Ok(Output {
-            room: Vec::with_capacity(alloc, ROOM)?,
+            buffer: Vec::with_capacity(alloc, BUFFER_BYTES)?,
         })
     }
 
@@ -49,7 +49,7 @@ impl Output {
             (record { sink = W.state writer.new; waits = self.new }) }
         ensures none { OnOk result (self.new ≡ []) }
     {
-        empty(&mut self.room, writer)
+        empty(&mut self.buffer, writer)
     }
 
     /// Appends a text to what waits. If the buffer is too full for it, what waits is written first;
@@ -64,13 +64,13 @@ impl Output {
             (record { sink = W.state writer.old; waits = self.old })
             (record { sink = W.state writer.new; waits = self.new }) }
     {
-        match make_room(&mut self.room, writer, text.len()) {
+        match make_room(&mut self.buffer, writer, text.len()) {
             Ok(true) => {
                 // There is capacity, so a reply never needs memory.
-                self.room.extend_from_slice(text).unwrap();
+                self.buffer.extend_from_slice(text).unwrap();
                 Ok(())
             }
-            // Longer than the buffer, which is empty now: order is kept without a copy.
+            // Longer than the buffer, which is empty now: the order stays without a copy.
             Ok(false) => match put(writer, text) {
                 Ok(()) => Ok(()),
                 Err(failed) => Err(failed),
@@ -81,17 +81,17 @@ impl Output {
 }
 
 /// Writes all that is in a buffer, which is then empty.
-fn empty<W: Sink>(room: &mut Vec<u8>, writer: &mut W) -> Result<(), WriteFailed>
+fn empty<W: Sink>(buffer: &mut Vec<u8>, writer: &mut W) -> Result<(), WriteFailed>
     ensures sent { Sent (is_ok result) []
-        (record { sink = W.state writer.old; waits = room.old.items })
-        (record { sink = W.state writer.new; waits = room.new.items }) }
-    ensures none { OnOk result (room.new.items ≡ []) }
-    ensures room { vec_capacity room.old ≤ vec_capacity room.new }
+        (record { sink = W.state writer.old; waits = buffer.old.items })
+        (record { sink = W.state writer.new; waits = buffer.new.items }) }
+    ensures none { OnOk result (buffer.new.items ≡ []) }
+    ensures capacity { vec_capacity buffer.old ≤ vec_capacity buffer.new }
 {
-    match put(writer, room) {
+    match put(writer, buffer) {
         Ok(()) => {
             // Only once all is written. After a fault the session ends.
-            room.clear();
+            buffer.clear();
             Ok(())
         }
         Err(failed) => Err(failed),
@@ -100,19 +100,23 @@ fn empty<W: Sink>(room: &mut Vec<u8>, writer: &mut W) -> Result<(), WriteFailed>
 
 /// Frees capacity for so many more bytes: empties the buffer if it has too little. Returns whether
 /// it is enough.
-fn make_room<W: Sink>(room: &mut Vec<u8>, writer: &mut W, count: usize) -> Result<bool, WriteFailed>
+fn make_room<W: Sink>(
+    buffer: &mut Vec<u8>,
+    writer: &mut W,
+    count: usize,
+) -> Result<bool, WriteFailed>
     ensures sent { Sent (is_ok result) []
-        (record { sink = W.state writer.old; waits = room.old.items })
-        (record { sink = W.state writer.new; waits = room.new.items }) }
-    ensures enough { IfOk result (λ b. b ≡ true → vec_len room.new + count ≤ vec_capacity room.new) }
-    ensures none { IfOk result (λ b. b ≡ false → room.new.items ≡ []) }
+        (record { sink = W.state writer.old; waits = buffer.old.items })
+        (record { sink = W.state writer.new; waits = buffer.new.items }) }
+    ensures enough { IfOk result (λ b. b ≡ true → vec_len buffer.new + count ≤ vec_capacity buffer.new) }
+    ensures none { IfOk result (λ b. b ≡ false → buffer.new.items ≡ []) }
 {
     // Written as late as possible, so that one write carries many replies.
-    if count <= room.capacity() - room.len() {
+    if count <= buffer.capacity() - buffer.len() {
         return Ok(true);
     }
-    match empty(room, writer) {
-        Ok(()) => Ok(count <= room.capacity()),
+    match empty(buffer, writer) {
+        Ok(()) => Ok(count <= buffer.capacity()),
         Err(failed) => Err(failed),
     }
 }

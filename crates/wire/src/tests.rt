@@ -167,16 +167,16 @@ fn write_to<W: io::Write + Drop, C: Ledger, F: Ledger>(
 
 #[test]
 fn a_text_is_written_whole_or_not(rt: HostRuntime) {
-    let mut room = [0; 4];
+    let mut buffer = [0; 4];
     let whole = write_to::<&mut [u8], Brand, Brand>(
-        &mut room,
+        &mut buffer,
         b"text",
         Blank::new(1),
         Blank::new(1),
     );
-    assert!(rt; whole.is_ok() && room == *b"text");
+    assert!(rt; whole.is_ok() && buffer == *b"text");
     let cut = write_to::<&mut [u8], Brand, Brand>(
-        &mut room[..3],
+        &mut buffer[..3],
         b"text",
         Blank::new(1),
         Blank::new(1),
@@ -203,14 +203,14 @@ fn say_two<W: io::Write + Drop, C: Ledger, F: Ledger>(
 #[test]
 fn what_is_said_waits_until_it_is_written(rt: HostRuntime) -> Result<(), Fail> {
     let alloc = rt.alloc();
-    let mut room = [0; 7];
+    let mut buffer = [0; 7];
     for (flushes, want) in [(false, [0; 7]), (true, *b"one two")] {
         let blanks = (Blank::new(1), Blank::new(1));
-        let well = say_two::<&mut [u8], Brand, Brand>(alloc, &mut room, flushes, blanks)?;
-        assert!(rt; well && room == want);
+        let well = say_two::<&mut [u8], Brand, Brand>(alloc, &mut buffer, flushes, blanks)?;
+        assert!(rt; well && buffer == want);
     }
     let blanks = (Blank::new(1), Blank::new(1));
-    let well = say_two::<&mut [u8], Brand, Brand>(alloc, &mut room[..3], true, blanks)?;
+    let well = say_two::<&mut [u8], Brand, Brand>(alloc, &mut buffer[..3], true, blanks)?;
     assert!(rt; !well);
     Ok(())
 }

@@ -50,7 +50,7 @@ pub struct FromRead<R: Read + Drop, C: Ledger, F: Ledger> {
     inner: R,
     reads: Count<C>,
     failures: Count<F>,
-    // For contracts: a reader may not claim to need more input once the end was told.
+    // For contracts: a reader may not claim to need more input once the end was reported.
     told_end: bool,
 }
 

@@ -29,6 +29,6 @@ pub fn rows()
     ensures fold { reduce_at sub three (0, 0) ≡ Some 5 }
     ensures steps { steps_of (reduce_calls_at sub three (0, 0)) ≡ 6 }
     ensures empty { reduce_at sub three (1, 0) ≡ None }
-    ensures kept { select_at on_diagonal 0 two (0, 0) ≡ Some 3 }
+    ensures selected { select_at on_diagonal 0 two (0, 0) ≡ Some 3 }
     ensures dropped { select_at on_diagonal 0 two (0, 1) ≡ None }
 {}

@@ -6,7 +6,7 @@ ghost use Rattle.bpf_verify.specs.Paths.{IsShown};
 ghost use Rattle.worked_rows.specs.Rows.{unset_on_one_way, mixed_by_two_ways, load_of_unstored};
 
 /// A register that one way leaves unset (V11), one that two ways set differently (V12), and bytes
-/// that no store made (V16).
+/// that no store wrote (V16).
 pub fn faults()
     ensures unset { IsShown unset_on_one_way (entry_tags Unary) 2 UnsetRead }
     ensures mixed { IsShown mixed_by_two_ways (entry_tags Binary) 4 MixedRead }

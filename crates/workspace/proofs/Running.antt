@@ -260,6 +260,6 @@ module _ {S : Type 0} (leads : S → Dealing → S → Type 0) (s t : S) where
       → Deals leads s (dealings_of jobs (said_of answer)) t → reply ≡ text_of jobs (said_of answer)
       → new ≡ state_after mid jobs (said_of answer)
       → (ds : List Dealing) × RunTurn old ds reply new × Deals leads s ds t
-  concluded old mid new jobs (Ok a) reply q m is d r n = ran old mid new jobs (map result_of a.results.items) reply q m is.results is.told d r n
+  concluded old mid new jobs (Ok a) reply q m is d r n = ran old mid new jobs (map result_of a.results.items) reply q m is.results is.reported d r n
   concluded old mid new jobs (Err f) reply q m is d r n =
-      broke_off old new jobs f.cause f.spent reply q (n ∙ m) (subst (λ (x : State). MaySay x.workers jobs (Broke f.cause f.spent)) (sym n) is.told) d r
+      broke_off old new jobs f.cause f.spent reply q (n ∙ m) (subst (λ (x : State). MaySay x.workers jobs (Broke f.cause f.spent)) (sym n) is.reported) d r

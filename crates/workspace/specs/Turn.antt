@@ -26,7 +26,7 @@ use Rattle.step_purse.specs.declared.dealings.Reply.TheVariants.{Took, NotEnough
 use Rattle.command_text.specs.Words.{is_name, kind_of_word}
 use Rattle.command_text.specs.Hexadecimal.{without_gaps}
 use Rattle.step_purse.specs.declared.dealings.Dealing.{Dealing}
-use Rattle.step_purse.specs.declared.dealings.Dealing.TheVariants.{Reserved, Settled, Told}
+use Rattle.step_purse.specs.declared.dealings.Dealing.TheVariants.{Reserved, Settled, Observed}
 use Rattle.workspace.specs.State.{State, bound}
 use Rattle.workspace.specs.Types.{types_text}
 use Rattle.workspace.specs.Found.{job_found}
@@ -273,7 +273,7 @@ DisassemblyTurn old name = TellsAssembly old (old.operators name)
 
 abbrev pub BudgetTurn : State → List Dealing → List ℕ → State → Type 0
 BudgetTurn old dealings reply new =
-    (totals : Totals) × (dealings ≡ Told totals ∷ [])
+    (totals : Totals) × (dealings ≡ Observed totals ∷ [])
     × (reply ≡ budget_text totals.left totals.reserved totals.spent) × (new ≡ old)
 
 -- from old, a command may have these dealings and this reply, and lead to new

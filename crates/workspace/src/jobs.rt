@@ -39,7 +39,7 @@ fn reserve<T: Steps, H: Wait>(
     steps: &mut T,
     reply: &mut Reply,
 )
-    requires room { length (state_of workspace.old).queue < 64 }
+    requires capacity { length (state_of workspace.old).queue < 64 }
     requires named { length job.output ≤ 32 }
     ensures turn { (dealings : List Dealing) ×
         Submits (state_of workspace.old) job dealings (whole reply.new)
@@ -71,7 +71,7 @@ fn submit_job<T: Steps, H: Wait>(
     steps: &mut T,
     reply: &mut Reply,
 )
-    requires room { length (state_of workspace.old).queue < 64 }
+    requires capacity { length (state_of workspace.old).queue < 64 }
     requires named { length job.output ≤ 32 }
     ensures turn { (dealings : List Dealing) ×
         Prices (state_of workspace.old) job (job_fault job) dealings (whole reply.new)

@@ -43,9 +43,9 @@ impl<V: Drop> Names<V> {
     ///
     /// There is no memory for it.
     pub fn declare(&mut self, name: &str) -> Result<(), AllocError>
-        ensures made { OnOk result (IsTrue (is_declared self.new.declared name.now)) }
+        ensures declared { OnOk result (IsTrue (is_declared self.new.declared name.now)) }
         ensures same { (other : List ℕ) → value_at self.new.declared other ≡ value_at self.old.declared other }
-        ensures kept { (other : List ℕ) → IsTrue (is_declared self.old.declared other) →
+        ensures unchanged { (other : List ℕ) → IsTrue (is_declared self.old.declared other) →
             IsTrue (is_declared self.new.declared other) }
     {
         if self.declared.contains_key(name) {
@@ -61,7 +61,7 @@ impl<V: Drop> Names<V> {
         requires { IsTrue (is_declared self.old.declared name.now) }
         ensures bound { (other : List ℕ) → value_at self.new.declared other ≡
             update bytes_eq (value_at self.old.declared) name.now (Some value) other }
-        ensures kept { (other : List ℕ) → IsTrue (is_declared self.old.declared other) →
+        ensures unchanged { (other : List ℕ) → IsTrue (is_declared self.old.declared other) →
             IsTrue (is_declared self.new.declared other) }
     {
         // A declared name is always there.

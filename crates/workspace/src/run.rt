@@ -37,7 +37,7 @@ use step_budget::Steps;
 ///
 /// There is no memory for it. Some names are then declared. No value is changed.
 fn declare_outputs(matrices: &mut Names<Version>, jobs: &[Priced]) -> Result<(), AllocError>
-    ensures made { IfOk result (λ _. AreDeclared matrices.new.declared jobs.now) }
+    ensures declared { IfOk result (λ _. AreDeclared matrices.new.declared jobs.now) }
     ensures same { (name : List ℕ) → value_at matrices.new.declared name ≡ value_at matrices.old.declared name }
 {
     for job in jobs {
@@ -118,7 +118,7 @@ fn report(reply: &mut Reply, jobs: &[Priced], results: &[JobResult], spent: u64)
 /// Adds the line of a job.
 fn add_line(reply: &mut Reply, job: &Priced, what: &JobResult)
     requires name { length job.now.output ≤ 32 }
-    requires room { length reply.old.line + 117 ≤ 8192 }
+    requires capacity { length reply.old.line + 117 ≤ 8192 }
     ensures value { reply.new ≡ record reply.old
         { line = reply.old.line ++ job_text (job_line job.now (result_of what.now)) } }
     ensures short { length reply.new.line ≤ length reply.old.line + 117 }
@@ -221,7 +221,7 @@ fn begin(workspace: &mut Workspace) -> Result<Plan, AllocError>
     ensures plan { IfOk result (λ p. (p ≡ (state_of workspace.old).queue) × AreDeclared workspace.new.matrices.declared p) }
     ensures named { AreNamed (state_of workspace.old).queue }
     ensures taken { OnOk result (state_of workspace.new ≡ record (state_of workspace.old) { queue = [] }) }
-    ensures kept { OnErr result (state_of workspace.new ≡ state_of workspace.old) }
+    ensures unchanged { OnErr result (state_of workspace.new ≡ state_of workspace.old) }
 {
     declare_outputs(&mut workspace.matrices, workspace.queue.jobs())?;
     workspace.queue.take()
@@ -253,7 +253,7 @@ pub fn run<T: Steps, H: Threads + Wait>(
         return;
     };
     let workers = workspace.workers;
-    let answer = run_batch_with(rt, alloc, &plan, workers, &Open, &mut workspace.kept);
+    let answer = run_batch_with(rt, alloc, &plan, workers, &Open, &mut workspace.scratch);
     conclude(rt, workspace, &plan, answer, steps, reply);
 }
 

@@ -25,7 +25,7 @@ pub struct Workspace {
     pub queue: Queue,
     /// How many workers a batch may have: 1 to 64.
     pub workers: u64,
-    pub kept: SpareScratch,
+    pub scratch: SpareScratch,
     ghost named: { AreNamed queue },
     ghost some: { 1 ≤ workers },
     ghost few: { workers ≤ 64 },
@@ -49,7 +49,7 @@ impl Workspace {
             operators: Names::new(alloc),
             queue: Queue::open(alloc)?,
             workers,
-            kept: SpareScratch::new(),
+            scratch: SpareScratch::new(),
         })
     }
 
@@ -113,7 +113,7 @@ impl Workspace {
 
     /// Puts a job last, where fewer than 64 wait, and tells how many wait then.
     pub fn submit(&mut self, job: Priced) -> u64
-        requires room { length (state_of self.old).queue < 64 }
+        requires capacity { length (state_of self.old).queue < 64 }
         requires named { length job.output ≤ 32 }
         ensures queue { state_of self.new ≡
             record (state_of self.old) { queue = (state_of self.old).queue ++ job ∷ [] } }

@@ -12,7 +12,7 @@ use Rattle.command_text.specs.inner.Lent.{lent}
 
 -- the words behind a command, as they were read
 abbrev pub words_read : LineWords → List (List ℕ)
-words_read line = map lent (take line.count line.room)
+words_read line = map lent (take line.count line.words)
 
 -- the words of a job, as they were read
 abbrev pub words_of_job : JobWords → is.Submission

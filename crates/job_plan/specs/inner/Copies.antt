@@ -38,7 +38,7 @@ pub record IsFor (copies : List Grid) (p : ℕ) (job : Job) : Type 0 where
 -- a job finds or makes its copy, or goes without: copies that were there stay, and a new one keeps the rules
 pub record Adds (before after : List Grid) (job : Job) (nth : Option ℕ) : Type 0 where
   pub copied : (jobs : List Job) → Contains jobs job → AreCopies jobs before → AreCopies jobs after
-  pub kept : (p : ℕ) (g : Grid) → slice_get before p ≡ Some g → slice_get after p ≡ Some g
+  pub unchanged : (p : ℕ) (g : Grid) → slice_get before p ≡ Some g → slice_get after p ≡ Some g
   pub given : IfSome nth (λ p. IsFor after p job)
 
 -- the copies of a batch, and for each job the index of its own, if it has one

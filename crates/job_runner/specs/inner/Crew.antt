@@ -22,7 +22,7 @@ pub record IsEnded (board : BoardState) (jobs : List Job) (e : Ended) : Type 0 w
   pub pieces : AllByRecursion (IsPieceOf jobs) e.worked.pieces.items
   pub stands : StandsAfter jobs e.worked.failed e.seat.worker.state
 
--- of some workers that have ended: each chunk that they completed has its piece at its place, and took just its steps; and each
+-- of some workers that have ended: each chunk that they completed has its piece at its index, and took just its steps; and each
 -- that they recorded took those of some of its calls
 pub record AreWorkerOutputs (board : BoardState) (jobs : List Job) (g : WorkerOutputs) : Type 0 where
   pub own : All (IsSeatOf board) g.seats.items
@@ -31,7 +31,7 @@ pub record AreWorkerOutputs (board : BoardState) (jobs : List Job) (g : WorkerOu
   pub completed_pieces : AreCompletedPieces jobs g.completed_pieces.items
   pub there : (c : ℕ) → 0 < times_in c (completed_by (workers_of g.seats.items)) → IsFull g.completed_pieces.items c
   -- where none failed, all were told the end
-  pub told : g.failed ≡ false → All (λ (s : SeatState). IsDrained s.worker) g.seats.items
+  pub drained : g.failed ≡ false → All (λ (s : SeatState). IsDrained s.worker) g.seats.items
 
 -- seats of a board of these jobs' chunks, whose workers may draw and have done nothing
 pub record AreFresh (board : BoardState) (jobs : List Job) (seats : List SeatState) : Type 0 where
@@ -39,10 +39,10 @@ pub record AreFresh (board : BoardState) (jobs : List Job) (seats : List SeatSta
   pub fresh : All (λ (s : SeatState). s.worker.done ≡ []) seats
   pub prices : board.prices ≡ prices_of jobs
 
--- nobody has ended yet, and there is room for so many workers
+-- nobody has ended yet, and the list has capacity for so many workers
 pub record IsRoomFor (board : BoardState) (jobs : List Job) (workers : ℕ) (g : WorkerOutputs) : Type 0 where
   pub none : vec_len g.seats ≡ 0
-  pub room : workers ≤ vec_capacity g.seats
+  pub capacity : workers ≤ vec_capacity g.seats
   pub outputs : AreWorkerOutputs board jobs g
 
 -- of so many threads that were to start these did; whether the start of one was refused

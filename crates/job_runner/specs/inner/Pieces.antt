@@ -1,4 +1,4 @@
--- Pieces of a batch, each at the place of its chunk's number, as its jobs take them. This project's own.
+-- Pieces of a batch, each at the index of its chunk's number, as its jobs take them. This project's own.
 use Rattle.std.specs.Prelude.{◌≡◌, ℕ, List, [], ◌∷◌, ◌++◌, Option, Some, None, map, drop}
 use Rattle.csr_store.specs.Along.{along}
 use Rattle.csr_store.specs.Run.{Run}
@@ -6,7 +6,7 @@ use Rattle.job_plan.specs.Job.{Job}
 use Rattle.job_runner.specs.declared.piece.Piece.{Piece}
 use Rattle.job_runner.specs.Chunk.{chunk_total, run_in_job, steps_in_job, at_chunk}
 
--- what the piece at a place gives: its rows, and its steps
+-- what the piece at an index gives: its rows, and its steps
 abbrev pub given : Option Piece → Option (Run × ℕ)
 given None = None
 given (Some p) = Some (p.rows, p.steps)

@@ -17,9 +17,9 @@ use Rattle.job_runner.specs.Worked.{IsPieceOf}
 abbrev pub IsHolding : BoardState → ℕ → SeatState → Type 0
 IsHolding board chunk seat = IsSeatOf board seat × (seat.worker.state ≡ Holds chunk)
 
--- this was made for a chunk of the jobs
+-- this was computed for a chunk of the jobs
 abbrev pub IsMadeFor : List Job → ℕ → Chunk → Type 0
-IsMadeFor jobs chunk made = (chunk < length (plan_chunks jobs)) × IsMade (run_of jobs chunk) (calls_of jobs chunk) made
+IsMadeFor jobs chunk computed = (chunk < length (plan_chunks jobs)) × IsMade (run_of jobs chunk) (calls_of jobs chunk) computed
 
 -- the piece of this chunk is put behind others
 pub record Adds (jobs : List Job) (chunk steps : ℕ) (old new : List Piece) : Type 0 where
@@ -42,7 +42,7 @@ pub record IsFailed (board : BoardState) (jobs : List Job) (chunk steps : ℕ) (
     : Type 0 where
   pub own : IsSeatOf board new
   pub recorded : new.worker ≡ failed chunk steps old.worker
-  pub kept : after ≡ before
+  pub unchanged : after ≡ before
   pub charged : Charges (calls_of jobs chunk) 0 steps
 
 -- a turn that ends so

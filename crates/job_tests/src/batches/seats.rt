@@ -117,7 +117,7 @@ fn are_right(pieces: &[Piece]) -> bool {
 }
 
 /// Whether a worker ended well: all its steps are those of its pieces. One that failed a chunk may
-/// have made some of its calls, of three steps each.
+/// have run some of its calls, of three steps each.
 fn is_ended_well(worked: &Worked) -> bool {
     let mut steps = 0u64;
     for piece in &worked.pieces {
@@ -162,7 +162,7 @@ fn two_threads_with_a_seat_each(rt: HostRuntime) -> Result<(), Fail> {
     let (first, second) = work_both(&rt, rt.alloc(), task, first, second);
     assert!(rt; is_ended_well(&first.worked));
     assert!(rt; is_ended_well(&second.worked));
-    // There is room for both seats, so that these take no memory.
+    // There is capacity for both seats, so that these take no memory.
     seats.push(first.seat)?;
     seats.push(second.seat)?;
     assert!(rt; is_whole_or_refused(board.close(seats), &first.worked, &second.worked));

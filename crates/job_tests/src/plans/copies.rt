@@ -22,7 +22,7 @@ fn multiply(alloc: Global, queue: &mut Queue, left: &Version, right: &Version) -
     Ok(())
 }
 
-/// So many copies were made.
+/// So many copies exist.
 fn assert_copies(rt: &impl Abort, plan: &Plan, wanted: u64) {
     assert_count(rt, plan.copies().len() as u64, wanted);
 }

@@ -14,7 +14,7 @@ use Rattle.metered_session.specs.declared.streams.Served.{Served}
 abbrev pub beginning : PassState → Limits → Metered
 beginning pass limits = record { pass = pass; spent = 0; limits = limits }
 
--- The pass that a session leaves is the one that it was given, after its calls of this purse. What these spent is told, and is
+-- The pass that a session leaves is the one that it was given, after its calls of this purse. What these spent is reported, and is
 -- within the limits; nothing more is owed than before.
 pub record IsServedBy (purse : PurseState) (pass : PassState) (limits : Limits) (served : Served) : Type 0 where
   pub calls : List Dealing

@@ -4,7 +4,7 @@ use Rattle.step_purse.specs.Passes.{PurseState, IsPassOf}
 use Rattle.session.specs.Sessions.{full_session}
 use Rattle.listener.specs.declared.accepting.Ready.{Ready}
 
--- a pass of this purse, and a full room with so many workers, if there is any
+-- a pass of this purse, and a session with so many workers, if there is any
 abbrev pub IsReady : PurseState → (workers : ℕ) → Ready → Type 0
 IsReady purse workers ready =
-    IsPassOf purse ready.pass × IfSome ready.room (λ r. r ≡ full_session workers)
+    IsPassOf purse ready.pass × IfSome ready.session (λ r. r ≡ full_session workers)

@@ -39,7 +39,7 @@ width symmetric = if symmetric then 2 else 1
 pub record HasRoom (h : Header) (l : Listed) (more : ℕ) : Type 0 where
   pub rows_same : l.rows ≡ h.size.rows
   pub columns_same : l.columns ≡ h.size.columns
-  pub room : length l.entries + width h.banner.symmetric * more ≤ limit
+  pub capacity : length l.entries + width h.banner.symmetric * more ≤ limit
 
 -- a list took an entry inside its sizes and, in a symmetric matrix, its mirror
 pub record Takes (old : Listed) (symmetric : Bool) (f : Found) (new : Listed) : Type 0 where

@@ -1,5 +1,5 @@
 -- What every event of a race keeps, as equations between sums over its workers. This project's own.
--- `weigh f` adds up f of each worker, wherever their records are kept: in one list, or shared out among seats.
+-- `weigh f` adds up f of each worker, wherever their records are stored: in one list, or shared out among seats.
 use Rattle.std.specs.Prelude.{◌≡◌, ℕ, zero, suc, ◌+◌, ◌^◌, ◌<◌, ◌≤◌, List, [], ◌∷◌, length, slice_index, min}
 use Rattle.race_board.specs.declared.worker_state.WorkerState.{WorkerState}
 use Rattle.race_board.specs.declared.worker_state.WorkerState.TheVariants.{Free, Holds, Drained, Failed}
@@ -29,8 +29,8 @@ pub record IsBalanced (prices : List ℕ) (count spent : ℕ) (weigh : (Worker �
   -- each draw gave a chunk or told the end
   pub counted : weigh draws_of + weigh ends_of ≡ count
   pub steps : weigh steps_of ≡ spent
-  -- there is room for the prices that are held
-  pub room : spent + weigh (held_price prices) ≤ first_prices prices count
+  -- the prices that are held fit
+  pub capacity : spent + weigh (held_price prices) ≤ first_prices prices count
 
 abbrev pub IsTrueState : List ℕ → ℕ → WorkerState → Type 0
 IsTrueState prices count Free = Unit {0}

@@ -89,7 +89,7 @@ pub record Spoken {S : Type 0} (cut : Bool) (leads : S → Dealing → S → Typ
   pub text : List ℕ
   pub written : List ℕ
   pub consumed : Consumes old.stream.source.remaining new.stream.source.remaining read
-  pub told : new.stream.source.told_end ≡ (old.stream.source.told_end || ended)
+  pub ends : new.stream.source.told_end ≡ (old.stream.source.told_end || ended)
   pub at_end : ended ≡ true → IsAtEnd new.stream.source.remaining
   pub reads : new.stream.source.reads + new.stream.held.reads_left ≡ old.stream.source.reads + old.stream.held.reads_left
   pub failed_reads_are : new.stream.source.failures ≡ old.stream.source.failures + failed_reads

@@ -26,7 +26,7 @@ pub record Devices : Type 0 where
   pub source : SourceState
   pub sink : SinkState
 
--- a session of at most 2^32 reads and so many workers, within a purse of so many steps whose only pass had made no call
+-- a session of at most 2^32 reads and so many workers, within a purse of so many steps whose only pass had no call
 abbrev pub Spoke : (steps workers : ℕ) → Devices → Devices → Result End ServeFault → Type 0
 Spoke steps workers old new result =
     (first : PassState) × (last : PassState) × (first.allowance ≡ steps) × (first.known ≡ newcomer [] whole)
@@ -63,10 +63,10 @@ IsServed port sessions (Err failure) = MayFail port failure
 
 -- What settings ask for was done: one session of their steps and workers, over these two devices; or a server of theirs.
 abbrev pub IsDoneAs : Settings → Devices → Devices → Result Done Failure → Type 0
-IsDoneAs (Run steps workers idle log log_format log_every) old new told = IsRunOf steps workers old new told
+IsDoneAs (Run steps workers idle log log_format log_every) old new outcome = IsRunOf steps workers old new outcome
 IsDoneAs (Serve port steps workers sessions idle session_seconds min_rate session_steps session_reserve
-    log log_format log_every) old new told =
-    (new ≡ old) × IsServed port sessions told
+    log log_format log_every) old new outcome =
+    (new ≡ old) × IsServed port sessions outcome
 
 -- the version was written, or could not be
 abbrev pub IsVersionTold : Result Done Failure → Type 0
@@ -82,14 +82,14 @@ IsVersionTold (Err (failures.Listening fault)) = ⊥
 
 -- words that give no settings are answered with the version, where they ask for it, or else refused
 abbrev pub IsRefused : SettingsFault → Result Done Failure → Type 0
-IsRefused asked.Version told = IsVersionTold told
-IsRefused (asked.Words text) told = told ≡ Err (failures.Settings (asked.Words text))
-IsRefused asked.Memory told = told ≡ Err (failures.Settings asked.Memory)
+IsRefused asked.Version outcome = IsVersionTold outcome
+IsRefused (asked.Words text) outcome = outcome ≡ Err (failures.Settings (asked.Words text))
+IsRefused asked.Memory outcome = outcome ≡ Err (failures.Settings asked.Memory)
 
 -- What became of what the command line asks for, where the two devices are there for a session.
 abbrev pub IsAnswer : Result Settings SettingsFault → Devices → Devices → Result Done Failure → Type 0
-IsAnswer (Ok settings) old new told = IsDoneAs settings old new told
-IsAnswer (Err fault) old new told = (new ≡ old) × IsRefused fault told
+IsAnswer (Ok settings) old new outcome = IsDoneAs settings old new outcome
+IsAnswer (Err fault) old new outcome = (new ≡ old) × IsRefused fault outcome
 
 -- ---- without the devices, whose counts no caller sees
 
@@ -107,11 +107,11 @@ IsOfSession (Err (failures.Listening fault)) = ⊥
 
 -- how what the command line asks for may end
 abbrev pub MayEnd : Result Settings SettingsFault → Result Done Failure → Type 0
-MayEnd (Ok (Run steps workers idle log log_format log_every)) told = IsOfSession told
+MayEnd (Ok (Run steps workers idle log log_format log_every)) outcome = IsOfSession outcome
 MayEnd (Ok (Serve port steps workers sessions idle session_seconds min_rate session_steps session_reserve
-    log log_format log_every)) told =
-    IsServed port sessions told
-MayEnd (Err fault) told = IsRefused fault told
+    log log_format log_every)) outcome =
+    IsServed port sessions outcome
+MayEnd (Err fault) outcome = IsRefused fault outcome
 
 -- the cause of a device that failed, by what each noted
 abbrev pub cause_of : (unread unwritten : Option Cause) → ServeFault → Option Cause
@@ -130,7 +130,7 @@ explained unread unwritten (Err (failures.Output cause)) = Err (failures.Output 
 explained unread unwritten (Err (failures.Binding port cause)) = Err (failures.Binding port cause)
 explained unread unwritten (Err (failures.Listening fault)) = Err (failures.Listening fault)
 
--- how long a call of a standard stream may wait: as `run` was told
+-- how long a call of a standard stream may wait: as `run` was asked
 abbrev pub idle_in : Result Settings SettingsFault → Option ℕ
 idle_in (Ok (Run steps workers idle log log_format log_every)) = idle
 idle_in (Ok (Serve port steps workers sessions idle session_seconds min_rate session_steps session_reserve

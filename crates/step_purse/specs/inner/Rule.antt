@@ -9,7 +9,7 @@ use lib.Pointwise.{pointwise}
 use Rattle.step_purse.specs.declared.dealings.Totals.{Totals}
 use Rattle.step_purse.specs.declared.dealings.Reply.TheVariants.{NotEnough}
 use Rattle.step_purse.specs.declared.dealings.Dealing.{Dealing}
-use Rattle.step_purse.specs.declared.dealings.Dealing.TheVariants.{Reserved, Told}
+use Rattle.step_purse.specs.declared.dealings.Dealing.TheVariants.{Reserved, Observed}
 use Rattle.step_purse.specs.declared.views.View.{View}
 use Rattle.step_purse.specs.Plain.{opened, total, after_all, IsLegal}
 use Rattle.step_purse.specs.Shares.{no_share, both_shares, IsWhole}
@@ -41,7 +41,7 @@ abbrev pub AreSeen : List Dealing → List Dealing → List (ℕ × Dealing) →
 AreSeen seen beside [] = Unit {0}
 AreSeen seen beside (c ∷ cs) = ((c.0 < length seen) ⊎ (c.0 < length beside)) × AreSeen seen beside cs
 
--- the one view that a pass leaves when it is joined to another: it has made no call, owes nothing and has no share
+-- the one view that a pass leaves when it is joined to another: it has no call, owes nothing and has no share
 abbrev pub left_behind : View
 left_behind = idle 0 [] no_share
 
@@ -76,7 +76,7 @@ pub record IsOpened (allowance : ℕ) (words : List ℕ) (views : List View) : T
   pub small : allowance ≤ 2 ^ 62
   pub legal : IsLegal (opened allowance) history
   pub now : words ≡ words_of allowance (after_all (opened allowance) history)
-  pub once : (place : ℕ) → total_of (λ (v : View). times_at place v.known.calls) views ≡ once_below place (length history)
+  pub once : (index : ℕ) → total_of (λ (v : View). times_at index v.known.calls) views ≡ once_below index (length history)
   pub owed : total_of (λ (v : View). v.known.owes) views ≡ (after_all (opened allowance) history).reserved
   pub shares : AreWhole views
   pub knows : (id : ℕ) (v : View) → get_elem? views id ≡ some v → Fits allowance history v
@@ -108,7 +108,7 @@ exchanged expected call v x y w =
 -- Read: a load is a call of `totals`. Where the pass has the whole share, it owes what is reserved
 abbrev pub counted : View → List ℕ → List ℕ → View → Type 0
 counted v x y w =
-    AddsUp v.allowance x × SameBut v w × Makes v.allowance v.known (Told (totals_in v.allowance x)) w.known
+    AddsUp v.allowance x × SameBut v w × Makes v.allowance v.known (Observed (totals_in v.allowance x)) w.known
     × (IsWhole v.known.share → slice_index x 1 ≡ v.known.owes)
 
 -- Look: a load before a try of `settle`

@@ -9,7 +9,7 @@ use Rattle.step_purse.specs.declared.views.View.{View}
 use Rattle.step_purse.specs.Histories.{Makes}
 use Rattle.step_purse.specs.Seats.{IsSeatOf}
 
--- a seat at this cell made the call, and is one at it still
+-- a seat at this cell called, and is one at it still
 abbrev pub CallsAt : Account → Seat (List ℕ) (Doing (List ℕ) View) → Dealing → Seat (List ℕ) (Doing (List ℕ) View)
     → Type 0
 CallsAt account old call new =

@@ -27,7 +27,7 @@ fn work(alloc: Global, board: &Board, seat: BoardSeat) -> Result<Worked, AllocEr
     requires ready { MayDrawAt board.now seat × (seat.worker.done ≡ []) }
     requires prices { All (λ p. p ≡ 7) board.now.prices }
     ensures own { IfOk result (λ r. IsSeatOf board.now r.0) }
-    ensures told { IfOk result (λ r. IsDrained r.0.worker) }
+    ensures drained { IfOk result (λ r. IsDrained r.0.worker) }
     ensures same { IfOk result (λ r. r.0.worker.done ≡ r.1.items) }
     ensures cost { IfOk result (λ r. CostJust (λ c. c % 7) r.1.items) }
 {
@@ -50,12 +50,12 @@ fn join(
     results: Vec<Result<Worked, AllocError>>,
 ) -> Result<(Vec<BoardSeat>, Vec<(u64, u64)>), AllocError>
     requires own { All (λ r. IfOk r (λ w. IsSeatOf board.now w.0)) results.items }
-    requires told { All (λ r. IfOk r (λ w. IsDrained w.0.worker)) results.items }
+    requires drained { All (λ r. IfOk r (λ w. IsDrained w.0.worker)) results.items }
     requires same { All (λ r. IfOk r (λ w. w.0.worker.done ≡ w.1.items)) results.items }
     requires cost { All (λ r. IfOk r (λ w. CostJust (λ c. c % 7) w.1.items)) results.items }
     ensures many { IfOk result (λ r. vec_len r.0 ≡ vec_len results) }
     ensures own { IfOk result (λ r. All (IsSeatOf board.now) r.0.items) }
-    ensures told { IfOk result (λ r. All (λ s. IsDrained s.worker) r.0.items) }
+    ensures drained { IfOk result (λ r. All (λ s. IsDrained s.worker) r.0.items) }
     ensures joined { IfOk result (λ r. completed_by (workers_of r.0.items) ≡ r.1.items) }
     ensures cost { IfOk result (λ r. CostJust (λ c. c % 7) r.1.items) }
 {
@@ -94,7 +94,7 @@ fn race<R: Threads + Sync>(
             requires ready { MayDrawAt board seat × (seat.worker.done ≡ []) }
             requires prices { All (λ p. p ≡ 7) board.prices }
             ensures own { IfOk result (λ r. IsSeatOf board r.0) }
-            ensures told { IfOk result (λ r. IsDrained r.0.worker) }
+            ensures drained { IfOk result (λ r. IsDrained r.0.worker) }
             ensures same { IfOk result (λ r. r.0.worker.done ≡ r.1.items) }
             ensures cost { IfOk result (λ r. CostJust (λ c. c % 7) r.1.items) }
         { work(alloc, &board, seat) },

@@ -21,5 +21,5 @@ IsGot (Err failed) old new = (new.held ≡ old.held) × Keeps old.source.remaini
 pub record IsCounted {A E : Type 0} (result : Result A E) (old new : Stream) : Type 0 where
   pub reads : new.source.reads ≡ old.source.reads + 1
   pub failures : new.source.failures ≡ old.source.failures + failures_in result
-  pub told : new.source.told_end ≡ (old.source.told_end || (new.held.ended && not old.held.ended))
+  pub ends : new.source.told_end ≡ (old.source.told_end || (new.held.ended && not old.held.ended))
   pub left : new.held.reads_left ≡ old.held.reads_left

@@ -5,12 +5,12 @@ use Rattle.wire.specs.Fetching.{IsBody}
 use Rattle.wire.specs.declared.fault.ReadFault.{ReadFault}
 use Rattle.wire.specs.declared.fetch.Body.{Body}
 use Rattle.wire.specs.declared.fetch.Body.TheVariants as bodies
-use Rattle.wire.specs.declared.fetch.Kept.{Kept}
-use Rattle.wire.specs.declared.fetch.Kept.TheVariants.{Whole, Full, Cut}
+use Rattle.wire.specs.declared.fetch.Received.{Received}
+use Rattle.wire.specs.declared.fetch.Received.TheVariants.{Whole, Full, Cut}
 
 -- What all the bytes after the first part of a body are: the rest of the body, and what is left after it; or less than that,
 -- of which so many are a body's with the first part, and nothing is left.
-abbrev pub IsKept : ℕ → List ℕ → Result Kept ReadFault → InputState → List ℕ → Type 0
+abbrev pub IsKept : ℕ → List ℕ → Result Received ReadFault → InputState → List ℕ → Type 0
 IsKept len first (Ok (Whole body)) new bytes = IsBody len (Ok (bodies.Whole body)) new (first ++ bytes)
 IsKept len first (Ok (Full came)) new bytes =
     (length (first ++ bytes) ≡ came) × ((came < len) × ((new.bytes ≡ []) × (new.ended ≡ false)))

@@ -85,10 +85,10 @@ returns-in-Err-clause-taken g c s taken asked range =
     let program_is = sym c.in_ok-program.ensures in
     c.fault_of.ensures.memory (c.in-Err.ensures.passes (subst (λ (a : App). takes a words ≡ true) program_is taken))
 
-pub returns-in-Err-clause-told : goal.returns-in-Err-clause-told
-returns-in-Err-clause-told g c was =
+pub returns-in-Err-clause-version_asked : goal.returns-in-Err-clause-version_asked
+returns-in-Err-clause-version_asked g c was =
     may_ask _ (map g.S.AsStr.text c.args.words.now) c.in_ok-program.ensures _
-    (c.in-Err.ensures.kinds (simple _ c.in_ok-program.ensures)) (c.fault_of.ensures.told (let e = was in cc))
+    (c.in-Err.ensures.kinds (simple _ c.in_ok-program.ensures)) (c.fault_of.ensures.version_asked (let e = was in cc))
 
 pub returns-in-Err-clause-version : goal.returns-in-Err-clause-version
 returns-in-Err-clause-version g c asks other =

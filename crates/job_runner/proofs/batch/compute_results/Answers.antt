@@ -10,13 +10,13 @@ use Rattle.job_runner.proofs.Racing.{gathered_whole, one_race, whole_rows, whole
 use Rattle.job_runner.proofs.batch.compute_results.Given as given
 use Rattle.job_runner.proofs.batch.compute_results.Goals as goal
 
-pub work_all-outputs-requires-clause-room : goal.work_all-outputs-requires-clause-room
-work_all-outputs-requires-clause-room g c κs within =
-    let room = c.in_ok-outputs.ensures.room.1 in
+pub work_all-outputs-requires-clause-capacity : goal.work_all-outputs-requires-clause-capacity
+work_all-outputs-requires-clause-capacity g c κs within =
+    let capacity = c.in_ok-outputs.ensures.capacity.1 in
     let seats = c.in_ok-board.ensures.board.2 in
     record {
-      none = c.in_ok-outputs.ensures.room.0;
-      room = omega (arith, room, seats);
+      none = c.in_ok-outputs.ensures.capacity.0;
+      capacity = omega (arith, capacity, seats);
       outputs = c.in_ok-outputs.ensures.outputs c.in_ok-board.board;
     }
 

@@ -9,5 +9,5 @@ returns g c =
       raced = is.raced;
       spent = is.spent;
       thread = is.thread;
-      told = is.told;
+      reported = is.reported;
     }

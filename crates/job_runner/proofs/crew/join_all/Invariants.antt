@@ -6,7 +6,7 @@ use Rattle.job_runner.proofs.crew.join_all.Given as goal
 abbrev pub invariant-loop-handle : goal.invariant-loop-handle
 invariant-loop-handle g l = record {
   promised : AllByRecursion (λ h. h.promise ≡ l.task) l.handles.items;
-  room : vec_len l.outputs.seats + vec_len l.handles ≤ vec_capacity l.outputs.seats;
+  capacity : vec_len l.outputs.seats + vec_len l.handles ≤ vec_capacity l.outputs.seats;
   outputs : AreWorkerOutputs l.task.board.now l.task.plan.now l.outputs;
   len : vec_len l.outputs.seats + vec_len l.handles ≡ vec_len l.fn.outputs.seats + vec_len l.fn.handles;
 }

@@ -20,7 +20,7 @@ loop-seat-preserved-after-spawn_with-2 g c =
         promised = all_pushed _ _ c.loop-seat.handles.items c.match-spawn_with.handles.items w.in-Ok.handle
             (ap vec_items w.handles-is ∙ w.push.ensures.items) i.promised w.in-Ok.ensures.ok;
         some = grind (arith, common_steps);
-        room = grind (arith, common_steps);
+        capacity = grind (arith, common_steps);
         all = grind (arith, common_steps);
         refused = grind (arith, common_steps);
       }
@@ -31,7 +31,7 @@ loop-seat-preserved-after-spawn_with-2 g c =
             (subst (All (λ (s : SeatState). s.worker.done ≡ [])) e i.fresh);
         promised = all_same _ c.loop-seat.handles.items c.match-spawn_with.handles.items (ap vec_items w.handles-is) i.promised;
         some = grind (arith, common_steps);
-        room = grind (arith, common_steps);
+        capacity = grind (arith, common_steps);
         all = grind (arith, common_steps);
         refused = grind (arith, common_steps);
       }

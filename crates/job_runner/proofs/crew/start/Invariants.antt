@@ -10,7 +10,7 @@ invariant-loop-seat g l = record {
   fresh : All (λ (s : SeatState). s.worker.done ≡ []) l.seats.items;
   promised : AllByRecursion (λ h. h.promise ≡ l.task) l.handles.items;
   some : vec_len l.handles + vec_len l.seats ≤ vec_len l.fn.seats;
-  room : vec_len l.handles + vec_len l.seats ≤ vec_capacity l.handles;
+  capacity : vec_len l.handles + vec_len l.seats ≤ vec_capacity l.handles;
   all : l.refused ≡ false → vec_len l.handles + vec_len l.seats ≡ vec_len l.fn.seats;
   refused : l.refused ≡ true → 0 < vec_len l.fn.seats;
 }

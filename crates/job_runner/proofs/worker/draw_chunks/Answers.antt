@@ -47,9 +47,9 @@ overflow_add-spent g c =
     let just = c.in-Completed.ensures.just in
     let listed = chunk_listed jobs chunk c.args.task.board.now.prices c.requires.prices c.in-Some.ensures.chunk.0 in
     let below = above_next c.loop-chunk.seat.worker c.loop-chunk.for_proof_next chunk i.drawn c.in-Some.ensures.above in
-    let room = room_of jobs c.loop-chunk.for_proof_next chunk c.loop-chunk.spent c.in-Completed.steps plan.cover plan.priced
+    let capacity = room_of jobs c.loop-chunk.for_proof_next chunk c.loop-chunk.spent c.in-Completed.steps plan.cover plan.priced
     plan.within plan.few (chunk_there jobs chunk listed) i.most below (omega (arith, just)) in
-    omega (arith, room)
+    omega (arith, capacity)
 
 pub overflow_add-result : goal.overflow_add-result
 overflow_add-result g c =
@@ -60,9 +60,9 @@ overflow_add-result g c =
     let most = charged-chunk jobs chunk c.in-Failed.steps c.in-Failed.ensures.charged in
     let listed = chunk_listed jobs chunk c.args.task.board.now.prices c.requires.prices c.in-Some.ensures.chunk.0 in
     let below = above_next c.loop-chunk.seat.worker c.loop-chunk.for_proof_next chunk i.drawn c.in-Some.ensures.above in
-    let room = room_of jobs c.loop-chunk.for_proof_next chunk c.loop-chunk.spent c.in-Failed.steps plan.cover plan.priced
+    let capacity = room_of jobs c.loop-chunk.for_proof_next chunk c.loop-chunk.spent c.in-Failed.steps plan.cover plan.priced
     plan.within plan.few (chunk_there jobs chunk listed) i.most below (omega (arith, most)) in
-    omega (arith, room)
+    omega (arith, capacity)
 
 pub returns-in-Failed : goal.returns-in-Failed
 returns-in-Failed g c =
@@ -78,8 +78,8 @@ returns-in-Failed g c =
       own = record_chunk.own;
       number = ap (λ (w : Worker). w.number) fails ∙ (ap (λ (w : Worker). w.number) drew ∙ i.number);
       gained = ap (λ (w : Worker). w.done) fails ∙ ap (λ (w : Worker). w.done) drew ∙ i.gained
-          ∙ ap (λ ps. c.args.seat.now.worker.done ++ recorded ps) (sym record_chunk.kept);
-      pieces = subst (AllByRecursion (IsPieceOf jobs)) (sym record_chunk.kept) i.right;
+          ∙ ap (λ ps. c.args.seat.now.worker.done ++ recorded ps) (sym record_chunk.unchanged);
+      pieces = subst (AllByRecursion (IsPieceOf jobs)) (sym record_chunk.unchanged) i.right;
       stands = (chunk, steps, ap (λ (w : Worker). w.state) fails, chunk_there jobs chunk listed, record_chunk.charged);
       spent =
           let s = fail_steps c.loop-chunk.seat.worker c.draw.new.seat.worker c.record_chunk.new.seat.worker chunk steps i.free drew fails in

@@ -10,8 +10,8 @@ complete-requires-clause-price c =
     let jobs = c.args.task.plan.now in
     let chunk = c.args.chunk in
     let steps = c.args.computed.steps in
-    let made = c.requires.made.1 in
-    price_there jobs chunk steps c.args.task.board.now.prices c.requires.prices c.recall.ensures.within c.requires.made.0
+    let made = c.requires.computed.1 in
+    price_there jobs chunk steps c.args.task.board.now.prices c.requires.prices c.recall.ensures.within c.requires.computed.0
     (chunk_at_most jobs chunk steps c.args.computed.result made.steps made.spent)
 
 pub fail-requires-clause-price : goal.fail-requires-clause-price
@@ -19,15 +19,15 @@ fail-requires-clause-price c =
     let jobs = c.args.task.plan.now in
     let chunk = c.args.chunk in
     let steps = c.args.computed.steps in
-    let made = c.requires.made.1 in
-    price_there jobs chunk steps c.args.task.board.now.prices c.requires.prices c.recall.ensures.within c.requires.made.0
+    let made = c.requires.computed.1 in
+    price_there jobs chunk steps c.args.task.board.now.prices c.requires.prices c.recall.ensures.within c.requires.computed.0
     (chunk_at_most jobs chunk steps c.args.computed.result made.steps made.spent)
 
 pub returns-in-Ok : goal.returns-in-Ok
 returns-in-Ok c =
     let jobs = c.args.task.plan.now in
     let chunk = c.args.chunk in
-    let made = c.requires.made.1 in
+    let made = c.requires.computed.1 in
     let put = c.in-Ok.ensures.put in
     let rows = rw put.1 at made.rows in
     let all = rw put.1 at made.steps in
@@ -37,7 +37,7 @@ returns-in-Ok c =
       recorded = c.complete.ensures.completed;
       put = record {
         piece = record { chunk = chunk; rows = put.0; steps = c.args.computed.steps };
-        right = record { there = chunk_there jobs chunk c.requires.made.0; rows = rows; steps = just };
+        right = record { there = chunk_there jobs chunk c.requires.computed.0; rows = rows; steps = just };
         chunk_is = refl;
         steps_is = refl;
         put = put.2;
@@ -49,10 +49,10 @@ pub returns-in-Err : goal.returns-in-Err
 returns-in-Err c =
     let jobs = c.args.task.plan.now in
     let chunk = c.args.chunk in
-    let made = c.requires.made.1 in
+    let made = c.requires.computed.1 in
     record {
       own = c.fail.ensures.own;
       recorded = c.fail.ensures.failed;
-      kept = c.in-Err.ensures.kept;
+      unchanged = c.in-Err.ensures.unchanged;
       charged = charged_chunk (calls_of jobs chunk) c.args.computed.steps c.args.computed.result made.steps made.spent;
     }

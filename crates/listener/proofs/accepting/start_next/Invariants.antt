@@ -9,6 +9,6 @@ invariant-loop g l = record {
   finite : (goal.iterator-loop g).is_finite l.iterator';
   own : IsPassOf l.server.purse.now l.pass;
   accepted : (g.E.Acceptor.state l.fn.acceptor).accepted ≤ (g.E.Acceptor.state l.acceptor).accepted;
-  full : IfSome l.room (λ r. r ≡ full_session l.server.terms.workers);
+  full : IfSome l.session (λ r. r ≡ full_session l.server.terms.workers);
   failures : (g.E.Acceptor.state l.acceptor).failures ≡ (g.E.Acceptor.state l.fn.acceptor).failures;
 }

@@ -36,7 +36,7 @@ pub returns-in-Err-clause-read : goal.returns-in-Err-clause-read
 returns-in-Err-clause-read c =
     let adds = adds_run c.args.header (nothing c.args.header) c.loop-given.list c.gather_run.new.list c.args.start.rest.now c.loop-given.cursor.rest.now c.cursor_behind-cursor.result.rest.now c.args.start.at c.loop-given.cursor.at c.cursor_behind-cursor.result.at
     c.loop-given.given c.in_ok-run.run'.given c.in_ok-run.run'.next c.loop-given.invariant.adds c.in_ok-run.ensures.added c.cursor_behind-cursor.ensures.rest c.cursor_behind-cursor.ensures.at in
-    let kept = on_err (c.gather_line.new.list ≡ c.gather_run.new.list) c.in_ok-behind.field-0 c.in-Err.fault c.in-Err.is c.in_ok-behind.ensures.kept in
+    let kept = on_err (c.gather_line.new.list ≡ c.gather_run.new.list) c.in_ok-behind.field-0 c.in-Err.fault c.in-Err.is c.in_ok-behind.ensures.unchanged in
     record {
       given = c.loop-given.given + c.in_ok-run.run'.given;
       few = omega arith;
@@ -45,17 +45,17 @@ returns-in-Err-clause-read c =
       adds = subst (λ (x : Listed). Adds c.args.header (nothing c.args.header) x c.args.start.rest.now c.args.start.at (c.loop-given.given + c.in_ok-run.run'.given) c.cursor_behind-cursor.result.rest.now c.cursor_behind-cursor.result.at) (sym kept) adds;
     }
 
-pub returns-in-Err-clause-told : goal.returns-in-Err-clause-told
-returns-in-Err-clause-told c =
+pub returns-in-Err-clause-reported : goal.returns-in-Err-clause-reported
+returns-in-Err-clause-reported c =
     let adds = adds_run c.args.header (nothing c.args.header) c.loop-given.list c.gather_run.new.list c.args.start.rest.now c.loop-given.cursor.rest.now c.cursor_behind-cursor.result.rest.now c.args.start.at c.loop-given.cursor.at c.cursor_behind-cursor.result.at
     c.loop-given.given c.in_ok-run.run'.given c.in_ok-run.run'.next c.loop-given.invariant.adds c.in_ok-run.ensures.added c.cursor_behind-cursor.ensures.rest c.cursor_behind-cursor.ensures.at in
-    let kept = on_err (c.gather_line.new.list ≡ c.gather_run.new.list) c.in_ok-behind.field-0 c.in-Err.fault c.in-Err.is c.in_ok-behind.ensures.kept in
+    let kept = on_err (c.gather_line.new.list ≡ c.gather_run.new.list) c.in_ok-behind.field-0 c.in-Err.fault c.in-Err.is c.in_ok-behind.ensures.unchanged in
     let all = subst (λ (x : Listed). Adds c.args.header (nothing c.args.header) x c.args.start.rest.now c.args.start.at (c.loop-given.given + c.in_ok-run.run'.given) c.cursor_behind-cursor.result.rest.now c.cursor_behind-cursor.result.at) (sym kept) adds in
     tells_fault c.args.header c.args.start c.cursor_behind-cursor.result c.gather_line.new.list (c.loop-given.given + c.in_ok-run.run'.given) c.in-Err.fault all (omega arith)
     (err_case (IsFaultAt c.args.header c.cursor_behind-cursor.result) c.in_ok-behind.field-0 c.in-Err.fault c.in-Err.is c.in_ok-behind.ensures.fault)
 
-pub returns-clause-told : goal.returns-clause-told
-returns-clause-told c =
+pub returns-clause-reported : goal.returns-clause-reported
+returns-clause-reported c =
     let few = c.loop-given.invariant.few in
     tells_end c.args.header c.args.start c.loop-given.cursor c.loop-given.list c.loop-given.given c.fault_behind.result c.loop-given.invariant.adds (omega arith) c.fault_behind.ensures
 

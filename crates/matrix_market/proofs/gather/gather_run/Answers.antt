@@ -20,7 +20,7 @@ loop-given-preserved c =
       within = omega arith;
     }
 
-pub push_entry-requires-clause-room : goal.push_entry-requires-clause-room
-push_entry-requires-clause-room c =
+pub push_entry-requires-clause-capacity : goal.push_entry-requires-clause-capacity
+push_entry-requires-clause-capacity c =
     let old = c.loop-given in
     room_behind c.args.header c.args.list.now old.list c.args.rest.now (drop old.next c.args.rest.now) 0 old.given old.given c.args.most 1 c.requires old.invariant.adds (let t = c.loop-given-test.true in omega arith)

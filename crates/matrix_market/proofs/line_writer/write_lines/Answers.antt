@@ -9,6 +9,6 @@ loop-left-init c = record {
   few = omega arith;
   above = let f = c.requires.few in omega arith;
   within = omega arith;
-  written = drop_all 2576 c.args.room.now (omega arith)
+  written = drop_all 2576 c.args.buffer.now (omega arith)
       ∙ sym (ap (λ (cs : List Cell). entry_lines (at_row c.args.label.now.row cs)) (drop_all (length c.args.cells.now) c.args.cells.now (omega arith)));
 }

@@ -8,7 +8,7 @@ invariant-loop-left l = record {
   few : l.left ≤ length l.cells;
   above : l.left * 40 + 16 ≤ l.start;
   within : l.start ≤ 2576;
-  written : drop l.start l.room ≡ entry_lines (at_row l.label.row (drop l.left l.cells));
+  written : drop l.start l.buffer ≡ entry_lines (at_row l.label.row (drop l.left l.cells));
 }
 
 abbrev pub decreases-loop-left : goal.decreases-loop-left

@@ -18,15 +18,15 @@ returns-then-word-clause-start c =
 
 pub returns-then-word-clause-written : goal.returns-then-word-clause-written
 returns-then-word-clause-written c =
-    c.write_digits.ensures.written ∙ ap (λ t. t ++ drop c.args.end c.args.room.now) (sym (value_text_low c.args.word c.if-word.true))
+    c.write_digits.ensures.written ∙ ap (λ t. t ++ drop c.args.end c.args.buffer.now) (sym (value_text_low c.args.word c.if-word.true))
 
 pub write_digits-start-requires : goal.write_digits-start-requires
 write_digits-start-requires c =
     let n = negated c.args.word c.wrapping_neg.result c.wrapping_neg.type_inv c.if-word.false (omega arith) c.wrapping_neg.ensures in
     let few = length-decimal-le 19 c.wrapping_neg.result (omega arith) (omega arith) (omega arith) in (omega arith, omega arith)
 
-pub overflow_sub-room : goal.overflow_sub-room
-overflow_sub-room c =
+pub overflow_sub-buffer : goal.overflow_sub-buffer
+overflow_sub-buffer c =
     let n = negated c.args.word c.wrapping_neg.result c.wrapping_neg.type_inv c.if-word.false (omega arith) c.wrapping_neg.ensures in
     let few = length-decimal-le 19 c.wrapping_neg.result (omega arith) (omega arith) (omega arith) in omega arith
 
@@ -49,5 +49,5 @@ returns-clause-written c =
     drop-set w.new.buf (w.result - 1) 45 (omega arith)
     ∙ ap (λ k. 45 ∷ drop k w.new.buf) next
     ∙ ap (λ t. 45 ∷ t) w.ensures.written
-    ∙ ap (λ k. 45 ∷ (decimal k ++ drop c.args.end c.args.room.now)) n
-    ∙ ap (λ t. t ++ drop c.args.end c.args.room.now) (sym (value_text_high c.args.word c.if-word.false (omega arith)))
+    ∙ ap (λ k. 45 ∷ (decimal k ++ drop c.args.end c.args.buffer.now)) n
+    ∙ ap (λ t. t ++ drop c.args.end c.args.buffer.now) (sym (value_text_high c.args.word c.if-word.false (omega arith)))

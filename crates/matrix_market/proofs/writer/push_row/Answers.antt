@@ -16,8 +16,8 @@ loop-left-preserved c =
     let rest = entry_lines (at_row row later) in
     let written = c.write_lines-start.ensures.written ∙ ap (λ r. entry_lines (at_row r now)) c.label_of-label.ensures in
     let start = c.write_lines-start.result in
-    let room = c.write_lines-start.new.room in
-    let behind : take (2576 - start) (drop start room) ≡ drop start room = take_all (2576 - start) (drop start room) (omega (arith, length-drop start room)) in
+    let buffer = c.write_lines-start.new.buffer in
+    let behind : take (2576 - start) (drop start buffer) ≡ drop start buffer = take_all (2576 - start) (drop start buffer) (omega (arith, length-drop start buffer)) in
     let added = c.in_ok-extend_from_slice.ensures.items ∙ ap (λ t. out ++ t) (behind ∙ written) in
     let cut = lines_cut row c.min.result c.loop-left.left.now now later c.split_at.ensures.front c.split_at.ensures.back in
     record {

@@ -11,8 +11,8 @@ returns-clause-recorded c = λ board workers totals closing. closed_recorded (le
 pub returns-clause-steps : goal.returns-clause-steps
 returns-clause-steps c = recorded_steps
 
-pub returns-clause-told : goal.returns-clause-told
-returns-clause-told c = recorded_completed
+pub returns-clause-drained : goal.returns-clause-drained
+returns-clause-drained c = recorded_completed
 
 pub returns-clause-within : goal.returns-clause-within
 returns-clause-within c = λ board workers totals closing. recorded_within board.prices workers closing.within

@@ -3,8 +3,8 @@ use Rattle.command_text.specs.ReplyText.{whole}
 use Rattle.wire.specs.Sending.{Sent}
 use Rattle.session.proofs.answering.respond_and_say.Goals as goal
 
-pub returns-in-Ok-clause-told : goal.returns-in-Ok-clause-told
-returns-in-Ok-clause-told g c =
+pub returns-in-Ok-clause-reported : goal.returns-in-Ok-clause-reported
+returns-in-Ok-clause-reported g c =
     let turn = c.respond-end.ensures.turn in
     let said = whole c.respond-end.new.bench.reply in (
       turn.0,
@@ -16,8 +16,8 @@ returns-in-Ok-clause-told g c =
       λ e q. c.in-Ok.ensures.none (c.is_some.ensures ∙ ap is_some q),
     )
 
-pub returns-in-Err-clause-told : goal.returns-in-Err-clause-told
-returns-in-Err-clause-told g c =
+pub returns-in-Err-clause-reported : goal.returns-in-Err-clause-reported
+returns-in-Err-clause-reported g c =
     let turn = c.respond-end.ensures.turn in
     let said = whole c.respond-end.new.bench.reply in (
       turn.0,

@@ -25,7 +25,7 @@ pub returns-in-Ok-Over-clause-exchanged : goal.returns-in-Ok-Over-clause-exchang
 returns-in-Ok-Over-clause-exchanged g c =
     exchanged_answered g.T.Steps.leads next _ _ _ _ _ (h.Stopped LineTooLong) (heard_over _ _ c.receive_line.new.line.items c.in-Ok-Over.field-0 c.in-Ok-Over.field-0-is c.in-Ok-Over.ensures.received.0)
     c.in-Ok-Over.ensures.received.1
-    c.respond_and_say.result c.respond_and_say.ensures.told
+    c.respond_and_say.result c.respond_and_say.ensures.reported
 
 pub returns-in-Ok-Over-clause-less : goal.returns-in-Ok-Over-clause-less
 returns-in-Ok-Over-clause-less g c =
@@ -35,7 +35,7 @@ returns-in-Ok-Over-clause-less g c =
       state = state_of c.args.desk.now.bench.workspace;
     } in
     let now = touched_at c.respond_and_say.new.bench (g.W.Sink.state c.respond_and_say.new.writer) c.respond_and_say.new.steps in
-    λ e. absurd (told_stopped g.T.Steps.leads was now LineTooLong (subst (λ r. Tells g.T.Steps.leads was now (h.Stopped LineTooLong) r) e c.respond_and_say.ensures.told))
+    λ e. absurd (told_stopped g.T.Steps.leads was now LineTooLong (subst (λ r. Tells g.T.Steps.leads was now (h.Stopped LineTooLong) r) e c.respond_and_say.ensures.reported))
 
 pub returns-in-Ok-clause-exchanged : goal.returns-in-Ok-clause-exchanged
 returns-in-Ok-clause-exchanged g c =

@@ -3,4 +3,4 @@ use Rattle.race_board.specs.Race.{IsSeatOf}
 use Rattle.thread_tests.proofs.boards.draw_each.Given as goal
 
 abbrev pub invariant-loop-seat : goal.invariant-loop-seat
-invariant-loop-seat l = All (IsSeatOf l.board) l.told.items
+invariant-loop-seat l = All (IsSeatOf l.board) l.drained.items

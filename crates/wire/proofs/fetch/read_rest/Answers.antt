@@ -4,7 +4,7 @@ use Rattle.wire.specs.Fetching.{IsBody}
 use Rattle.wire.specs.inner.Keeping.{IsKept, IsSkipped}
 use Rattle.wire.specs.declared.fault.ReadFault.{ReadFault}
 use Rattle.wire.specs.declared.fetch.Body.{Body}
-use Rattle.wire.specs.declared.fetch.Kept.TheVariants.{Full}
+use Rattle.wire.specs.declared.fetch.Received.TheVariants.{Full}
 use Rattle.wire.proofs.Fetching.{fetched_on}
 use Rattle.wire.proofs.Gathering.{skipped_behind}
 use Rattle.wire.proofs.fetch.read_rest.Goals as goal

@@ -38,5 +38,5 @@ reading-preserved g c =
     record {
       fetched = fetched_on 0 0 _ _ _ (IsPart c.args.count (c.reading.missing - part) q.bytes) (λ bytes. n.bytes ≡ bytes) (IsPart c.args.count (c.reading.missing - part) n.bytes) f more refl
           (λ bytes p. part_read c.args.count (c.reading.missing - part) q.bytes bytes p more.got n.bytes more.holds);
-      bounded = let k = c.in-Ok.ensures.spent.1 in let l = c.reading.invariant.bounded in let m = c.fill.ensures.room in let e = ap (λ (h : InputState). h.reads_left) c.take.ensures in omega arith;
+      bounded = let k = c.in-Ok.ensures.spent.1 in let l = c.reading.invariant.bounded in let m = c.fill.ensures.capacity in let e = ap (λ (h : InputState). h.reads_left) c.take.ensures in omega arith;
     }

@@ -24,9 +24,9 @@ returns-clause-steps c =
 pub returns-clause-empty : goal.returns-clause-empty
 returns-clause-empty c = ap (λ (cells : List Cell). fold sub (map (λ (c : Cell). c.1) cells)) (in_row 2 3 of_three 1 refl)
 
-pub returns-clause-kept : goal.returns-clause-kept
+pub returns-clause-selected : goal.returns-clause-selected
 unfolding value_of
-returns-clause-kept c = ap (selected on_diagonal 0 (0, 0)) (at_place 1 2 of_two (0, 0))
+returns-clause-selected c = ap (selected on_diagonal 0 (0, 0)) (at_place 1 2 of_two (0, 0))
 
 pub returns-clause-dropped : goal.returns-clause-dropped
 unfolding value_of

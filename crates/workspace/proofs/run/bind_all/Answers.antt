@@ -43,7 +43,7 @@ loop-job-preserved c =
       can_next = search rules;
       is_finite = search rules;
       same = let l = ap length turn.0 in let k = turn.2 in let i = c.loop-job.invariant.same in omega arith;
-      declared = declared_behind m n c.bind.ensures.kept c.in-Some.job.now (iter_rest (zip_first s)) (iter_rest (zip_first t)) turn.0 c.loop-job.invariant.declared;
+      declared = declared_behind m n c.bind.ensures.unchanged c.in-Some.job.now (iter_rest (zip_first s)) (iter_rest (zip_first t)) turn.0 c.loop-job.invariant.declared;
       bound =
           next_bound m n c.in-Some.job.now (iter_rest (zip_first s)) (iter_rest (zip_first t)) c.in-Some.result (into_iter_items (zip_second s)) (into_iter_items (zip_second t)) turn.0 turn.1
           (λ other. rw (c.output.ensures ∙ ap (λ (j : Job). j.output) c.job.ensures.job) at (c.bind.ensures.bound other))

@@ -6,6 +6,6 @@ use Rattle.workspace.proofs.run.declare_outputs.Given as goal
 
 abbrev pub invariant-loop-job : goal.invariant-loop-job
 invariant-loop-job l = record {
-  made : (k : ℕ) → k < l.job-index → (d : Job) → IsTrue (is_declared l.matrices.declared (get_or l.jobs k d).output);
+  declared : (k : ℕ) → k < l.job-index → (d : Job) → IsTrue (is_declared l.matrices.declared (get_or l.jobs k d).output);
   same : (name : List ℕ) → value_at l.matrices.declared name ≡ value_at l.fn.matrices.declared name;
 }

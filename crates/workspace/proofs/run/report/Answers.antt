@@ -50,7 +50,7 @@ loop-job-init c =
           (ap (λ (r : ReplyText). r.line) c.begin_run.ensures.text) refl c.requires.same first second;
       named = subst AreNamed (sym first) c.requires.named;
       bare = ap (λ (r : ReplyText). r.text) c.begin_run.ensures.text;
-      room = let n = ap length first in let few = c.requires.few in let short = c.begin_run.ensures.short in omega arith;
+      capacity = let n = ap length first in let few = c.requires.few in let short = c.begin_run.ensures.short in omega arith;
     }
 
 pub returns : goal.returns
@@ -77,9 +77,9 @@ loop-job-preserved c =
           c.in-Some.job.now c.in-Some.result.now _ c.add_line.ensures.value turn.0 turn.1 c.loop-job.invariant.written;
       named = named_behind c.in-Some.job.now (iter_rest (zip_first s)) (iter_rest (zip_first t)) turn.0 c.loop-job.invariant.named;
       bare = search rules;
-      room =
+      capacity =
           let n = ap length turn.0 in
           let short = c.add_line.ensures.short in
-          let room = c.loop-job.invariant.room in
-          omega (arith, n, short, room);
+          let capacity = c.loop-job.invariant.capacity in
+          omega (arith, n, short, capacity);
     }

@@ -16,5 +16,5 @@ invariant-loop-job l = record {
       ≡ run_text l.spent (job_lines l.jobs (map result_of l.results));
   named : AreNamed (iter_rest (zip_first l.job-iterator));
   bare : l.reply.text ≡ [];
-  room : length l.reply.line + 117 * length (iter_rest (zip_first l.job-iterator)) ≤ 8192;
+  capacity : length l.reply.line + 117 * length (iter_rest (zip_first l.job-iterator)) ≤ 8192;
 }

@@ -6,6 +6,6 @@ use Rattle.command_text.proofs.line_words.LineWords.read.Given as goal
 -- the words of the text are those that were read, and then those of the rest
 abbrev pub invariant-loop-count : goal.invariant-loop-count
 invariant-loop-count l = record {
-  room : length l.room ≡ 7;
-  words : words l.text ≡ map lent (take l.count l.room) ++ words l.rest;
+  capacity : length l.words ≡ 7;
+  words : words l.text ≡ map lent (take l.count l.words) ++ words l.rest;
 }

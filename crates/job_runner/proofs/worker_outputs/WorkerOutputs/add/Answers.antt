@@ -30,7 +30,7 @@ returns-clause-outputs c =
             | inl a ↦ c.put.ensures.full k (inl (was.there k a))
             | inr b ↦ c.put.ensures.full k (inr b)
           ];
-      told = λ f. let both = neither c.args.self.now.failed ended.worked.failed f in
+      drained = λ f. let both = neither c.args.self.now.failed ended.worked.failed f in
           subst (All (λ (s : SeatState). IsDrained s.worker)) (sym items)
-          (gathered_told board jobs old ended is both.1 (was.told both.0));
+          (gathered_told board jobs old ended is both.1 (was.drained both.0));
     }

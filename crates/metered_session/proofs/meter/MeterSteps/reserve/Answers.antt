@@ -1,12 +1,12 @@
 use Rattle.std.proofs.Common.{rules, [], ◌∷◌, inl, inr, refl, ap}
-use Rattle.step_purse.specs.declared.dealings.Dealing.TheVariants.{Told, Reserved}
+use Rattle.step_purse.specs.declared.dealings.Dealing.TheVariants.{Observed, Reserved}
 use Rattle.step_purse.specs.declared.dealings.Reply.TheVariants.{NotEnough}
 use Rattle.metered_session.proofs.meter.MeterSteps.reserve.Goals as goal
 
 -- a reservation beyond the limits is one look at the totals
 pub returns-then-allowed-amount-clause-dealt : goal.returns-then-allowed-amount-clause-dealt
 returns-then-allowed-amount-clause-dealt g c = record {
-  calls = Told c.totals-totals.result ∷ [];
+  calls = Observed c.totals-totals.result ∷ [];
   stands = inr (search rules, (c.totals-totals.result, refl, ap NotEnough (search rules)));
   drawn = (c.totals-totals.new.self, search rules, refl);
   counted = search rules;

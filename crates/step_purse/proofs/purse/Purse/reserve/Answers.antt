@@ -4,7 +4,7 @@ use Rattle.step_purse.proofs.purse.Purse.reserve.Goals as goal
 
 pub overflow_add-pass : goal.overflow_add-pass
 overflow_add-pass g c =
-    let made = c.in-Took.ensures.made.1 in
+    let made = c.in-Took.ensures.recorded.1 in
     let most = owes_most _ _ made.sound in
     let owes = made.owes in
     let small = c.self.inside.account.small in

@@ -12,7 +12,7 @@ invariant-loop-result l = record {
   rest_cost : All (λ r. IfOk r (λ w. CostJust (λ c. c % 7) w.1.items)) l.results.items;
   many : vec_len l.results + vec_len l.seats ≡ vec_len l.fn.results;
   own : All (IsSeatOf l.board) l.seats.items;
-  told : All (λ s. IsDrained s.worker) l.seats.items;
+  drained : All (λ s. IsDrained s.worker) l.seats.items;
   joined : completed_by (workers_of l.seats.items) ≡ l.joined.items;
   cost : CostJust (λ c. c % 7) l.joined.items;
 }

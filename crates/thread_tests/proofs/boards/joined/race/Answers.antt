@@ -28,7 +28,7 @@ finished g c =
     let seats = c.in_ok-board.ensures.seats in
     let workers = c.in_ok-board.ensures.board.1 in
     let some_worker = c.requires.0 in
-    drained_finished c.in_ok-board.board c.in_ok-seats.seats.items (omega arith) (omega arith) c.in_ok-seats.ensures.told
+    drained_finished c.in_ok-board.board c.in_ok-seats.seats.items (omega arith) (omega arith) c.in_ok-seats.ensures.drained
 
 chunks : (g : given.Over) (c : goal.After-drop-prices-2 g) → length c.in_ok-board.board.prices ≡ c.args.chunks
 chunks g c = let e = ap (λ (l : List ℕ). length l) c.in_ok-board.ensures.board.0 in let n = c.in_ok-prices.ensures.len in omega arith
@@ -37,14 +37,14 @@ once : (g : given.Over) (c : goal.After-drop-prices-2 g) → AreEachOnce c.args.
 once g c =
     let board = c.in_ok-board.board in
     let seats = c.in_ok-seats.seats.items in
-    let each = closed_completed (length board.prices) (workers_of seats) (c.close.ensures.completed (finished g c) (all_drained seats c.in_ok-seats.ensures.told)) in
+    let each = closed_completed (length board.prices) (workers_of seats) (c.close.ensures.completed (finished g c) (all_drained seats c.in_ok-seats.ensures.drained)) in
     subst (λ (n : ℕ). AreEachOnce n c.in_ok-seats.joined.items) (chunks g c) (subst (AreEachOnce (length board.prices)) c.in_ok-seats.ensures.joined each)
 
 spent : (g : given.Over) (c : goal.After-drop-prices-2 g) → steps_in c.in_ok-seats.joined.items ≡ c.close.result.spent
 spent g c =
     let seats = c.in_ok-seats.seats.items in
-    let told = all_drained seats c.in_ok-seats.ensures.told in
-    ap steps_in (sym c.in_ok-seats.ensures.joined ∙ sym (recorded_completed (workers_of seats) told)) ∙ (recorded_steps (workers_of seats) ∙ sym c.close.ensures.spent)
+    let drained = all_drained seats c.in_ok-seats.ensures.drained in
+    ap steps_in (sym c.in_ok-seats.ensures.joined ∙ sym (recorded_completed (workers_of seats) drained)) ∙ (recorded_steps (workers_of seats) ∙ sym c.close.ensures.spent)
 
 pub returns-clause-draws : goal.returns-clause-draws
 returns-clause-draws g c = c.close.ensures.all (finished g c) ∙ chunks g c

@@ -7,7 +7,7 @@ use Rattle.wire.proofs.output.Output.say.Goals.{in-Ok, in-Err-put}
 pub returns-after-put : goal.returns-after-put
 returns-after-put g c =
     let text = c.args.text.now in
-    let waits = c.make_room.new.room.items in
+    let waits = c.make_room.new.buffer.items in
     let o : Outgoing = record { sink = g.W.Sink.state c.args.writer.now; waits = c.args.self.now } in
     let p : Outgoing = record { sink = g.W.Sink.state c.make_room.new.writer; waits = waits } in
     let q : Outgoing = record { sink = g.W.Sink.state c.put.new.writer; waits = waits } in
@@ -29,7 +29,7 @@ returns-after-put g c =
 
 pub returns-in-Err : goal.returns-in-Err
 returns-in-Err g c =
-    let p : Outgoing = record { sink = g.W.Sink.state c.make_room.new.writer; waits = c.make_room.new.room.items } in
+    let p : Outgoing = record { sink = g.W.Sink.state c.make_room.new.writer; waits = c.make_room.new.buffer.items } in
     record {
       sent = subst (λ (ws : List ℕ). Sent false c.args.text.now (record { sink = g.W.Sink.state c.args.writer.now; waits = ws }) p) c.self.view_is
           (sent_cut c.args.text.now _ _ c.in-Err.ensures.sent);

@@ -8,7 +8,7 @@ returns-in-Some-clause-bound g c =
     let n = c.get_mut.follows.lender (Some c.args.value) in
     value_after c.args.self.now.declared n c.args.name.now _ (btree_map_updates_text c.args.name.now c.args.self.now.declared n _ ((c.get_mut.follows.holds (Some c.args.value)).3 (search rules)))
 
-pub returns-in-Some-clause-kept : goal.returns-in-Some-clause-kept
-returns-in-Some-clause-kept g c =
+pub returns-in-Some-clause-unchanged : goal.returns-in-Some-clause-unchanged
+returns-in-Some-clause-unchanged g c =
     let n = c.get_mut.follows.lender (Some c.args.value) in
     declared_kept c.args.self.now.declared n c.args.name.now _ (btree_map_updates_text c.args.name.now c.args.self.now.declared n _ ((c.get_mut.follows.holds (Some c.args.value)).3 (search rules)))
