@@ -22,7 +22,8 @@ LEAST = Semiring(binary.min, binary.first)
 # Of so many vertices on it pays to see how many are left before greatest neighbours are asked for.
 LARGE = 1 << 14
 FEW_OTHERS = 8                                     # few are left where that is one of so many
-FEW_PAIRS = 4                                      # pairs of labels are few where that is
+FEW_PAIRS = 16                                     # pairs of labels are few where that is
+BLOCK = 1 << 13                                    # vertices whose labels stay in a cache
 PAIRED = asm('binary', 'mov64 r0, r1\nlsh64 r0, 32\nor64 r0, r2\nexit\n', 'paired')
 
 
@@ -36,21 +37,26 @@ class Labels:
     def join(self, first: Array, second: Array) -> bool:
         """Joins the components of each two vertices; whether any two were apart. Labels that aren't
         their own label any more are followed to their ends, which are lower ones."""
+        is_first = not self._has_neighbour.any()   # then each vertex is its own label
         self._has_neighbour[first] = True
-        a, b = self.of.take(first), self.of.take(second)
+        a, b = (first, second) if is_first else (self.of.take(first), self.of.take(second))
         some = False
         while True:
             differ = numpy.flatnonzero(a != b)
             if not len(differ):
                 return some
-            some, a, b = True, a.take(differ), b.take(differ)
+            some = True
+            if len(differ) < len(a):
+                a, b = a.take(differ), b.take(differ)
             if FEW_PAIRS * len(a) < len(self.of):
                 self._join_few(a, b)
                 return True
+            high, low = numpy.maximum(a, b), numpy.minimum(a, b)
+            self.of[high] = low
             # of several one counts; the others come again
-            self.of[numpy.maximum(a, b)] = numpy.minimum(a, b)
+            lost = numpy.flatnonzero(self.of.take(high) != low)
             self._settle()
-            a, b = self.of.take(a), self.of.take(b)
+            a, b = (self.of.take(ends.take(lost)) for ends in (high, low))
 
     def _join_few(self, a: Array, b: Array) -> None:
         """Joins labels in pairs, among themselves: then all vertices are looked at once."""
@@ -63,13 +69,14 @@ class Labels:
         self.of = ends.take(self.of)
 
     def _settle(self) -> None:
-        """Each vertex gets the label at the end of its chain. Labels only go down, so there is an
-        end; a chain is quartered each time."""
-        while True:
-            ends = self.of.take(self.of)
-            self.of = ends.take(ends)
-            if numpy.array_equal(ends, self.of):
-                return
+        """Each vertex gets the label at the end of its chain. Labels only go down, so what leads
+        out of a block leads to an end; a chain within it is halved each time."""
+        for start in range(0, len(self.of), BLOCK):
+            labels = self.of[start:start + BLOCK]
+            ends = self.of.take(labels)
+            while not numpy.array_equal(ends, labels):
+                labels[:] = ends
+                ends = self.of.take(labels)
 
     def others(self) -> Array:
         """The vertices outside the greatest component, but for those without a neighbour."""
@@ -93,16 +100,18 @@ class Neighbours:
     def all(self) -> Iterator[List[Vector]]:
         """The least ones of all vertices, and then the greatest ones. Of a small graph one run
         makes both, of a large one each has its own, when it is asked for."""
-        if self.ways[0].count >= LARGE:
-            least_ones = [lines.read(lines.step(lines.numbers(), LEAST)) for lines in self.ways]
-            yield least_ones
-            yield [Vector(one.at, read_values(lines.step(lines.numbers(), GREATEST)))
+        count = self.ways[0].count
+        more = 10 ** len(str(count))               # numbers of as many digits are sooner read
+        if count >= LARGE:
+            least_ones = [lines.read(lines.step(lines.numbers(more), LEAST)) for lines in self.ways]
+            yield [Vector(one.at, one.values - more) for one in least_ones]
+            yield [Vector(one.at, read_values(lines.step(lines.numbers(more), GREATEST)) - more)
                    for lines, one in zip(self.ways, least_ones)]
         elif len(self.ways) == 1 and is_ample(self.ways[0].graph):
             lines = self.ways[0]                   # both are read as one where nobody counts steps
-            least, greatest = (lines.step(lines.numbers(), ring) for ring in (LEAST, GREATEST))
+            least, greatest = (lines.step(lines.numbers(more), ring) for ring in (LEAST, GREATEST))
             at, pairs = lines.read(least.ewise_mult(greatest, PAIRED))
-            yield [Vector(at, pairs >> 32), Vector(at, pairs & 0xffffffff)]
+            yield [Vector(at, (pairs >> 32) - more), Vector(at, (pairs & 0xffffffff) - more)]
         else:
             made = [[lines.step(lines.numbers(), ring) for ring in (LEAST, GREATEST)]
                     for lines in self.ways]

@@ -18,23 +18,22 @@ from .traversal import keep, read_column, read_values
 from .utils import Progress, contract, order, tell
 
 AT_ONCE = step_bounds.FEW_EDGES                    # edges that the client looks at by itself
+EVEN = 10 ** 18                                    # below it numbers of edges have as many digits
 
 
 class Code(NamedTuple):
     """Edges as one number each, which ascends with their weights: (weight - least) * count^2 +
-    i * count + j. It is the same for both directions of an edge."""
+    i * count + j, where `least` is the least weight or less. It is the same for both directions of
+    an edge."""
     least: int
     vertices: int
 
     def ends(self, words: Array) -> Tuple[Array, Array]:
         """The two vertices of each edge."""
-        places = words % self.vertices ** 2
-        return places // self.vertices, places % self.vertices
-
-    def weights(self, words: Array) -> Array:
-        """The weight of each edge."""
-        weights: Array = words // self.vertices ** 2 + self.least
-        return weights
+        square = self.vertices ** 2
+        places = words - words // square * square  # `%` takes far longer
+        first = places // self.vertices
+        return first, places - first * self.vertices
 
     def words(self, rows: Array, columns: Array, weights: Array) -> Array:
         """The number of each edge."""
@@ -70,8 +69,12 @@ class Forest:
         roots: Array = numpy.arange(left.nrows)    # the least vertex of each row's component
         while left.nvals > AT_ONCE:
             rows, words = read_column(left.reduce_rowwise('min'))
-            self.take(words)
-            ends, is_root = self.labels.of[roots[rows]], numpy.zeros(self.code.vertices, bool)
+            own, chosen = roots[rows], numpy.zeros_like(self.labels.of)
+            chosen[own] = words
+            one = self.labels.of[self.code.ends(words)[0]]
+            # an edge that the components of both its ends chose counts once
+            self.take(words[(own == one) | (chosen[one] != words)])
+            ends, is_root = self.labels.of[own], numpy.zeros(self.code.vertices, bool)
             is_root[ends] = True
             roots = numpy.flatnonzero(is_root)
             numbers = numpy.cumsum(is_root) - 1    # numpy.unique sorts, for six times as long
@@ -98,11 +101,16 @@ class Forest:
 
     def entries(self) -> Triples:
         """The edges, both ways."""
-        words = numpy.unique(numpy.concatenate([numpy.zeros(0, numpy.int64), *self.taken]))
-        (i, j), count = self.code.ends(words), self.code.vertices
-        rows, columns = numpy.concatenate((i, j)), numpy.concatenate((j, i))
-        ranks, weights = numpy.lexsort((columns, rows)), numpy.tile(self.code.weights(words), 2)
-        return Triples(rows[ranks], columns[ranks], weights[ranks], count, count)
+        words, count = numpy.concatenate([numpy.zeros(0, numpy.int64),
+                                          *self.taken]), self.code.vertices
+        (i, j), above = self.code.ends(words), words // count ** 2
+        most = int(above.max(initial=0)) + 1
+        # numbers of places and weights: to sort these takes less time than to rank places
+        numbers = numpy.concatenate([(a * count + b) * most + above for a, b in ((i, j), (j, i))])
+        numbers.sort()
+        places = numbers // most
+        rows, weights = places // count, numbers - places * most + self.code.least
+        return Triples(rows, places - rows * count, weights, count, count)
 
 
 @algorithm('the lightest edges that join what is joined', wanted=BOTH_WAYS, values=True,
@@ -162,9 +170,13 @@ def minimum_spanning_forest(W: Matrix, progress: Progress = None, *, check: bool
                              'W.ewise_add(W.T, "min") has the lesser; '
                              'check=False leaves this check out')
     least, most = extremes(W)
-    if (most - least + 1) * max(count, 1) ** 2 > 1 << 62:
+    span = (most - least + 1) * max(count, 1) ** 2
+    if span > 1 << 62:
         raise ValueError('weights of %d to %d are too many for %d vertices: divide them'
                          % (least, most, count))
+    power = 10 ** len(str(span))                   # numbers of as many digits are sooner read
+    if power < EVEN and least > -EVEN:
+        least -= -(-power // max(count, 1) ** 2)
     code = Code(least, count)
     forest = Forest(code, progress)
     if W.nvals > AT_ONCE:

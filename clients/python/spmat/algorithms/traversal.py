@@ -97,10 +97,10 @@ class Traversal:
         held: Matrix = found(self.graph, type(self).__name__ + ' of ones', lambda: self.fill(1))
         return held
 
-    def numbers(self) -> Matrix:
-        """A vector of the vertices' own numbers, kept with the graph."""
-        held: Matrix = found(self.graph, type(self).__name__ + ' of numbers',
-                             lambda: self.number(self.ones()))
+    def numbers(self, more: int = 0) -> Matrix:
+        """A vector of the vertices' own numbers, plus `more`, kept with the graph."""
+        held: Matrix = found(self.graph, '%s of numbers from %d' % (type(self).__name__, more),
+                             lambda: self.number(self.ones(), more))
         return held
 
     def number(self, vector: Matrix, more: int = 0) -> Matrix:
@@ -316,7 +316,7 @@ def read_vector(text: bytes, field: int, values: bool = True) -> Vector:
     nrows, ncols, nvals, start = matrix_text.head_of(text)
     is_full = nvals == (ncols if field else nrows)
     wanted = (() if is_full else (field,)) + ((2,) if values else ())
-    numbers = matrix_text.read_fields(text[start:], wanted) if wanted else []
+    numbers = matrix_text.read_fields(text, wanted, start=start) if wanted else []
     at = numpy.arange(nvals) if is_full else numbers[0] - 1
     return Vector(at, numbers[-1] if values else at[:0])
 
@@ -329,14 +329,14 @@ def read_column(matrix: Matrix) -> Vector:
 def read_edges(graph: Matrix) -> Tuple[Array, Array]:
     """Where the edges of a graph begin and end, by ascending vertices."""
     text = graph.to_text()
-    rows, columns = matrix_text.read_fields(text[matrix_text.head_of(text).start:], (0, 1))
+    rows, columns = matrix_text.read_fields(text, (0, 1), start=matrix_text.head_of(text).start)
     return rows - 1, columns - 1
 
 
 def read_values(matrix: Matrix) -> Array:
     """The values of a vector whose places are known."""
     text = matrix.to_text()
-    values: Array = matrix_text.read_fields(text[matrix_text.head_of(text).start:], (2,))[0]
+    values: Array = matrix_text.read_fields(text, (2,), start=matrix_text.head_of(text).start)[0]
     return values
 
 

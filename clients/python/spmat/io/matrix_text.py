@@ -8,7 +8,8 @@ without a step of Python for an entry.
 A number ends at a byte below `-`: a blank, or LF. The eight bytes before that end are taken as one
 word; the bytes of it that are no digit of the number are masked out, and three multiplications join
 the digits, by pairs, by fours, by eights: all numbers at once. A number of more than eight digits
-takes a word or two more.
+takes a word or two more. Where all lines of a chunk have the same widths, as those of a vector
+mostly have, nobody looks for the ends of their numbers.
 """
 from __future__ import annotations
 
@@ -167,7 +168,7 @@ class _Table:
 def read(text: bytes, arrays: bool = True) -> Triples:
     """The triples of a text as the server writes it, as arrays of int64, or as lists."""
     nrows, ncols, _, start = head_of(text)
-    rows, columns, values = read_fields(text[start:], (0, 1, 2))
+    rows, columns, values = read_fields(text, (0, 1, 2), start=start)
     rows -= 1
     columns -= 1
     if arrays:
@@ -215,15 +216,16 @@ def line_at(text: bytes, at: int) -> str:
 
 # -- numbers
 
-def read_fields(text: bytes, wanted: Sequence[int] = (1, 2), per_line: int = 3) -> List[Any]:
-    """Arrays of int64: the wanted fields (from 0) of all lines. Each line has so many whole numbers
-    of 64 bits, without a sign but `-`, with one blank between two, and ends in LF; as the server
-    writes its matrices."""
-    if len(text) < SHORT:
-        numbers = (numpy.fromstring(text, numpy.int64, sep=' ') if text
+def read_fields(text: bytes, wanted: Sequence[int] = (1, 2), per_line: int = 3,
+                start: int = 0) -> List[Any]:
+    """Arrays of int64: the wanted fields (from 0) of all lines from a place on. Each line has so
+    many whole numbers of 64 bits, without a sign but `-`, with one blank between two, and ends in
+    LF; as the server writes its matrices."""
+    if len(text) - start < SHORT:
+        numbers = (numpy.fromstring(text[start:], numpy.int64, sep=' ') if len(text) > start
                    else numpy.zeros(0, numpy.int64))
         return [numbers[field::per_line].copy() for field in wanted]
-    return _read_chunks(text, wanted, per_line, _Form(False)) or []
+    return _read_chunks(text, wanted, per_line, _Form(False), start) or []
 
 
 class _Form(NamedTuple):
@@ -250,12 +252,11 @@ def read_plain(body: bytes, per_line: int, delimiter: bytes = b' ', wanted: Sequ
         return None
 
 
-def _read_chunks(text: bytes, wanted: Sequence[int], per_line: int,
-                 form: _Form) -> Optional[List[Any]]:
-    """The fields of all lines; None where they have to be looked at, and one is written
-    otherwise."""
+def _read_chunks(text: bytes, wanted: Sequence[int], per_line: int, form: _Form,
+                 at: int = 0) -> Optional[List[Any]]:
+    """The fields of all lines from a place on; None where they have to be looked at, and one is
+    written otherwise."""
     parts: List[List[Any]] = []
-    at = 0
     while at < len(text):
         end = (text.rfind(b'\n', at, at + CHUNK) + 1 if len(text) - at > 2 * CHUNK
                else 0) or len(text)
@@ -300,14 +301,39 @@ def _fields(text: memoryview, wanted: Sequence[int], per_line: int,
     padded = numpy.empty(len(text) + LONGEST, numpy.uint8)
     padded[:LONGEST] = 32
     padded[LONGEST:] = numpy.frombuffer(text, numpy.uint8)
+    words: Any = numpy.ndarray((len(padded) - WORD + 1,), numpy.uint64, buffer=padded.data,
+                               strides=(1,))
+    even = None if form.is_checked else _even_fields(padded[LONGEST:], words, wanted, per_line)
+    if even is not None:
+        return even
     # the first is the byte before the text
     ends = numpy.flatnonzero(padded[LONGEST - 1:] < MINUS) + LONGEST - 1
     if form.is_checked and not _are_plain(padded, ends, per_line, form.as_written):
         return None
-    words: Any = numpy.ndarray((len(padded) - WORD + 1,), numpy.uint64, buffer=padded.data,
-                               strides=(1,))
     return [_numbers(padded, words, ends[field:-1:per_line], ends[field + 1::per_line])
             for field in wanted]
+
+
+def _even_fields(marks: Any, words: Any, wanted: Sequence[int],
+                 per_line: int) -> Optional[List[Any]]:
+    """The fields of lines that are all as wide as the first one, as are their numbers; None of
+    others, where there is a sign, and where a number may be beyond 64 bits."""
+    width = int((marks == LF).argmax()) + 1
+    lines, ends = len(marks) // width, numpy.flatnonzero(marks[:width] < MINUS).tolist()
+    if (len(marks) % width or len(ends) != per_line
+        or any((marks[end::width] != marks[end]).any() for end in reversed(ends))
+        or numpy.count_nonzero(marks < ZERO) != per_line * lines):
+        return None
+    fields = []
+    for field in wanted:
+        value, start = numpy.zeros(lines, numpy.uint64), ends[field - 1] + 1 if field else 0
+        if ends[field] - start > SURE:
+            return None
+        for end in range(ends[field], start, -WORD):
+            part = _join_digits(words[LONGEST + end - WORD::width], min(WORD, end - start))
+            value = value + part * numpy.uint64(10 ** (ends[field] - end))
+        fields.append(value.view(numpy.int64))
+    return fields
 
 
 def _are_plain(padded: Any, ends: Any, per_line: int, as_written: bool) -> bool:
@@ -337,18 +363,17 @@ def _digits() -> Any:
                         for many in range(WORD + 1)], numpy.uint64)
 
 
-def _word(words: Any, ends: Any, many: Any) -> Any:
-    """The numbers of so many digits (0 to 8) before these places. The first digit is the lowest
-    byte."""
-    got = words[ends - WORD]
-    got &= _digits()[many]
-    for times, shift, bits in ((10 * 2 ** 8 + 1, 8, 0x00FF00FF00FF00FF),
-                               (100 * 2 ** 16 + 1, 16, 0x0000FFFF0000FFFF),
-                               (10000 * 2 ** 32 + 1, 32, 0xFFFFFFFF)):
-        got *= numpy.uint64(times)
-        got >>= numpy.uint64(shift)
-        got &= numpy.uint64(bits)
-    return got
+def _join_digits(words: Any, many: Any) -> Any:
+    """The numbers of so many digits each (0 to 8) at the end of words. The first digit is the
+    lowest byte."""
+    words = words & _digits()[many]
+    for times, kind, above in ((10 * 2 ** 8 + 1, numpy.uint16, 2 ** 8),
+                               (100 * 2 ** 16 + 1, numpy.uint32, 2 ** 16)):
+        words *= numpy.uint64(times)
+        parts = words.view(kind)
+        parts //= kind(above)                      # a shift would take twice as long
+    words *= numpy.uint64(10000 * 2 ** 32 + 1)
+    return words.view(numpy.uint32)[1::2].astype(numpy.uint64)
 
 
 def _numbers(padded: Any, words: Any, before: Any, ends: Any) -> Any:
@@ -359,11 +384,13 @@ def _numbers(padded: Any, words: Any, before: Any, ends: Any) -> Any:
     if signed:
         lengths -= minus
     most = int(lengths.max())
-    value = _word(words, ends, lengths if most <= WORD else numpy.minimum(lengths, WORD))
+    value = _join_digits(words[ends - WORD],
+                         lengths if most <= WORD else numpy.minimum(lengths, WORD))
     for above in range(WORD, most, WORD):
         some = numpy.flatnonzero(lengths > above)
-        value[some] += _word(words, ends[some] - above,
-                             numpy.minimum(lengths[some] - above, WORD)) * numpy.uint64(10 ** above)
+        part = _join_digits(words[ends[some] - above - WORD],
+                            numpy.minimum(lengths[some] - above, WORD))
+        value[some] += part * numpy.uint64(10 ** above)
     if most > SURE and (value > numpy.uint64(MOST) + minus).any():
         raise OverflowError('a number is beyond 64 bits')
     value = value.view(numpy.int64)

@@ -11,9 +11,11 @@ import re
 from types import MappingProxyType
 from typing import Dict, List, Mapping, NoReturn, Optional, Sequence, Tuple
 
+import numpy
+
 from ..errors import ProtocolError
 from ..io import matrix_text
-from ..io.matrix_text import BANNER, Triples
+from ..io.matrix_text import BANNER, LF, Triples
 from ..limits import MOST_PRICE, MOST_SIDE, MOST_SLOTS, MOST_STEPS, QUEUE
 from ..refusal_rules import OF_GATEWAY
 from .protocol import COMMANDS
@@ -139,10 +141,11 @@ def check_text(command: str, text: bytes, shape: Tuple[int, int],
                     'a text of %d rows and %d columns%s'
                     % (*shape, '' if entries is None else ' with %d entries' % entries),
                     ['%d %d %d' % (rows, columns, count)])
-    if text.count(b'\n') != count + 2 or not text.endswith(b'\n') or text.translate(
+    lines = numpy.count_nonzero(numpy.frombuffer(text, numpy.uint8) == LF)
+    if lines != count + 2 or not text.endswith(b'\n') or text.translate(
         None, b'0123456789- \n') != BANNER_LETTERS:
         raise_fault(command, 'a text with %d lines of three numbers' % count,
-                    ['%d lines' % (text.count(b'\n') - 2)])
+                    ['%d lines' % (lines - 2)])
     if len(text) > LOOKED_AT_WHOLE:
         return None
     is_plain = _ALL_ENTRIES.fullmatch(text, head.end()) is not None

@@ -1,11 +1,12 @@
 """Components of all kinds, and searches that look at all vertices."""
+import unittest
 from unittest import mock
 
 import numpy
 
 import graphs
 from spmat import algorithms, blocks
-from spmat.algorithms import spanning_forest, strong_components, traversal
+from spmat.algorithms import components, spanning_forest, strong_components, traversal
 from support import InSession, enter
 
 
@@ -25,6 +26,25 @@ def reached(near, source):
 def strong_groups(near):
     there = [reached(near, i) for i in range(len(near))]
     return [{j for j in there[i] if i in there[j]} for i in range(len(near))]
+
+
+class Labelled(unittest.TestCase):
+    def test_labels(self):
+        """Pairs of vertices, part by part, join what paths join, wherever blocks of labels end."""
+        chance = numpy.random.default_rng(3)
+        for count in (1, 2, 9, 100):
+            for block, few in ((1, 16), (7, 3), (64, 4), (1 << 13, 1 << 30)):
+                labels, near = components.Labels(count), [set() for _ in range(count)]
+                for many in (count, 1, count // 3, count // 3):
+                    before, pairs = labels.of.copy(), chance.integers(0, count, (2, many))
+                    for i, j in pairs.T.tolist():
+                        near[i].add(j)
+                        near[j].add(i)
+                    with mock.patch.multiple(components, BLOCK=block, FEW_PAIRS=few):
+                        some = labels.join(*pairs)
+                    self.assertEqual(labels.of.tolist(),
+                                     least_of([reached(near, i) for i in range(count)], count))
+                    self.assertEqual(some, not numpy.array_equal(labels.of, before))
 
 
 class Parts(InSession):

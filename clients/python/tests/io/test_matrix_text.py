@@ -28,6 +28,21 @@ class Digits(unittest.TestCase):
                 self.assertEqual([one.tolist() for one in got],
                                  [[line[field] for line in made] for field in wanted])
 
+    def test_lines_of_one_width(self):
+        """Lines whose numbers all have the same widths are read as others are, and so are those
+        that only look like them."""
+        alike = [b'%d 1 %d\n' % (k, k ** 3) for k in (47, 62, 78, 99)]
+        for lines in (alike, alike + [b'1 2 3\n4 5 6\n'], alike + [b'100 1 9999\n'],
+                      alike + [b'10 11 9999\n'], alike + [b'10 1 -99999\n'], [b'1 -5 3\n'] * 3,
+                      [b'12345678 9 123456789\n'] * 2, [b'1 1 123456789012345678\n'] * 2,
+                      [b'1 1 9223372036854775807\n'] * 2, [b'1 1 -9223372036854775808\n'] * 2):
+            text = b''.join(lines)
+            numbers = list(map(int, text.split()))
+            with mock.patch.object(matrix_text, 'SHORT', 0):
+                got = matrix_text.read_fields(b'1 2 3\n' + text, (0, 1, 2), start=6)
+            self.assertEqual([one.tolist() for one in got], [numbers[k::3] for k in range(3)], text)
+            self.assertEqual([one.dtype for one in got], [numpy.int64] * 3)
+
     def test_plain_lines(self):
         """Lines are read, or left to others, whatever stands in them; never as other numbers."""
         random_ = random.Random(4)
