@@ -47,6 +47,11 @@ def two_lines(name: str, count: int) -> bytes:
                   count)
 
 
+def column(name: str, count: int) -> bytes:
+    """A column with an entry in each row."""
+    return matrix(name, [(row, 1, row) for row in range(1, count + 1)], count, 1)
+
+
 def shuffled(count: int) -> bytes:
     text = matrix_text(count // 8, count // 8, entries(count)).split(b'\n')
     body = text[2:-1]
@@ -133,6 +138,8 @@ SESSIONS: Dict[str, Tuple[Callable[[int], bytes], int]] = {
     'apply under a mask, one row': (lambda n: SHORT + line('A', n) + line('M', n)
                                     + b'apply B inc A mask M\nrun\n', 10000),
     'select': (lambda n: LOW + square('A', n) + b'select B low A 0\nrun\n', 20000),
+    'select from a column': (lambda n: LOW + column('A', n) + b'select B low A 0\n' * 8 + b'run\n',
+                             10000),
     'union': (lambda n: SUM + square('A', n) + turned('T',
                                                       n)
               + b'union B plus A T\nunion C plus A A\nrun\n', 10000),

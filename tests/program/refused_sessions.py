@@ -26,9 +26,9 @@ FOLDS = CELLS - CHARGED_ROWS
 class Charged(NamedTuple):
     """A job over that chunk. A call of each has a cost of its own, and so a run's steps tell which
     job it had: its operator's kind, its command, how many calls it makes, after how many of them
-    its rows have outgrown their first room (None where that isn't amid the calls), and of one that
+    its rows have outgrown their first room (None where that isn't amid the calls), of one that
     takes room behind its calls another, with the same positions in its result, that takes none
-    there."""
+    there, and whether it takes all its room in front of its calls."""
 
     cost: int
     kind: str
@@ -36,14 +36,16 @@ class Charged(NamedTuple):
     calls: int = CELLS
     outgrown: Optional[int] = None
     beside: str = ''
+    before: bool = False
 
 
-# The first two take no room behind their calls: apply without a mask, and a fold by a short
+# The first three take no room behind their calls: apply without a thunk, and a fold by a short
 # operator.
 CHARGED_JOBS: Dict[str, Charged] = {
-    'copied': Charged(2, 'unary', b'apply P f A\n'),
+    'copied': Charged(2, 'unary', b'apply P f A\n', before=True),
+    'shown': Charged(3, 'unary', b'apply P f A mask A\n', before=True),
     'folded': Charged(4, 'binary', b'reduce P f A\n', FOLDS),
-    'apply': Charged(3, 'unary', b'apply P f A mask A\n', outgrown=ROOM_AT_ONCE),
+    'apply': Charged(17, 'index', b'apply P f A 5 mask A\n', outgrown=ROOM_AT_ONCE),
     'union': Charged(5, 'binary', b'union P f A A mask A\n', outgrown=ROOM_AT_ONCE),
     'both': Charged(7, 'binary', b'both P f A A mask A\n', outgrown=ROOM_AT_ONCE),
     'select': Charged(9, 'index', b'select P f A 0\n', beside='copied'),

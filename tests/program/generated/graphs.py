@@ -41,6 +41,8 @@ OPERATORS = {
                       lambda x, i, j, t: (1, 4) if unsigned(j + t) < i else (0, 5)),
     'place': Operator('index', b'mov64 r0, r2\nmul64 r0, r4\nadd64 r0, r3\nexit\n',
                       lambda x, i, j, t: (wrapped(i * t + j), 4)),
+    'odd': Operator('index', b'mov64 r0, r1\nand64 r0, 1\nexit\n',
+                    lambda x, i, j, t: (x & 1, 3)),
 }
 
 
@@ -213,6 +215,35 @@ def random_jobs(program):
     run_session(program, run_words(), input_, output)
 
 
+def column(random_, rows, empty):
+    """A column with an entry in each row but some."""
+    return Matrix(rows, 1, {(i, 0): random_.randrange(-9, 9) for i in range(rows)
+                            if i not in empty})
+
+
+def jobs_on_columns(program):
+    """Index operators on columns, whose entries are gathered together where each of 64 rows has
+    one: of fewer rows, of rows that stand in two chunks, and with a row that has none at either end
+    of what is gathered."""
+    random_ = random.Random(11)
+    input_ = b''.join(assembly_command(name, o.text, o.kind) for name, o in OPERATORS.items())
+    output = b''.join(b'ok op %d %d\n' % (o.length, o.length) for o in OPERATORS.values())
+    for rows, empty in ((1, ()), (63, ()), (64, ()), (65, ()), (257, ()), (600, ()), (600, (0,)),
+                        (600, (63,)), (600, (64, 300)), (600, (255, 256)), (600, (599,))):
+        matrices = {'A': column(random_, rows, empty), 'M': column(random_, rows, (1, rows - 2))}
+        for name, matrix in matrices.items():
+            input_ += matrix_command(name, matrix.text())
+            output += b'ok matrix %d 1 %d\n' % (rows, len(matrix.cells))
+        for words in ('select R odd A 0', 'select R below A 70', 'select R place A 3',
+                      'apply R place A -5', 'select R odd A 0 mask M', 'apply R place A 2 mask M'):
+            job = job_of(words, matrices)
+            input_ += words.encode() + b'\nrun\nshow R\n'
+            output += b'ok queued 1 %d\nok run 1 %d\n' % (job.price, job.steps)
+            output += b'R %d 1 %d %d\n' % (rows, len(job.matrix.cells),
+                                           job.steps) + show_reply(job.matrix.text())
+    run_session(program, run_words(), input_, output)
+
+
 def queue_of_jobs(program):
     """64 jobs on one another's inputs and outputs: names stand for what they stood for at
     submission, and later outputs win."""
@@ -236,5 +267,6 @@ def queue_of_jobs(program):
 
 GRAPH_CASES = {
     'random-jobs': random_jobs,
+    'jobs-on-columns': jobs_on_columns,
     'queue-of-64-jobs': queue_of_jobs,
 }
