@@ -48,7 +48,7 @@ class Gate(unittest.TestCase):
         self.assertEqual(self.ended(''), (0, 'test: 2 passed, 0 failed, 0 skipped'))
         self.assertEqual(self.ended('true'), (0, 'test: 2 passed, 0 failed, 0 skipped'))
         self.assertEqual(self.ended('', 'two'), (1, 'test: 1 passed, 1 failed, 0 skipped'))
-        self.assertIn('test: two: status 1 after 0 s', self.told)
+        self.assertIn('test: FAILED: two: status 1 after 0 s', self.told)
         self.assertEqual(self.ended('', without=without),
                          (0, 'test: 2 passed, 0 failed, 2 skipped'))
         self.assertIn('apt-get install -y --no-install-recommends mypy pylint', self.told)
@@ -64,7 +64,8 @@ class Gate(unittest.TestCase):
         self.assertEqual(run.steps, [])
 
     def test_steps_side_by_side(self) -> None:
-        """What each says stands together, and after a fault nothing begins."""
+        """What each says stands together, and after a fault nothing begins. The fault repeats the
+        last lines that tell of no success, as others may say more behind them."""
         run = gate.Run()
         slow = gate.Command('slow', ['sh', '-c', 'echo a; sleep 1; echo b'])
         quick = gate.Command('quick', ['echo', 'c'])
@@ -75,12 +76,13 @@ class Gate(unittest.TestCase):
                           '== slow: ' + ' '.join(slow.words), 'a', 'b', '-- slow: 1 s'])
         self.assertEqual([step.name for step in run.steps], ['quick', 'slow'])
         with contextlib.redirect_stdout(io.StringIO()) as told, \
-                self.assertRaisesRegex(gate.Failed, 'bad: status 3'):
+                self.assertRaisesRegex(gate.Failed, r'\Abad: status 3 after \d s\nwhy\Z'):
             # it fails once the next one has begun
-            bad = gate.Command('bad', ['sh', '-c', 'sleep 0.5; echo why >&2; exit 3'])
+            bad = gate.Command('bad', ['sh', '-c',
+                                       'echo a: passed; sleep 0.5; echo why >&2; exit 3'])
             run.side_by_side([bad, slow, quick, quick])
         self.assertEqual([step.name for step in run.steps], ['quick', 'slow', 'slow'])
-        self.assertIn('== bad: sh -c sleep 0.5; echo why >&2; exit 3\nwhy\n', told.getvalue())
+        self.assertIn(gate.heading(bad) + '\na: passed\nwhy\n', told.getvalue())
 
     def test_packages(self) -> None:
         """One that is here is seen, and one that isn't, by program or by module."""

@@ -24,6 +24,7 @@ STEPS = ('documents', 'definitions', 'release --check', 'a fresh clone', 'rt ci'
          'little memory', 'cases', 'served', 'instructions', 'odd texts', 'altered code', 'opcodes',
          'fuzzer', 'client', 'networkx', 'snippets', 'release')
 MOST_SECONDS = 20 * 60                             # of a step that has no other limit
+LINES_OF_A_FAULT = 20                              # that are repeated behind what other steps said
 
 
 class Failed(Exception):
@@ -72,18 +73,23 @@ class Run:
             raise faults[0]
 
     def _run_captured(self, command: Command, faults: List[Failed]) -> None:
-        """Runs a command, and prints what it said. A fault is added to the others."""
-        seconds = None
+        """Runs a command, and prints what it said. A fault is added to the others, with the last
+        lines that tell of no success."""
+        seconds, fault = None, ''
         with tempfile.TemporaryFile('w+', errors='replace') as said:
             try:
                 seconds = run_timed(command, said)
-            except Failed as fault:
-                faults.append(fault)
+            except Failed as failed:
+                fault = str(failed)
             said.seek(0)
-            with self._printing:
-                print('%s\n%s' % (heading(command), said.read().rstrip('\n')), flush=True)
-                if seconds is not None:
-                    self._record(command, seconds)
+            lines = said.read().rstrip('\n').split('\n')
+        with self._printing:
+            print('\n'.join([heading(command), *lines]), flush=True)
+            if seconds is not None:
+                self._record(command, seconds)
+        if fault:
+            told = [line for line in lines if ': passed' not in line][-LINES_OF_A_FAULT:]
+            faults.append(Failed('\n'.join([fault, *told])))
 
     def _record(self, command: Command, seconds: int) -> None:
         print('-- %s: %d s' % (command.name, seconds), flush=True)

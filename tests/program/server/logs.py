@@ -72,6 +72,13 @@ class Logging(Server):
         self.reader = threading.Thread(target=self.read_lines, daemon=True)
         self.reader.start()
 
+    def __exit__(self, *error: object) -> None:
+        # the reader ends with the server. Once standard error is closed, the number of its
+        # descriptor may be another file's
+        self.close()
+        self.reader.join()
+        super().__exit__(*error)
+
     def read_lines(self) -> None:
         held = b''
         while True:
