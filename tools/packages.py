@@ -4,11 +4,14 @@ import os
 import shutil
 import subprocess
 import sys
+import time
 from typing import List, NamedTuple
 
 from tools.numpy_python import DISTRIBUTION
 
 MODULES = ('import sys, importlib.util; sys.exit(importlib.util.find_spec(sys.argv[1]) is None)')
+# before each try, in seconds: a mirror that doesn't answer often does a minute later
+PAUSES = (0, 60)
 
 
 class Package(NamedTuple):
@@ -79,17 +82,19 @@ def line(packages: List[Package]) -> str:
 
 def install() -> None:
     """Installs what is missing. What can't be had is named, and left out."""
-    wanted = missing()
-    if not wanted:
-        return
-    if shutil.which('apt-get') is None or os.geteuid() != 0:
-        print('not installed, as this is no root of Debian: ' + line(wanted), file=sys.stderr,
-              flush=True)
-        return
-    environment = {**os.environ, 'DEBIAN_FRONTEND': 'noninteractive'}
-    subprocess.run(['apt-get', 'update'], env=environment, check=False)
-    words = line(wanted).split()
-    if subprocess.run(words, env=environment, check=False).returncode:
-        for package in wanted:
-            # one that can't be had doesn't keep the others out
-            subprocess.run(words[:4] + [package.name], env=environment, check=False)
+    for seconds in PAUSES:
+        wanted = missing()
+        if not wanted:
+            return
+        if shutil.which('apt-get') is None or os.geteuid() != 0:
+            print('not installed, as this is no root of Debian: ' + line(wanted), file=sys.stderr,
+                  flush=True)
+            return
+        time.sleep(seconds)
+        environment = {**os.environ, 'DEBIAN_FRONTEND': 'noninteractive'}
+        subprocess.run(['apt-get', 'update'], env=environment, check=False)
+        words = line(wanted).split()
+        if subprocess.run(words, env=environment, check=False).returncode:
+            for package in wanted:
+                # one that can't be had doesn't keep the others out
+                subprocess.run(words[:4] + [package.name], env=environment, check=False)
