@@ -4,7 +4,6 @@ import importlib.machinery
 import importlib.util
 import io
 import os
-import tempfile
 import unittest
 from typing import Any, Tuple
 from unittest import mock
@@ -64,18 +63,9 @@ class Gate(unittest.TestCase):
             run.step('slow', ['sleep', '60'], most=1)
         self.assertEqual(run.steps, [])
 
-    def test_a_step_that_fails_once(self) -> None:
-        """A second command tries again what the first did, and the step has failed if it fails."""
-        run = gate.Run()
-        with contextlib.redirect_stdout(io.StringIO()):
-            run.step('one', ['false'], again=['true'])
-            with self.assertRaisesRegex(gate.Failed, 'two: status 1'):
-                run.step('two', ['false'], again=['false'])
-        self.assertEqual([step.name for step in run.steps], ['one'])
-        self.assertEqual(run.again, ['one: status 1 after 0 s'])
-
     def test_steps_side_by_side(self) -> None:
-        """What each says stands together."""
+        """What each says stands together, and after a fault nothing begins. The fault repeats the
+        last lines that tell of no success, as others may say more behind them."""
         run = gate.Run()
         slow = gate.Command('slow', ['sh', '-c', 'echo a; sleep 1; echo b'])
         quick = gate.Command('quick', ['echo', 'c'])
@@ -85,27 +75,13 @@ class Gate(unittest.TestCase):
                          ['== quick: echo c', 'c', '-- quick: 0 s',
                           '== slow: ' + ' '.join(slow.words), 'a', 'b', '-- slow: 1 s'])
         self.assertEqual([step.name for step in run.steps], ['quick', 'slow'])
-
-    def test_faults_side_by_side(self) -> None:
-        """Two that fail run again by themselves. Where more fail, or one fails again, the fault
-        repeats the last lines that tell of no success, and no more begins."""
-        run = gate.Run()
-        bad = gate.Command('bad', ['sh', '-c', 'echo a: passed; echo why >&2; exit 3'])
-        quick = gate.Command('quick', ['echo', 'c'])
-        why = r'bad: status 3 after \d s\nwhy'
-        with tempfile.TemporaryDirectory() as room, \
-                contextlib.redirect_stdout(io.StringIO()) as told:
-            once = gate.Command('once', ['mkdir', os.path.join(room, 'a', 'b')])
-            busy = gate.Command('busy', ['mkdir', os.path.join(room, 'a')])
-            run.side_by_side([once, busy, quick], 1)
-            self.assertEqual([step.name for step in run.steps], ['busy', 'quick', 'once'])
-            self.assertRegex(run.again[0], r'\Aonce: status 1 after \d s\nmkdir: ')
-            with self.assertRaisesRegex(gate.Failed, r'\A%s\Z' % why):
-                run.side_by_side([bad, quick], 1)
-            with self.assertRaisesRegex(gate.Failed, r'\A%s\n%s\n%s\Z' % (why, why, why)):
-                run.side_by_side([bad, bad, bad, quick], 1)
-        self.assertEqual([step.name for step in run.steps][3:], ['quick'])
-        self.assertEqual(len(run.again), 1)
+        with contextlib.redirect_stdout(io.StringIO()) as told, \
+                self.assertRaisesRegex(gate.Failed, r'\Abad: status 3 after \d s\nwhy\Z'):
+            # it fails once the next one has begun
+            bad = gate.Command('bad', ['sh', '-c',
+                                       'echo a: passed; sleep 0.5; echo why >&2; exit 3'])
+            run.side_by_side([bad, slow, quick, quick])
+        self.assertEqual([step.name for step in run.steps], ['quick', 'slow', 'slow'])
         self.assertIn(gate.heading(bad) + '\na: passed\nwhy\n', told.getvalue())
 
     def test_packages(self) -> None:
@@ -123,5 +99,6 @@ class Gate(unittest.TestCase):
         program = gate_program()
         made = {command.name for command in [*program.program_commands(),
                                              *program.other_commands()]}
+        self.assertLessEqual({'served', 'odd texts'}, made.intersection(program.TIMED))
         for name in gate.STEPS:
             self.assertTrue(name in made or "run.step('%s'" % name in text, name)

@@ -13,7 +13,7 @@ import tempfile
 import threading
 import time
 from concurrent.futures import ThreadPoolExecutor
-from typing import Any, Dict, IO, List, Mapping, NamedTuple, Optional, Sequence, Tuple
+from typing import Any, Dict, IO, List, Mapping, NamedTuple, Optional, Sequence
 
 from tools.releasing import tree
 
@@ -25,7 +25,6 @@ STEPS = ('documents', 'definitions', 'release --check', 'a fresh clone', 'rt ci'
          'fuzzer', 'client', 'networkx', 'snippets', 'release')
 MOST_SECONDS = 20 * 60                             # of a step that has no other limit
 LINES_OF_A_FAULT = 20                              # that are repeated behind what other steps said
-MOST_AGAIN = 2                                     # steps side by side that run again by themselves
 
 
 class Failed(Exception):
@@ -49,57 +48,33 @@ class Step(NamedTuple):
 
 
 class Run:
-    """A run of the gate. What was run by `step` or `side_by_side` is noted by `note`. `again` says
-    how a step failed that then passed by itself."""
+    """A run of the gate. What was run by `step` or `side_by_side` is noted by `note`."""
 
     def __init__(self) -> None:
         self.began = state()
         self.steps: List[Step] = []
-        self.again: List[str] = []
         self._printing = threading.Lock()
 
     def step(self, name: str, words: Sequence[str], environment: Optional[Mapping[str, str]] = None,
-             most: Optional[int] = MOST_SECONDS, folder: str = tree.TOP,
-             again: Optional[Sequence[str]] = None) -> None:
+             most: Optional[int] = MOST_SECONDS, folder: str = tree.TOP) -> None:
         """Runs a command. Failed where it fails, or takes more seconds than it may: a gate without
-        an end tells nothing. Where it fails, and `again` names a command that tries once more what
-        failed, it fails if that fails, too."""
+        an end tells nothing."""
         command = Command(name, words, environment or {}, most, folder)
         print(heading(command), flush=True)
-        try:
-            seconds = run_timed(command)
-        except Failed as failed:
-            if again is None:
-                raise
-            command = command._replace(words=again)
-            print(heading(command), flush=True)
-            seconds = run_timed(command)
-            self.again.append(str(failed))
-        self._record(command, seconds)
+        self._record(command, run_timed(command))
 
     def side_by_side(self, commands: Sequence[Command], at_once: int = 2) -> None:
-        """Runs commands, some at once, and prints what each said when it ends. Each takes the
-        processors' time from the other, so one that fails runs again by itself. Failed where it
-        fails again, or where more fail than may run again: what hasn't begun by then doesn't."""
-        failed: List[Tuple[Command, Failed]] = []
-
-        def run(command: Command) -> None:
-            fault = self._run_captured(command) if len(failed) <= MOST_AGAIN else None
-            if fault:
-                failed.append((command, fault))
+        """Runs commands, some at once, and prints what each said when it ends. Failed where one
+        fails: what hasn't begun by then doesn't."""
+        faults: List[Failed] = []
         with ThreadPoolExecutor(at_once) as pool:
-            list(pool.map(run, commands))
-        if len(failed) > MOST_AGAIN:
-            raise Failed('\n'.join(str(fault) for _, fault in failed))
-        for command, fault in failed:
-            second = self._run_captured(command)
-            if second:
-                raise second
-            self.again.append(str(fault))
+            list(pool.map(lambda command: faults or self._run_captured(command, faults), commands))
+        if faults:
+            raise faults[0]
 
-    def _run_captured(self, command: Command) -> Optional[Failed]:
-        """Runs a command, and prints what it said. How it failed, with the last lines that tell of
-        no success."""
+    def _run_captured(self, command: Command, faults: List[Failed]) -> None:
+        """Runs a command, and prints what it said. A fault is added to the others, with the last
+        lines that tell of no success."""
         seconds, fault = None, ''
         with tempfile.TemporaryFile('w+', errors='replace') as said:
             try:
@@ -112,8 +87,9 @@ class Run:
             print('\n'.join([heading(command), *lines]), flush=True)
             if seconds is not None:
                 self._record(command, seconds)
-        told = [line for line in lines if ': passed' not in line][-LINES_OF_A_FAULT:]
-        return Failed('\n'.join([fault, *told])) if fault else None
+        if fault:
+            told = [line for line in lines if ': passed' not in line][-LINES_OF_A_FAULT:]
+            faults.append(Failed('\n'.join([fault, *told])))
 
     def _record(self, command: Command, seconds: int) -> None:
         print('-- %s: %d s' % (command.name, seconds), flush=True)
@@ -128,8 +104,7 @@ class Run:
                 'program': tree.sum_of(tree.path_of(tree.PROGRAM)),
                 'ended': datetime.datetime.now(datetime.timezone.utc).strftime(
                     '%Y-%m-%dT%H:%M:%SZ'),
-                'steps': {step.name: step.seconds for step in self.steps},
-                'again': self.again}
+                'steps': {step.name: step.seconds for step in self.steps}}
         with open(tree.path_of(NOTE), 'w', encoding='utf-8') as file:
             json.dump(note, file, indent=1)
             file.write('\n')
