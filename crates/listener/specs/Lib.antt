@@ -1,3 +1,4 @@
 pub mod Acceptors
 pub mod Listening
+pub mod Serving
 pub mod inner

@@ -1,14 +1,17 @@
 //! A listener whose connections are served.
-ghost use Rattle.std.specs.Prelude.{◌≡◌, ◌≤◌, ◌<◌, ◌+◌, ◌≢◌, None, OnOk, IfOk};
+ghost use Rattle.std.specs.Prelude.{◌≡◌, ◌≤◌, ◌+◌, OnOk, OnErr, IfOk};
 ghost use Rattle.wire.specs.Devices.{IsNewCount, failures_in};
 ghost use Rattle.step_purse.specs.Passes.{IsPassOf};
+ghost use Rattle.listener.specs.Acceptors.{IsAccounted};
 ghost use Rattle.listener.specs.Listening.{Listened};
+ghost use Rattle.listener.specs.Serving.{IsPlain, IsServiceOf};
 ghost use Rattle.listener.specs.inner.Starting.{IsReady};
 
 use crate::acceptor::{AcceptFailed, Acceptor, FromListener};
-use crate::connection::admit;
+use crate::connection::{Admitted, admit};
 use crate::seats::SEATS;
 use crate::server::{ServerState, ServerTerms};
+use crate::service::Service;
 use metered_session::Limits;
 use session::Session;
 use session_log::{Journal, ListenFault};
@@ -52,7 +55,9 @@ fn start_next<
 ) -> Result<Ready, AcceptFailed>
     requires ready { IsReady server.now.purse.now server.now.terms.workers ready }
     ensures ready { IfOk result (λ next. IsReady server.now.purse.now server.now.terms.workers next) }
-    ensures accepted { OnOk result ((E.state acceptor.old).accepted < (E.state acceptor.new).accepted) }
+    ensures started { OnOk result ((E.state acceptor.new).started ≡ (E.state acceptor.old).started + 1) }
+    ensures none { OnErr result ((E.state acceptor.new).started ≡ (E.state acceptor.old).started) }
+    ensures accounted { IsAccounted (E.state acceptor.old) (E.state acceptor.new) }
     ensures failures { (E.state acceptor.new).failures ≡ (E.state acceptor.old).failures + failures_in result }
 {
     let Ready {
@@ -66,16 +71,20 @@ fn start_next<
         };
         let (remaining, given) = server.purse.split(rt, pass);
         pass = remaining;
-        let is_started = admit(scope, rt, server, session, given, caller);
+        let admitted = admit(scope, rt, server, session, given, caller);
         session = server.new_session();
-        if is_started {
-            return Ok(Ready { pass, session });
+        match admitted {
+            Admitted::Started(started) => {
+                acceptor.note_started(&started);
+                return Ok(Ready { pass, session });
+            }
+            Admitted::TurnedAway(turned_away) => acceptor.note_turned_away(&turned_away),
         }
     }
     unreachable!()
 }
 
-/// Starts so many sessions.
+/// Starts so many sessions, and answers the pass that is left.
 ///
 /// # Errors
 ///
@@ -93,16 +102,18 @@ fn start_some<
     acceptor: &mut E,
     ready: Ready,
     count: u64,
-) -> Result<(), AcceptFailed>
+) -> Result<Pass, AcceptFailed>
     requires ready { IsReady server.now.purse.now server.now.terms.workers ready }
-    ensures accepted { OnOk result ((E.state acceptor.old).accepted + count ≤ (E.state acceptor.new).accepted) }
+    ensures own { IfOk result (λ pass. IsPassOf server.now.purse.now pass) }
+    ensures started { OnOk result ((E.state acceptor.new).started ≡ (E.state acceptor.old).started + count) }
+    ensures accounted { IsAccounted (E.state acceptor.old) (E.state acceptor.new) }
     ensures failures { (E.state acceptor.new).failures ≡ (E.state acceptor.old).failures + failures_in result }
 {
     let mut ready = ready;
     for _ in 0..count {
         ready = start_next(scope, rt, server, acceptor, ready)?;
     }
-    Ok(())
+    Ok(ready.pass)
 }
 
 /// Starts sessions until a connection can't be accepted, and tells that fault.
@@ -114,7 +125,8 @@ fn start_all<'s, 'a, E: Acceptor + Drop, R: Threads + Wait + Clock + Sync, L: Le
     ready: Ready,
 ) -> AcceptFailed
     requires { IsReady server.now.purse.now server.now.terms.workers ready }
-    ensures { (E.state acceptor.new).failures ≡ (E.state acceptor.old).failures + 1 }
+    ensures accounted { IsAccounted (E.state acceptor.old) (E.state acceptor.new) }
+    ensures failures { (E.state acceptor.new).failures ≡ (E.state acceptor.old).failures + 1 }
 {
     let mut ready = ready;
     for _ in rt.forever() {
@@ -137,13 +149,13 @@ fn start<'s, 'a, E: Acceptor + Drop, R: Threads + Wait + Clock + Sync, L: Ledger
     server: &'a ServerState<'a, L>,
     acceptor: &mut E,
     ready: Ready,
-) -> Result<(), ListenFault>
+) -> Result<Service, ListenFault>
     requires { IsReady server.now.purse.now server.now.terms.workers ready }
-    ensures { Listened server.now.terms.sessions (E.state acceptor.old) (E.state acceptor.new) result }
+    ensures { Listened server.now.purse.now server.now.terms (E.state acceptor.old) (E.state acceptor.new) result }
 {
     match server.terms.sessions {
         Some(count) => match start_some(scope, rt, server, acceptor, ready, count) {
-            Ok(()) => Ok(()),
+            Ok(pass) => Ok(Service::of(acceptor, server.terms, pass, count)),
             Err(failed) => Err(ListenFault::Network(failed.cause)),
         },
         None => {
@@ -156,7 +168,7 @@ fn start<'s, 'a, E: Acceptor + Drop, R: Threads + Wait + Clock + Sync, L: Ledger
 /// Serves the connections of an acceptor, and hands it back: up to sixteen sessions at once, each
 /// in a thread of its own, with a pass of the server's purse. A connection for which there is no
 /// seat, no memory or no thread is turned away and doesn't count. It ends once all sessions have
-/// ended.
+/// ended, with what was served.
 ///
 /// # Errors
 ///
@@ -171,9 +183,9 @@ pub fn serve_acceptor<
     server: &'a ServerState<'a, L>,
     acceptor: E,
     pass: Pass,
-) -> (E, Result<(), ListenFault>)
+) -> (E, Result<Service, ListenFault>)
     requires own { IsPassOf server.now.purse.now pass }
-    ensures { Listened server.now.terms.sessions (E.state acceptor) (E.state result.0) result.1 }
+    ensures { Listened server.now.purse.now server.now.terms (E.state acceptor) (E.state result.0) result.1 }
 {
     let session = server.new_session();
     if session.is_none() {
@@ -183,9 +195,9 @@ pub fn serve_acceptor<
     thread::scope(
         thread::scope_env(),
         rt,
-        move |scope| -> (E, Result<(), ListenFault>)
+        move |scope| -> (E, Result<Service, ListenFault>)
             requires ready { IsReady server.now.purse.now server.now.terms.workers ready }
-            ensures ended { Listened server.entry.now.terms.sessions (E.state acceptor) (E.state result.0) result.1 }
+            ensures ended { Listened server.entry.now.purse.now server.entry.now.terms (E.state acceptor) (E.state result.0) result.1 }
         {
             let mut acceptor = acceptor;
             let ended = start(scope, rt, server, &mut acceptor, ready);
@@ -202,31 +214,34 @@ pub struct Supply<'p> {
     pub pass: Pass,
 }
 
-/// As `serve_on_terms`, with the counts by ledgers of the caller's: of seats, of accepted
-/// connections and of failures.
+/// As `serve_on_terms`, with the counts by ledgers of the caller's: of seats, and those of the
+/// acceptor.
 fn serve_counted<
     N: OpenListener<Stream = TcpStream>,
     R: Threads + Wait + Clock + Sync,
     L: Ledger + Send + Sync,
     C: Ledger,
     F: Ledger,
+    S: Ledger,
+    T: Ledger,
 >(
     rt: &R,
     listener: &N,
     supply: Supply<'_>,
     terms: ServerTerms,
     journal: Option<&Journal>,
-    blanks: (Blank, Blank, Blank),
-) -> Result<(), ListenFault>
+    seats: Blank,
+    counts: (Blank, Blank, Blank, Blank),
+) -> Result<Service, ListenFault>
     requires supply { IsPassOf supply.purse.now supply.pass }
-    requires seats { (blanks.0.name ≡ L.name) × (blanks.0.parts ≡ L.parts) × (blanks.0.parts ≡ 16) }
-    requires counts { IsNewCount blanks.1 C.name C.parts × IsNewCount blanks.2 F.name F.parts }
-    ensures { OnOk result (terms.sessions ≢ None) }
+    requires seats { (seats.name ≡ L.name) × (seats.parts ≡ L.parts) × (seats.parts ≡ 16) }
+    requires calls { IsNewCount counts.0 C.name C.parts × IsNewCount counts.1 F.name F.parts }
+    requires fates { IsNewCount counts.2 S.name S.parts × IsNewCount counts.3 T.name T.parts }
+    ensures { IfOk result (λ service. IsServiceOf supply.entry.purse.now terms service) }
 {
     let Supply { alloc, purse, pass } = supply;
-    let (seats, accepted, failures) = blanks;
     let server = ServerState::<L>::new(alloc, purse, terms, journal, seats);
-    let acceptor = FromListener::<N, C, F>::new(listener, accepted, failures);
+    let acceptor = FromListener::<N, C, F, S, T>::new(listener, counts);
     let (_acceptor, ended) = serve_acceptor(rt, &server, acceptor, pass);
     ended
 }
@@ -248,10 +263,10 @@ pub fn serve_listener<N: OpenListener<Stream = TcpStream>, R: Threads + Wait + C
     pass: Pass,
     workers: u64,
     sessions: Option<u64>,
-) -> Result<(), ListenFault>
+) -> Result<Service, ListenFault>
     requires workers { (1 ≤ workers) × (workers ≤ 64) }
     requires own { IsPassOf purse.now pass }
-    ensures { OnOk result (sessions ≢ None) }
+    ensures { IfOk result (λ service. IsServiceOf purse.now service.terms service × IsPlain workers sessions service.terms) }
 {
     let supply = Supply { alloc, purse, pass };
     let terms = ServerTerms {
@@ -277,10 +292,18 @@ pub fn serve_on_terms<N: OpenListener<Stream = TcpStream>, R: Threads + Wait + C
     supply: Supply<'_>,
     terms: ServerTerms,
     journal: Option<&Journal>,
-) -> Result<(), ListenFault>
+) -> Result<Service, ListenFault>
     requires own { IsPassOf supply.purse.now supply.pass }
-    ensures { OnOk result (terms.sessions ≢ None) }
+    ensures { IfOk result (λ service. IsServiceOf supply.entry.purse.now terms service) }
 {
-    let blanks = (Blank::new(SEATS), Blank::new(1), Blank::new(1));
-    serve_counted::<N, R, Brand, Brand, Brand>(rt, listener, supply, terms, journal, blanks)
+    let counts = (Blank::new(1), Blank::new(1), Blank::new(1), Blank::new(1));
+    serve_counted::<N, R, Brand, Brand, Brand, Brand, Brand>(
+        rt,
+        listener,
+        supply,
+        terms,
+        journal,
+        Blank::new(SEATS),
+        counts,
+    )
 }

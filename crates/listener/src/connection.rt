@@ -1,30 +1,29 @@
 //! One connection, from its start to its end.
-ghost use Rattle.std.specs.Prelude.{◌≡◌, ◌⊎◌, true, false, Err, IfOk, IfErr, IfSome};
-ghost use Rattle.wire.specs.Devices.{IsNewCount};
+ghost use Rattle.std.specs.Prelude.{◌≡◌, is_some, IfSome};
 ghost use Rattle.step_purse.specs.Passes.{IsPassOf};
 ghost use Rattle.session.specs.Sessions.{full_session};
-ghost use Rattle.session.specs.Talk.{Outcome};
-ghost use Rattle.metered_session.specs.Ends.{logged_as};
-ghost use Rattle.metered_session.specs.Limits.{IsWithin, Meters};
-ghost use Rattle.listener.specs.inner.Speaking.{IsServedBy, beginning};
+ghost use Rattle.metered_session.specs.Limits.{IsWithin};
+ghost use Rattle.listener.specs.inner.Admitting.{IsAdmitted};
+ghost use Rattle.listener.specs.inner.Speaking.{IsAccounted, IsServedBy, beginning};
 
 use crate::acceptor::Caller;
+use crate::promise::Attending;
 use crate::retrying::{LastCall, Retrying, set_idle};
 use crate::seats::{Seat, take_seat};
 use crate::server::ServerState;
+use crate::sides::{Attended, serve_over};
 use crate::timed::{Timed, Timer, Timing};
-use metered_session::{Given, Served, ending_of, serve_within};
-use session::{End, ServeFault, Session};
-use session_log::{Cut, Ending, Notice, Noticing, Origin, Watching, watch_in};
+use metered_session::{Given, ending_of};
+use session::Session;
+use session_log::{Cut, Noticing, OpenAccount, Origin, Watching, open_account};
 use std::io::{Read, Write};
-use std::marker::Brand;
 use std::net::{Shutdown, TcpStream};
+use std::snapshot::Snapshot;
 use std::sync::Wait;
-use std::sync::ledger::{Blank, Ledger};
-use std::thread::{Scope, Threads};
+use std::sync::ledger::Ledger;
+use std::thread::{PromisedHandle, Scope, Threads};
 use std::time::Clock;
 use step_purse::Pass;
-use wire::{FromRead, Sink, Source, ToWrite};
 
 /// How many reads of what a client has still sent are made before its connection is closed.
 const LAST_READS: u64 = 64;
@@ -49,120 +48,58 @@ fn hang_up(stream: &TcpStream) {
     }
 }
 
-/// Tells a client that there is no session for it, and ends its connection.
-fn turn_away(stream: &TcpStream) {
-    let mut to = stream;
-    let _ = to.write_all(NO_BUSY);
-    hang_up(stream);
+/// That a client was turned away. Only `turn_away` makes one.
+#[derive(Drop)]
+pub struct TurnedAway {
+    bytes: u64,
 }
 
-/// Leaves a line in the log, if there is one, for a client that was turned away.
-fn note_turned_away<R: Wait + Clock, L: Ledger>(
+/// Tells a client that there is no session for it, and ends its connection, where its stream can
+/// still be had. Leaves a line for it in the log, if there is one.
+fn turn_away<R: Wait + Clock, L: Ledger>(
     rt: &R,
     server: &ServerState<'_, L>,
+    stream: Option<&TcpStream>,
     client: Origin,
-) {
+) -> TurnedAway {
+    if let Some(stream) = stream {
+        let mut to = stream;
+        let _ = to.write_all(NO_BUSY);
+        hang_up(stream);
+    }
+    let bytes = NO_BUSY.len() as u64;
     if let Some(journal) = server.journal {
-        journal.note_turned_away(rt, client, NO_BUSY.len() as u64);
+        journal.note_turned_away(rt, client, bytes);
     }
+    TurnedAway { bytes }
 }
 
-/// Serves a session of a server over these devices: by a pass of its purse, in the memory of each
-/// of its sessions, and within the limits of its terms.
-fn serve_sides<I: Source, O: Sink, H: Threads + Wait, L: Ledger>(
-    rt: &H,
-    server: &ServerState<'_, L>,
-    given: Given<'_>,
-    source: &mut I,
-    sink: &mut O,
-) -> Served
-    requires own { IsPassOf server.now.purse.now given.pass }
-    requires within { IsWithin (beginning given.pass server.now.terms.limits) }
-    requires full { (given.session ≡ full_session server.now.terms.workers) × (given.limits ≡ server.now.terms.limits) }
-    ensures said { Outcome Meters (full_session server.now.terms.workers)
-        (record {
-          budget = beginning given.entry.pass server.now.terms.limits;
-          source = I.state source.old;
-          sink = O.state sink.old;
-        })
-        (record {
-          budget = record { pass = result.pass; spent = result.spent; limits = server.now.terms.limits };
-          source = I.state source.new;
-          sink = O.state sink.new;
-        }) result.outcome }
-    ensures served { IsServedBy server.now.purse.now given.entry.pass server.now.terms.limits result }
+/// Closes the account of a session that was served, if it has one: by its end, where a call that
+/// failed may have waited for too long by this bound, and by its steps.
+fn close_account<R: Wait + Clock>(
+    rt: &R,
+    account: Option<OpenAccount<'_>>,
+    attended: Attended,
+    cut: Option<Cut>,
+    refused: u64,
+) -> Attended
+    ensures accounted { IsAccounted (is_some account.entry) result }
+    ensures cut { result.cut ≡ cut }
+    ensures session { (result.outcome ≡ attended.outcome) × (result.spent ≡ attended.spent) }
+    ensures snapshots { (result.stream ≡ attended.stream) × (result.given ≡ attended.given)
+        × (result.left ≡ attended.left) }
 {
-    serve_within(rt, given, source, sink, server.purse)
+    let (outcome, spent) = (attended.outcome(), attended.spent());
+    let closed = match account {
+        Some(account) => Some(account.close(rt, ending_of(outcome, cut), spent, refused)),
+        None => None,
+    };
+    attended.accounted(cut, closed)
 }
 
-/// As `serve_sides`, over a reader and a writer whose calls are counted by ledgers of the caller's.
-fn serve_counted<
-    R: Read + Drop,
-    W: Write + Drop,
-    H: Threads + Wait,
-    L: Ledger,
-    A: Ledger,
-    B: Ledger,
-    C: Ledger,
-    D: Ledger,
->(
-    rt: &H,
-    server: &ServerState<'_, L>,
-    given: Given<'_>,
-    reader: R,
-    writer: W,
-    blanks: (Blank, Blank, Blank, Blank),
-) -> Served
-    requires own { IsPassOf server.now.purse.now given.pass }
-    requires within { IsWithin (beginning given.pass server.now.terms.limits) }
-    requires full { (given.session ≡ full_session server.now.terms.workers) × (given.limits ≡ server.now.terms.limits) }
-    requires reads { IsNewCount blanks.0 A.name A.parts × IsNewCount blanks.1 B.name B.parts }
-    requires writes { IsNewCount blanks.2 C.name C.parts × IsNewCount blanks.3 D.name D.parts }
-    ensures { IsServedBy server.now.purse.now given.entry.pass server.now.terms.limits result }
-{
-    let (reads, failed_reads, writes, failed_writes) = blanks;
-    let mut source = FromRead::<R, A, B>::new(reader, reads, failed_reads);
-    let mut sink = ToWrite::<W, C, D>::new(writer, writes, failed_writes);
-    serve_sides(rt, server, given, &mut source, &mut sink)
-}
-
-/// As `serve_sides`, over a reader and a writer, which end with the session.
-fn serve_over<R: Read + Drop, W: Write + Drop, H: Threads + Wait, L: Ledger>(
-    rt: &H,
-    server: &ServerState<'_, L>,
-    given: Given<'_>,
-    reader: R,
-    writer: W,
-) -> Served
-    requires own { IsPassOf server.now.purse.now given.pass }
-    requires within { IsWithin (beginning given.pass server.now.terms.limits) }
-    requires full { (given.session ≡ full_session server.now.terms.workers) × (given.limits ≡ server.now.terms.limits) }
-    ensures { IsServedBy server.now.purse.now given.entry.pass server.now.terms.limits result }
-{
-    let blanks = (Blank::new(1), Blank::new(1), Blank::new(1), Blank::new(1));
-    serve_counted::<R, W, H, L, Brand, Brand, Brand, Brand>(
-        rt, server, given, reader, writer, blanks,
-    )
-}
-
-/// How a session ended, by its outcome, where a call that failed had waited for too long by this
-/// bound, or not.
-fn ending_within(outcome: Result<End, ServeFault>, is_idle: bool, cut: Cut) -> Ending
-    ensures ended { IfOk outcome (λ end. result ≡ logged_as outcome) }
-    ensures idle { is_idle ≡ true → (outcome ≡ Err ServeFault.Read) ⊎ (outcome ≡ Err ServeFault.Write)
-        → result ≡ Ending.Cut cut }
-    ensures broken { IfErr outcome (λ fault. (is_idle ≡ false) ⊎ (fault ≡ ServeFault.Turns) ⊎ (fault ≡ ServeFault.Memory)
-        → result ≡ logged_as outcome) }
-{
-    match outcome {
-        Err(ServeFault::Read | ServeFault::Write) if is_idle => Ending::Cut(cut),
-        _ => ending_of(outcome),
-    }
-}
-
-/// This session from its start to its end, in a thread of its own, by this pass; what
-/// it leaves is answered. Its seat is free before its connection is closed, so that a client that
-/// saw the end finds it.
+/// This session from its start to its end, over both sides of its connection, in a thread of its
+/// own, by this pass; what it leaves is answered. Its account in the log is closed and its seat is
+/// free before its connection is closed, so that a client that saw the end finds it.
 fn attend<'a, R: Threads + Wait + Clock, L: Ledger>(
     rt: &'a R,
     server: &'a ServerState<'a, L>,
@@ -170,45 +107,57 @@ fn attend<'a, R: Threads + Wait + Clock, L: Ledger>(
     pass: Pass,
     caller: Caller,
     seat: Seat<'a, R, L>,
-) -> Served
+) -> Attended
     requires own { IsPassOf server.now.purse.now pass }
     requires within { IsWithin (beginning pass server.now.terms.limits) }
     requires full { session ≡ full_session server.now.terms.workers }
-    ensures { IsServedBy server.now.purse.now pass server.now.terms.limits result }
+    ensures { IsServedBy server.now.purse.now pass server.now.terms caller.stream (is_some server.now.journal) result }
 {
     let Caller { stream, address } = caller;
-    let client = Origin::Address(address);
-    let watch = watch_in(rt, server.journal, client);
+    let account = open_account(rt, server.journal, Origin::Address(address));
+    let watch = account.as_ref().map(|account| account.watch());
     let (mut read, mut wrote, mut refused) = (LastCall::none(), LastCall::none(), 0);
     let timing = Timing::new(rt, server.terms.patience());
     let incoming = Timed::new(&stream, Timer::of(rt, &stream, &timing));
     let outgoing = Timed::new(&stream, Timer::of(rt, &stream, &timing));
     let reader = Watching::new(Retrying::new(incoming, &mut read), rt, watch);
-    let notice = Notice::of(rt, server.journal, watch);
     let sending = Watching::new(Retrying::new(outgoing, &mut wrote), rt, watch);
-    let writer = Noticing::new(sending, notice, &mut refused);
+    let writer = Noticing::new(sending, rt, account.as_ref(), &mut refused);
     let given = Given {
         session,
         pass,
         limits: server.terms.limits,
         watch,
     };
-    let served = serve_over(rt, server, given, reader, writer);
-    if let (Some(journal), Some(watch)) = (server.journal, watch) {
-        let ending = ending_within(
-            served.outcome,
-            read.is_idle || wrote.is_idle,
-            timing.cut(rt),
-        );
-        journal.note_end(rt, watch, ending, refused);
-    }
+    let attended = serve_over(rt, server, given, &stream, reader, writer);
+    let cut = if read.is_idle || wrote.is_idle {
+        Some(timing.cut(rt))
+    } else {
+        None
+    };
+    let attended = close_account(rt, account, attended, cut, refused);
     drop(seat);
     hang_up(&stream);
-    served
+    attended
+}
+
+/// A session that was started for a connection: its thread. Only `admit` makes one.
+#[derive(Drop)]
+pub struct Started {
+    thread: PromisedHandle<Attended, Attending>,
+}
+
+/// What became of a connection.
+#[derive(Drop)]
+pub enum Admitted {
+    /// A session was started for it.
+    Started(Started),
+    /// There was no memory, no seat or no thread for one.
+    TurnedAway(TurnedAway),
 }
 
 /// Starts a session for a connection, or tells the client that there is none, where there is no
-/// memory, no seat or no thread. Answers whether one was started.
+/// memory, no seat or no thread.
 pub fn admit<'s, 'a, R: Threads + Wait + Clock + Sync, L: Ledger + Send + Sync>(
     scope: &Scope<'s, &'a ()>,
     rt: &'a R,
@@ -216,33 +165,42 @@ pub fn admit<'s, 'a, R: Threads + Wait + Clock + Sync, L: Ledger + Send + Sync>(
     session: Option<Session>,
     pass: Pass,
     caller: Caller,
-) -> bool
+) -> Admitted
     requires own { IsPassOf server.now.purse.now pass }
     requires within { IsWithin (beginning pass server.now.terms.limits) }
     requires full { IfSome session (λ r. r ≡ full_session server.now.terms.workers) }
+    ensures { IsAdmitted server.now.purse.now pass server.now.terms caller.stream (is_some server.now.journal) result }
 {
     let client = Origin::Address(caller.address);
     let _ = caller.stream.set_nodelay(true);
     if set_idle(&caller.stream, server.terms.idle).is_err() {
-        turn_away(&caller.stream);
-        note_turned_away(rt, server, client);
-        return false;
+        let turned_away = turn_away(rt, server, Some(&caller.stream), client);
+        return Admitted::TurnedAway(turned_away);
     }
     let (Some(session), Some(seat)) = (session, take_seat(rt, &server.seats)) else {
-        turn_away(&caller.stream);
-        note_turned_away(rt, server, client);
-        return false;
+        let turned_away = turn_away(rt, server, Some(&caller.stream), client);
+        return Admitted::TurnedAway(turned_away);
     };
     let second = caller.stream.try_clone();
-    match scope.spawn(move || attend(rt, server, session, pass, caller, seat)) {
-        Ok(_running) => true,
+    let promise = Attending {
+        purse: Snapshot::of(server.purse),
+        pass: Snapshot::of(&pass),
+        terms: server.terms,
+        stream: Snapshot::of(&caller.stream),
+        has_log: server.journal.is_some(),
+    };
+    let attending = move || -> Attended
+        requires own { IsPassOf server.now.purse.now pass }
+        requires within { IsWithin (beginning pass server.now.terms.limits) }
+        requires full { session ≡ full_session server.now.terms.workers }
+        ensures { IsServedBy server.entry.now.purse.now pass server.entry.now.terms caller.stream (is_some server.entry.now.journal) result }
+    { attend(rt, server, session, pass, caller, seat) };
+    match scope.spawn_with(promise, attending) {
+        Ok(thread) => Admitted::Started(Started { thread }),
         Err(refused) => {
             drop(refused);
-            if let Ok(second) = second {
-                turn_away(&second);
-            }
-            note_turned_away(rt, server, client);
-            false
+            let second = second.ok();
+            Admitted::TurnedAway(turn_away(rt, server, second.as_ref(), client))
         }
     }
 }

@@ -1,6 +1,6 @@
 //! For how long a session waits for its client, and why it is ended then.
-ghost use Rattle.std.specs.Prelude.{◌≡◌, ◌<◌, ◌+◌, ◌-◌, ◌^◌, min};
-ghost use Rattle.listener.specs.inner.Patience.{age_bound, call_bound, grace_by, rate_bound, read_bound, sooner, write_bound};
+ghost use Rattle.std.specs.Prelude.{◌≡◌, ◌<◌, ◌+◌, ◌-◌, ◌^◌, ◌↔◌, min, IsTrue, None};
+ghost use Rattle.listener.specs.inner.Patience.{age_bound, call_bound, grace_by, rate_bound, read_bound, sooner, time_over, write_bound};
 
 use session_log::Cut;
 
@@ -138,12 +138,16 @@ fn sooner(one: Option<Bound>, other: Option<Bound>) -> Option<Bound>
 
 impl Patience {
     /// Whether nothing but single calls is bounded.
-    pub fn is_plain(&self) -> bool {
+    pub fn is_plain(&self) -> bool
+        ensures { IsTrue result ↔ (self.now.seconds ≡ None) × (self.now.rate ≡ None) }
+    {
         self.seconds.is_none() && self.rate.is_none()
     }
 
     /// How long a session that has lasted so long has been over its time.
-    pub fn over(&self, lasted: u64) -> u64 {
+    pub fn over(&self, lasted: u64) -> u64
+        ensures { result ≡ time_over self.now.seconds lasted }
+    {
         match self.seconds {
             Some(seconds) => lasted.saturating_sub(seconds.saturating_mul(1000)),
             None => 0,

@@ -1,4 +1,7 @@
 //! What the log tells.
+ghost use Rattle.std.specs.Prelude.{◌≡◌, Some};
+ghost use Rattle.session_log.specs.inner.Events.{kind_of, steps_of};
+ghost use Rattle.session_log.specs.Names.{ending_text};
 
 use crate::origin::Origin;
 use crate::pace::Untold;
@@ -44,6 +47,8 @@ pub enum Ending {
 }
 
 impl fmt::Display for Ending {
+    ghost output = { λ e. Some (ending_text e) };
+
     fn fmt<W: fmt::Write>(&self, f: &mut fmt::Formatter<W>) -> fmt::Result {
         match self {
             Ending::Quit => f.write_str("quit"),
@@ -98,16 +103,28 @@ pub enum Event {
 }
 
 impl Event {
-    /// Its kind, and the steps that it tells of.
-    pub fn kind(&self) -> Option<(Kind, u64)> {
+    /// The kind of line that tells it.
+    pub fn kind(&self) -> Kind
+        ensures { result ≡ kind_of self.now }
+    {
         match self {
-            Event::Start => Some((Kind::Start, 0)),
-            Event::Refused(_) => Some((Kind::Refused, 0)),
+            Event::Start => Kind::Start,
+            Event::Refused(_) => Kind::Refused,
             Event::End(account) => match account.ending {
-                Ending::TurnedAway => Some((Kind::TurnedAway, account.spent)),
-                _ => Some((Kind::Session, account.spent)),
+                Ending::TurnedAway => Kind::TurnedAway,
+                _ => Kind::Session,
             },
-            Event::Runs { .. } => None,
+            Event::Runs { .. } => Kind::Batch,
+        }
+    }
+
+    /// The steps that its line tells, and no other line does.
+    pub fn steps(&self) -> u64
+        ensures { result ≡ steps_of self.now }
+    {
+        match self {
+            Event::End(account) => account.spent,
+            Event::Start | Event::Refused(_) | Event::Runs { .. } => 0,
         }
     }
 }
@@ -117,6 +134,8 @@ impl Event {
 pub struct Entry {
     /// When it happened, where the clock could be read.
     pub at: Option<SystemTime>,
+    /// The number of the session, if there is one.
+    pub number: Option<u64>,
     /// Where the client is.
     pub client: Origin,
     pub event: Event,
@@ -126,12 +145,28 @@ pub struct Entry {
 
 impl Entry {
     /// An event of this moment.
-    pub fn new<R: Clock>(rt: &R, client: Origin, event: Event) -> Self {
+    pub fn new<R: Clock>(rt: &R, number: Option<u64>, client: Origin, event: Event) -> Self
+        ensures number { result.number ≡ number }
+        ensures event { result.event ≡ event }
+    {
         Entry {
             at: SystemTime::now(rt).ok(),
+            number,
             client,
             event,
             untold: Untold::nothing(),
+        }
+    }
+
+    /// The second in which it happened, or 0 where the clock couldn't be read.
+    pub fn second(&self) -> u64 {
+        let since = match self.at {
+            Some(at) => at.duration_since(SystemTime::UNIX_EPOCH),
+            None => return 0,
+        };
+        match since {
+            Ok(since) => since.as_secs(),
+            Err(_) => 0,
         }
     }
 }

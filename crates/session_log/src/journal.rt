@@ -1,21 +1,19 @@
 //! A log of sessions: lines that they leave, and one thread that writes them.
 //!
 //! A session never waits for the writer: it leaves its line in a queue, under a lock that nobody
-//! holds while it writes. Where the queue is full, since standard error takes nothing, the line is
-//! dropped and counted, and the count is written once there is capacity. Of each kind of line a
-//! second has only so many, and the others are counted (`Pace`).
-ghost use Rattle.std.specs.Prelude.{◌≡◌, ◌+◌, ◌-◌, ◌^◌, ◌++◌, ◌∷◌, [], min, true, false};
-ghost use Rattle.session_log.specs.inner.Waiting.{IsTaken};
+//! holds while it writes. An event whose line doesn't fit, since standard error takes nothing, is
+//! counted; so is one whose second has had the lines of its kind (`Pace`). The next line of the
+//! kind tells the count.
+ghost use Rattle.std.specs.Prelude.{◌≡◌};
 
+use crate::account::OpenAccount;
+use crate::books::{Books, ClosedAccount, NextLine};
 use crate::entry::{Account, Ending, Entry, Event};
 use crate::line::{CloseReason, Closing, Context, Line, LoggedTerms, Opening};
 use crate::origin::Origin;
-use crate::pace::Pace;
 use crate::refusal::Refusal;
 use crate::roster::{Roster, Row, Watch};
-use crate::tally::Tally;
 use std::alloc::{AllocError, Global};
-use std::collections::VecDeque;
 use std::sync::{Condvar, Mutex, Wait};
 use std::time::{Clock, Duration, Instant, SystemTime};
 use step_purse::Totals;
@@ -29,94 +27,13 @@ pub enum LogFormat {
     Json,
 }
 
-/// How many lines wait at most.
-const MOST_WAITING: usize = 1024;
-
-/// The lines that wait to be written, how many were dropped behind them, and whether no more come.
-#[derive(Drop)]
-struct Waiting {
-    entries: VecDeque<Entry>,
-    dropped: u64,
-    is_over: bool,
-}
-
-/// What is to be written next.
-#[derive(Clone, Copy)]
-enum NextLine {
-    /// A line.
-    Line(Entry),
-    /// That so many lines were dropped.
-    Dropped(u64),
-    /// Nothing more.
-    Over,
-}
-
-impl Waiting {
-    /// Adds a line behind those that wait, or counts it as dropped, where they are too many. Tells
-    /// which.
-    fn add(&mut self, entry: Entry) -> bool
-        ensures unchanged { result ≡ true → (self.new.entries.items ≡ self.old.entries.items ++ entry ∷ [])
-            × (self.new.dropped ≡ self.old.dropped) }
-        ensures dropped { result ≡ false → (self.new.entries.items ≡ self.old.entries.items)
-            × (self.new.dropped ≡ min (self.old.dropped + 1) (2 ^ 64 - 1)) }
-        ensures over { self.new.is_over ≡ self.old.is_over }
-    {
-        let Waiting {
-            entries,
-            dropped,
-            ..
-        } = self;
-        if entries.len() < MOST_WAITING && entries.push_back(entry).is_ok() {
-            return true;
-        }
-        *dropped = dropped.saturating_add(1);
-        false
-    }
-
-    /// Takes what is to be written next: the first line that waits, then how many were dropped.
-    /// None, where there is nothing yet.
-    fn take(&mut self) -> Option<NextLine>
-        ensures taken { IsTaken result self.old self.new }
-        ensures same { self.new.is_over ≡ self.old.is_over }
-    {
-        let Waiting {
-            entries,
-            dropped,
-            is_over,
-        } = self;
-        if let Some(entry) = entries.pop_front() {
-            return Some(NextLine::Line(entry));
-        }
-        if *dropped > 0 {
-            let count = *dropped;
-            *dropped = 0;
-            return Some(NextLine::Dropped(count));
-        }
-        if *is_over { Some(NextLine::Over) } else { None }
-    }
-}
-
-/// The second that the clock tells, or 0 where it can't be read.
-fn this_second<R: Clock>(rt: &R) -> u64 {
-    match SystemTime::now(rt) {
-        Ok(now) => match now.duration_since(SystemTime::UNIX_EPOCH) {
-            Ok(since) => since.as_secs(),
-            Err(_) => 0,
-        },
-        Err(_) => 0,
-    }
-}
-
 /// A log of sessions. They leave lines in it, and `write_out` writes them.
 #[derive(Drop)]
 pub struct Journal {
-    waiting: Mutex<Waiting>,
+    books: Mutex<Books>,
     change: Condvar,
-    tally: Mutex<Tally>,
     format: LogFormat,
     every: Option<u64>,
-    /// How many lines tell of batches that have ended, if any do.
-    batches: Option<Mutex<Pace>>,
     /// How many sessions run at once, at most.
     sessions: usize,
     roster: Roster,
@@ -124,8 +41,8 @@ pub struct Journal {
 
 impl Journal {
     /// A log of at most so many sessions at once, in which no line waits, with capacity for all
-    /// that may. It has lines of this format. Where a number of seconds is given, it tells so often
-    /// how each session stands, and also at the end of each batch, where it is to.
+    /// that may. It has lines of this format. It tells how a session stands at the end of each
+    /// batch; and where a number of seconds is given, it tells so often how each stands.
     ///
     /// # Errors
     ///
@@ -135,60 +52,28 @@ impl Journal {
         sessions: usize,
         format: LogFormat,
         every: Option<u64>,
-        tells_batches: bool,
     ) -> Result<Self, AllocError> {
-        let entries = VecDeque::with_capacity(alloc, MOST_WAITING)?;
-        let waiting = Waiting {
-            entries,
-            dropped: 0,
-            is_over: false,
-        };
         Ok(Journal {
-            waiting: Mutex::new(waiting),
+            books: Mutex::new(Books::new(alloc)?),
             change: Condvar::new(),
-            tally: Mutex::new(Tally::new()),
             format,
             every,
-            batches: if tells_batches && every.is_some() {
-                Some(Mutex::new(Pace::many()))
-            } else {
-                None
-            },
             sessions,
             roster: Roster::new(alloc, sessions)?,
         })
     }
 
-    /// Leaves a line to be written, or counts it as dropped, and tells which. It doesn't wait for
-    /// the writer.
-    fn add<R: Wait>(&self, rt: &R, entry: Entry) -> bool {
-        let is_kept = self.waiting.lock(rt).add(entry);
+    /// Leaves a line of an event, or counts the event alone. It doesn't wait for the writer.
+    fn note<R: Wait>(&self, rt: &R, entry: Entry) {
+        let _has_line = self.books.lock(rt).enter(entry);
         self.change.notify_one();
-        is_kept
     }
 
-    /// Leaves a line of an event, or counts the event alone, where this second has had the lines of
-    /// its kind.
-    fn note<R: Wait + Clock>(&self, rt: &R, client: Origin, event: Event) {
-        let mut entry = Entry::new(rt, client, event);
-        let Some((kind, steps)) = event.kind() else {
-            self.add(rt, entry);
-            return;
-        };
-        let granted = self.tally.lock(rt).tell(kind, this_second(rt), steps);
-        if let Some(untold) = granted {
-            entry.untold = untold;
-            if !self.add(rt, entry) {
-                self.tally.lock(rt).take_back(kind, untold);
-            }
-        }
-    }
-
-    /// Leaves a line that a session starts. Answers where it is noted what the session does.
-    pub fn note_start<R: Wait + Clock>(&self, rt: &R, client: Origin) -> Watch<'_> {
+    /// Opens the account of a session that starts, and leaves a line of that.
+    pub fn open<R: Wait + Clock>(&self, rt: &R, client: Origin) -> OpenAccount<'_> {
         let watch = Watch::start(rt, &self.roster, client);
-        self.note(rt, client, Event::Start);
-        watch
+        self.note(rt, Entry::new(rt, Some(watch.number), client, Event::Start));
+        OpenAccount::of(self, watch)
     }
 
     /// Leaves a line that a client was turned away, which was sent so many bytes.
@@ -203,83 +88,84 @@ impl Journal {
             spent: 0,
             refused: 0,
         };
-        self.note(rt, client, Event::End(account));
+        self.note(rt, Entry::new(rt, None, client, Event::End(account)));
     }
 
-    /// Leaves a line of how a session ended that was refused something so often.
-    pub fn note_end<R: Wait + Clock>(
+    /// Leaves a line of how a session ended, and what it took. For a session without a row, only
+    /// its steps and its refusals are known.
+    pub(crate) fn close<R: Wait + Clock>(
         &self,
         rt: &R,
         watch: Watch<'_>,
         ending: Ending,
+        spent: u64,
         refused: u64,
-    ) {
-        let Some(row) = self.roster.leave(rt, watch.number) else {
-            return;
+    ) -> ClosedAccount
+        ensures number { result.number ≡ watch.entry.number }
+        ensures account { (result.ending ≡ ending) × (result.spent ≡ spent) }
+    {
+        let row = match self.roster.leave(rt, watch.number) {
+            Some(row) => row,
+            None => Row::new(watch.number, watch.client, None),
         };
-        let standing = row.standing;
         let account = Account {
             ending,
             time: row.time(rt),
-            received: standing.received,
-            sent: standing.sent,
-            commands: standing.commands,
-            jobs: standing.jobs_in_all,
-            spent: standing.spent,
+            received: row.standing.received,
+            sent: row.standing.sent,
+            commands: row.standing.commands,
+            jobs: row.standing.jobs_in_all,
+            spent,
             refused,
         };
-        self.note(rt, watch.client, Event::End(account));
+        let at = SystemTime::now(rt).ok();
+        let closed = self
+            .books
+            .lock(rt)
+            .close(at, watch.number, watch.client, account);
+        self.change.notify_one();
+        closed
     }
 
-    /// Leaves a line of how a session stands whose batch has ended, if that is reported, and this
-    /// second hasn't had too many.
-    pub fn note_batch<R: Wait + Clock>(&self, rt: &R, watch: Watch<'_>) {
-        let Some(batches) = &self.batches else {
-            return;
-        };
-        let Some(row) = self.roster.spender(rt, watch.number) else {
-            return;
-        };
-        let granted = batches.lock(rt).tell(this_second(rt), 0);
-        if granted.is_some() {
-            let (time, standing) = (row.time(rt), row.standing);
-            let runs = Event::Runs { time, standing };
-            self.add(rt, Entry::new(rt, watch.client, runs));
+    /// Leaves a line of how a session stands whose batch has ended: a process that is killed has no
+    /// other account of it.
+    pub(crate) fn note_batch<R: Wait + Clock>(&self, rt: &R, watch: Watch<'_>) {
+        if let Some(row) = self.roster.spender(rt, watch.number) {
+            self.note(rt, row.entry(rt));
         }
     }
 
-    /// The steps that the sessions spent which have ended.
-    pub fn spent<R: Wait>(&self, rt: &R) -> u64 {
-        self.tally.lock(rt).counts.steps
-    }
-
     /// Leaves a line of a refusal.
-    pub fn note_refusal<R: Wait + Clock>(&self, rt: &R, client: Origin, refusal: Refusal) {
-        self.note(rt, client, Event::Refused(refusal));
+    pub(crate) fn note_refusal<R: Wait + Clock>(&self, rt: &R, watch: Watch<'_>, refusal: Refusal) {
+        let Watch { client, number, .. } = watch;
+        self.note(
+            rt,
+            Entry::new(rt, Some(number), client, Event::Refused(refusal)),
+        );
     }
 
     /// Tells that no more lines come.
     pub fn end<R: Wait>(&self, rt: &R) {
-        self.waiting.lock(rt).is_over = true;
+        self.books.lock(rt).end();
         self.change.notify_one();
     }
 
     /// What is to be written next, once there is something. None, where there is nothing for so
     /// long, if a time is given.
     fn next<R: Wait + Clock>(&self, rt: &R, longest: Option<Duration>) -> Option<NextLine> {
-        let mut waiting = self.waiting.lock(rt);
+        let mut books = self.books.lock(rt);
         for _ in rt.forever() {
-            if let Some(next) = waiting.take() {
+            if let Some(next) = books.take() {
                 return Some(next);
             }
             match longest {
-                None => waiting = self.change.wait(rt, waiting),
+                None => books = self.change.wait(rt, books),
                 Some(longest) => {
-                    let (guard, waited) = self.change.wait_timeout(rt, waiting, longest);
+                    let (guard, waited) = self.change.wait_timeout(rt, books, longest);
                     if waited.timed_out() {
                         return None;
                     }
-                    waiting = guard;
+                    books = guard;
                 }
             }
         }
@@ -330,7 +216,7 @@ impl Journal {
         totals: Totals,
     ) {
         let context = self.context(rt, address);
-        let tally = *self.tally.lock(rt);
+        let tally = self.books.lock(rt).tally();
         let _ = rt.eprintln(Closing {
             context,
             reason,
@@ -341,23 +227,11 @@ impl Journal {
         });
     }
 
-    /// Writes how many lines were dropped.
-    fn write_dropped<R: Eprint>(&self, rt: &R, count: u64) {
-        let _ = match self.format {
-            LogFormat::Text => eprintln!(rt; "spmat: {count} lines of the log were dropped"),
-            LogFormat::Json => eprintln!(rt; "{{\"event\":\"dropped\",\"lines\":{count}}}"),
-        };
-    }
-
     /// Writes how each session stands.
     fn write_roster<R: Wait + Clock + Eprint>(&self, rt: &R) {
         for nth in 0..self.sessions {
             if let Some(row) = self.roster.at(rt, nth) {
-                let (time, standing) = (row.time(rt), row.standing);
-                self.write(
-                    rt,
-                    &Entry::new(rt, row.client, Event::Runs { time, standing }),
-                );
+                self.write(rt, &row.entry(rt));
             }
         }
     }
@@ -384,7 +258,6 @@ impl Journal {
             }
             match self.next(rt, longest) {
                 Some(NextLine::Line(entry)) => self.write(rt, &entry),
-                Some(NextLine::Dropped(count)) => self.write_dropped(rt, count),
                 Some(NextLine::Over) => return,
                 None => {}
             }

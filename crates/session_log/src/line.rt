@@ -1,4 +1,10 @@
 //! What the log tells, as a line for each event: text, or an object of JSON.
+//!
+//! Contracts say the text of each field, but for what the clock tells: the time at the front of a
+//! line, and the seconds of a session.
+ghost use Rattle.std.specs.Prelude.{Some, option_map};
+ghost use Rattle.std.specs.Fmt.{DisplaysOnOk, WritesOnOk};
+ghost use Rattle.session_log.specs.inner.Text.{account_text, number_text, number_text_if_any, untold_text, who_text, word_text};
 
 use crate::entry::{Account, Entry, Event};
 use crate::journal::LogFormat;
@@ -121,7 +127,9 @@ fn word<W: fmt::Write, D: fmt::Display + Drop>(
     format: LogFormat,
     name: &str,
     value: D,
-) -> fmt::Result {
+) -> fmt::Result
+    ensures { DisplaysOnOk W.write_str_gives f.old result (option_map (word_text format name.now) (D.output value)) f.new }
+{
     match format {
         LogFormat::Text => write!(f, " {name}={value}"),
         LogFormat::Json => write!(f, ",\"{name}\":\"{value}\""),
@@ -134,7 +142,9 @@ fn number<W: fmt::Write>(
     format: LogFormat,
     name: &str,
     value: u64,
-) -> fmt::Result {
+) -> fmt::Result
+    ensures { WritesOnOk W.write_str_gives f.old result (number_text format name.now value) f.new }
+{
     match format {
         LogFormat::Text => write!(f, " {name}={value}"),
         LogFormat::Json => write!(f, ",\"{name}\":{value}"),
@@ -147,7 +157,9 @@ fn number_if_any<W: fmt::Write>(
     format: LogFormat,
     name: &str,
     value: Option<u64>,
-) -> fmt::Result {
+) -> fmt::Result
+    ensures { WritesOnOk W.write_str_gives f.old result (number_text_if_any format name.now value) f.new }
+{
     match (value, format) {
         (Some(value), _) => number(f, format, name, value),
         (None, LogFormat::Text) => write!(f, " {name}=none"),
@@ -188,14 +200,22 @@ fn refused<W: fmt::Write>(
     Ok(())
 }
 
-/// The fields of a session that ended, or of a client that was turned away.
-fn end<W: fmt::Write>(
+/// The fields of a line that tell whose it is.
+fn who<W: fmt::Write>(f: &mut fmt::Formatter<W>, format: LogFormat, entry: &Entry) -> fmt::Result
+    ensures { WritesOnOk W.write_str_gives f.old result (who_text format entry.now) f.new }
+{
+    number_if_any(f, format, "id", entry.number)?;
+    word(f, format, "client", entry.client)
+}
+
+/// The fields of what a session took.
+fn taken<W: fmt::Write>(
     f: &mut fmt::Formatter<W>,
     format: LogFormat,
     account: &Account,
-) -> fmt::Result {
-    word(f, format, "end", account.ending)?;
-    seconds(f, format, account.time)?;
+) -> fmt::Result
+    ensures { WritesOnOk W.write_str_gives f.old result (account_text format account.now) f.new }
+{
     number(f, format, "in", account.received)?;
     number(f, format, "out", account.sent)?;
     number(f, format, "commands", account.commands)?;
@@ -224,8 +244,10 @@ fn runs<W: fmt::Write>(
 fn untold_steps<W: fmt::Write>(
     f: &mut fmt::Formatter<W>,
     format: LogFormat,
-    untold: Untold,
-) -> fmt::Result {
+    untold: &Untold,
+) -> fmt::Result
+    ensures { WritesOnOk W.write_str_gives f.old result (untold_text format untold.now) f.new }
+{
     number(f, format, "untold", untold.lines)?;
     number(f, format, "untold_steps", untold.steps)
 }
@@ -235,9 +257,9 @@ impl fmt::Display for Line<'_> {
         let format = self.format;
         let Entry {
             at,
-            client,
             event,
             untold,
+            ..
         } = *self.entry;
         let name = match event {
             Event::Start => "start",
@@ -246,7 +268,7 @@ impl fmt::Display for Line<'_> {
             Event::Runs { .. } => "runs",
         };
         begin(f, format, at, name)?;
-        word(f, format, "client", client)?;
+        who(f, format, self.entry)?;
         match event {
             Event::Start => number(f, format, "untold", untold.lines)?,
             Event::Refused(refusal) => {
@@ -254,8 +276,10 @@ impl fmt::Display for Line<'_> {
                 number(f, format, "untold", untold.lines)?;
             }
             Event::End(account) => {
-                end(f, format, &account)?;
-                untold_steps(f, format, untold)?;
+                word(f, format, "end", account.ending)?;
+                seconds(f, format, account.time)?;
+                taken(f, format, &account)?;
+                untold_steps(f, format, &untold)?;
             }
             Event::Runs { time, standing } => runs(f, format, time, &standing)?,
         }
@@ -306,7 +330,7 @@ impl fmt::Display for Closing {
         number(f, format, "refused", self.counts.refused)?;
         number(f, format, "steps", self.spent)?;
         number(f, format, "left", self.left)?;
-        untold_steps(f, format, self.untold)?;
+        untold_steps(f, format, &self.untold)?;
         finish(f, format)
     }
 }

@@ -2,31 +2,12 @@
 
 ghost use Rattle.std.specs.Prelude.{◌≡◌};
 
-use crate::journal::Journal;
+use crate::account::OpenAccount;
 use crate::refusal::{LONGEST, Refusal};
-use crate::roster::Watch;
 use std::io;
 use std::io::Write;
 use std::sync::Wait;
 use std::time::Clock;
-
-/// A log, and which session it reports.
-#[derive(Drop)]
-pub struct Notice<'s, R> {
-    pub rt: &'s R,
-    pub journal: &'s Journal,
-    pub watch: Watch<'s>,
-}
-
-impl<'s, R> Notice<'s, R> {
-    /// What is reported to a log of a session, if there is one.
-    pub fn of(rt: &'s R, journal: Option<&'s Journal>, watch: Option<Watch<'s>>) -> Option<Self> {
-        match (journal, watch) {
-            (Some(journal), Some(watch)) => Some(Notice { rt, journal, watch }),
-            _ => None,
-        }
-    }
-}
 
 /// The line that a client is being sent: as much of it as a refusal may be long.
 #[derive(Clone, Copy)]
@@ -66,7 +47,8 @@ impl SentLine {
 
 /// Looks at what was sent, line by line. Each refusal is counted, and reported to the log.
 fn look<R: Wait + Clock>(
-    notice: &Notice<'_, R>,
+    rt: &R,
+    account: &OpenAccount<'_>,
     line: &mut SentLine,
     refused: &mut u64,
     sent: &[u8],
@@ -76,9 +58,7 @@ fn look<R: Wait + Clock>(
         if piece.ends_with(b"\n") {
             if let Some(refusal) = line.refusal() {
                 *refused = refused.saturating_add(1);
-                notice
-                    .journal
-                    .note_refusal(notice.rt, notice.watch.client, refusal);
+                account.note_refusal(rt, refusal);
             }
             *line = SentLine::new();
         }
@@ -91,19 +71,26 @@ fn look<R: Wait + Clock>(
 #[derive(Drop)]
 pub struct Noticing<'s, W: Drop, R> {
     side: W,
-    notice: Option<Notice<'s, R>>,
+    rt: &'s R,
+    account: Option<&'s OpenAccount<'s>>,
     refused: &'s mut u64,
     line: SentLine,
 }
 
 impl<'s, W: Drop, R: Wait + Clock> Noticing<'s, W, R> {
-    /// This side, with a log if there is one, and where refusals are counted.
-    pub fn new(side: W, notice: Option<Notice<'s, R>>, refused: &'s mut u64) -> Self
+    /// This side, with a session's account if it has one, and where refusals are counted.
+    pub fn new(
+        side: W,
+        rt: &'s R,
+        account: Option<&'s OpenAccount<'s>>,
+        refused: &'s mut u64,
+    ) -> Self
         ensures { result.side ≡ side }
     {
         Noticing {
             side,
-            notice,
+            rt,
+            account,
             refused,
             line: SentLine::new(),
         }
@@ -114,12 +101,18 @@ impl<W: Write + Drop, R: Wait + Clock> Write for Noticing<'_, W, R> {
     ghost contents = { λ s. W.contents s.side };
 
     fn write(&mut self, buf: &[u8]) -> io::Result<usize> {
-        if let Some(Notice { rt, journal, watch }) = &self.notice {
-            journal.note_batch(*rt, *watch);
+        if let Some(account) = self.account {
+            account.note_batch(self.rt);
         }
         let outcome = self.side.write(buf);
-        if let (Ok(count), Some(notice)) = (&outcome, &self.notice) {
-            look(notice, &mut self.line, self.refused, &buf[..*count]);
+        if let (Ok(count), Some(account)) = (&outcome, self.account) {
+            look(
+                self.rt,
+                account,
+                &mut self.line,
+                self.refused,
+                &buf[..*count],
+            );
         }
         outcome
     }

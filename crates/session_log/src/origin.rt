@@ -1,4 +1,6 @@
 //! Where the client of a session is.
+ghost use Rattle.std.specs.Prelude.{Some};
+ghost use Rattle.session_log.specs.Names.{origin_text};
 
 use std::fmt;
 use std::net::SocketAddr;
@@ -13,6 +15,8 @@ pub enum Origin {
 }
 
 impl fmt::Display for Origin {
+    ghost output = { λ o. Some (origin_text o) };
+
     fn fmt<W: fmt::Write>(&self, f: &mut fmt::Formatter<W>) -> fmt::Result {
         match self {
             Origin::Address(address) => write!(f, "{address}"),

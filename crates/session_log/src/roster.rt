@@ -3,6 +3,7 @@
 ghost use Rattle.std.specs.Prelude.{◌≡◌, ◌≢◌, ℕ, None, Some, IfSome, IfNone, slice_get};
 ghost use Rattle.session_log.specs.inner.Standing.{noted};
 
+use crate::entry::{Entry, Event};
 use crate::origin::Origin;
 use std::alloc::{AllocError, Global};
 use std::fmt;
@@ -56,7 +57,7 @@ pub struct Standing {
 pub struct Row {
     /// What tells this row from the others. A client's address doesn't: a client that resets its
     /// connection may come again from the same port while its old batch is at work.
-    number: u64,
+    pub number: u64,
     pub client: Origin,
     /// When it started, where the clock could be read.
     began: Option<Instant>,
@@ -69,7 +70,7 @@ pub struct Row {
 
 impl Row {
     /// A session that starts at a moment.
-    fn new(number: u64, client: Origin, began: Option<Instant>) -> Self
+    pub fn new(number: u64, client: Origin, began: Option<Instant>) -> Self
         ensures { result.number ≡ number }
     {
         Row {
@@ -94,6 +95,15 @@ impl Row {
     /// How long the session has run, where the clock can be read.
     pub fn time<R: Clock>(&self, rt: &R) -> Option<Duration> {
         self.began.and_then(|began| began.elapsed(rt).ok())
+    }
+
+    /// What the log tells of the session while it runs.
+    pub fn entry<R: Clock>(&self, rt: &R) -> Entry
+        ensures { result.number ≡ Some self.now.number }
+    {
+        let (time, standing) = (self.time(rt), self.standing);
+        let runs = Event::Runs { time, standing };
+        Entry::new(rt, Some(self.number), self.client, runs)
     }
 
     /// Notes something of the session.
@@ -179,18 +189,17 @@ impl Rows {
         }
     }
 
-    /// The session with this number, where it has spent steps since this was last asked, and has no
-    /// job queued.
+    /// The session with this number, where it has spent steps since this was last asked: then a
+    /// batch of it has ended.
     fn spender(&mut self, number: u64) -> Option<Row>
-        ensures { IfSome result (λ r. (r.number ≡ number) × (r.standing.jobs ≡ 0) × (r.reported ≡ r.standing.spent)) }
+        ensures { IfSome result (λ r. (r.number ≡ number) × (r.reported ≡ r.standing.spent)) }
     {
         let nth = self.rows.iter().position(|row| row.number == number)?;
         let row = &mut self.rows[nth];
-        let Standing { jobs, spent, .. } = row.standing;
-        if jobs > 0 || spent == row.reported {
+        if row.standing.spent == row.reported {
             return None;
         }
-        row.reported = spent;
+        row.reported = row.standing.spent;
         Some(*row)
     }
 
@@ -218,7 +227,7 @@ impl Roster {
     pub fn new(alloc: Global, sessions: usize) -> Result<Self, AllocError> {
         let rows = Vec::with_capacity(alloc, sessions)?;
         Ok(Roster {
-            rows: Mutex::new(Rows { rows, next: 0 }),
+            rows: Mutex::new(Rows { rows, next: 1 }),
         })
     }
 
@@ -233,7 +242,7 @@ impl Roster {
         self.rows.lock(rt).note(number, note);
     }
 
-    /// A session that has spent steps since this was last asked, and has no job queued.
+    /// A session that has spent steps since this was last asked.
     pub fn spender<R: Wait>(&self, rt: &R, number: u64) -> Option<Row> {
         self.rows.lock(rt).spender(number)
     }

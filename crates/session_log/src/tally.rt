@@ -1,7 +1,7 @@
 //! What a log has reported, and what it has only counted.
-ghost use Rattle.std.specs.Prelude.{◌≡◌, IfSome};
+ghost use Rattle.std.specs.Prelude.{◌≡◌, None, IfSome};
 ghost use Rattle.session_log.specs.inner.Telling.{counts_after, untold_of};
-ghost use Rattle.session_log.specs.inner.Untold.{joined};
+ghost use Rattle.session_log.specs.inner.Untold.{joined, none, one};
 
 use crate::pace::{Pace, Untold};
 
@@ -16,6 +16,8 @@ pub enum Kind {
     TurnedAway,
     /// A session was refused something.
     Refused,
+    /// A batch of a session ended.
+    Batch,
 }
 
 /// How many sessions ended, how many steps they spent, how many clients were turned away, and how
@@ -36,6 +38,7 @@ pub struct Tally {
     sessions: Pace,
     turned_away: Pace,
     refused: Pace,
+    batches: Pace,
 }
 
 impl Tally {
@@ -54,13 +57,15 @@ impl Tally {
             sessions: Pace::many(),
             turned_away: Pace::few(),
             refused: Pace::few(),
+            batches: Pace::many(),
         }
     }
 
     /// Counts something of this second that took so many steps: whether it has a line, and what of
     /// its kind had none before.
     pub fn tell(&mut self, kind: Kind, second: u64, steps: u64) -> Option<Untold>
-        ensures reported { IfSome result (λ u. u ≡ untold_of self.old kind) }
+        ensures reported { IfSome result (λ u. (u ≡ untold_of self.old kind) × (untold_of self.new kind ≡ none)) }
+        ensures untold { result ≡ None → untold_of self.new kind ≡ joined (untold_of self.old kind) (one steps) }
         ensures counted { self.new.counts ≡ counts_after self.old.counts kind steps }
     {
         let counts = &mut self.counts;
@@ -79,6 +84,7 @@ impl Tally {
                 counts.refused = counts.refused.saturating_add(1);
                 self.refused.tell(second, steps)
             }
+            Kind::Batch => self.batches.tell(second, steps),
         }
     }
 
@@ -92,10 +98,11 @@ impl Tally {
             Kind::Session => self.sessions.take_back(untold),
             Kind::TurnedAway => self.turned_away.take_back(untold),
             Kind::Refused => self.refused.take_back(untold),
+            Kind::Batch => self.batches.take_back(untold),
         }
     }
 
-    /// What had no line, of all kinds, since the last line of its kind.
+    /// What had no line, of all kinds but batches, since the last line of its kind.
     pub fn untold(&self) -> Untold
         ensures { result ≡ joined (joined self.now.starts.untold self.now.sessions.untold)
             (joined self.now.turned_away.untold self.now.refused.untold) }

@@ -2,25 +2,10 @@
 
 ghost use Rattle.std.specs.Prelude.{◌≡◌};
 
-use crate::journal::Journal;
-use crate::origin::Origin;
 use crate::roster::{Note, Watch};
 use std::io;
 use std::io::{Read, Write};
 use std::sync::Wait;
-use std::time::Clock;
-
-/// Where it is noted what a session does that starts now, if there is a log. This has a line then.
-pub fn watch_in<'j, R: Wait + Clock>(
-    rt: &R,
-    journal: Option<&'j Journal>,
-    client: Origin,
-) -> Option<Watch<'j>> {
-    match journal {
-        Some(journal) => Some(journal.note_start(rt, client)),
-        None => None,
-    }
-}
 
 /// A side of a connection: that a call of it waits, and how many bytes it moved, is noted, where
 /// there is a watch. Its bytes are those of the side below.

@@ -1,14 +1,16 @@
 //! The log of a session on standard input and output: an account of it on standard error.
-ghost use Rattle.std.specs.Prelude.{◌≡◌, ◌≤◌, IfSome};
+ghost use Rattle.std.specs.Prelude.{◌≡◌, ◌≤◌, IfSome, is_some, true};
 ghost use Rattle.command_line.specs.InRange.{HasRoom, IsWithin};
-ghost use Rattle.spmat.specs.inner.Running.{IsOfSession};
+ghost use Rattle.spmat.specs.inner.Running.{IsAccounted, IsAccountedIfBegun, IsOfSession, account_in, cause_of, cut_of, explained};
 
+use crate::ended::Ended;
 use crate::respond_on;
 use crate::serving::Log;
-use command_line::{Done, Failure, Settings, VERSION};
+use crate::solo::Spoken;
+use command_line::{Failure, Settings, VERSION};
 use metered_session::ending_of;
-use session::ServeFault;
-use session_log::{Cause, CloseReason, Cut, Ending, Journal, LoggedTerms, Origin, Watch};
+use session::{End, ServeFault};
+use session_log::{Cause, CloseReason, Cut, Journal, LoggedTerms, OpenAccount, Origin};
 use std::net::{Net, TcpListener, TcpStream};
 use std::sync::Wait;
 use std::thread::{Threads, join};
@@ -24,48 +26,84 @@ pub struct Alone {
     pub idle: Option<u64>,
 }
 
-/// How the log reports the end of a session.
-fn ending_told(outcome: &Result<Done, Failure>) -> Option<Ending> {
-    match outcome {
-        Ok(Done::Session(end)) => Some(ending_of(Ok(*end))),
-        Err(
-            Failure::Session {
-                fault: _,
-                // The session itself knows only that a read or a write failed. The cause tells that
-                // time ran out.
-                cause: Some(Cause::Idle),
-            },
-        ) => Some(Ending::Cut(Cut::Idle)),
-        Err(Failure::Session { fault, cause: _ }) => Some(ending_of(Err(*fault))),
-        // No session was served, so there is no end of one.
+/// What the devices of a session noted: why a read or a write failed, if one did, and how often
+/// something was refused.
+#[derive(Clone, Copy, Debug, PartialEq, Eq)]
+pub struct Noted {
+    pub unread: Option<Cause>,
+    pub unwritten: Option<Cause>,
+    pub refused: u64,
+}
+
+/// The bound by which a call was given up, by its cause.
+fn cut_of(cause: Option<Cause>) -> Option<Cut>
+    ensures { result ≡ cut_of cause }
+{
+    match cause {
+        Some(Cause::Idle) => Some(Cut::Idle),
         _ => None,
     }
 }
 
-/// Writes a line about the end of a session that was refused something `refused` times, if there is
-/// a log.
-pub fn note_end<R: Wait + Clock>(
+/// The cause of the device that failed, by what each noted.
+fn cause_of(outcome: Result<End, ServeFault>, noted: Noted) -> Option<Cause>
+    ensures { result ≡ cause_of noted outcome }
+{
+    match outcome {
+        Err(ServeFault::Read) => noted.unread,
+        Err(ServeFault::Write) => noted.unwritten,
+        // No device failed.
+        _ => None,
+    }
+}
+
+/// Adds to an outcome the cause of a device's failure, and closes the account of the session, if
+/// there is a log.
+pub fn explain<R: Wait + Clock>(
     rt: &R,
-    journal: Option<&Journal>,
-    watch: Option<Watch<'_>>,
-    outcome: &Result<Done, Failure>,
-    refused: u64,
-) {
-    if let (Some(journal), Some(watch), Some(ending)) = (journal, watch, ending_told(outcome)) {
-        journal.note_end(rt, watch, ending, refused);
+    account: Option<OpenAccount<'_>>,
+    outcome: Result<Ended, Failure>,
+    noted: Noted,
+) -> Result<Ended, Failure>
+    ensures explained { result ≡ explained noted (account_in result) outcome }
+    ensures accounted { IsAccounted (is_some account.entry) result }
+{
+    match outcome {
+        Ok(Ended::Session(spoken)) => {
+            let cause = cause_of(spoken.outcome(), noted);
+            let closed = match account {
+                Some(account) => {
+                    let ending = ending_of(spoken.outcome(), cut_of(cause));
+                    Some(account.close(rt, ending, spoken.spent(), noted.refused))
+                }
+                None => None,
+            };
+            Ok(Ended::Session(spoken.explained(cause, closed)))
+        }
+        Err(Failure::Output(cause)) => match noted.unwritten {
+            Some(noted) => Err(Failure::Output(noted)),
+            None => Err(Failure::Output(cause)),
+        },
+        outcome => outcome,
+    }
+}
+
+/// How many steps were spent.
+fn spent_in(outcome: &Result<Ended, Failure>) -> u64 {
+    match outcome {
+        Ok(Ended::Session(spoken)) => spoken.spent(),
+        _ => 0,
     }
 }
 
 /// Why the process serves no further session.
-fn close_reason(outcome: &Result<Done, Failure>) -> CloseReason {
+fn close_reason(outcome: &Result<Ended, Failure>) -> CloseReason {
     match outcome {
-        // The one fault that a server would have as well: no session could be set up.
-        Err(
-            Failure::Session {
-                fault: ServeFault::Memory,
-                cause: _,
-            },
-        ) => CloseReason::NoMemory,
+        Ok(Ended::Session(spoken)) => match spoken.outcome() {
+            // The one fault that a server would have as well: no session could be set up.
+            Err(ServeFault::Memory) => CloseReason::NoMemory,
+            _ => CloseReason::Sessions,
+        },
         _ => CloseReason::Sessions,
     }
 }
@@ -73,7 +111,7 @@ fn close_reason(outcome: &Result<Done, Failure>) -> CloseReason {
 /// Serves one session on standard input and output, with a log that another thread writes to
 /// standard error meanwhile. Before the session starts the log gets the request, and at the end
 /// what the session took. If no thread can be started, all is written at the end.
-pub fn run_logged<H>(rt: &H, alone: Alone, log: Log) -> Result<Done, Failure>
+pub fn run_logged<H>(rt: &H, alone: Alone, log: Log) -> Result<Ended, Failure>
 where
     H: Clock
         + Input
@@ -86,14 +124,12 @@ where
         + AllocGlobal,
     requires capacity { HasRoom alone.steps alone.workers }
     requires idle { IsWithin 1000000 alone.idle }
-    ensures { IsOfSession result }
+    ensures ended { IsOfSession result }
+    ensures accounted { IsAccountedIfBegun result }
 {
     // As if the session's own memory were refused: nothing was read or written.
-    let Ok(journal) = Journal::new(rt.alloc(), 1, log.format, log.every, true) else {
-        return Err(Failure::Session {
-            fault: ServeFault::Memory,
-            cause: None,
-        });
+    let Ok(journal) = Journal::new(rt.alloc(), 1, log.format, log.every) else {
+        return Ok(Ended::Session(Spoken::without_memory()));
     };
     let Alone {
         steps,
@@ -112,9 +148,9 @@ where
     };
     journal.write_opening(rt, Origin::Streams, VERSION, steps, terms);
     let outcome = serve_logged(rt, &journal, alone);
-    let spent = journal.spent(rt);
+    let spent = spent_in(&outcome);
     let totals = Totals {
-        // No contract relates the journal's sum to the steps, hence saturating.
+        // No contract bounds what is spent by the steps here, hence saturating.
         left: steps.saturating_sub(spent),
         reserved: 0,
         spent,
@@ -124,7 +160,7 @@ where
 }
 
 /// The session, while another thread writes its log.
-fn serve_logged<H>(rt: &H, journal: &Journal, alone: Alone) -> Result<Done, Failure>
+fn serve_logged<H>(rt: &H, journal: &Journal, alone: Alone) -> Result<Ended, Failure>
 where
     H: Clock
         + Input
@@ -137,12 +173,14 @@ where
         + AllocGlobal,
     requires capacity { HasRoom alone.steps alone.workers }
     requires idle { IsWithin 1000000 alone.idle }
-    ensures { IsOfSession result }
+    ensures ended { IsOfSession result }
+    ensures accounted { IsAccounted true result }
 {
-    let session = move || -> Result<Done, Failure>
+    let session = move || -> Result<Ended, Failure>
         requires capacity { HasRoom alone.steps alone.workers }
         requires idle { IsWithin 1000000 alone.idle }
-        ensures { IsOfSession result }
+        ensures ended { IsOfSession result }
+        ensures accounted { IsAccounted true result }
     {
         let settings = Settings::Run {
             steps: alone.steps,

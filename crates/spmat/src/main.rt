@@ -5,31 +5,32 @@
 //! such a session, and `serving` has sessions over TCP.
 //!
 //! `answer` does what the words ask for, over two devices that it is lent; its contract says what
-//! they gave and took (`specs/inner/Running.antt`). The functions above it make these devices of
-//! the standard streams, which no contract sees. The contract for one of many sessions is that of
-//! `metered_session::serve_within`. Which server settings ask for is the contract of `open_server`
-//! (`specs/inner/Serving.antt`), and how serving a listener ends that of
-//! `listener::serve_acceptor`.
+//! they gave and took, and which server was served (`specs/inner/Running.antt`). The functions above
+//! it make these devices of the standard streams, which no contract sees. The contract for one of
+//! many sessions is that of `metered_session::serve_within`. Which server settings ask for is the
+//! contract of `open_server` (`specs/inner/Serving.antt`), and how serving a listener ends that of
+//! `listener::serve_on_terms`.
 #![tactic(auto)]
 
-ghost use Rattle.std.specs.Prelude.{◌≡◌, IfOk};
+ghost use Rattle.std.specs.Prelude.{◌≡◌, is_some, IfOk};
 ghost use Rattle.std.specs.Process.{exit_status};
 ghost use Rattle.wire.specs.Devices.{IsNewCount};
 ghost use Rattle.command_line.specs.Endings.{code_of, status_of};
 ghost use Rattle.command_line.specs.InRange.{HasRoom, IsInRange};
-ghost use Rattle.spmat.specs.inner.Running.{IsAnswer, IsDoneAs, IsRunOf, IsVersionTold, MayEnd, explained, idle_in};
+ghost use Rattle.spmat.specs.inner.Running.{IsAccounted, IsAnswer, IsDoneAs, IsVersionTold, MayEnd, idle_in, told_as};
 
+mod ended;
 mod logged;
 mod serving;
 mod solo;
 mod standard;
 
-use crate::logged::{Alone, note_end, run_logged};
+use crate::ended::{Ended, told_as};
+use crate::logged::{Alone, Noted, explain, run_logged};
 use crate::serving::{log_of, open_server, serve};
 use crate::standard::Side;
-use command_line::{Done, Failure, Settings, SettingsFault, VERSION, ending_of, finish, settings};
-use session::ServeFault;
-use session_log::{Cause, Journal, Notice, Noticing, Origin, Watch, Watching, watch_in};
+use command_line::{Failure, Settings, SettingsFault, VERSION, ending_of, finish, settings};
+use session_log::{Cause, Journal, Noticing, Origin, Watch, Watching, open_account};
 use std::io::{ErrorKind, Read, Write};
 use std::marker::Brand;
 use std::net::{Net, TcpListener, TcpStream};
@@ -58,44 +59,25 @@ fn read_settings<H: Env + AllocGlobal>(rt: &H) -> Result<Settings, SettingsFault
 }
 
 /// Prints the version on standard output.
-fn tell_version<H: Print>(rt: &H) -> Result<Done, Failure>
+fn tell_version<H: Print>(rt: &H) -> Result<Ended, Failure>
     ensures { IsVersionTold result }
 {
     match println!(rt; "spmat {VERSION}") {
-        Ok(()) => Ok(Done::Version),
+        Ok(()) => Ok(Ended::Version),
         Err(error) => Err(Failure::Output(Cause::of(&error))),
     }
 }
 
-/// Serves one session on these devices, which know why a call of theirs failed. If a watch is
-/// given, it observes what the session does.
-fn run<I: Source, O: Sink, H: Threads + Wait + AllocGlobal>(
-    rt: &H,
-    source: &mut I,
-    sink: &mut O,
-    steps: u64,
-    workers: u64,
-    watch: Option<Watch<'_>>,
-) -> Result<Done, Failure>
-    requires { HasRoom steps workers }
-    ensures { IsRunOf steps workers (record { source = I.state source.old; sink = O.state sink.old })
-        (record { source = I.state source.new; sink = O.state sink.new }) result }
-{
-    match solo::run(rt, source, sink, steps, workers, watch) {
-        Ok(end) => Ok(Done::Session(end)),
-        // The devices have noted the cause. `explain` adds it once they are dropped.
-        Err(fault) => Err(Failure::Session { fault, cause: None }),
-    }
-}
-
-/// Does what settings ask for: one session on these devices, or a server's.
+/// Does what settings ask for: one session on these devices; or a server's, which is reported on the
+/// sink.
+#[tactic(auto, using(crate::proofs::Running::served_of))]
 fn perform<I: Source, O: Sink, H>(
     rt: &H,
     settings: Settings,
     source: &mut I,
     sink: &mut O,
     watch: Option<Watch<'_>>,
-) -> Result<Done, Failure>
+) -> Result<Ended, Failure>
 where
     H: Clock
         + Print
@@ -110,24 +92,30 @@ where
         (record { source = I.state source.new; sink = O.state sink.new }) result }
 {
     match settings {
-        Settings::Run { steps, workers, .. } => run(rt, source, sink, steps, workers, watch),
+        Settings::Run { steps, workers, .. } => {
+            let spoken = solo::run(rt, source, sink, steps, workers, watch);
+            Ok(Ended::Session(spoken))
+        }
         Settings::Serve { .. } => {
-            // A server leaves the devices alone: its sessions have sockets.
-            serve(rt, open_server(rt, settings)?)?;
-            Ok(Done::Sessions)
+            // Its sessions have sockets. What it writes on the sink is the line that reports it.
+            let server = open_server(rt, settings, sink)?;
+            match serve(rt, server) {
+                Ok(sessions) => Ok(Ended::Sessions(sessions)),
+                Err(fault) => Err(Failure::Listening(fault)),
+            }
         }
     }
 }
 
 /// Does what the words of the command line ask for. The devices are for a session, if they ask for
-/// one.
+/// one, and the sink for the line that reports a server.
 fn answer<I: Source, O: Sink, H>(
     rt: &H,
     asked: Result<Settings, SettingsFault>,
     source: &mut I,
     sink: &mut O,
     watch: Option<Watch<'_>>,
-) -> Result<Done, Failure>
+) -> Result<Ended, Failure>
 where
     H: Clock
         + Print
@@ -156,7 +144,7 @@ fn answer_counted<R: Read + Drop, W: Write + Drop, H, A: Ledger, B: Ledger, C: L
     writer: W,
     watch: Option<Watch<'_>>,
     blanks: (Blank, Blank, Blank, Blank),
-) -> Result<Done, Failure>
+) -> Result<Ended, Failure>
 where
     H: Clock
         + Print
@@ -186,7 +174,7 @@ fn answer_over<R: Read + Drop, W: Write + Drop, H>(
     reader: R,
     writer: W,
     watch: Option<Watch<'_>>,
-) -> Result<Done, Failure>
+) -> Result<Ended, Failure>
 where
     H: Clock
         + Print
@@ -215,35 +203,13 @@ fn idle_of(asked: &Result<Settings, SettingsFault>) -> Option<u64>
     }
 }
 
-/// Adds the cause of a device's failure to the outcome of a session.
-fn explain(
-    outcome: Result<Done, Failure>,
-    unread: Option<Cause>,
-    unwritten: Option<Cause>,
-) -> Result<Done, Failure>
-    ensures { result ≡ explained unread unwritten outcome }
-{
-    match outcome {
-        Err(Failure::Session { fault, cause: _ }) => {
-            let cause = match fault {
-                ServeFault::Read => unread,
-                ServeFault::Write => unwritten,
-                // No device failed.
-                ServeFault::Turns | ServeFault::Memory => None,
-            };
-            Err(Failure::Session { fault, cause })
-        }
-        outcome => outcome,
-    }
-}
-
 /// Does what the words of the command line ask for, with a session on standard input and output. A
 /// log gets an account of it, if there is one.
 fn respond_on<H>(
     rt: &H,
     asked: Result<Settings, SettingsFault>,
     journal: Option<&Journal>,
-) -> Result<Done, Failure>
+) -> Result<Ended, Failure>
 where
     H: Clock
         + Input
@@ -255,11 +221,12 @@ where
         + Sync
         + AllocGlobal,
     requires { IfOk asked (λ s. IsInRange s) }
-    ensures { MayEnd asked result }
+    ensures ended { MayEnd asked result }
+    ensures accounted { IsAccounted (is_some journal.entry) result }
 {
     let idle = idle_of(&asked);
-    let watch = watch_in(rt, journal, Origin::Streams);
-    let notice = Notice::of(rt, journal, watch);
+    let account = open_account(rt, journal, Origin::Streams);
+    let watch = account.as_ref().map(|account| account.watch());
     // Written by the devices below, and read after `answer_over` has dropped them.
     let (mut unread, mut unwritten, mut refused) = (None, None, 0);
     let reader = Watching::new(Side::input(rt.reader(), idle, &mut unread), rt, watch);
@@ -270,15 +237,18 @@ where
         watch,
     );
     // Outermost: it finds refusals in the bytes of the replies.
-    let writer = Noticing::new(writing, notice, &mut refused);
+    let writer = Noticing::new(writing, rt, account.as_ref(), &mut refused);
     let outcome = answer_over(rt, asked, reader, writer, watch);
-    let outcome = explain(outcome, unread, unwritten);
-    note_end(rt, journal, watch, &outcome, refused);
-    outcome
+    let noted = Noted {
+        unread,
+        unwritten,
+        refused,
+    };
+    explain(rt, account, outcome, noted)
 }
 
 /// Does what the words of the command line ask for.
-fn respond<H>(rt: &H, asked: Result<Settings, SettingsFault>) -> Result<Done, Failure>
+fn respond<H>(rt: &H, asked: Result<Settings, SettingsFault>) -> Result<Ended, Failure>
 where
     H: Clock
         + Input
@@ -320,10 +290,10 @@ where
 }
 
 /// Reports how it ended, and returns the status for the system.
-fn tell<H: Eprint>(rt: &H, outcome: Result<Done, Failure>) -> ExitCode
-    ensures { exit_status result ≡ code_of (status_of outcome) }
+fn tell<H: Eprint>(rt: &H, outcome: Result<Ended, Failure>) -> ExitCode
+    ensures { exit_status result ≡ code_of (status_of (told_as outcome)) }
 {
-    finish(rt, ending_of(outcome))
+    finish(rt, ending_of(told_as(outcome)))
 }
 
 fn main(rt: HostRuntime) -> ExitCode {

@@ -1,12 +1,17 @@
 //! Sessions over TCP.
-ghost use Rattle.std.specs.Prelude.{◌≡◌, ◌≢◌, ◌≤◌, ◌^◌, None, OnOk, IfOk, IfErr};
+ghost use Rattle.std.specs.Prelude.{◌≡◌, ◌≤◌, ◌^◌, IfOk, IfErr, OnOk, OnErr, ℕ, List};
+ghost use Rattle.std.specs.Io.KnownBytes.{Appends};
+ghost use Rattle.wire.specs.Prefixes.{IsPrefixOf};
 ghost use Rattle.step_purse.specs.Passes.{IsPassOf};
+ghost use Rattle.listener.specs.Serving.{IsServiceOf};
 ghost use Rattle.command_line.specs.InRange.{IsInRange};
 ghost use Rattle.spmat.specs.inner.Address.{IsLocal};
-ghost use Rattle.spmat.specs.inner.Serving.{IsListening, IsOfServer, IsOpened, IsServerOf, MayNotOpen, MayRefuse};
+ghost use Rattle.spmat.specs.inner.Reporting.{IsReported, IsReportedFor, listening_line};
+ghost use Rattle.spmat.specs.inner.Serving.{IsOfServer, IsOpened, IsServedAs, IsServerOf, MayNotOpen, MayRefuse};
 
 use command_line::{Failure, Settings, VERSION};
-use listener::{ListenFault, SEATS, ServerTerms, Supply, serve_on_terms};
+use itoa::Buffer;
+use listener::{ListenFault, SEATS, ServerTerms, Service, Supply, serve_on_terms};
 use metered_session::Limits;
 use session_log::{Cause, CloseReason, Journal, LogFormat, Origin};
 use std::alloc::{AllocError, Global};
@@ -15,6 +20,7 @@ use std::sync::Wait;
 use std::thread::{Threads, join};
 use std::time::Clock;
 use step_purse::{Pass, Purse};
+use wire::{Sink, put};
 
 /// How a log is written: in which format, and every how many seconds it reports the sessions that
 /// run, if it does.
@@ -36,6 +42,13 @@ pub struct Server {
     journal: Option<Journal>,
 }
 
+/// What a server has served, at the address that it was bound to. Only `serve` makes one.
+#[derive(Drop)]
+pub struct Sessions {
+    address: SocketAddr,
+    service: Service,
+}
+
 /// A purse of `steps`, with its one pass.
 fn prepare(alloc: Global, steps: u64) -> Result<(Purse, Pass), AllocError>
     requires { steps ≤ 2 ^ 62 }
@@ -53,24 +66,35 @@ fn local_address(port: u16) -> SocketAddr
     SocketAddr::new(IpAddr::V4(Ipv4Addr::new(127, 0, 0, 1)), port)
 }
 
+/// The line that reports a server of this port.
+///
+/// # Errors
+///
+/// There is no memory for it.
+fn listening_line(alloc: Global, port: u16) -> Result<Vec<u8>, AllocError>
+    ensures { IfOk result (λ line. line.items ≡ listening_line port) }
+{
+    let mut buffer = Buffer::new();
+    let mut line = Vec::from_slice(alloc, b"listening ")?;
+    line.extend_from_slice(buffer.format(port).as_bytes())?;
+    line.extend_from_slice(b"\n")?;
+    Ok(line)
+}
+
 /// Listens on a port of this machine, and returns the address.
 ///
 /// # Errors
 ///
 /// The system refuses it.
-fn listen<H>(rt: &H, port: u16) -> Result<(TcpListener, SocketAddr), Failure>
+fn listen<H>(rt: &H, port: u16) -> Result<(TcpListener, SocketAddr), Cause>
 where
     H: Net<Listener = TcpListener, Stream = TcpStream>,
-    ensures local { IfOk result (λ r. IsLocal port r.1) }
-    ensures refused { IfErr result (λ failure. MayRefuse port failure) }
+    ensures { IfOk result (λ r. IsLocal port r.1) }
 {
     let address = local_address(port);
     match TcpListener::bind(rt, address) {
         Ok(listener) => Ok((listener, address)),
-        Err(error) => Err(Failure::Binding {
-            port,
-            cause: Cause::of(&error),
-        }),
+        Err(error) => Err(Cause::of(&error)),
     }
 }
 
@@ -96,7 +120,6 @@ fn journal_of(alloc: Global, log: Option<Log>) -> Result<Option<Journal>, AllocE
             SEATS as usize,
             format,
             every,
-            false,
         )?)),
         None => Ok(None),
     }
@@ -119,20 +142,20 @@ fn serve_logged<H>(
     purse: &Purse,
     pass: Pass,
     terms: ServerTerms,
-) -> Result<(), ListenFault>
+) -> Result<Service, ListenFault>
 where
     H: Threads + Wait + Clock + Sync + Eprint + AllocGlobal,
     requires own { IsPassOf purse.now pass }
-    ensures { OnOk result (terms.sessions ≢ None) }
+    ensures { IfOk result (λ service. IsServiceOf purse.now terms service) }
 {
     let Listening { listener, address } = listening;
     // One half serves the sessions. The other stays here, to read the totals when they have ended.
     let (mut own, given) = purse.split(rt, pass);
     // From the purse, so that the log has what it really opened with.
     let steps = purse.totals(rt, &mut own).left;
-    let served = move || -> Result<(), ListenFault>
+    let served = move || -> Result<Service, ListenFault>
         requires own { IsPassOf purse.now given }
-        ensures { OnOk result (terms.sessions ≢ None) }
+        ensures { IfOk result (λ service. IsServiceOf purse.entry.now terms service) }
     {
         let supply = Supply {
             alloc: rt.alloc(),
@@ -152,8 +175,8 @@ where
     let ((), served) = join(rt, written, served);
     // After all sessions have handed back their passes, so the totals are final.
     let totals = purse.totals(rt, &mut own);
-    let reason = match served {
-        Ok(()) => CloseReason::Sessions,
+    let reason = match &served {
+        Ok(_) => CloseReason::Sessions,
         Err(fault) => fault.reason(),
     };
     journal.write_closing(rt, Origin::Address(address), reason, totals);
@@ -161,19 +184,20 @@ where
 }
 
 /// The server that settings of `serve` ask for, which listens on a port of this machine and has
-/// reported it.
+/// reported it on the sink.
 ///
 /// # Errors
 ///
 /// In this order: there is no memory for the purse, or the log; the port can't be bound; the line
 /// `listening P` can't be written.
-pub fn open_server<H>(rt: &H, settings: Settings) -> Result<Server, Failure>
+pub fn open_server<O: Sink, H>(rt: &H, settings: Settings, sink: &mut O) -> Result<Server, Failure>
 where
-    H: Net<Listener = TcpListener, Stream = TcpStream> + Print + AllocGlobal,
+    H: Net<Listener = TcpListener, Stream = TcpStream> + AllocGlobal,
     requires range { IsInRange settings }
     requires serve { IsOfServer settings }
     ensures opened { IfOk result (λ server. IsServerOf settings server) }
     ensures refused { IfErr result (λ failure. MayNotOpen settings failure) }
+    ensures reported { IsReportedFor settings (O.state sink.old) (O.state sink.new) result }
 {
     match settings {
         Settings::Serve {
@@ -201,7 +225,14 @@ where
                     reserve: session_reserve,
                 },
             };
-            open_on(rt, port, steps, terms, log_of(log, log_format, log_every))
+            open_on(
+                rt,
+                port,
+                steps,
+                terms,
+                log_of(log, log_format, log_every),
+                sink,
+            )
         }
         // `requires serve`: only settings of `serve` get here.
         Settings::Run { .. } => unreachable!(),
@@ -209,19 +240,21 @@ where
 }
 
 /// The same, on these terms.
-fn open_on<H>(
+fn open_on<O: Sink, H>(
     rt: &H,
     port: u16,
     steps: u64,
     terms: ServerTerms,
     log: Option<Log>,
+    sink: &mut O,
 ) -> Result<Server, Failure>
 where
-    H: Net<Listener = TcpListener, Stream = TcpStream> + Print + AllocGlobal,
+    H: Net<Listener = TcpListener, Stream = TcpStream> + AllocGlobal,
     requires { steps ≤ 2 ^ 62 }
     ensures opened { IfOk result (λ server. IsOpened port steps server) }
     ensures terms { IfOk result (λ server. server.terms ≡ terms) }
     ensures refused { IfErr result (λ failure. MayRefuse port failure) }
+    ensures reported { IsReported port (O.state sink.old) (O.state sink.new) result }
 {
     // Memory, then the port, then the line: the order of the errors above.
     let Ok((purse, pass)) = prepare(rt.alloc(), steps) else {
@@ -230,10 +263,18 @@ where
     let Ok(journal) = journal_of(rt.alloc(), log) else {
         return Err(Failure::Memory);
     };
-    let (listener, address) = listen(rt, port)?;
+    let Ok(line) = listening_line(rt.alloc(), port) else {
+        return Err(Failure::Memory);
+    };
+    let (listener, address) = match listen(rt, port) {
+        Ok(bound) => bound,
+        Err(cause) => return Err(Failure::Binding { port, cause }),
+    };
     // Bound already, so a client that reads this line can connect.
-    if let Err(error) = println!(rt; "listening {port}") {
-        return Err(Failure::Output(Cause::of(&error)));
+    match put(sink, &line) {
+        Ok(()) => {}
+        // The device has noted the cause. `explain` adds it once it is dropped.
+        Err(_) => return Err(Failure::Output(Cause::Unknown)),
     }
     Ok(Server {
         listener,
@@ -245,17 +286,17 @@ where
     })
 }
 
-/// Serves sessions until their number is reached, or no more connections are accepted.
+/// Serves sessions until their number is reached, or no more connections are accepted. Answers what
+/// was served.
 ///
 /// # Errors
 ///
 /// No more connections are accepted, or there was no memory for the first session.
-pub fn serve<H>(rt: &H, server: Server) -> Result<(), Failure>
+pub fn serve<H>(rt: &H, server: Server) -> Result<Sessions, ListenFault>
 where
     H: Threads + Wait + Clock + Sync + Eprint + AllocGlobal,
     requires own { IsPassOf server.purse server.pass }
-    ensures ended { OnOk result (server.terms.sessions ≢ None) }
-    ensures failed { IfErr result (λ failure. IsListening failure) }
+    ensures { IfOk result (λ sessions. IsServedAs server sessions) }
 {
     let Server {
         listener,
@@ -282,5 +323,8 @@ where
             serve_on_terms(rt, &listener, supply, terms, None)
         }
     };
-    Ok(served?)
+    match served {
+        Ok(service) => Ok(Sessions { address, service }),
+        Err(fault) => Err(fault),
+    }
 }

@@ -1,5 +1,5 @@
 //! One session on two devices, with a purse of its own.
-ghost use Rattle.std.specs.Prelude.{◌≡◌, [], IfOk};
+ghost use Rattle.std.specs.Prelude.{◌≡◌, [], None, Err, IfOk};
 ghost use Rattle.command_line.specs.InRange.{HasRoom};
 ghost use Rattle.step_purse.specs.Passes.{IsPassOf};
 ghost use Rattle.step_purse.specs.Histories.{newcomer};
@@ -9,7 +9,7 @@ ghost use Rattle.spmat.specs.inner.Running.{Ran};
 
 use metered_session::{Given, Limits, serve_unlimited};
 use session::{End, ServeFault, Session};
-use session_log::Watch;
+use session_log::{Cause, ClosedAccount, Watch};
 use std::alloc::{AllocError, Global};
 use std::sync::Wait;
 use std::thread::Threads;
@@ -22,6 +22,62 @@ struct Prepared {
     purse: Purse,
     pass: Pass,
     session: Session,
+}
+
+/// How the one session of `run` went: its end and its steps, why a call of a device failed, if one
+/// did, and what the log has of it, if there is one. Only `run` makes one, and `without_memory`.
+#[derive(Drop)]
+pub struct Spoken {
+    outcome: Result<End, ServeFault>,
+    spent: u64,
+    cause: Option<Cause>,
+    account: Option<ClosedAccount>,
+}
+
+impl Spoken {
+    /// That of a session whose memory was refused: it spent nothing.
+    pub fn without_memory() -> Self
+        ensures { result ≡ record { outcome = Err ServeFault.Memory; spent = 0; cause = None; account = None } }
+    {
+        Spoken {
+            outcome: Err(ServeFault::Memory),
+            spent: 0,
+            cause: None,
+            account: None,
+        }
+    }
+
+    /// How the session ended.
+    pub fn outcome(&self) -> Result<End, ServeFault>
+        ensures { result ≡ self.now.outcome }
+    {
+        self.outcome
+    }
+
+    /// How many steps its jobs spent, or the largest number there is, where they spent more.
+    pub fn spent(&self) -> u64
+        ensures { result ≡ self.now.spent }
+    {
+        self.spent
+    }
+
+    /// Why a call of a device failed, if one did.
+    pub fn cause(&self) -> Option<Cause>
+        ensures { result ≡ self.now.cause }
+    {
+        self.cause
+    }
+
+    /// The same, with a cause, and with what the log has of it.
+    pub fn explained(self, cause: Option<Cause>, account: Option<ClosedAccount>) -> Self
+        ensures { result ≡ record self { cause = cause; account = account } }
+    {
+        Spoken {
+            cause,
+            account,
+            ..self
+        }
+    }
 }
 
 /// A purse of `steps`, and the memory of a session whose batches run on `workers`.
@@ -44,10 +100,8 @@ fn prepare(alloc: Global, steps: u64, workers: u64) -> Result<Prepared, AllocErr
 /// Serves one session on these devices, with a purse of `steps`, of which nobody else has a pass.
 /// Each batch runs on `workers`. If a watch is given, it observes what the session does.
 ///
-/// # Errors
-///
-/// There was no memory for the purse or the session, and then nothing was read or written; a device
-/// failed; or more than 4,294,967,296 reads were needed.
+/// The outcome is an error where there was no memory for the purse or the session, and then nothing
+/// was read or written; where a device failed; or where more than 4,294,967,296 reads were needed.
 pub fn run<I: Source, O: Sink, H: Threads + Wait + AllocGlobal>(
     rt: &H,
     source: &mut I,
@@ -55,13 +109,13 @@ pub fn run<I: Source, O: Sink, H: Threads + Wait + AllocGlobal>(
     steps: u64,
     workers: u64,
     watch: Option<Watch<'_>>,
-) -> Result<End, ServeFault>
+) -> Spoken
     requires { HasRoom steps workers }
     ensures { Ran steps workers (record { source = I.state source.old; sink = O.state sink.old })
-        (record { source = I.state source.new; sink = O.state sink.new }) result }
+        (record { source = I.state source.new; sink = O.state sink.new }) result.spent result.outcome }
 {
     let Ok(prepared) = prepare(rt.alloc(), steps, workers) else {
-        return Err(ServeFault::Memory);
+        return Spoken::without_memory();
     };
     let Prepared {
         purse,
@@ -75,5 +129,10 @@ pub fn run<I: Source, O: Sink, H: Threads + Wait + AllocGlobal>(
         watch,
     };
     let served = serve_unlimited(rt, given, source, sink, &purse);
-    served.outcome
+    Spoken {
+        outcome: served.outcome,
+        spent: served.spent,
+        cause: None,
+        account: None,
+    }
 }

@@ -48,3 +48,8 @@ read_bound p lasted arrival =
 -- For how long it may wait until its client takes bytes, where it has waited for so long already past its time.
 abbrev pub write_bound : Patience → (lasted late : ℕ) → Option Bound
 write_bound p lasted late = sooner (call_bound p.idle) (age_bound p.seconds lasted (10000 - late))
+
+-- How long a session that has lasted so long has been over its time.
+abbrev pub time_over : (seconds : Option ℕ) → (lasted : ℕ) → ℕ
+time_over None lasted = 0
+time_over (Some seconds) lasted = lasted - thousandths seconds

@@ -12,6 +12,7 @@ untold_of t kinds.Start = t.starts.untold
 untold_of t kinds.Session = t.sessions.untold
 untold_of t kinds.TurnedAway = t.turned_away.untold
 untold_of t kinds.Refused = t.refused.untold
+untold_of t kinds.Batch = t.batches.untold
 
 -- the counts, once something of a kind has come that took so many steps
 abbrev pub counts_after : Counts → Kind → ℕ → Counts
@@ -20,3 +21,4 @@ counts_after c kinds.Session steps =
     record c { sessions = min (c.sessions + 1) (2 ^ 64 - 1); steps = min (c.steps + steps) (2 ^ 64 - 1) }
 counts_after c kinds.TurnedAway steps = record c { turned_away = min (c.turned_away + 1) (2 ^ 64 - 1) }
 counts_after c kinds.Refused steps = record c { refused = min (c.refused + 1) (2 ^ 64 - 1) }
+counts_after c kinds.Batch steps = c

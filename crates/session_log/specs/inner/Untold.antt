@@ -1,6 +1,13 @@
 -- What has no line in a log (this project's own).
-use Rattle.std.specs.Prelude.{◌+◌, ◌-◌, ◌^◌, min}
+use Rattle.std.specs.Prelude.{ℕ, ◌+◌, ◌-◌, ◌^◌, min}
 use Rattle.session_log.specs.declared.pace.Untold.{Untold}
+
+abbrev pub none : Untold
+none = record { lines = 0; steps = 0 }
+
+-- one event that would have told so many steps
+abbrev pub one : ℕ → Untold
+one steps = record { lines = 1; steps = steps }
 
 -- what two counts are together: the largest number of 64 bits stands for all above it
 abbrev pub joined : Untold → Untold → Untold

@@ -1,12 +1,15 @@
 -- The server that settings ask for (this project's own).
-use Rattle.std.specs.Prelude.{ℕ, ◌≡◌}
+use Rattle.std.specs.Prelude.{ℕ, ◌≡◌, Some}
 use Rattle.step_purse.specs.Passes.{IsPassOf}
 use Rattle.metered_session.specs.declared.limits.Limits.{Limits}
+use Rattle.listener.specs.Serving.{IsServiceOf}
+use Rattle.listener.specs.declared.server.ServerTerms.{ServerTerms}
 use Rattle.command_line.specs.declared.ending.Failure.{Failure}
 use Rattle.command_line.specs.declared.ending.Failure.TheVariants as failures
 use Rattle.command_line.specs.declared.asked.Settings.{Settings}
 use Rattle.command_line.specs.declared.asked.Settings.TheVariants.{Run, Serve}
 use Rattle.spmat.specs.declared.serving.Server.{Server}
+use Rattle.spmat.specs.declared.serving.Sessions.{Sessions}
 use Rattle.spmat.specs.inner.Address.{IsLocal}
 
 -- these are settings of `serve`
@@ -21,14 +24,38 @@ pub record IsOpened (port steps : ℕ) (server : Server) : Type 0 where
   pub allowance : server.purse.allowance ≡ steps
   pub own : IsPassOf server.purse server.pass
 
--- such a server, whose sessions have these workers, this number, this patience and these limits
+-- the terms have these workers, this number of sessions, this patience and these limits
+abbrev pub HasTerms : Settings → ServerTerms → Type 0
+HasTerms (Run steps workers idle log log_format log_every) terms = ⊥
+HasTerms (Serve port steps workers sessions idle session_seconds min_rate session_steps session_reserve
+    log log_format log_every) terms =
+    (terms.workers ≡ workers) × (terms.sessions ≡ sessions) × (terms.idle ≡ idle) × (terms.session_seconds ≡ session_seconds)
+    × (terms.min_rate ≡ min_rate) × (terms.limits ≡ record { steps = session_steps; reserve = session_reserve })
+
+-- such a server, on the terms that they ask for
 abbrev pub IsServerOf : Settings → Server → Type 0
 IsServerOf (Run steps workers idle log log_format log_every) server = ⊥
 IsServerOf (Serve port steps workers sessions idle session_seconds min_rate session_steps session_reserve
     log log_format log_every) server =
-    IsOpened port steps server × (server.terms.workers ≡ workers) × (server.terms.sessions ≡ sessions)
-    × (server.terms.idle ≡ idle) × (server.terms.session_seconds ≡ session_seconds) × (server.terms.min_rate ≡ min_rate)
-    × (server.terms.limits ≡ record { steps = session_steps; reserve = session_reserve })
+    IsOpened port steps server
+    × HasTerms
+    (Serve port steps workers sessions idle session_seconds min_rate session_steps session_reserve log log_format log_every)
+    server.terms
+
+-- what this server has served, at its address, with its purse and on its terms
+abbrev pub IsServedAs : Server → Sessions → Type 0
+IsServedAs server sessions = (sessions.address ≡ server.address) × IsServiceOf server.purse server.terms sessions.service
+
+-- What settings ask for was served: at 127.0.0.1 and their port, with a purse of their steps, on their terms and to their number.
+abbrev pub AreSessionsOf : Settings → Sessions → Type 0
+AreSessionsOf (Run steps workers idle log log_format log_every) served = ⊥
+AreSessionsOf (Serve port steps workers sessions idle session_seconds min_rate session_steps session_reserve
+    log log_format log_every) served =
+    IsLocal port served.address × (served.service.pass.allowance ≡ steps)
+    × HasTerms
+    (Serve port steps workers sessions idle session_seconds min_rate session_steps session_reserve log log_format log_every)
+    served.service.terms
+    × (sessions ≡ Some served.service.sessions)
 
 -- why there may be none: there was no memory, this port could not be bound, or the line that reports it could not be written
 abbrev pub MayRefuse : (port : ℕ) → Failure → Type 0
@@ -54,12 +81,3 @@ MayNotOpen (Run steps workers idle log log_format log_every) failure = ⊥
 MayNotOpen (Serve port steps workers sessions idle session_seconds min_rate session_steps session_reserve
     log log_format log_every) failure =
     MayRefuse port failure
-
--- no more connections are taken
-abbrev pub IsListening : Failure → Type 0
-IsListening (failures.Settings fault) = ⊥
-IsListening failures.Memory = ⊥
-IsListening (failures.Output cause) = ⊥
-IsListening (failures.Session fault cause) = ⊥
-IsListening (failures.Binding port cause) = ⊥
-IsListening (failures.Listening fault) = Unit {0}

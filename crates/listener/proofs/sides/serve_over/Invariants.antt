@@ -1,4 +1,4 @@
-use Rattle.listener.proofs.connection.serve_over.Given as goal
+use Rattle.listener.proofs.sides.serve_over.Given as goal
 
 abbrev pub ghosts-serve_counted-A-Ledger : goal.ghosts-serve_counted-A-Ledger
 ghosts-serve_counted-A-Ledger g a = record { name = a.blanks.0.name; parts = a.blanks.0.parts }
