@@ -1,2 +1,2 @@
-"""spmat-gateway: sessions of spmat for strangers, with users, quotas, a ledger, and a process for
-each session."""
+"""spmat-gateway: sessions of spmat for untrusted users, with users, quotas, a ledger, and a process
+for each session."""

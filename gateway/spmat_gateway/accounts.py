@@ -6,15 +6,24 @@ from typing import Any, Dict, List, NamedTuple, Optional
 from . import users
 from .config import PER_SESSION, QUOTAS, Limits, checked_quota
 from .database import Database, Transaction
+from .tables import moment
 from .users import GROUP_MARK, Login
 
-COLUMNS = ('name', 'parent', 'enabled', 'token', 'fingerprint', 'spent', 'reserved', 'running',
-           *QUOTAS)
+COLUMNS = ('name', 'parent', 'enabled', 'token', 'token_ends', 'fingerprint', 'spent', 'reserved',
+           'running', *QUOTAS)
 SELECT = 'SELECT %s FROM accounts ' % ', '.join(COLUMNS)
 
 
 class Unknown(ValueError):
     """There is no such account, or one that can't be changed so; the words say what to do."""
+
+
+class NoQuota(Exception):
+    """An account may not begin a session now: `.quota` is used up."""
+
+    def __init__(self, account: str, quota: str, words: str = '') -> None:
+        super().__init__(words or '%s has nothing left of %s' % (account, quota.replace('_', '-')))
+        self.quota = quota
 
 
 class Account(NamedTuple):
@@ -23,16 +32,22 @@ class Account(NamedTuple):
     parent: Optional[str]
     enabled: int
     token: Optional[str]
+    token_ends: Optional[float]
     fingerprint: Optional[str]
     spent: int
     reserved: int
     running: int
     quotas: Dict[str, Optional[int]]
 
+    @property
+    def is_group(self) -> bool:
+        """Whether it is a group, which has no default quota."""
+        return self.name.startswith(GROUP_MARK)
+
     def limit(self, quota: str, defaults: Limits) -> Optional[int]:
         """A quota, or its default. A group has none but its own."""
         own = self.quotas[quota]
-        if own is not None or self.name.startswith(GROUP_MARK):
+        if own is not None or self.is_group:
             return own
         return int(default) if (default := getattr(defaults, quota)) is not None else None
 
@@ -48,37 +63,50 @@ class Accounts:
         return self._database.transact(
             lambda t: [_account(row) for row in t.rows(SELECT + 'ORDER BY name')])
 
-    def find(self, login: Login) -> Optional[Account]:
+    def find(self, login: Login, new_users: str = '') -> Optional[Account]:
         """The account that a login is right for; None where it is for none, or for one that was
-        disabled."""
+        disabled. With `new_users` whose name is proved is added to this group. NoQuota where the
+        token has ended."""
         column, value = ('name', login.name) if login.name else ('fingerprint', login.fingerprint)
-        rows = self._database.rows(SELECT + 'WHERE %s = ?' % column, value) if value else []
+        sql = SELECT + 'WHERE %s = ?' % column
+        rows = self._database.rows(sql, value) if value else []
+        if not rows and login.is_proved and users.is_name(login.name) and new_users:
+            self.add(login.name, new_users, has_token=False)
+            rows = self._database.rows(sql, value)
         account = _account(rows[0]) if rows else None
         stored = account.token if account else None
-        if not login.fingerprint and not users.is_right(stored, login.token):
+        if not login.is_proved and not users.is_right(stored, login.token):
             return None
-        if account is None or not account.enabled or account.name.startswith(GROUP_MARK):
+        if account is None or not account.enabled or account.is_group:
             return None
+        ends = None if login.is_proved else account.token_ends
+        if ends is not None and ends <= self._database.transact(self._now):
+            words = 'the token of %s ended at %s; `spmat-gateway users renew %s` makes a new one'
+            raise NoQuota(account.name, 'token', words % (account.name, moment(ends), account.name))
         return account
 
-    def add(self, name: str, group: Optional[str] = None, fingerprint: Optional[str] = None) -> str:
-        """Adds an account; the token of a new user, which is stored nowhere."""
+    def add(self, name: str, group: Optional[str] = None, fingerprint: Optional[str] = None,
+            days: int = 0, has_token: bool = True) -> str:
+        """Adds an account; the token of a new user, which is stored nowhere, and ends after so many
+        days, or never."""
         if not users.is_account(name):
             raise Unknown('a name is 1 to 32 of a-z 0-9 _ . -, not %r; a group has an @ before it'
                           % name)
-        token = '' if name.startswith(GROUP_MARK) or fingerprint else users.new_token()
+        has_token = has_token and not (name.startswith(GROUP_MARK) or fingerprint)
+        token = users.new_token() if has_token else ''
 
         def work(t: Transaction) -> None:
             _check_group(t, name, group)
             if t.row('SELECT 1 FROM accounts WHERE name = ?', name):
                 raise Unknown('there is an account %s already' % name)
             _check_fingerprint(t, name, fingerprint)
-            t.run('INSERT INTO accounts (name, parent, token, fingerprint) VALUES (?, ?, ?, ?)',
-                  name, group, users.hash_token(token) if token else None, fingerprint)
+            t.run('INSERT INTO accounts (name, parent, fingerprint) VALUES (?, ?, ?)', name, group,
+                  fingerprint)
+            self._set_token(t, name, token, days)
         self._database.transact(work)
         return token
 
-    def renew(self, name: str, fingerprint: Optional[str] = None) -> str:
+    def renew(self, name: str, fingerprint: Optional[str] = None, days: int = 0) -> str:
         """Gives a user a new token, or another certificate; the old ones are worth nothing from now
         on."""
         token = '' if fingerprint else users.new_token()
@@ -87,10 +115,17 @@ class Accounts:
             if name.startswith(GROUP_MARK):
                 raise Unknown('a group has no token: %s' % name)
             _check_fingerprint(t, name, fingerprint)
-            _change(t, name, token=users.hash_token(token) if token else None,
-                    fingerprint=fingerprint)
+            _change(t, name, fingerprint=fingerprint)
+            self._set_token(t, name, token, days)
         self._database.transact(work)
         return token
+
+    def _set_token(self, t: Transaction, name: str, token: str, days: int) -> None:
+        _change(t, name, token=users.hash_token(token) if token else None,
+                token_ends=self._now(t) + 86_400 * days if token and days else None)
+
+    def _now(self, t: Transaction) -> float:
+        return float(t.rows('SELECT ' + self._database.now)[0][0])
 
     def enable(self, name: str, enabled: bool) -> None:
         """Lets a user, or all users of a group, in or keeps them out; sessions that run go on."""
@@ -112,30 +147,12 @@ class Accounts:
                   for quota, number in quotas.items()}
         self._database.transact(lambda t: _change(t, name, **values))
 
-    def refill(self, name: str, steps: int, default: Optional[int]) -> int:
-        """Adds steps to those that an account has in all; how many these are now."""
-        def work(t: Transaction) -> int:
-            row = t.row('SELECT steps_in_all FROM accounts WHERE name = ?', name)
-            own = row[0] if row else None
-            if own is None and not name.startswith(GROUP_MARK):
-                own = default
-            if row and own is None:
-                raise Unknown('%s has no quota steps-in-all that could be refilled' % name)
-            total = checked_quota('steps_in_all', (own or 0) + steps)
-            _change(t, name, steps_in_all=total)
-            t.run('INSERT INTO refills (account, at, steps) VALUES (?, %s, ?)' % self._database.now,
-                  name, steps)
-            return total
-        return self._database.transact(work)
 
-
-def bounds(defaults: Limits, accounts: List[Account]) -> Dict[str, Optional[int]]:
+def bounds(defaults: Limits, accounts: List[Account]) -> Dict[str, int]:
     """What one session may take: of each quota the least among the user's and its group's."""
-    found: Dict[str, Optional[int]] = {}
-    for quota in PER_SESSION:
-        limits = (account.limit(quota, defaults) for account in accounts)
-        found[quota] = min((limit for limit in limits if limit is not None), default=None)
-    return found
+    return {quota: min(limit for account in accounts
+                       if (limit := account.limit(quota, defaults)) is not None)
+            for quota in PER_SESSION}
 
 
 def lineage(t: Transaction, name: str) -> List[Account]:

@@ -11,10 +11,9 @@ from typing import Dict
 from .config import MOST_STEPS
 
 LINE = re.compile(r'spmat: (?:time=\S+ )?(server-start|start|refused|session|runs|server-end)'
-                  r'((?: [a-z_]+=\S+)+)|spmat: \d+ lines of the log were dropped')
+                  r'((?: [a-z_]+=\S+)+)')
 LONGEST_LINE = 4_096
 LONGEST_WORDS = 2_000
-UNKNOWN_OPTION = re.compile(r"unexpected argument '--log")
 
 
 class EngineLog:
@@ -32,11 +31,6 @@ class EngineLog:
         """The beginning of what else the engine wrote."""
         return self._words.strip()
 
-    @property
-    def is_unknown(self) -> bool:
-        """Whether the engine's program has refused to tell anything: it is of an older release."""
-        return UNKNOWN_OPTION.search(self._words) is not None
-
     def feed(self, piece: bytes) -> bool:
         """Takes the next bytes. Whether they tell something new of the steps."""
         before = (self.spent, self.queued, self.end)
@@ -52,7 +46,7 @@ class EngineLog:
             self._words = (self._words + line + '\n')[:LONGEST_WORDS]
             return
         event = told.group(1)
-        fields = dict(field.split('=', 1) for field in (told.group(2) or '').split())
+        fields = dict(field.split('=', 1) for field in told.group(2).split())
         self.begun = True
         if event in ('session', 'runs', 'server-end'):
             self.spent = max(self.spent, _number(fields, 'steps'))

@@ -12,6 +12,8 @@ import struct
 import threading
 from typing import Dict, List, NamedTuple
 
+from .config import ConfigError
+
 RECORD = struct.Struct('<16sQQQQ')  # session, steps, runs, jobs, the price of what is queued
 NOBODY = bytes(16)
 MAGIC = 0x7173
@@ -24,10 +26,6 @@ class Entry(NamedTuple):
     runs: int
     jobs: int
     queued: int
-
-
-class AnotherRuns(Exception):
-    """Another gateway uses this folder."""
 
 
 class Journal:
@@ -51,7 +49,7 @@ class Journal:
             fcntl.flock(self._guard, fcntl.LOCK_EX | fcntl.LOCK_NB)
         except OSError:
             os.close(self._guard)
-            raise AnotherRuns('another gateway uses %s' % folder) from None
+            raise ConfigError('another gateway uses %s' % folder) from None
         self._instance = instance
         self.left_by, self.left = self._read()
         self._file = -1
@@ -81,6 +79,11 @@ class Journal:
             slot = self._slots.pop(session)
             os.pwrite(self._file, RECORD.pack(NOBODY, 0, 0, 0, 0), RECORD.size * slot)
             self._free.append(slot)
+
+    def sessions(self) -> List[str]:
+        """The sessions that aren't settled."""
+        with self._lock:
+            return list(self._slots)
 
     def _read(self) -> 'tuple[str, List[Entry]]':
         try:

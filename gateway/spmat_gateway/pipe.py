@@ -5,6 +5,7 @@ library's reads and writes (also those of TLS) let other threads work meanwhile.
 """
 from __future__ import annotations
 
+import contextlib
 import fcntl
 import os
 import select
@@ -15,7 +16,7 @@ from typing import Callable, Iterable, List, Sequence, Tuple
 from .engine_log import EngineLog
 from .tls import Client
 
-PIECE = 1 << 18
+PIECE = 1 << 16
 PIPE_SIZE = 1 << 20
 SECONDS_TO_TELL = 5.0  # for an engine that answers, to tell that it has begun
 SET_PIPE_SIZE = 1031                               # F_SETPIPE_SZ, which Python names from 3.10 on
@@ -35,10 +36,9 @@ class NoAccount(Exception):
 class _Way:
     """One direction: a buffer, and what of it hasn't been written yet."""
 
-    def __init__(self) -> None:
+    def __init__(self, first: bytes) -> None:
         self.buffer = memoryview(bytearray(PIECE))
-        self.rest = self.buffer[:0]
-        self.count = 0
+        self.rest, self.count = memoryview(first), len(first)
         self.ended = False                         # its source has ended
         self.closed = False                        # so has its target, or was told of it
 
@@ -59,23 +59,24 @@ class Pipe:
         Called where that tells something new.
     on_replies
         Called with each piece before it is sent to the client.
+    first
+        What the client has sent before, behind its login.
     """
 
     def __init__(self, client: Client, streams: Sequence[int], told: EngineLog,
-                 on_told: Callable[[], None], on_replies: Callable[[memoryview], None]) -> None:
+                 on_told: Callable[[], None], on_replies: Callable[[memoryview], None],
+                 first: bytes) -> None:
         self._client, self._told = client, told
         self._input, self._output, self._errors = streams
         self._on_told, self._on_replies = on_told, on_replies
         self._errors_ended = False
-        self._up, self._down = _Way(), _Way()
+        self._up, self._down = _Way(first), _Way(b'')
         self._poll = select.poll()
         client.setblocking(False)
         for descriptor in streams:
             os.set_blocking(descriptor, False)
-            try:
+            with contextlib.suppress(OSError):     # a user's pipes have a size together
                 fcntl.fcntl(descriptor, SET_PIPE_SIZE, PIPE_SIZE)
-            except OSError:  # a user's pipes have a size together; the usual one does too
-                pass
 
     @property
     def ended(self) -> bool:
@@ -91,11 +92,6 @@ class Pipe:
     def counts(self) -> Tuple[int, int]:
         """How many bytes the client has sent, and how many the engine."""
         return self._up.count, self._down.count
-
-    def begin(self, first: bytes) -> None:
-        """Takes what came before, behind the login."""
-        self._up.count = len(first)
-        self._up.rest = memoryview(first)
 
     def run(self, deadline: Callable[[], float]) -> bool:
         """Copies until the engine's output has ended and is sent.

@@ -1,7 +1,10 @@
 """TLS: the gateway's own certificate, the certificates of clients, and a connection's end."""
 from __future__ import annotations
 
+import calendar
+import contextlib
 import hashlib
+import re
 import socket
 import ssl
 import time
@@ -10,8 +13,8 @@ from typing import Optional, Union
 from .config import ConfigError, Tls
 from .users import Login, is_name
 
+TIME = re.compile(rb'(?:\x17\x0d|\x18\x0f)(\d{12,14})Z')  # in DER, of two digits or four of a year
 Client = Union[socket.socket, ssl.SSLSocket]
-SECONDS_TO_LINGER = 3.0
 
 
 def make_context(tls: Tls) -> Optional[ssl.SSLContext]:
@@ -25,7 +28,9 @@ def make_context(tls: Tls) -> Optional[ssl.SSLContext]:
     if not tls.certificate:
         return None
     context = ssl.SSLContext(ssl.PROTOCOL_TLS_SERVER)
-    context.minimum_version = ssl.TLSVersion.TLSv1_2
+    context.minimum_version = (ssl.TLSVersion.TLSv1_3 if tls.least == '1.3'
+                               else ssl.TLSVersion.TLSv1_2)
+    context.set_ciphers('ECDHE+AESGCM:ECDHE+CHACHA20')  # of TLS 1.2; those of 1.3 are all right
     # an end without TLS' own word for it is a client that has gone, and no end of its input
     context.options &= ~getattr(ssl, 'OP_IGNORE_UNEXPECTED_EOF', 0)
     what = 'certificate %s with its key %s' % (tls.certificate, tls.key or 'in the same file')
@@ -40,6 +45,18 @@ def make_context(tls: Tls) -> Optional[ssl.SSLContext]:
     return context
 
 
+def end_of(tls: Tls) -> float:
+    """When the gateway's certificate ends, in seconds since 1970; 0 where there is none."""
+    if not tls.certificate:
+        return 0.0
+    with open(tls.certificate, encoding='ascii', errors='replace') as file:
+        found = TIME.findall(_first_of(file.read()))
+    year, rest = found[1][:-10].decode(), found[1][-10:].decode()  # of its begin and its end
+    if len(year) == 2:
+        year = ('19' if year >= '50' else '20') + year
+    return float(calendar.timegm(time.strptime(year + rest, '%Y%m%d%H%M%S')))
+
+
 def fingerprint_of(certificate: bytes) -> str:
     """The SHA-256 of a certificate in DER, as `openssl x509 -fingerprint -sha256` has it, without
     colons."""
@@ -48,18 +65,23 @@ def fingerprint_of(certificate: bytes) -> str:
 
 def fingerprint_of_text(text: str) -> str:
     """The fingerprint of the first certificate of a PEM text."""
+    return fingerprint_of(_first_of(text))
+
+
+def _first_of(text: str) -> bytes:
+    """The first certificate of a PEM text, in DER."""
     begin = text.find('-----BEGIN CERTIFICATE-----')
     end = text.find('-----END CERTIFICATE-----')
     if begin < 0 or end < begin:
         raise ValueError('no certificate in PEM format')
-    return fingerprint_of(ssl.PEM_cert_to_DER_cert(text[begin:end] + '-----END CERTIFICATE-----\n'))
+    return ssl.PEM_cert_to_DER_cert(text[begin:end] + '-----END CERTIFICATE-----\n')
 
 
 def shake_hands(connection: socket.socket, context: Optional[ssl.SSLContext],
-                seconds: float) -> Client:
+                until: float) -> Client:
     """The connection with TLS spoken on it. OSError where that fails or takes too long."""
-    connection.settimeout(seconds)
-    if context is None:
+    connection.settimeout(max(0.001, until - time.monotonic()))
+    if context is None or connection.family == socket.AF_UNIX:
         return connection
     return context.wrap_socket(connection, server_side=True, suppress_ragged_eofs=False)
 
@@ -75,20 +97,19 @@ def login_by_certificate(client: Client, names: str) -> Optional[Login]:
     common = [value for part in subject for key, value in part  # type: ignore[misc]
               if key == 'commonName']
     by_name = names == 'common-name' and len(common) == 1 and is_name(str(common[0]))
-    return Login(name=str(common[0]) if by_name else '', fingerprint=fingerprint_of(certificate))
+    return Login(name=str(common[0]) if by_name else '', fingerprint=fingerprint_of(certificate),
+                 is_proved=True)
 
 
-def close(client: Client) -> None:
+def close(client: Client, seconds: float) -> None:
     """Ends a connection so that the last bytes arrive: what the client still sends is read, as a
     reset would drop them."""
-    deadline = time.monotonic() + SECONDS_TO_LINGER
+    deadline = time.monotonic() + seconds
     try:
         client.setblocking(False)
         if isinstance(client, ssl.SSLSocket):
-            try:
+            with contextlib.suppress(OSError, ValueError):  # the client's word may come later
                 client.unwrap()
-            except (OSError, ValueError):          # ours is sent; the client's may come later
-                pass
         client.shutdown(socket.SHUT_WR)
         while (left := deadline - time.monotonic()) > 0:
             client.settimeout(left)

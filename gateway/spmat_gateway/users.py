@@ -7,22 +7,27 @@ from __future__ import annotations
 
 import hashlib
 import hmac
+import pwd
 import re
 import secrets
+import socket
+import struct
 from typing import NamedTuple, Optional
 
 NAME = re.compile(r'[a-z0-9_][a-z0-9_.-]{0,31}')
 GROUP_MARK = '@'                                   # a group is an account whose name begins with it
 LONGEST_LOGIN = 256
+NOBODY = 65534                                     # also whoever PrivateUsers= of a unit hides
 WRONG = 'sha256$00$' + '0' * 64  # what a token is compared with where there is no user
 
 
 class Login(NamedTuple):
-    """What a client says of itself: a name with a token, or a certificate's fingerprint and common
-    name."""
+    """Who a client is: a name with a token; or `is_proved` by a certificate or by the kernel, a
+    name or a certificate's fingerprint."""
     name: str = ''
     token: str = ''
     fingerprint: str = ''
+    is_proved: bool = False
 
 
 def is_name(name: str) -> bool:
@@ -63,3 +68,15 @@ def parse_login(line: bytes) -> Optional[Login]:
     if len(words) != 3 or words[0] != 'login' or not is_name(words[1]):
         return None
     return Login(words[1], words[2])
+
+
+def login_by_kernel(connection: socket.socket) -> Optional[Login]:
+    """Whose process has connected to a socket file of this machine; None for other connections."""
+    if connection.family != socket.AF_UNIX:
+        return None
+    _, user, _ = struct.unpack('3i', connection.getsockopt(socket.SOL_SOCKET, socket.SO_PEERCRED,
+                                                           12))
+    try:
+        return Login(pwd.getpwuid(user).pw_name if user != NOBODY else '', is_proved=True)
+    except KeyError:
+        return Login(is_proved=True)

@@ -4,8 +4,8 @@ ones; and who kills what.
 A good client's session is one of a pool, whose replies by the program itself are known. Whatever is
 killed, what it has read is the beginning of these replies, and perhaps a line `no session ..`
 behind them. What the ledger has charged lies between the steps that the client has read and those
-plus what may have been run since. A session that was killed is charged what it had told, which may
-be a batch less than what its client has read.
+plus the price of what may have been run since. A session that was killed is charged what it had
+told, which may be a batch less than what its client has read.
 """
 import collections
 import contextlib
@@ -23,6 +23,7 @@ from .support import LINES, OPERATORS, Client, dense, direct
 
 STEPS = 10 ** 9
 OPEN_FOR = 30.0
+PRICES = re.compile(rb'^ok queued \d+ (\d+)\n', re.M)
 SPENT = re.compile(rb'^(?:ok run \d+|no memory|no thread) (\d+)\n', re.M)
 
 
@@ -56,6 +57,19 @@ class Report:
         self.sessions = []
         self.whole = self.cut = self.told = self.refused = self.hostile = self.bytes = 0
         self.faults = []
+        self.began = time.monotonic()
+        self.minutes = collections.defaultdict(lambda: [0, 0])  # tries of good ones, and served ones
+
+    def count(self, served):
+        """A good client was served, or wasn't."""
+        with self.lock:
+            minute = self.minutes[int(time.monotonic() - self.began) // 60]
+            minute[0] += 1
+            minute[1] += served
+
+    def shares(self):
+        """Of the tries of each minute the part that was served."""
+        return ['%.2f' % (served / tries) for _, (tries, served) in sorted(self.minutes.items())]
 
     def fault(self, words):
         with self.lock:
@@ -81,7 +95,8 @@ class Good(threading.Thread):
             try:
                 self._session()
             except (OSError, ssl.SSLError):        # a gateway that is down
-                self._stop_at.wait(0.1)
+                self._report.count(False)
+                self._stop_at.wait(1.0)
 
     def _session(self):
         script, expected = self._draw.choice(self._scripts)
@@ -89,7 +104,10 @@ class Good(threading.Thread):
         with Client(port, self._login, authority=self._authority) as client:
             address = '%s:%d' % client.socket.getsockname()
             replies = client.exchange(script, OPEN_FOR)
+        self._report.count(b'ok ' in replies)
         self._judge(address, expected, replies)
+        if b'ok ' not in replies:
+            self._stop_at.wait(1.0)
 
     def _judge(self, address, expected, replies):
         report, line = self._report, b''
@@ -102,7 +120,7 @@ class Good(threading.Thread):
                 report.fault('other bytes at %s: %r' % (address, replies[-200:]))
                 return
             replies = body
-        read, most = spent_by(replies), spent_by(expected)
+        read, most = spent_by(replies), sum(int(one[1]) for one in PRICES.finditer(expected))
         with report.lock:
             report.bytes += len(replies)
             report.whole += replies == expected
@@ -206,19 +224,21 @@ class Hostile(threading.Thread):
 
 class Killer(threading.Thread):
     """Kills an engine, a gateway or the database at random moments, and starts again what isn't
-    started by itself."""
+    started by itself. With `hangs` it holds a gateway or the database for some seconds, too."""
 
-    def __init__(self, gateways, postgres, stop, seed, pause):
+    def __init__(self, gateways, postgres, stop, seed, pause, hangs=False):
         super().__init__(daemon=True)
         self._gateways, self._postgres, self._stop_at = gateways, postgres, stop
         self._draw, self._pause = random.Random(seed), pause
-        self.killed = {'engine': 0, 'gateway': 0, 'database': 0}
+        self._kinds = ['engine', 'engine', 'gateway'] + (['database'] if postgres else [])
+        if hangs:
+            self._kinds += ['held gateway'] + (['held database'] if postgres else [])
+        self.killed = dict.fromkeys(self._kinds, 0)
         self.faults = []
 
     def run(self):
         while not self._stop_at.wait(self._pause * (0.3 + self._draw.random())):
-            kinds = ['engine', 'engine', 'gateway'] + (['database'] if self._postgres else [])
-            kind = self._draw.choice(kinds)
+            kind = self._draw.choice(self._kinds)
             try:
                 if self._kill(kind):
                     self.killed[kind] += 1
@@ -229,7 +249,7 @@ class Killer(threading.Thread):
     def _kill(self, kind):
         gateway = self._draw.choice(self._gateways)
         if kind == 'engine':
-            running = gateway.table('sessions')
+            running = [row for row in gateway.table('sessions') if row['process']]
             if running:
                 with contextlib.suppress(ProcessLookupError):
                     os.kill(self._draw.choice(running)['process'], signal.SIGKILL)
@@ -237,6 +257,14 @@ class Killer(threading.Thread):
         if kind == 'gateway':
             gateway.kill()
             gateway.start()
+        elif kind == 'held gateway':
+            gateway.process.send_signal(signal.SIGSTOP)
+            time.sleep(6 * self._draw.random())
+            gateway.process.send_signal(signal.SIGCONT)
+        elif kind == 'held database':
+            self._postgres.signal(signal.SIGSTOP)
+            time.sleep(12 * self._draw.random())
+            self._postgres.signal(signal.SIGCONT)
         else:
             self._postgres.kill()
             time.sleep(self._draw.random())

@@ -4,10 +4,12 @@ import contextlib
 import io
 import json
 import os
+import re
 import select
 import shutil
 import signal
 import socket
+import sqlite3
 import ssl
 import subprocess
 import sys
@@ -227,15 +229,21 @@ class Postgres:
 
     def kill(self):
         """Kills it at once, with all that it does."""
+        processes = self.signal(signal.SIGKILL)
+        until('PostgreSQL is dead', lambda: not os.path.exists('/proc/%d' % processes[0]))
+        os.unlink(os.path.join(self.data, 'postmaster.pid'))
+
+    def signal(self, number):
+        """Sends a signal to all its processes, as SIGSTOP, by which it hangs; the processes."""
         with open(os.path.join(self.data, 'postmaster.pid'), encoding='ascii') as file:
             process = int(file.readline())
         children = subprocess.run(['ps', '-o', 'pid=', '--ppid', str(process)],
                                   stdout=subprocess.PIPE, text=True, check=False)
-        for one in [process, *map(int, children.stdout.split())]:
+        processes = [process, *map(int, children.stdout.split())]
+        for one in processes:
             with contextlib.suppress(ProcessLookupError):
-                os.kill(one, signal.SIGKILL)
-        until('PostgreSQL is dead', lambda: not os.path.exists('/proc/%d' % process))
-        os.unlink(os.path.join(self.data, 'postmaster.pid'))
+                os.kill(one, number)
+        return processes
 
     def stop(self):
         """Ends it."""
@@ -321,6 +329,17 @@ class Gateway:
                 raise
         return self.process.returncode if self.process else None
 
+    def reload(self, says='reloaded'):
+        """Lets it read its file again, and waits for what it says of that."""
+        before = self.said().count(' %s' % says)
+        self.process.send_signal(signal.SIGHUP)
+        until(says, lambda: self.said().count(' %s' % says) > before)
+
+    def measure(self, name):
+        """A number of its metrics."""
+        return float(re.search(r'^spmat_gateway_%s (\S+)$' % name, self.get('/metrics')[1],
+                               re.M).group(1))
+
     def said(self):
         """Its log."""
         with open(self.log, encoding='utf-8', errors='replace') as file:
@@ -342,6 +361,12 @@ class Gateway:
     def add(self, name, *words):
         """Adds a user; what its login line says."""
         return '%s %s' % (name, self.command('users', 'add', name, *words).strip())
+
+    def end_tokens(self):
+        """Lets all tokens end, as time does."""
+        with contextlib.closing(sqlite3.connect(self.state + '/ledger.db')) as database:
+            database.execute('UPDATE accounts SET token_ends = 1000000000')
+            database.commit()
 
     def sessions(self, account=''):
         """The sessions of the ledger, the last one first."""

@@ -18,14 +18,16 @@ class Socket(WithGateway):
     """The socket file and the command `spmat-gateway`."""
 
     def post(self, path, headers, body='{}'):
-        connection = cli._FileConnection(self.gateway.admin)
+        connection = http.client.HTTPConnection('spmat-gateway')
+        connection.sock = socket.socket(socket.AF_UNIX)
+        connection.sock.connect(self.gateway.admin)
         connection.request('POST', path, body, headers)
         status = connection.getresponse().status
         connection.close()
         return status
 
     def test_its_mode(self):
-        self.assertEqual(os.stat(self.gateway.admin).st_mode & 0o777, 0o600)
+        self.assertEqual(os.stat(self.gateway.admin).st_mode & 0o777, 0o700)
 
     def test_the_command(self):
         environment = dict(os.environ, PYTHONPATH=FOLDER)
@@ -42,8 +44,8 @@ class Socket(WithGateway):
         with self.gateway.client(self.anna) as client:
             client.ask('budget')
             self.assertRegex(self.gateway.command('sessions'),
-                             r'(?s)id .*\n[0-9a-f]{12}  anna  127.0.0.1:\d+ .*1 T')
-            self.assertEqual(self.gateway.table('status')['sessions'], 1)
+                             r'(?s)id .*\n[0-9a-f]{12}  anna  gate     127.0.0.1:\d+ .*1 T')
+            self.assertEqual(self.gateway.measure('sessions_running'), 1)
         self.last()
         self.assertRegex(self.gateway.command('ledger', 'anna'),
                          r'[0-9a-f]{12} +anna +\d{4}-.*settled +end +exact')
@@ -70,13 +72,11 @@ class Socket(WithGateway):
         kind = {'Content-Type': 'application/json'}
         for headers in ({'Host': 'evil.example'},
                         {'Host': 'localhost:1', 'Origin': 'http://evil.example'},
+                        {'Host': 'localhost:1', 'Origin': 'http://localhost:1'},
                         {'Origin': 'null'}):
             with self.subTest(headers=headers):
-                self.assertEqual(self.post('/api/drain', {**kind, **headers}), 403)
-        self.assertEqual(self.post('/api/reload',
-                                   {**kind, 'Host': 'localhost:9', 'Origin': 'http://localhost:9'}),
-                         200)
-        self.assertFalse(self.gateway.table('status')['draining'])
+                self.assertEqual(self.post('/api/users', {**kind, **headers}), 403)
+        self.assertEqual(self.post('/api/users', {**kind, 'Host': 'localhost:9'}), 200)
 
     def test_a_socket_file_that_a_killed_gateway_has_left(self):
         with folder() as where:
@@ -85,7 +85,7 @@ class Socket(WithGateway):
                 gone.bind(path)
             with Gateway(where) as gateway:
                 self.assertEqual(gateway.admin, path)
-                self.assertTrue(gateway.table('status')['ready'])
+                self.assertEqual(gateway.table('users'), [])
 
 
 class Port(WithGateway):
@@ -109,25 +109,37 @@ class Port(WithGateway):
                           values['spmat_gateway_ledger_up'], values['spmat_gateway_seats']),
                          (0, 1, 64))
         for line in text.splitlines():             # each line is a comment, or a sample
-            self.assertRegex(line, r'^(# (HELP|TYPE) spmat_gateway_\w+ '
-                             r'.*|spmat_gateway_\w+(\{\w+="[^"]*"\})? \S+)$')
+            self.assertRegex(line, r'^(# (HELP|TYPE) (spmat_gateway|process)_\w+ '
+                             r'.*|(spmat_gateway|process)_\w+(\{\w+="[^"]*"\})? \S+)$')
 
     def test_health(self):
         self.assertEqual(self.gateway.get('/healthz'), (200, 'ok\n'))
         self.assertEqual(self.gateway.get('/readyz'), (200, 'ok\n'))
 
     def test_nothing_changes_anything(self):
-        for path in ('/api/sessions', '/api/users', '/api/ledger', '/api/status'):
+        for path in ('/api/sessions', '/api/users', '/api/ledger', '/api/end'):
             self.assertEqual(self.gateway.get(path)[0], 404)
-        for path in ('/api/end', '/api/drain', '/api/quota', '/sessions/0/end', '/'):
+        for path in ('/api/end', '/api/change_user', '/api/quota', '/'):
             self.assertIn(self.gateway.get(path, 'POST', {'Host': 'localhost'})[0], (404, 405))
 
-    def test_the_page_has_names_escaped_and_no_script(self):
-        status, text = self.gateway.get('/')
-        self.assertEqual(status, 200)
-        self.assertNotIn('<script', text)
-        self.assertNotIn('<button', text)
-        self.assertNotRegex(text, r'(src|href)="(https?:)?//')
+    def test_the_page(self):
+        """What the commands print, as plain text."""
+        with self.gateway.client(self.anna) as client:
+            client.ask('budget')
+            status, text = self.gateway.get('/')
+            self.assertEqual(status, 200)
+            self.assertRegex(text, r'^gate: ready since \d{4}-\S+Z, 1 of 64 seats taken, ledger up\n')
+            sessions, users = (self.gateway.command(name).splitlines()
+                               for name in ('sessions', 'users'))
+            self.assertEqual([line.split()[:4] for line in text.split('\n\n')[1].splitlines()],
+                             [line.split()[:4] for line in sessions])
+            self.assertEqual(text.split('\n\n')[2].splitlines(), users)
+        connection = http.client.HTTPConnection('127.0.0.1', self.gateway.page)
+        connection.request('GET', '/')
+        headers = connection.getresponse().headers
+        connection.close()
+        self.assertEqual((headers.get_content_type(), headers['X-Content-Type-Options']),
+                         ('text/plain', 'nosniff'))
 
 
 class NotReady(unittest.TestCase):
@@ -164,7 +176,7 @@ class NotReady(unittest.TestCase):
                 with gateway.client(anna) as second:
                     self.assertEqual(second.rest(), b'no busy\n')
             until('there is a seat again', gateway.is_ready)
-            self.assertEqual(gateway.table('status')['seats'], 1)
+            self.assertEqual(gateway.measure('seats'), 1)
 
 
 if __name__ == '__main__':

@@ -31,6 +31,10 @@ class Python(unittest.TestCase):
                                                         1).apply(lambda x: x + 1).to_list(), [42])
                 with self.assertRaisesRegex(spmat.errors.Refused, 'another token is right'):
                     spmat.Session.connect('spmat://boris@' + url, token='wrong', ca=authority)
+                gateway.end_tokens()
+                with self.assertRaisesRegex(spmat.errors.Refused, 'expired'):
+                    spmat.Session.connect('spmat://boris@' + url, token=token, ca=authority)
+                token = gateway.command('users', 'renew', 'boris').strip()
                 ran = subprocess.run([sys.executable, '-m', 'spmat', 'triangle-count',
                                       os.path.join(TOP, 'docs', 'karate.mtx'), '--connect',
                                       'spmat://boris@' + url, '--cacert', authority],

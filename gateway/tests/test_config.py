@@ -1,8 +1,11 @@
 """The file: every fault names its key, what came, and what was expected."""
+import contextlib
+import io
 import os
 import unittest
+from unittest import mock
 
-from spmat_gateway import config, users
+from spmat_gateway import cli, config, users
 from spmat_gateway.config import ConfigError
 
 from .support import folder
@@ -15,17 +18,30 @@ FAULTS = (
     ('[gateway]\nseats = true', 'seats is a whole number, not True'),
     ('[gateway]\nseats = 1.5', 'seats is a whole number, not 1.5'),
     ('[gateway]\nlisten = "here"', r"listen is HOST:PORT, such as 0.0.0.0:7173, not 'here'"),
+    ('[gateway]\nlisten = ["127.0.0.1:7173", "here"]', "listen is HOST:PORT, .* not 'here'"),
+    ('[gateway]\nlisten = 7173', 'listen is a list of words, not 7173'),
+    ('[tls]\nleast = "1.1"', "least is 1.2 or 1.3, not '1.1'"),
     ('[gateway]\nlisten = "0.0.0.0:7173"', r'\[tls\] certificate is missing: without TLS'),
     ('[gateway]\nlisten = "127.0.0.1:70000"', 'listen is HOST:PORT'),
-    ('[gateway]\nunfinished = "all"', "unfinished is known or price, not 'all'"),
+    ('[gateway]\nunfinished = "all"', "unfinished is price or known, not 'all'"),
     ('[gateway]\nname = 5', r'name is a text, not 5'),
+    ('[gateway]\nnew-users = "lab"', "new-users is a group, such as @institute, not 'lab'"),
+    ('[gateway]\njobs-listed = 5', 'has no key jobs-listed'),
+    ('[gateway]\ntoken-days = -1', 'token-days is 0 to'),
     ('[engine]\ncommand = "spmat run"', 'command is a list of words'),
     ('[engine]\ncommand = []', 'command is empty'),
-    ('[engine]\ncommand = ["spmat", "{step}"]', r'\{step\} is none of \{steps\}'),
+    ('[engine]\ncommand = ["spmat", "{step}"]', r"'\{step\}' has a brace that is none of \{steps"),
+    ('[engine]\ncommand = ["spmat", "{steps!x}"]', r"'\{steps!x\}' has a brace that is none of"),
+    ('[engine]\ncommand = ["spmat", "{steps:9}"]', r"'\{steps:9\}' has a brace that is none of"),
+    ('[engine]\nstop = ["end", "{user}"]', r"'\{user\}' has a brace that is none of \{session\};"),
     ('[engine]\ncommand = ["spmat", "{"]', r'command: '),
     ('[engine]\nenvironment = {A = 1}', 'environment is a table of words'),
     ('[limits]\nmemory = 1', 'memory is 67108864 to'),
     ('[limits]\nsteps-a-day = -1', 'steps-a-day is 0 to'),
+    ('[limits]\nsteps-a-day = inf', 'steps-a-day is a whole number, not inf'),
+    ('[limits]\nsteps-a-day = nan', 'steps-a-day is a whole number, not nan'),
+    ('[limits]\nseconds = 1e400', 'seconds is a whole number, not inf'),
+    ('a = ' + '[' * 5000, 'its brackets are nested too deeply'),
     ('limits = 5', r'limits is a table, \[limits\], not 5'),
     ('[gateway', 'Expected'),
 )
@@ -58,10 +74,27 @@ class Files(unittest.TestCase):
             '[gateway]\nlisten = "[::]:7173"\nledger = "postgresql://x/y"\n[engine]\ncommand = '
             '["ssh", "{user}"]\n')
         self.assertEqual((found.limits.steps_a_day, found.limits.memory), (10 ** 12, 10 ** 9))
-        self.assertEqual(config.parse_address('listen', found.gateway.listen), ('::', 7173))
+        self.assertEqual(found.gateway.listen, ('[::]:7173',))
+        self.assertEqual(config.parse_address('listen', '[::]:7173'), ('::', 7173))
         self.assertEqual((found.ledger, found.engine.command),
                          ('postgresql://x/y', ('ssh', '{user}')))
-        self.assertEqual(config.needs_restart(config.Config(), found), ('listen', 'ledger'))
+
+
+class Checks(unittest.TestCase):
+    """What `check` finds that isn't in the file."""
+
+    def check(self, text, status):
+        said = io.StringIO()
+        with folder() as where, contextlib.redirect_stderr(said), contextlib.redirect_stdout(said):
+            path = os.path.join(where, 'gate.toml')
+            with open(path, 'w', encoding='utf-8') as file:
+                file.write('[gateway]\nadmin = "%s/admin.sock"\n%s\n' % (where, text))
+            self.assertEqual(cli.main(['check', '--config', path]), status)
+        return said.getvalue()
+
+    def test_a_module_that_is_missing(self):
+        with mock.patch('importlib.util.find_spec', return_value=None):
+            self.assertIn('python3-psycopg', self.check('ledger = "postgresql://x/y"', 1))
 
 
 class Logins(unittest.TestCase):

@@ -10,10 +10,10 @@ from .support import LINES, OPERATORS, PROGRAM, dense
 MANY = LINES + OPERATORS + dense(8) + b''.join((
     b'apply B inc A\napply C inc A\nrun\n', b'show B\ndis inc\nno such\nbudget\n',
     b'product D plus times A A\nrun\nrun\nquit\n'))
-END = (b'spmat: time=2026-11-27T02:03:44.515Z session client=stdin end=quit seconds=12.345 in=1234 '
-       b'out=567 commands=12 jobs=3 steps=9000 refused=1 untold=0 untold_steps=0\n')
-RUNS = (b'spmat: time=2026-11-27T02:04:32.170Z runs client=stdin seconds=60.001 state=running '
-        b'jobs=2 reserved=24 steps=8000 in=1 out=5\n')
+END = (b'spmat: time=2026-11-27T02:03:44.515Z session id=1 client=stdin end=quit seconds=12.345 '
+       b'in=1234 out=567 commands=12 jobs=3 steps=9000 refused=1 untold=0 untold_steps=0\n')
+RUNS = (b'spmat: time=2026-11-27T02:04:32.170Z runs id=1 client=stdin seconds=60.001 '
+        b'state=running jobs=2 reserved=24 steps=8000 in=1 out=5\n')
 
 
 def take(pieces):
@@ -59,9 +59,6 @@ class Telling(unittest.TestCase):
         self.assertEqual(told.words,
                          'Warning: Permanently added HOST\nspmat: read failed\nspmat: because '
                          'the idle timeout expired')
-        self.assertFalse(told.is_unknown)
-        self.assertTrue(
-            take([b"error: unexpected argument '--log' found\n\n  tip: ..\n"]).is_unknown)
 
     def test_odd_lines(self):
         for odd in (b'spmat: runs steps=x reserved=-3\n', b'x' * 100_000 + b'\n', b'\xff\xfe\n',

@@ -1,20 +1,23 @@
-"""Sessions on other machines, by engines that exist: ssh, Slurm, podman; and gateways behind a
-balancer. `tests/gateway --all` tries them.
+"""Sessions on other machines, by engines that exist, ssh and Slurm, and gateways behind a balancer.
+`tests/gateway --all` tries them.
 
 Each test starts what it needs by itself, as root: hosts in network namespaces, munge and a
 controller with two nodes, HAProxy.
 """
 import contextlib
+import json
 import os
+import re
 import shutil
 import signal
 import socket
 import subprocess
+import threading
 import time
 import unittest
 
-from .support import (FIRST_SESSION, LINES, PROGRAM, Certificates, Client, Gateway, Postgres,
-                      direct, folder, free_port, until)
+from .support import (FIRST_SESSION, LINES, PROGRAM, TOP, Certificates, Client, Gateway, Postgres,
+                      direct, folder, free_port, limits_memory, until)
 
 ASKED = bool(os.environ.get('SPMAT_GATEWAY_ALL'))
 PATH = os.pathsep.join([os.environ.get('PATH', ''), '/usr/sbin', '/sbin'])
@@ -165,7 +168,7 @@ class Slurm(Started):
                    '--key-file=' + secret, '--socket=%s/s' % munge, '--pid-file=%s/pid' % munge,
                    '--log-file=%s/log' % munge, '--seed-file=%s/seed' % munge)
         nodes = ''.join(
-            'NodeName=n%d NodeHostname=%s NodeAddr=127.0.0.1 Port=%d CPUs=4 RealMemory=900\n'
+            'NodeName=n%d NodeHostname=%s NodeAddr=127.0.0.1 Port=%d CPUs=4 RealMemory=2500\n'
             % (number, host, ports[number]) for number in (1, 2))
         with open(path, 'w', encoding='ascii') as file:
             file.write(
@@ -192,10 +195,8 @@ class Slurm(Started):
     def test_two_nodes_and_one_that_dies(self):
         with folder() as where:
             path, nodes = self.cluster(where)
-            command = ['srun', '--quiet', '--ntasks=1', '--cpus-per-task={workers}', '--mem=100',
-                       '--job-name=spmat-{session}', '--nodelist={user}', *SESSION.split()]
-            with Gateway(where, command=command,
-                         engine_stop=['scancel', '--quiet', '--name=spmat-{session}'],
+            command, stop = self.lines_of_the_page()
+            with Gateway(where, command=command, engine_stop=stop,
                          engine_environment={'SLURM_CONF': path}) as gateway:
                 logins = [gateway.add(node) for node in nodes]
                 for login in logins:
@@ -217,6 +218,20 @@ class Slurm(Started):
                 until('no job is left', lambda: not run('squeue', '-h', '-o', '%N', '-w',
                                                         'n2').split())
                 self.check(gateway, {'n1': 6, 'n2': 6})
+
+    @staticmethod
+    def lines_of_the_page():
+        """The commands of docs/service.md for Slurm, with the program that is tested, on the node
+        of the user's name."""
+        with open(os.path.join(TOP, 'docs', 'service.md'), encoding='utf-8') as file:
+            found = re.search(r'    command = (\["srun".*?\])\n    stop = (\[.*?\])\n', file.read(),
+                              re.S)
+        command, stop = (json.loads(text) for text in found.groups())
+        command[command.index('spmat')] = PROGRAM
+        command.insert(1, '--nodelist={user}')
+        if not limits_memory():
+            command.remove('--as={memory}')
+        return command, stop
 
     @staticmethod
     def of_node(where, node, process):
@@ -258,7 +273,7 @@ class Balanced(Started):
                 clients = [Client(port, anna, authority=authority) for _ in range(6)]
                 for client in clients:
                     self.spend(client)
-                counts = [gateway.table('status')['sessions'] for gateway in (one, two)]
+                counts = [gateway.measure('sessions_running') for gateway in (one, two)]
                 self.assertEqual(sum(counts), 6)
                 self.assertTrue(all(counts), counts)
                 one.kill()
@@ -274,6 +289,50 @@ class Balanced(Started):
                 for client in clients:
                     client.close()
                 self.check(two, {'anna': 18})
+
+    def test_a_restart_that_nobody_notices(self):
+        """docs/service.md: the balancer is told first, then one gateway after the other drains."""
+        with folder() as where:
+            pem, authority = Certificates(where).make('localhost')
+            postgres = Postgres(where)
+            self.addCleanup(postgres.stop)
+            keys = {'gateway_ledger': postgres.url, 'tls_certificate': pem, 'limits_sessions': 100}
+            with Gateway(where, 'one', **keys) as one, Gateway(where, 'two', **keys) as two:
+                port, anna = self.balance(where, one, two), one.add('anna')
+                said, going = [], threading.Event()
+                going.set()
+
+                def come_and_go():
+                    while going.is_set():
+                        with Client(port, anna, authority=authority) as client:
+                            said.append(client.exchange(FIRST_SESSION))
+                threads = [threading.Thread(target=come_and_go) for _ in range(3)]
+                for thread in threads:
+                    thread.start()
+                for gateway in (one, two):
+                    self.ask(where, 'set server spmat/%s state drain' % gateway.name)
+                    until('its clients have gone', lambda name=gateway.name: re.search(
+                        '^spmat,%s,[^,]*,[^,]*,0,' % name, self.ask(where, 'show stat'), re.M))
+                    gateway.process.send_signal(signal.SIGTERM)
+                    self.assertEqual(gateway.process.wait(90), 0)
+                    gateway.start()
+                    self.ask(where, 'set server spmat/%s state ready' % gateway.name)
+                    until('the balancer knows', lambda name=gateway.name: re.search(
+                        '^spmat,%s,.*,UP,' % name, self.ask(where, 'show stat'), re.M))
+                going.clear()
+                for thread in threads:
+                    thread.join()
+                self.assertGreater(len(said), 20)
+                self.assertEqual(set(said), {direct(FIRST_SESSION)})
+                self.check(two, {'anna': 3 * len(said)})
+
+    @staticmethod
+    def ask(where, command):
+        """What the balancer says to a command."""
+        with socket.socket(socket.AF_UNIX) as connection:
+            connection.connect(os.path.join(where, 'haproxy.sock'))
+            connection.sendall(command.encode() + b'\n')
+            return b''.join(iter(lambda: connection.recv(1 << 16), b'')).decode()
 
     @staticmethod
     def goes_on(client):
@@ -296,10 +355,11 @@ class Balanced(Started):
         """Starts HAProxy as docs/service.md has it; its port."""
         port, path = free_port(), os.path.join(where, 'haproxy.cfg')
         with open(path, 'w', encoding='ascii') as file:
-            file.write('defaults\n  mode tcp\nlisten spmat\n  bind 127.0.0.1:%d\n  timeout connect '
+            file.write('global\n  stats socket %s/haproxy.sock level admin\n'
+                       'defaults\n  mode tcp\nlisten spmat\n  bind 127.0.0.1:%d\n  timeout connect '
                        '5s\n  timeout client 1d\n  timeout server 1d\n'
                        '  option httpchk GET /readyz\n  default-server check inter 1s fall 2\n'
-                       % port)
+                       % (where, port))
             for gateway in gateways:
                 file.write('  server %s 127.0.0.1:%d port %d\n'
                            % (gateway.name, gateway.port, gateway.page))

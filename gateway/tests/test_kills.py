@@ -32,7 +32,7 @@ class Kills(unittest.TestCase):
         self.settled(gateways[0])
         rows = gateways[0].sessions()
         self.assertEqual(strangers.compare(report, rows), [])
-        self.assertEqual(gateways[0].table('status')['unsettled'], 0)
+        self.assertEqual(gateways[0].measure('sessions_unsettled'), 0)
         self.assertIn('all sums', gateways[0].command('ledger', '--check'))
         spent = {user['name']: user['spent'] for user in gateways[0].table('users')}
         for name, steps in spent.items():

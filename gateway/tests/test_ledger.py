@@ -1,5 +1,6 @@
 """The ledger on both databases: reservations, settlements, quotas; each call bears being
 repeated."""
+import contextlib
 import random
 import threading
 import time
@@ -9,7 +10,6 @@ from spmat_gateway.accounts import Unknown
 from spmat_gateway.config import ConfigError, Limits
 from spmat_gateway.database import Database, Unavailable
 from spmat_gateway.ledger import Ledger, NoQuota, Outcome
-from spmat_gateway.replies import Job
 from spmat_gateway.users import Login
 
 from .support import Postgres, folder, needs_postgres
@@ -59,10 +59,10 @@ class OnSqlite(unittest.TestCase):
         self.assertEqual(self.ledger.reserve('a' * 32, 'anna', DEFAULTS).steps, 100)
         self.assertEqual(self.sums('anna'), (0, 100, 1))
         self.assertEqual(self.ledger.settle('a' * 32,
-                                            Outcome(30, 'exact', 'end', jobs=(Job('B', 4, 30),))),
-                         30)
+                                            Outcome(30, 'exact', 'end', job_count=2)), 30)
         self.assertEqual(self.sums('anna'), (30, 0, 0))
-        self.assertEqual(self.ledger.jobs('a' * 32), [(0, 'B', 4, 30)])
+        (row,) = self.ledger.report('anna')
+        self.assertEqual((row['charged'], row['basis'], row['jobs']), (30, 'exact', 2))
 
     def test_each_call_twice(self):
         self.ledger.accounts.add('anna')
@@ -97,31 +97,38 @@ class OnSqlite(unittest.TestCase):
         with self.assertRaises(NoQuota) as none:
             self.ledger.reserve('c' * 32, 'anna', DEFAULTS)
         self.assertEqual(none.exception.quota, 'steps_in_all')
-        self.assertEqual(self.ledger.reserve('d' * 32, 'boris', DEFAULTS).steps, 70)
+        # of what the group has left a session takes half, or a seat's share
+        self.assertEqual(self.ledger.reserve('d' * 32, 'boris', DEFAULTS).steps, 35)
+        accounts.set_quotas('@lab', {'sessions': 4})
+        self.assertEqual(self.ledger.reserve('e' * 32, 'boris', DEFAULTS).steps, 35)
+        accounts.set_quotas('@lab', {'sessions': None})
         with self.assertRaises(NoQuota) as none:
-            self.ledger.reserve('e' * 32, 'boris', DEFAULTS)
+            self.ledger.reserve('f' * 32, 'boris', DEFAULTS)
         self.assertEqual(none.exception.quota, 'steps_a_day')
-        self.assertEqual(self.sums('@lab'), (0, 220, 3))
+        self.assertEqual(self.sums('@lab'), (0, 220, 4))
         self.ledger.settle('a' * 32, Outcome(10, 'exact', 'end'))
-        self.assertEqual(self.ledger.reserve('f' * 32, 'boris', DEFAULTS).steps, 90)
-        self.assertEqual(accounts.refill('anna', 1000, None), 1150)
+        self.assertEqual(self.ledger.reserve('f' * 32, 'boris', DEFAULTS).steps, 45)
+        self.ledger.settle('d' * 32, Outcome(35, 'exact', 'end'))
+        self.ledger.settle('f' * 32, Outcome(45, 'exact', 'end'))
+        self.ledger.settle('e' * 32, Outcome(35, 'exact', 'end'))
+        accounts.set_quotas('@lab', {'steps_a_day': 125})
+        accounts.set_quotas('anna', {'steps_in_all': 1150})
         with self.assertRaises(NoQuota):
             self.ledger.reserve('c' * 32, 'anna', DEFAULTS)      # the group's day is used up
         with self.assertRaises(Unknown):
             accounts.join('anna', None)
 
     def test_a_new_day_refills(self):
-        from unittest import mock
         self.ledger.accounts.add('anna')
         self.ledger.accounts.set_quotas('anna', {'steps_a_day': 100})
-        with mock.patch('spmat_gateway.ledger.today', return_value='2026-01-01'):
-            self.ledger.reserve('a' * 32, 'anna', DEFAULTS)
-            with self.assertRaises(NoQuota):
-                self.ledger.reserve('b' * 32, 'anna', DEFAULTS)
-        with mock.patch('spmat_gateway.ledger.today', return_value='2026-01-02'):
-            self.assertEqual(self.ledger.reserve('b' * 32, 'anna', DEFAULTS).steps, 100)
-            self.ledger.settle('a' * 32, Outcome(60, 'exact', 'end'))
-            self.assertEqual(self.ledger.spent_today(), {'anna': (0, 100)})
+        self.ledger.database.today = "'2026-01-01'"
+        self.ledger.reserve('a' * 32, 'anna', DEFAULTS)
+        with self.assertRaises(NoQuota):
+            self.ledger.reserve('b' * 32, 'anna', DEFAULTS)
+        self.ledger.database.today = "'2026-01-02'"
+        self.assertEqual(self.ledger.reserve('b' * 32, 'anna', DEFAULTS).steps, 100)
+        self.ledger.settle('a' * 32, Outcome(60, 'exact', 'end'))
+        self.assertEqual(self.ledger.spent_today(), {'anna': (0, 100)})
 
     def test_seats_and_who_is_disabled(self):
         self.ledger.accounts.add('anna')
@@ -142,12 +149,46 @@ class OnSqlite(unittest.TestCase):
         token = accounts.add('anna')
         accounts.add('boris', fingerprint='f' * 64)
         self.assertEqual(accounts.find(Login('anna', token)).name, 'anna')
-        self.assertEqual(accounts.find(Login(fingerprint='f' * 64)).name, 'boris')
+        self.assertEqual(accounts.find(Login(fingerprint='f' * 64, is_proved=True)).name, 'boris')
         for login in (Login('anna', token + 'x'), Login('anna', ''), Login('boris', ''),
-                      Login('nobody', token), Login(), Login(fingerprint='e' * 64)):
+                      Login('nobody', token), Login(), Login(fingerprint='e' * 64, is_proved=True),
+                      Login(fingerprint='f' * 64), Login(is_proved=True)):
             self.assertIsNone(accounts.find(login), login)
         with self.assertRaises(Unknown):
             accounts.add('carla', fingerprint='f' * 64)
+
+    def test_a_token_that_ends(self):
+        accounts = self.ledger.accounts
+        token = accounts.add('anna', days=30)
+        self.assertEqual(accounts.find(Login('anna', token)).name, 'anna')
+        self.assertAlmostEqual(self.account('anna').token_ends - time.time(), 30 * 86_400, delta=60)
+        self.ledger.database.transact(lambda t: t.run('UPDATE accounts SET token_ends = %s - 1'
+                                                      % self.ledger.database.now))
+        with self.assertRaises(NoQuota) as none:
+            accounts.find(Login('anna', token))
+        self.assertEqual(none.exception.quota, 'token')
+        self.assertRegex(str(none.exception), r'ended at 20\S+Z; `spmat-gateway users renew anna`')
+        self.assertIsNone(accounts.find(Login('anna', 'wrong')))  # who learns nothing of it
+        again = accounts.renew('anna')
+        self.assertIsNone(self.account('anna').token_ends)
+        self.assertEqual(accounts.find(Login('anna', again)).name, 'anna')
+        accounts.renew('anna', fingerprint='f' * 64, days=30)
+        self.assertIsNone(self.account('anna').token_ends)  # a certificate has its own
+
+    def test_names_that_are_proved(self):
+        accounts = self.ledger.accounts
+        accounts.add('@institute')
+        proved = Login('anna', is_proved=True)
+        self.assertIsNone(accounts.find(proved))
+        self.assertEqual(accounts.find(proved, '@institute').parent, '@institute')
+        self.assertIsNone(accounts.find(Login('boris', 'x'), '@institute'))
+        self.assertIsNone(accounts.find(Login('anna', '')))  # there is no token that is right
+        for name in ('', '@institute', '_apt-get@', 'Anna'):
+            with self.subTest(name), contextlib.suppress(Unknown):
+                self.assertIsNone(accounts.find(Login(name, is_proved=True), '@institute'))
+        accounts.enable('anna', False)
+        self.assertIsNone(accounts.find(proved, '@institute'))
+        self.assertEqual([account.name for account in accounts.all()], ['@institute', 'anna'])
 
     def test_words_that_are_refused(self):
         accounts = self.ledger.accounts
@@ -157,7 +198,6 @@ class OnSqlite(unittest.TestCase):
                      lambda: accounts.add('a' * 33), lambda: accounts.add('b', '@none'),
                      lambda: accounts.add('@g', '@g'), lambda: accounts.renew('nobody'),
                      lambda: accounts.enable('nobody', True),
-                     lambda: accounts.refill('anna', 5, None),
                      lambda: accounts.set_quotas('nobody', {'seconds': 5}),
                      lambda: accounts.join('anna', 'anna')):
             with self.assertRaises(Unknown):

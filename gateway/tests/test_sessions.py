@@ -1,8 +1,11 @@
 """Sessions by a gateway, on the real program: the bytes are those of a session without one, and
 each end is told."""
 import os
+import shutil
 import socket
+import ssl
 import struct
+import subprocess
 import threading
 import time
 import unittest
@@ -12,6 +15,7 @@ from .support import (FIRST_SESSION, LINES, OPERATORS, PATIENCE, Certificates, C
 
 BUSY = OPERATORS + dense(250) + b'product B plus times A A\n' * 60
 """Sixty products of some ninety million steps each, to be run: they take seconds at the least."""
+PRICE_OF_BUSY = 60 * 93_750_000
 
 
 def is_running(process):
@@ -60,8 +64,6 @@ class Bytes(WithGateway):
         self.assertEqual((row['spent'], row['charged'], row['basis'], row['cause'], row['jobs'],
                           row['bytes_in']),
                          (3, 3, 'exact', 'end', 1, len(FIRST_SESSION)))
-        jobs = self.gateway.table('ledger', '--session', row['id'])['jobs']
-        self.assertEqual(jobs, [[0, 'B', 1, 3]])
 
     def test_all_in_one_write_or_byte_by_byte(self):
         login = ('login %s\n' % self.anna).encode()
@@ -147,6 +149,25 @@ class Who(WithGateway):
         with self.gateway.client(new) as again:
             self.assertTrue(again.ask('budget').startswith('ok budget '))
 
+    def test_a_token_that_has_ended(self):
+        old = self.gateway.add('dora', '--days', '5')
+        self.assertRegex(self.gateway.command('users'), r'\ndora .* 20\d\d-\d\d-\d\dT')
+        self.gateway.end_tokens()
+        self.assertEqual(self.refused(('login %s\n' % old).encode()), b'no login expired\n')
+        self.assertEqual(self.refused(b'login dora wrong\n'), b'no login\n')
+        self.assertIn("reply='no login expired' untold=0 because='the token of dora ended at "
+                      '2001-09-09T01:46:40Z; `spmat-gateway users renew dora` makes a new one',
+                      self.gateway.said())
+        new = 'dora ' + self.gateway.command('users', 'renew', 'dora', '--days', '0').strip()
+        with self.gateway.client(new) as client:
+            self.assertTrue(client.ask('budget').startswith('ok budget '))
+        type(self).anna = 'anna ' + self.gateway.command('users', 'renew', 'anna').strip()
+        ends = {user['name']: user['token_ends'] for user in self.gateway.table('users')}
+        self.assertIsNone(ends['dora'])
+        self.assertAlmostEqual(ends['anna'] - time.time(), 365 * 86_400, delta=600)
+        self.assertIn('days is 0 to', self.gateway.command('users', 'renew', 'dora', '--days', '-1',
+                                                           status=1))
+
     def test_refusals_fill_no_disk(self):
         before = self.gateway.said().count(' refused ')
         began = time.monotonic()
@@ -189,6 +210,57 @@ class Who(WithGateway):
         self.assertNotIn(token.decode(), self.gateway.said())
 
 
+@unittest.skipIf(os.geteuid(), 'wants root, to be other users')
+class OfThisMachine(unittest.TestCase):
+    """Users of this machine, whom the kernel names at a socket file."""
+
+    def ask(self, path, user, commands=FIRST_SESSION):
+        """What a user's process reads, by socat as sshd starts it."""
+        return subprocess.run(['setpriv', '--reuid', user, '--clear-groups', 'socat', '-t60', '-',
+                               'UNIX-CONNECT:' + path], input=commands, stdout=subprocess.PIPE,
+                              stderr=subprocess.PIPE, check=False, timeout=60).stdout
+
+    @unittest.skipUnless(shutil.which('socat'), 'no socat')
+    def test_who_comes(self):
+        with folder() as where:
+            os.chmod(where, 0o755)
+            path = os.path.join(where, 'local.sock')
+            with Gateway(where, gateway_local=path) as gateway:
+                os.chmod(gateway.state, 0o700)
+                self.assertEqual(self.ask(path, 'daemon'), b'no login\n')
+                self.assertIn('there is no user daemon', gateway.said())
+                gateway.command('users', 'add', 'daemon')
+                self.assertEqual(self.ask(path, 'daemon'), direct(FIRST_SESSION))
+                until('it is settled', lambda: gateway.sessions()[0]['state'] == 'settled')
+                (row,) = gateway.sessions()
+                self.assertEqual((row['account'], row['address'], row['charged']),
+                                 ('daemon', 'local', 3))
+                # what others say of themselves isn't believed
+                self.assertNotIn(b'ok', self.ask(path, 'games', b'login daemon x\nbudget\n'))
+                gateway.command('users', 'add', '@institute')
+                gateway.command('quota', '@institute', '--session-steps', '5')
+                gateway.set(gateway_new_users='@institute')
+                gateway.reload()
+                self.assertEqual(self.ask(path, 'games', b'budget\nquit\n'),
+                                 b'ok budget 5 0 0\nok quit\n')
+                gateway.command('users', 'disable', '@institute')
+                self.assertEqual(self.ask(path, 'games'), b'no login\n')
+                gateway.kill()
+                gateway.start()                    # its socket file takes the place of the last one
+                self.assertEqual(self.ask(path, 'daemon'), direct(FIRST_SESSION))
+
+    def test_another_file_stays(self):
+        with folder() as where:
+            path = os.path.join(where, 'notes')
+            with open(path, 'w', encoding='ascii') as file:
+                file.write('mine')
+            gateway = Gateway(where, gateway_local=path)
+            gateway.start(ready=False)
+            self.assertEqual(gateway.process.wait(20), 1)
+            with open(path, encoding='ascii') as file:
+                self.assertEqual(file.read(), 'mine')
+
+
 class Secrets(unittest.TestCase):
     """TLS, with tokens and with certificates."""
 
@@ -206,6 +278,44 @@ class Secrets(unittest.TestCase):
                         out.write(file.read())
             with Gateway(where, tls_certificate=pem, tls_clients=both) as gateway:
                 self._check(gateway, authority, (anna, certificate), boris, other)
+
+    def test_versions(self):
+        """Of TLS 1.2 ciphers with fresh keys and tags alone, and `least` of the file counts."""
+        with folder() as where:
+            pem, authority = Certificates(where).make('localhost')
+            with Gateway(where, tls_certificate=pem) as gateway:
+                self.assertEqual(self._spoken(gateway, authority, 'ECDHE+AESGCM'), 'TLSv1.2')
+                self.assertIsNone(self._spoken(gateway, authority, 'ECDHE+AES:!AESGCM:!AESCCM'))
+                self.assertEqual(self._spoken(gateway, authority), 'TLSv1.3')
+                gateway.set(tls_least='1.3')
+                gateway.reload()
+                self.assertIsNone(self._spoken(gateway, authority, 'ECDHE+AESGCM'))
+                self.assertEqual(self._spoken(gateway, authority), 'TLSv1.3')
+
+    @staticmethod
+    def _spoken(gateway, authority, ciphers=''):
+        """The version that is agreed on with a client, of TLS 1.2 where ciphers are given."""
+        context = ssl.create_default_context(cafile=authority)
+        if ciphers:
+            context.maximum_version = ssl.TLSVersion.TLSv1_2
+            context.set_ciphers(ciphers)
+        with socket.create_connection(('127.0.0.1', gateway.port), 30) as connection:
+            try:
+                with context.wrap_socket(connection, server_hostname='localhost') as client:
+                    return client.version()
+            except OSError:
+                return None
+
+    def test_two_addresses(self):
+        with folder() as where:
+            with Gateway(where) as gateway:
+                pass
+            gateway.set(gateway_listen=['127.0.0.1:%d' % gateway.port, '[::1]:%d' % gateway.port])
+            with gateway:
+                anna = gateway.add('anna')
+                for host in ('127.0.0.1', '::1'):
+                    with Client(gateway.port, anna, host=host) as client:
+                        self.assertEqual(client.ask('quit'), 'ok quit')
 
     def _check(self, gateway, authority, anna, boris, other):
         carla = gateway.add('carla')
@@ -259,7 +369,7 @@ class Limits(WithGateway):
         self.gateway.command('quota', 'dora', '--steps-in-all', '9')
         with self.gateway.client(dora) as client:
             self.assertEqual(client.rest(), b'no quota steps-in-all\n')
-        self.gateway.command('quota', 'dora', '--refill', '5', '--steps-a-day', '12')
+        self.gateway.command('quota', 'dora', '--steps-in-all', '14', '--steps-a-day', '12')
         with self.gateway.client(dora) as client:
             self.assertEqual(client.ask('budget'), 'ok budget 3 0 0')
         self.gateway.command('quota', 'dora', '--steps-a-day', '9')
@@ -273,9 +383,9 @@ class Limits(WithGateway):
         erik, fay = (self.gateway.add(name, '--group', '@lab') for name in ('erik', 'fay'))
         self.gateway.command('quota', 'erik', '--session-steps', '6')
         with self.gateway.client(erik) as one:
-            self.assertEqual(one.ask('budget'), 'ok budget 6 0 0')
-            with self.gateway.client(fay) as other:  # only now, as it takes all that is left
-                self.assertEqual(other.ask('budget'), 'ok budget 4 0 0')
+            self.assertEqual(one.ask('budget'), 'ok budget 5 0 0')
+            with self.gateway.client(fay) as other:  # the last seat has all that is left
+                self.assertEqual(other.ask('budget'), 'ok budget 5 0 0')
                 with self.gateway.client(fay) as third:
                     self.assertEqual(third.rest(), b'no busy\n')
         until('both are settled',
@@ -310,11 +420,11 @@ class Limits(WithGateway):
 
     def test_processor_time(self):
         ida = self.gateway.add('ida')
-        self.gateway.command('quota', 'ida', '--processor', '1')
+        self.gateway.command('quota', 'ida', '--processor', '2')
         with self.gateway.client(ida) as client:
             client.send(BUSY + b'run\n')
-            self.assertIn(b'no session processor known 0\n', client.rest()[-60:])
-        self.assertGreater(self.last('ida')['processor'], 0.7)
+            self.assertIn(b'no session processor price %d\n' % PRICE_OF_BUSY, client.rest()[-60:])
+        self.assertGreater(self.last('ida')['processor'], 1.4)
 
     @unittest.skipUnless(limits_memory(), 'a program with run-time checks wants all addresses')
     def test_memory(self):
@@ -336,7 +446,7 @@ class Limits(WithGateway):
                               for row in self.gateway.table('sessions')))
             row = [row for row in self.gateway.table('sessions') if row['user'] == 'kim'][0]
             self.gateway.command('end', row['id'][:8])
-            self.assertTrue(client.rest().endswith(b'no session ended known 0\n'))
+            self.assertTrue(client.rest().endswith(b'no session ended price %d\n' % PRICE_OF_BUSY))
             self.assertFalse(is_running(row['process']))
         self.assertIn('no session', self.gateway.command('end', 'ffffffff', status=1))
 
@@ -394,7 +504,7 @@ class Engines(unittest.TestCase):
         replies, row, said = self.ended(['sh', '-c', 'echo "%s" >&2; exit 2' % words])
         self.assertEqual((replies, row['cause'], row['charged']),
                          (b'no session engine known 0\n', 'engine', 0))
-        self.assertIn("of an older release, as it doesn't know --log", said)
+        self.assertIn('the engine ended with status 2: ' + words, said)
 
     def test_words_before_the_log(self):
         """What starts an engine elsewhere may write to standard error, too."""
@@ -408,21 +518,25 @@ class Engines(unittest.TestCase):
             row = gateway.sessions()[0]
             self.assertEqual((row['charged'], row['basis'], row['cause']), (3, 'exact', 'end'))
 
-    def test_an_engine_that_is_killed_is_charged_by_the_price_where_the_file_says_so(self):
-        with folder() as where, Gateway(where, gateway_unfinished='price') as gateway:
-            anna = gateway.add('anna')
-            with gateway.client(anna) as client:
-                client.send(LINES + b'apply B inc A\nrun\n')
-                for _ in range(5):
-                    client.line()
-                client.send(b'apply B inc A\napply B inc A\n')
+    def test_an_engine_that_is_killed_is_charged_by_what_the_file_says(self):
+        for unfinished, charged in (('price', 9), ('known', 3)):
+            with self.subTest(unfinished), folder() as where, \
+                    Gateway(where, gateway_unfinished=unfinished) as gateway:
+                self.end_with_a_queue(gateway, unfinished, charged)
+
+    def end_with_a_queue(self, gateway, basis, charged):
+        with gateway.client(gateway.add('anna')) as client:
+            client.send(LINES + b'apply B inc A\nrun\n')
+            for _ in range(5):
                 client.line()
-                client.line()
-                until('what is queued is told', lambda: gateway.table('sessions')[0]['queued'] == 6)
-                gateway.command('end', gateway.table('sessions')[0]['id'])
-                self.assertEqual(client.line(), 'no session ended price 9')
-            row = gateway.sessions()[0]
-            self.assertEqual((row['charged'], row['basis'], row['jobs']), (9, 'price', 1))
+            client.send(b'apply B inc A\napply B inc A\n')
+            client.line()
+            client.line()
+            until('what is queued is told', lambda: gateway.table('sessions')[0]['queued'] == 6)
+            gateway.command('end', gateway.table('sessions')[0]['id'])
+            self.assertEqual(client.line(), 'no session ended %s %d' % (basis, charged))
+        row = gateway.sessions()[0]
+        self.assertEqual((row['charged'], row['basis'], row['jobs']), (charged, basis, 1))
 
 
 class Ends(unittest.TestCase):
@@ -467,13 +581,13 @@ class Ends(unittest.TestCase):
             anna = gateway.add('anna')
             with gateway.client(anna) as client:
                 client.ask('budget')
-                gateway.set(limits_session_steps=77, gateway_name='other')
-                self.assertIn('after a restart: name', gateway.command('reload'))
+                gateway.set(limits_session_steps=77)
+                gateway.reload()
                 with gateway.client(anna) as other:
                     self.assertEqual(other.ask('budget'), 'ok budget 77 0 0')
                 gateway.set(limits_session_steps='many')
-                self.assertIn('[limits] session-steps is a whole number',
-                              gateway.command('reload', status=1))
+                gateway.reload('not reloaded: %s: [limits] session-steps is a whole number'
+                               % gateway.file)
                 with gateway.client(anna) as other:
                     self.assertEqual(other.ask('budget'), 'ok budget 77 0 0')
                 self.assertEqual(client.ask('budget'), 'ok budget 1000000000000 0 0')
