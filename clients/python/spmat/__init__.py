@@ -6,8 +6,8 @@ verified programs.
         print(A.mxm(A).to_triples())
 
 See `Session` and `Matrix`; `unary`, `binary` and `indexunary` make operators of functions and hold
-the ready ones, as `semiring` does; `asm`, `code` and `c` make operators of assembly text, code and
-C; `algorithms` has those of LAGraph, `draw` pictures; `errors` says what is raised.
+the built-in ones, as `semiring` does; `asm`, `code` and `c` make operators of assembly text, code
+and C; `algorithms` has those of LAGraph, `draw` pictures; `errors` says what is raised.
 """
 from __future__ import annotations
 
@@ -22,11 +22,12 @@ if TYPE_CHECKING:
     from .algorithms.temporal_paths import events
     from .alignment import align
     from .backends.protocol import Budget, JobResult
-    from .errors import (BudgetExceeded, BudgetWarning, Busy, Closed, CompileError,
-                         DimensionMismatch, DomainMismatch, MaskWarning, NamesDiffer, NoThread,
-                         NotMade, NotSettled, OperatorRefused, OutOfMemory, OverflowWarning,
-                         ProtocolError, ReadError, Refused, ResultLost, SpmatError, TextRefused,
-                         ThreadUnavailable, TooLarge, UnitsDiffer)
+    from .errors import (BudgetExceeded, Busy, Closed, CompileError,
+                         DimensionMismatch, DomainMismatch, HeaderUnclear, MaskWarning,
+                         NamesDiffer, NoThread, NotMade, NotSettled, OperatorRefused,
+                         OutOfMemory, ProtocolError, ReadError, Refused,
+                         ResultLost, SpmatError, TextRefused, ThreadUnavailable, TooLarge,
+                         UnitsDiffer)
     from .loops import Loop, empty, loop, steady
     from .loops.fixpoint import fixpoint
     from .mask import Mask
@@ -36,7 +37,7 @@ if TYPE_CHECKING:
     from .operators.c import c
     from .operators.integer_functions import cdiv, cmod, rsh, udiv, ult, umod, where
     from .operators.diagnostics import code_of, explain
-    from .pricing.call_price import price
+    from .prices import price
     from .session import Session
     from .submatrices import bipartite, concat
     from .vector import Vector
@@ -57,10 +58,10 @@ def _version() -> str:
 
 
 __version__ = _version()
-__all__ = ['Budget', 'BudgetExceeded', 'BudgetWarning', 'Busy', 'Closed', 'CompileError',
-           'DimensionMismatch', 'DomainMismatch', 'JobResult', 'Loop', 'Mask', 'MaskWarning',
-           'Matrix', 'NamesDiffer', 'NoThread', 'NotMade', 'NotSettled', 'Operator',
-           'OperatorRefused', 'OutOfMemory', 'OverflowWarning', 'ProtocolError', 'ReadError',
+__all__ = ['Budget', 'BudgetExceeded', 'Busy', 'Closed', 'CompileError',
+           'DimensionMismatch', 'DomainMismatch', 'HeaderUnclear', 'JobResult', 'Loop', 'Mask',
+           'MaskWarning', 'Matrix', 'NamesDiffer', 'NoThread', 'NotMade', 'NotSettled', 'Operator',
+           'OperatorRefused', 'OutOfMemory', 'ProtocolError', 'ReadError',
            'Refused', 'ResultLost', 'Semiring', 'Session', 'SpmatError', 'TextRefused',
            'ThreadUnavailable', 'TooLarge', 'UnitsDiffer', 'Vector', 'algorithms', 'align', 'asm',
            'binary', 'bipartite', 'c', 'cdiv', 'cmod', 'code', 'code_of', 'concat', 'draw', 'empty',
@@ -72,9 +73,9 @@ __all__ = ['Budget', 'BudgetExceeded', 'BudgetWarning', 'Busy', 'Closed', 'Compi
 _PLACES: Dict[str, str] = {name: module for module, names in {
     'alignment': 'align',
     'operators.c': 'c',
-    'errors': 'BudgetExceeded BudgetWarning Busy Closed CompileError DimensionMismatch '
-    'DomainMismatch MaskWarning NamesDiffer NoThread NotMade NotSettled '
-    'OperatorRefused OutOfMemory OverflowWarning ProtocolError ReadError Refused '
+    'errors': 'BudgetExceeded Busy Closed CompileError DimensionMismatch '
+    'DomainMismatch HeaderUnclear MaskWarning NamesDiffer NoThread NotMade NotSettled '
+    'OperatorRefused OutOfMemory ProtocolError ReadError Refused '
     'ResultLost SpmatError TextRefused ThreadUnavailable TooLarge UnitsDiffer',
     'backends.protocol': 'Budget JobResult',
     'loops': 'Loop empty loop steady',
@@ -83,7 +84,7 @@ _PLACES: Dict[str, str] = {name: module for module, names in {
     'operators': 'Operator Semiring asm binary code indexunary select semiring unary',
     'operators.integer_functions': 'cdiv cmod rsh udiv ult umod where',
     'operators.diagnostics': 'code_of explain',
-    'pricing.call_price': 'price',
+    'prices': 'price',
     'loops.fixpoint': 'fixpoint',
     'algorithms.temporal_paths': 'events',
     'session': 'Session',

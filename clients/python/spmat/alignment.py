@@ -8,11 +8,12 @@ import numpy
 
 from .errors import NamesDiffer, refusal
 from .limits import MOST_SIDE
-from .matrix_base import MatrixBase
-from .metadata import COLUMNS, POSITIONS, ROWS, Axis, Nodes, check_names, vertices_of
+from .matrix import Matrix
+from .metadata import (COLUMNS, POSITIONS, ROWS, Axis, Nodes, VertexUnit, check_names,
+                       vertices_of)
 from .operands import alias
 
-M = TypeVar('M', bound=MatrixBase)
+M = TypeVar('M', bound=Matrix)
 WAYS = ('outer', 'inner')
 
 
@@ -23,7 +24,7 @@ class _Target(NamedTuple):
 
 
 def align(*matrices: M, how: str = 'outer') -> Tuple[M, ...]:
-    """The same matrices on the same vertices, in one order, so that they can be combined.
+    """Bring matrices to the same vertices in one order, so that they can be combined.
 
         jan, feb = spmat.align(jan, feb)
         both = jan.ewise_add(feb)
@@ -31,39 +32,53 @@ def align(*matrices: M, how: str = 'outer') -> Tuple[M, ...]:
     Parameters
     ----------
     *matrices
-        Matrices of one session, or of several, in one place or in blocks. Graphs, which have one
-        list of names for rows and columns, get one list; matrices of two kinds of vertices get one
-        for rows and one for columns. Columns and rows get the vertices of the graphs that they
-        stand beside.
+        Matrices of one session or several, in one place or in blocks. Graphs get one list of names
+        for rows and columns; matrices of two kinds of vertices get one for each. Single columns and
+        rows get the vertices of the graphs among the matrices.
     how : {'outer', 'inner'}
-        The vertices that any of them has, or those that all have, with the entries between these.
-        Whole numbers come in ascending order, other names as they first stand.
+        The vertices of any of the matrices ('outer'), or those that all have ('inner'). Whole
+        numbers come in ascending order, other names in order of appearance.
 
     Returns
     -------
     tuple
-        As many matrices, in this order. One that has these vertices already is returned as it is.
-        They share one list of names, so no job compares it again.
+        The matrices, in the same order. One that has these vertices already is returned unchanged.
+        Values that are vertices come from one list, too.
 
     Raises
     ------
     NamesDiffer
-        Where one was made by positions, or is a constant, and others have names.
+        If one was made by positions, or is a constant, and others have names.
     ValueError
-        For another `how`, for a name that stands twice, and for graphs beside matrices of two kinds
-        of vertices.
+        If `how` is another word, a name occurs twice, or graphs are mixed with matrices of two
+        kinds of vertices.
     TooLarge
         For more than 16,777,216 vertices.
 
+    See Also
+    --------
+    NamesDiffer : What is raised without it.
+    Matrix.nodes : The names.
+
     Notes
     -----
-    No job, run or step: the entries of each matrix that changes come to the client and go back, as
-    for `Matrix.T`. In pandas `DataFrame.align`.
+    Cost: no step and no run. The entries of each matrix that changes come to the client and go
+    back, as for `Matrix.T`. In pandas `DataFrame.align`.
+
+    Examples
+    --------
+    >>> import spmat
+    >>> s = spmat.Session()
+    >>> jan = s.from_edgelist([("Ann", "Bob", 100)])
+    >>> feb = s.from_edgelist([("Bob", "Cid", 7)])
+    >>> jan, feb = spmat.align(jan, feb)
+    >>> jan.ewise_add(feb).to_edgelist()
+    [('Ann', 'Bob', 100), ('Bob', 'Cid', 7)]
     """
     if how not in WAYS:
         raise ValueError('how= is %s, not %r' % (' or '.join(map(repr, WAYS)), how))
     for matrix in matrices:
-        if not isinstance(matrix, MatrixBase):
+        if not isinstance(matrix, Matrix):
             raise TypeError('align takes matrices, each by itself, as in align(A, B), and not %r'
                             % (matrix,))
     targets = [[_target_of(matrix, axis) for axis in (ROWS, COLUMNS)] for matrix in matrices]
@@ -74,23 +89,45 @@ def align(*matrices: M, how: str = 'outer') -> Tuple[M, ...]:
     made: List[M] = []
     for matrix, (rows, columns) in zip(matrices, targets):
         made.append(_moved(matrix, rows, columns, made))
-    return tuple(made)
+    return tuple(_share_vertices(made))
 
 
-def _target_of(matrix: MatrixBase, axis: int) -> _Target:
+def _share_vertices(matrices: List[M]) -> List[M]:
+    """Matrices of which those whose values are vertices have these by one list."""
+    known = [matrix.notes.value_names for matrix in matrices]
+    lists = [names for names in known if names is not None]
+    if all(names.equals(lists[0]) for names in lists):
+        return matrices
+    found = Nodes(_join_names(lists, 'outer'))
+    common = next((names for names in lists if names == found), found)
+    return [matrix if names is None or names.equals(common) else _renumbered(matrix, names, common)
+            for matrix, names in zip(matrices, known)]
+
+
+def _renumbered(matrix: M, old: Nodes, new: Nodes) -> M:
+    """A matrix whose values are vertices, with these by another list."""
+    places = numpy.fromiter(map(new.places.__getitem__, old), numpy.int64, len(old))
+    rows, columns, values = matrix.entries()
+    made = cast(M, matrix.session.from_coo(rows, columns, places[values], *matrix.shape))
+    made.notes = matrix.notes._replace(unit=VertexUnit(new), source='')
+    return made
+
+
+def _target_of(matrix: Matrix, axis: int) -> _Target:
     """What the rows or columns of a matrix are called as it is."""
     return _Target(matrix.notes.axis(axis), matrix.shape[axis])
 
 
-def _groups(matrices: Sequence[MatrixBase]) -> List[List[Tuple[int, int]]]:
+def _groups(matrices: Sequence[Matrix]) -> List[List[Tuple[int, int]]]:
     """Which rows (0) and columns (1) are to be called the same, beside the numbers of their
     matrices. ValueError for graphs beside matrices of two kinds of vertices."""
     vectors = [1 in matrix.shape and matrix.shape != (1, 1) for matrix in matrices]
     squares = [_is_square(matrix) and not vector for matrix, vector in zip(matrices, vectors)]
     if all(vector or square for vector, square in zip(vectors, squares)):
         rows, columns = ([(number, axis) for number, matrix in enumerate(matrices)
-                          if not vectors[number] or matrix.shape[axis] != 1]
-                         for axis in (ROWS, COLUMNS))
+                          if not vectors[number] or matrix.shape[axis] != 1
+                          or all(one.shape[axis] == 1 for one in matrices)
+                          and _was_read(matrix, axis)] for axis in (ROWS, COLUMNS))
         return [rows, columns] if all(vectors) else [rows + columns]
     for matrix, square in zip(matrices, squares):
         if square and matrix.notes.rows is not None:
@@ -103,7 +140,13 @@ def _groups(matrices: Sequence[MatrixBase]) -> List[List[Tuple[int, int]]]:
             for axis in (ROWS, COLUMNS)]
 
 
-def _is_square(matrix: MatrixBase) -> bool:
+def _was_read(matrix: Matrix, axis: int) -> bool:
+    """Whether the one row, or column, of a matrix is a vertex of a kind of its own."""
+    names = matrix.notes.names(axis)
+    return names is not None and not names.is_cut
+
+
+def _is_square(matrix: Matrix) -> bool:
     """Whether a matrix is that of a graph, or may be one, whose rows and columns are the same
     vertices."""
     return matrix.nrows == matrix.ncols and vertices_of(matrix.notes) is not None
@@ -127,8 +170,7 @@ def _common(sides: Sequence[_Target], how: str) -> _Target:
     found = _join_names([axis.listed(count) for axis, count in sides], how)
     if len(found) > MOST_SIDE:
         raise refusal('M4', detail='%d vertices' % len(found))
-    same = next((names for names in lists if len(names) == len(found) and list.__eq__(names, found)
-                 is True), None)
+    same = next((names for names in lists if names == found), None)
     return _Target(Axis(Nodes(found) if same is None else same), len(found))
 
 

@@ -4,26 +4,39 @@ Callers find them in `spmat.errors`, whose list says what to do about each.
 """
 from __future__ import annotations
 
-import re
-from typing import Any, Optional, Tuple
+import sys
+import warnings
+from typing import Any, Optional, Tuple, Type, TypeVar
 
-# arguments of calls that errors of files and sessions are about; words write them as `columns=`
-ARGUMENTS = ('bipartite', 'columns', 'comments', 'date_format', 'delimiter', 'directed', 'dup_op',
-             'format', 'header', 'missing', 'name', 'program', 'scale', 'steps', 'tls', 'token',
-             'unit', 'values', 'workers')
-_ARGUMENT = re.compile(r'(?<![\w"\'.-])(%s)=' % '|'.join(ARGUMENTS))
+Fault = TypeVar('Fault', bound=BaseException)
 
 
-def arguments_in(words: str) -> Tuple[str, ...]:
-    """List the arguments of a call that a message writes as ``columns=``, each once."""
-    return tuple(dict.fromkeys(_ARGUMENT.findall(words)))
+def parameters_of(fault: BaseException) -> Tuple[str, ...]:
+    """The parameters of a call that an error is about, by their names."""
+    found: Tuple[str, ...] = getattr(fault, 'parameters', ())
+    return found
+
+
+def about(fault: Fault, *parameters: str) -> Fault:
+    """Note with an error which more parameters of a call it is about, and give it back."""
+    noted = dict.fromkeys((*parameters_of(fault), *parameters))
+    fault.parameters = tuple(noted)  # type: ignore[attr-defined]
+    return fault
 
 
 class SpmatError(Exception):
     """Everything that this package raises of its own.
 
     It is the base of the errors. `NotSettled`, a RuntimeError, and the warnings stand apart. The
-    list at the top of `spmat.errors` says what to do about each."""
+    list at the top of `spmat.errors` says what to do about each.
+
+    Attributes
+    ----------
+    parameters : tuple of str
+        The parameters of a call that it is about, such as ``columns``.
+    """
+
+    parameters: Tuple[str, ...] = ()
 
 
 class Closed(SpmatError):
@@ -49,13 +62,6 @@ class MaskWarning(UserWarning):
     `mask=A.S` or `mask=A.V`, which give no warning."""
 
 
-class OverflowWarning(UserWarning):
-    """Results of a job on values with a unit, such as decimals, may be beyond 64 bits.
-
-    They wrap there, and stand for other numbers. The words say what leaves room: often a coarser
-    unit, by `A.rescale(unit, exact=False)`, which rounds."""
-
-
 class ReadError(SpmatError, ValueError):
     """A file isn't what was to be read.
 
@@ -72,18 +78,24 @@ class ReadError(SpmatError, ValueError):
         What is wrong.
     line : str
         What stands there, or empty.
-    arguments : tuple of str
-        The names of the arguments of a call that the words are about, such as ``columns``.
     """
 
     def __init__(self, file: str, at: Optional[int], words: str, line: str = '') -> None:
         self.file, self.at, self.words, self.line = file, at, words, line
-        self.arguments = arguments_in(words)
         place = file if at is None else '%s, line %d' % (file, at)
         super().__init__('%s: %s%s' % (place, words, ': %r' % line if line else ''))
 
     def __reduce__(self) -> Tuple[Any, ...]:
-        return type(self), (self.file, self.at, self.words, self.line)
+        return type(self), (self.file, self.at, self.words, self.line), vars(self)
+
+
+class HeaderUnclear(ReadError):
+    """The first line of a list may name its columns, or be an edge.
+
+    The words have both calls: with ``header=True``, and with ``header=False``. Make one of them. It
+    is a ReadError, too, and a ValueError."""
+
+    parameters = ('header',)
 
 
 class NamesDiffer(SpmatError, ValueError):
@@ -126,8 +138,11 @@ class NotSettled(RuntimeError):
     that behind the rounds that were made. It is a RuntimeError, and no `SpmatError`."""
 
 
-class BudgetWarning(UserWarning):
-    """A call may take more steps than are left, so that it may be refused amid its work.
-
-    It is told before its first job. `spmat.price` tells what the call takes; a session with more
-    steps may do, and `other.adopt(G)` takes a matrix there."""
+def warn_user(words: str, kind: Type[Warning]) -> None:
+    """Warns of the line that called this package, whatever lies between."""
+    # as warnings find the line
+    frame, level = sys._getframe(1), 2  # pylint: disable=protected-access
+    package = __name__.partition('.')[0]
+    while frame.f_back is not None and frame.f_globals.get('__name__', '').split('.')[0] == package:
+        frame, level = frame.f_back, level + 1
+    warnings.warn(words, kind, stacklevel=level)

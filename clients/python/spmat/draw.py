@@ -10,6 +10,7 @@ levels, and the client draws the counts.
 """
 from __future__ import annotations
 
+import collections
 import errno
 import os
 from typing import Any, Dict, List, Optional, Sequence
@@ -21,13 +22,13 @@ from .display.pictures import INK, WARM, Path, Target
 from .extras import import_extra
 from .io import coo
 from .matrix import Matrix
-from .metadata import VERTICES, joined
+from .metadata import VERTICES, VertexUnit, check_one_kind, joined
 
-__all__ = ['check', 'degree_histogram', 'graph', 'levels', 'raster', 'route', 'spy']
+__all__ = ['check', 'degree_histogram', 'graph', 'levels', 'raster', 'route', 'spy', 'values']
 
 RASTER = 256               # rows and columns that `spy` draws one by one, and cells of more
 MOST_LINED_ROWS = 64       # rows and columns of a matrix whose squares have lines between them
-MOST_BARS = 41             # a histogram of more degrees has points on logarithmic axes
+MOST_BARS = 41             # of more degrees there are points on logarithmic axes, of values ranges
 
 
 def __dir__() -> List[str]:
@@ -50,6 +51,15 @@ def check(path: Path) -> None:
         If matplotlib has no format for the path's ending.
     FileNotFoundError
         If the path's folder doesn't exist.
+
+    See Also
+    --------
+    graph : Draw a graph.
+
+    Examples
+    --------
+    >>> from spmat import draw
+    >>> draw.check("graph.png")
     """
     figure = import_extra('matplotlib.figure', 'a picture').Figure()
     endings = figure.canvas.get_supported_filetypes()
@@ -77,10 +87,22 @@ def raster(A: Matrix, rows: int = RASTER, columns: int = RASTER) -> Matrix:
     Matrix
         The counts; cells without an entry of A have none.
 
+    See Also
+    --------
+    spy : Draws it.
+
     Notes
     -----
     2 jobs in 2 runs: two products, of as many multiplications as A has entries. In the GraphBLAS
     this is P A Q over plus, with P and Q that gather rows and columns.
+
+    Examples
+    --------
+    >>> import spmat
+    >>> from spmat import draw
+    >>> G = spmat.Session().from_edgelist([("Ann", "Bob"), ("Bob", "Cid")])
+    >>> draw.raster(G, 1, 1).to_triples()
+    [(0, 0, 2)]
     """
     cells = [coo.whole(many, what) for many, what in ((rows, 'number of rows'),
                                                       (columns, 'number of columns'))]
@@ -112,12 +134,24 @@ def spy(A: Matrix, path: Optional[Path] = None, size: int = RASTER, first: int =
     -------
     matplotlib.axes.Axes
 
+    See Also
+    --------
+    raster : The numbers behind it.
+    graph : The graph itself.
+
     Notes
     -----
     1 run, or 2 for a raster. In matplotlib `spy`.
+
+    Examples
+    --------
+    >>> import spmat
+    >>> from spmat import draw
+    >>> G = spmat.Session().from_edgelist([("Ann", "Bob"), ("Bob", "Cid")])
+    >>> axes = draw.spy(G, "spy.png")
     """
     size, first = coo.whole(size, 'size'), coo.word(first, 'first number')
-    ax = pictures.open_axes(Target(ax, path), 6, 6)
+    ax = pictures.open_axes(Target(ax, path))
     is_small = max(A.shape) <= size
     shown = A.apply('one') if is_small else raster(A, size, size)
     rows, columns, values = shown.entries(arrays=True)
@@ -174,11 +208,23 @@ def degree_histogram(A: Matrix, path: Optional[Path] = None, *, ax: Any = None) 
     -------
     matplotlib.axes.Axes
 
+    See Also
+    --------
+    graph : The graph itself.
+    degrees : The numbers.
+
     Notes
     -----
     2 runs; one column comes out.
+
+    Examples
+    --------
+    >>> import spmat
+    >>> from spmat import draw
+    >>> G = spmat.Session().from_edgelist([("Ann", "Bob"), ("Bob", "Cid")])
+    >>> axes = draw.degree_histogram(G, "degrees.png")
     """
-    ax = pictures.open_axes(Target(ax, path), 6.4, 4.4)
+    ax = pictures.open_axes(Target(ax, path))
     degrees = A.apply('one').reduce_rowwise('plus').entries(arrays=True)[2]
     counts = numpy.bincount(degrees, minlength=1)
     at = numpy.flatnonzero(counts)
@@ -208,10 +254,13 @@ def graph(G: Matrix, path: Optional[Path] = None, *, color: Any = None, size: An
           labels: Any = None, pos: Any = None, ax: Any = None) -> Any:
     """Draw a graph: a dot for each vertex, and a line or an arrow for each edge.
 
+    A matrix whose rows and columns are two kinds of vertices is drawn as two columns.
+
     Parameters
     ----------
     G : Matrix
-        A graph of up to 1,000 vertices and 5,000 edges.
+        A graph of up to 1,000 vertices and 5,000 edges. Of two kinds: up to 150 vertices and 700
+        edges.
     path : str or os.PathLike, optional
         Where to write the picture.
     color : Matrix, dict, sequence or str, optional
@@ -222,8 +271,9 @@ def graph(G: Matrix, path: Optional[Path] = None, *, color: Any = None, size: An
         A number for each vertex, such as `pagerank` gives: the area of its dot grows with it. One
         number is the area of each dot, in square points.
     labels : bool, Matrix, dict or sequence, optional
-        What to write at the vertices. True means their names, and False nothing; by default, up to
-        60 vertices have their names.
+        What to write at the vertices. True means their names, and False nothing. By default, up to
+        60 vertices have their names. Of more, the five that are largest have: by `size`, or by
+        their edges.
     pos : dict, optional
         ``{vertex: (x, y)}``, such as a layout of networkx gives. By default it is networkx'
         `spring_layout`, with vertices that edges join near one another.
@@ -237,9 +287,16 @@ def graph(G: Matrix, path: Optional[Path] = None, *, color: Any = None, size: An
     Raises
     ------
     ValueError
-        If G isn't square or is too large to draw, or a size is below 0.
+        If G is too large to draw, a size is below 0, or something is given for the vertices of two
+        kinds.
     DimensionMismatch
         If a column or a sequence hasn't a value for each vertex.
+
+    See Also
+    --------
+    levels : The levels of a search.
+    route : A path.
+    spy : Where the entries are.
 
     Notes
     -----
@@ -247,11 +304,86 @@ def graph(G: Matrix, path: Optional[Path] = None, *, color: Any = None, size: An
 
     Examples
     --------
-    >>> from spmat import algorithms, draw
-    >>> draw.graph(G, color=algorithms.core_numbers(G), size=algorithms.pagerank(G))
+    >>> import spmat
+    >>> from spmat import draw
+    >>> G = spmat.Session().from_edgelist([("Ann", "Bob"), ("Bob", "Cid")])
+    >>> axes = draw.graph(G, "graph.png", size=spmat.algorithms.pagerank(G))
     """
     graph_pictures.check_is_drawable(G)
-    ax = graph_pictures.draw_graph(G, color, size, labels, pos, Target(ax, path))
+    target = Target(ax, path)
+    if not graph_pictures.has_two_kinds(G):
+        return pictures.finish(graph_pictures.draw_graph(G, color, size, labels, pos, target), path)
+    if any(given is not None for given in (color, size, labels, pos)):
+        raise ValueError('color, size, labels and pos are of graphs with one kind of vertices: '
+                         'spmat.bipartite(B) is the graph of both kinds')
+    return pictures.finish(graph_pictures.draw_two_kinds(G, target), path)
+
+
+def values(G: Matrix, found: Matrix, path: Optional[Path] = None, *, ax: Any = None) -> Any:
+    """Draw a value for each vertex, such as most algorithms give.
+
+    Up to 1,000 vertices and 5,000 edges, this is the drawing of `graph` in the values' colours. Of
+    a larger graph bars say how many vertices have a value: each value has a bar, or each of 41
+    ranges. Where values are vertices, such as those of communities, the bars are the sizes of the
+    largest groups.
+
+    Parameters
+    ----------
+    G : Matrix
+        A graph.
+    found : Matrix
+        A column with a value for each vertex, or for some, such as `algorithms.pagerank` gives.
+    path : str or os.PathLike, optional
+        Where to write the picture.
+    ax : matplotlib.axes.Axes, optional
+        Where to draw.
+
+    Returns
+    -------
+    matplotlib.axes.Axes
+
+    Raises
+    ------
+    DimensionMismatch
+        If the column hasn't a row for each vertex.
+
+    Notes
+    -----
+    1 run of a graph that is drawn; else none.
+
+    See Also
+    --------
+    graph, degree_histogram, levels
+
+    Examples
+    --------
+    >>> import spmat
+    >>> from spmat import algorithms, draw
+    >>> G = spmat.Session().from_edgelist([("Ann", "Bob"), ("Bob", "Cid")])
+    >>> axes = draw.values(G, algorithms.closeness(G), "closeness.png")
+    """
+    check_one_kind(G.notes)
+    if graph_pictures.is_drawable(G):
+        return graph(G, path, color=found, ax=ax)
+    held = list(pictures.values_of_vertices(G, found, 'values').values())
+    ax = pictures.open_axes(Target(ax, path))
+    counts = collections.Counter(held)
+    if isinstance(found.unit, VertexUnit):
+        sizes = [size for _, size in counts.most_common(MOST_BARS)]
+        ax.bar(range(1, len(sizes) + 1), sizes, color=INK)
+        ax.set_xlabel('groups, the largest first')
+    elif len(counts) <= MOST_BARS and all(value == int(value) for value in counts):
+        ax.bar(list(counts), list(counts.values()), color=INK)
+        ax.xaxis.get_major_locator().set_params(integer=True)
+        ax.set_xlabel('value')
+    else:
+        heights, edges = numpy.histogram(numpy.array(held, float), MOST_BARS)
+        ax.bar(edges[:-1], heights, numpy.diff(edges), align='edge', color=INK)
+        ax.set_xlabel('value')
+    ax.set_ylabel('vertices')
+    without = G.nrows - len(held)
+    pictures.set_title(ax, {'vertex': G.nrows, 'entry': G.nvals},
+                       *(['%s without a value' % format(without, ',')] if without else []))
     return pictures.finish(ax, path)
 
 
@@ -282,10 +414,23 @@ def levels(G: Matrix, found: Matrix, path: Optional[Path] = None, *, ax: Any = N
     ValueError
         If `found` isn't a column with a row for each vertex.
 
+    See Also
+    --------
+    bfs_levels : Finds them.
+    graph : The graph itself.
+
     Notes
     -----
     1 run; for circles 2 jobs in 2 runs, as the server counts the edges between levels.
+
+    Examples
+    --------
+    >>> import spmat
+    >>> from spmat import draw
+    >>> G = spmat.Session().from_edgelist([("Ann", "Bob"), ("Bob", "Cid")])
+    >>> axes = draw.levels(G, spmat.algorithms.bfs_levels(G, "Ann"), "levels.png")
     """
+    check_one_kind(G.notes)
     if found.shape != (G.nrows, 1) or G.nrows != G.ncols:
         raise ValueError('levels are a column with a row for each vertex, as bfs_levels gives it')
     joined(G.notes, found.notes, VERTICES)
@@ -323,7 +468,20 @@ def route(G: Matrix, found: Sequence[Any], path: Optional[Path] = None, *, ax: A
     ------
     ValueError
         If one of `found` is no vertex, or no edge leads from one to the next.
+
+    See Also
+    --------
+    shortest_path : Finds one.
+    graph : The graph itself.
+
+    Examples
+    --------
+    >>> import spmat
+    >>> from spmat import draw
+    >>> G = spmat.Session().from_edgelist([("Ann", "Bob"), ("Bob", "Cid")])
+    >>> axes = draw.route(G, spmat.algorithms.shortest_path(G, "Ann", "Cid"), "route.png")
     """
+    check_one_kind(G.notes)
     if not len(found):
         raise ValueError('a path has a vertex or more')
     vertices = [G.index(vertex) for vertex in found]

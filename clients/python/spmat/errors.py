@@ -3,6 +3,8 @@
     SpmatError
         Closed               the session has ended; open another one
         ReadError            a file, or a line of it, isn't what was to be read; a ValueError
+            HeaderUnclear        the first line of a list names its columns, or is an edge: say
+                                 header=True or header=False
         UnitsDiffer          values of two units meet: `A.rescale(unit)` gives one matrix the
                              other's; a ValueError
         NamesDiffer          two matrices have different names for their vertices: `align(A, B)`
@@ -29,20 +31,19 @@ from __future__ import annotations
 import copy
 from typing import Any, Dict, Optional, Sequence, Type, TypeVar
 
-from .base_errors import (ARGUMENTS, BudgetWarning, Closed, CompileError, MaskWarning, NamesDiffer,
-                          NotMade, NotSettled, OverflowWarning, ProtocolError, ReadError,
-                          ResultLost, SpmatError, UnitsDiffer, arguments_in)
+from .base_errors import (Closed, CompileError, HeaderUnclear, MaskWarning, NamesDiffer, NotMade,
+                          NotSettled, ProtocolError, ReadError, ResultLost, SpmatError, UnitsDiffer,
+                          about, parameters_of, warn_user)
 from .refusal_rules import MENDS, find_sentence, is_placed
 
-__all__ = ['ARGUMENTS', 'BudgetExceeded', 'BudgetWarning', 'Busy', 'Closed', 'CompileError',
-           'DimensionMismatch', 'DomainMismatch', 'MORE_STEPS', 'MaskWarning', 'NamesDiffer',
-           'NoThread', 'NotMade', 'NotSettled', 'OperatorRefused', 'OutOfMemory',
-           'OverflowWarning', 'PRICE_TELLS', 'ProtocolError', 'ReadError', 'Refused', 'ResultLost',
+__all__ = ['BudgetExceeded', 'Busy', 'Closed', 'CompileError',
+           'DimensionMismatch', 'DomainMismatch', 'HeaderUnclear', 'MORE_STEPS', 'MaskWarning',
+           'NamesDiffer', 'NoThread', 'NotMade', 'NotSettled', 'OperatorRefused', 'OutOfMemory',
+           'ProtocolError', 'ReadError', 'Refused', 'ResultLost',
            'SpmatError', 'TextRefused', 'ThreadUnavailable', 'TooLarge', 'UnitsDiffer',
-           'arguments_in', 'class_of', 'refusal']
+           'about', 'class_of', 'parameters_of', 'refusal', 'warn_user']
 
 MORE_STEPS = 'open a session with more steps, and other.adopt(G) takes a matrix there'
-PRICE_TELLS = '; spmat.price(lambda: ..) tells beforehand what a call takes'
 AnyRefused = TypeVar('AnyRefused', bound='Refused')
 
 
@@ -250,10 +251,10 @@ class Busy(Refused):
 
 
 class BudgetExceeded(Refused):
-    """A job's price is above what is left, also after the queue was run.
+    """A job's price is above what is left of the budget, also after the queue was run; or prices of
+    jobs that wait are above what is left of a `Session.limit`.
 
     Open a session with more steps, and `other.adopt(G)` takes a matrix there.
-    `spmat.price(lambda: ..)` tells beforehand what a call takes.
 
     Attributes
     ----------
@@ -262,12 +263,10 @@ class BudgetExceeded(Refused):
     partial : Any
         What that function had found by then, where that means something: a result of the same kind,
         as the function's docstring says, else None. Reading it takes no steps.
-    arguments : tuple of str
-        The names of the arguments of a call that it is about: `steps`.
     """
 
     algorithm = ''
-    arguments = ('steps',)
+    parameters = ('steps',)
     partial: Any = None
 
     def _describe_numbers(self) -> str:
@@ -283,8 +282,7 @@ class BudgetExceeded(Refused):
             A copy.
         """
         return self._replace(
-            detail='the price is %d, and %d are left: %s%s' % (self.price, self.left, MORE_STEPS,
-                                                               PRICE_TELLS))
+            detail='the price is %d, and %d are left: %s' % (self.price, self.left, MORE_STEPS))
 
     def name_algorithm(self, name: str) -> None:
         """Note which algorithm wanted the job.
@@ -297,24 +295,6 @@ class BudgetExceeded(Refused):
         wanted = '%s wants a job of up to %s steps' % (name, format(self.price, ','))
         self.algorithm, self.detail = name, self.detail.replace('the price is %d' % self.price,
                                                                 wanted, 1)
-
-    def of_call(self, name: str) -> 'BudgetExceeded':
-        """This refusal, of a whole call of an algorithm before any of its jobs.
-
-        Parameters
-        ----------
-        name : str
-            The function of `spmat.algorithms`.
-
-        Returns
-        -------
-        BudgetExceeded
-            A copy, with what can be done.
-        """
-        return self._replace(
-            algorithm=name, said='fewer steps are left than the call needs',
-            detail='%s needs at least %s steps, and %s are left; none of its jobs was sent: %s'
-            % (name, format(self.needed, ','), format(self.left, ','), MORE_STEPS))
 
     def by(self, way: str) -> 'BudgetExceeded':
         """This refusal, with another way to more steps, for callers who have no session.
@@ -329,7 +309,7 @@ class BudgetExceeded(Refused):
         BudgetExceeded
             A copy.
         """
-        return self._replace(detail=self.detail.replace(PRICE_TELLS, '').replace(MORE_STEPS, way))
+        return self._replace(detail=self.detail.replace(MORE_STEPS, way))
 
     @property
     def price(self) -> int:
@@ -338,7 +318,7 @@ class BudgetExceeded(Refused):
         Returns
         -------
         int
-            Of a call that was refused before its first job, those that it takes at the least.
+            Of a limit those of all jobs that wait.
         """
         return self.numbers[0]
 
@@ -382,3 +362,9 @@ def refusal(rule: str, numbers: Sequence[int] = (), command: str = '', line: str
             detail: str = '') -> Refused:
     """The exception of a rule, for a refusal that the client foresees."""
     return class_of(rule)(rule, numbers, command, line, detail)
+
+
+# tracebacks, repr and pickles name them as callers import them
+for _one in map(globals().__getitem__, __all__):
+    if isinstance(_one, type):
+        _one.__module__ = 'spmat'

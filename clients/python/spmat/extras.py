@@ -16,7 +16,6 @@ class Extra(NamedTuple):
 
 # pyproject.toml lists the same extras, and packaging/debian/control the same packages
 EXTRAS: Dict[str, Extra] = {
-    'argcomplete': Extra('cli', 'argcomplete', 'python3-argcomplete'),
     'distributed': Extra('dask', 'distributed', 'python3-distributed'),
     'elftools': Extra('c', 'pyelftools', 'python3-pyelftools'),
     'matplotlib': Extra('pictures', 'matplotlib', 'python3-matplotlib'),
@@ -24,6 +23,8 @@ EXTRAS: Dict[str, Extra] = {
     'pandas': Extra('files', 'pandas', 'python3-pandas'),
     'pyarrow': Extra('parquet', 'pyarrow', ''),
     'scipy': Extra('scipy', 'scipy', 'python3-scipy'),
+    'spmat_blocks': Extra('blocks', 'spmat-blocks', 'python3-spmat-blocks'),
+    'spmat_networkx': Extra('networkx', 'spmat-networkx', 'python3-spmat-networkx'),
     'tqdm': Extra('cli', 'tqdm', 'python3-tqdm'),
     'zstandard': Extra('files', 'zstandard', 'python3-zstandard'),
 }

@@ -61,7 +61,8 @@ def pair_of(at: Any) -> Any:
     found = list(at) if isinstance(at, tuple) else [at]
     if any(index is None for index in found):
         raise TypeError(
-            'None adds a dimension in numpy, and a matrix has two: write : for all rows or columns')
+            'None adds a dimension in numpy, and a matrix has two: write : for all rows or '
+            'columns, and G[[None], :] where None is a name')
     dots = [place for place, index in enumerate(found) if index is Ellipsis]
     if dots:
         found[dots[0]:dots[0] + 1] = [slice(None)] * (3 - len(found))
@@ -84,7 +85,7 @@ def choose_places(matrix: 'Matrix', index: Any, axis: int) -> Chosen:
     if isinstance(index, (Mask, MatrixBase)):
         return Chosen(_of_column(matrix, index, axis))
     # columns, indexes and arrays of pandas say which of their values are missing
-    if isinstance(index, (list, range, numpy.ndarray)) or hasattr(type(index), 'isna'):
+    if isinstance(index, (list, range, numpy.ndarray, Nodes)) or hasattr(type(index), 'isna'):
         return Chosen(_of_list(matrix, index, axis))
     if isinstance(index, COLLECTIONS) and not _is_name(matrix.notes.names(axis), index):
         raise TypeError(

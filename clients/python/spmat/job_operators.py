@@ -5,20 +5,23 @@ import datetime
 import functools
 from decimal import Decimal
 from fractions import Fraction
-from typing import Any, Dict, FrozenSet, NamedTuple, NoReturn, Optional, Tuple, Union
+from typing import Any, Dict, FrozenSet, NamedTuple, Optional, Tuple, Union
 
 import numpy
 
-from .errors import UnitsDiffer, refusal
-from .exact_numbers import TimeUnit, compared, exact_number
+from .errors import refusal
 from .io import coo
+from .metadata import VertexUnit
 from .operators import READY, Op, Operator, Semiring, find, find_semiring
-from .units import (COMPARE, FIRST, KEEP, MEET, OVER, SECOND, SHIFT, TIMES, UNDER, Unit, is_whole,
-                    meaning_of, name_of, simplify_unit, to_stored)
-from .wire.protocol import FORMS
+from .operators.other_names import is_ufunc
+from .scale import (COMPARE, FIRST, KEEP, MEET, OVER, SECOND, TIMES, UNDER, TimeUnit, chooses,
+                    compared, exact_number, is_whole, meaning_of, name_of, of_both, of_vertex,
+                    refuse, tells_apart, to_stored)
+from .wire.commands import FORMS
 
 Number = Union[int, float, Fraction, Decimal, datetime.date, datetime.timedelta, numpy.datetime64,
                numpy.timedelta64]
+DATES = (datetime.date, numpy.datetime64)
 Ring = Union[str, Semiring, Tuple[Op, Op]]
 
 
@@ -29,12 +32,12 @@ class Applied(NamedTuple):
     op: Operator
     thunk: Optional[int]
     even: bool
-    unit: Unit
+    unit: int
     by: Operator
     is_left: bool = False
 
 
-# What is found by names of ready operators: of one by its kind, of the two of a product by their
+# What is found by names of built-in operators: of one by its kind, of the two of a product by their
 # joined name, of `apply` where there is no number nor a unit. Other names may get another meaning.
 _BY_NAME: Dict[Tuple[str, str], Operator] = {}
 _RINGS: Dict[str, Tuple[Operator, Operator]] = {}
@@ -47,7 +50,7 @@ def _ready_names(kind: str) -> FrozenSet[str]:
 
 
 def _find(kind: str, op: Op) -> Operator:
-    """What `operators.find` does, once for each ready name."""
+    """What `operators.find` does, once for each built-in name."""
     found = _BY_NAME.get((kind, op)) if type(op) is str else None
     if found is None:
         found = find(kind, op)
@@ -77,7 +80,7 @@ def ring_of(op: Ring) -> Tuple[Operator, Operator]:
     return found
 
 
-def applied(op: Op, right: Optional[Number], left: Optional[Number], unit: Unit) -> Applied:
+def applied(op: Op, right: Optional[Number], left: Optional[Number], unit: int) -> Applied:
     """What `apply` sends of a matrix with this unit."""
     bound = right is not None or left is not None
     if not bound and type(op) is str and unit == 1 and op in _APPLIED:
@@ -104,6 +107,14 @@ def applied(op: Op, right: Optional[Number], left: Optional[Number], unit: Unit)
                   'left=, got %r%s' % (found, how))
 
 
+def kind_of_function(op: Op, bound: bool = False) -> str:
+    """As which kind `apply` takes a function; nothing of what is none."""
+    if not callable(op) or is_ufunc(op):
+        return ''
+    from .operators.compiler import kind_of
+    return kind_of(op, bound)
+
+
 def _kind_of(op: Op, bound: bool) -> str:
     """As which kind `apply` looks for an operator that is given by name or as a function."""
     if callable(op):
@@ -113,73 +124,71 @@ def _kind_of(op: Op, bound: bool) -> str:
     return 'index' if op not in READY[kind] and op in READY['index'] else kind
 
 
-# -- the numbers beside operators, and the units of what they give
+# -- the numbers beside operators, and the scales of what they give
 
 def _is_function(op: Operator) -> bool:
     """Whether an operator was made of a function, which gets stored numbers."""
     return hasattr(op, 'function')
 
 
-Bound = Tuple[Operator, int, Unit]
-"""An operator, the whole number that is sent beside it, and the unit of its result."""
+Bound = Tuple[Operator, int, int]
+"""An operator, the whole number that is sent beside it, and the scale of its result."""
 
 
-def of_unary(op: Operator, unit: Unit) -> Unit:
-    """The unit of a unary operator's result."""
-    if unit == 1:
-        return 1
+def of_unary(op: Operator, unit: int) -> int:
+    """The scale of a unary operator's result."""
+    if isinstance(unit, VertexUnit):
+        return unit if op == READY['unary'].identity else of_vertex(op)
     meaning = meaning_of(op)
-    if meaning == UNDER and not isinstance(unit, TimeUnit):
-        _refuse_inverse(op, 1, unit)
+    if meaning == UNDER:
+        return 1 if is_whole(unit) else refuse(op, unit, 1)
     return unit if meaning == KEEP else 1
 
 
-def of_index(op: Operator, thunk: Any, unit: Unit,
+def of_index(op: Operator, thunk: Any, unit: int,
              what: str = 'the number beside the operator') -> Bound:
     """The same of an index operator, with the number beside it: a value stands for itself, what the
     caller's own operators get is a stored number."""
     if unit == 1 and _is_stored(thunk):
         return op, thunk, 1
+    if isinstance(unit, VertexUnit):
+        if tells_apart(op):
+            return op, to_stored(thunk, unit, what), 1
+        of_vertex(op)
+        return op, _whole(thunk, what, 'is'), 1
     meaning = meaning_of(op)
     if meaning == COMPARE and not _is_function(op):
         return (*compared(op, thunk, unit), 1)
     return op, _whole(thunk, what, 'is'), unit if meaning == KEEP else 1
 
 
-def of_bound(op: Operator, number: Any, is_left: bool, unit: Unit) -> Bound:
+def of_bound(op: Operator, number: Any, is_left: bool, unit: int) -> Bound:
     """The same of a binary operator, one of whose operands is a number: where it meets the values
     it is one of these, by times and division it is a factor."""
     if unit == 1 and _is_stored(number):
         return op, number, 1
     meaning, what = meaning_of(op), 'left=' if is_left else 'right='
-    if not _is_function(op):
-        if meaning == COMPARE:
+    is_factor = meaning in (TIMES, OVER, UNDER)
+    is_plain = is_factor or isinstance(unit, TimeUnit) and not isinstance(number, DATES)
+    beside = 1 if is_plain else unit
+    if isinstance(unit, VertexUnit):
+        chosen = chooses(op) or tells_apart(op)
+    else:
+        chosen = meaning in (MEET, FIRST, SECOND) and not _is_function(op)
+        if meaning == COMPARE and not _is_function(op):
             return (*compared(op, number, unit, is_left), 1)
-        if meaning in (MEET, FIRST, SECOND):
-            return op, to_stored(number, unit, what), unit
-    divides = meaning in (OVER, UNDER) and is_left != (meaning == OVER)
-    if meaning in (OVER, UNDER) and not divides and not is_whole(unit):
-        _refuse_inverse(op, number, unit)
-    if meaning == TIMES or divides:
+    found = of_both(op, beside, unit) if is_left else of_both(op, unit, beside)
+    if chosen:
+        return op, to_stored(number, unit, what), found
+    if is_factor:
         _check_factor(op, number, is_left, unit)
-    stored = _whole(number, what, 'of "%s" is' % name_of(op))
-    return op, stored, _own(meaning, is_left, unit)
+    return op, _whole(number, what, 'of "%s" is' % name_of(op)), found
 
 
 def _is_stored(number: Any) -> bool:
-    """Whether a number is stored as it is where values have no unit. So most are, and all that
+    """Whether a number is stored as it is where values have no scale. So most are, and all that
     follows here would take longer than the rest of a job."""
     return type(number) is int and coo.LEAST <= number <= coo.MOST
-
-
-def _own(meaning: Optional[str], is_left: bool, unit: Unit) -> Unit:
-    """The unit of the result of a binary operator with a number that isn't changed. A multiple of a
-    time is a number."""
-    if meaning == SHIFT and is_left:
-        return 1
-    keep = ((MEET, FIRST, SECOND) if isinstance(unit, TimeUnit)
-            else (MEET, FIRST, SECOND, TIMES, OVER, UNDER, SHIFT))
-    return unit if meaning in keep else 1
 
 
 def _whole(number: Any, what: str, verb: str) -> int:
@@ -192,29 +201,17 @@ def _whole(number: Any, what: str, verb: str) -> int:
                           % (what, verb, coo.shown(number))) from None
 
 
-def _check_factor(op: Operator, number: Any, is_left: bool, unit: Unit) -> None:
+def _check_factor(op: Operator, number: Any, is_left: bool, unit: int) -> None:
     """ValueError for a factor, or a divisor, that isn't whole: it says how to take it all the
     same."""
     try:
         over, under = exact_number(number).as_integer_ratio()
     except (TypeError, ValueError):
         return                                     # `_whole` says so
-    if under == 1:
-        return
-    side, name = 'left' if is_left else 'right', name_of(op)
-    how = 'B = A.apply("times", %s=%d); B.unit = %s' % (side, over,
-                                                        simplify_unit(unit * Fraction(under)))
-    if meaning_of(op) != TIMES:
+    if under != 1:
+        side, name = 'left' if is_left else 'right', name_of(op)
         how = 'A.apply("times", right=%d).apply("%s", %s=%d)' % (under, name, side, over)
-    raise ValueError('%s= of "%s" is a whole number, not %r: write %s' % (side, name, number, how))
-
-
-def _refuse_inverse(op: Operator, number: Any, unit: Unit) -> NoReturn:
-    parts = 1000 * unit.denominator
-    over = exact_number(number) * unit * parts
-    parts, over = ((parts, over) if over.denominator == 1 and abs(over) <= coo.MOST
-                   else (unit.denominator, Fraction(unit.numerator)))
-    raise UnitsDiffer(
-        '"%s" divides by values that are parts of 1/%s, so that the quotients would be no parts '
-        'of it: write B = A.dup(); B.unit = 1; C = B.apply("cdiv", left=%d); C.unit = %d for '
-        'quotients in parts of 1/%d, cut down' % (name_of(op), unit, int(over), parts, parts))
+        if meaning_of(op) == TIMES:
+            how = 'B = A.apply("times", %s=%d); B.unit = %s' % (side, over, unit * under)
+        raise ValueError('%s= of "%s" is a whole number, not %r: write %s' % (
+            side, name, number, how))

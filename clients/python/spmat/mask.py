@@ -1,12 +1,10 @@
 """Masks: where a result may have entries."""
 from __future__ import annotations
 
-import sys
-import warnings
-from typing import Any, NamedTuple, NoReturn, Optional, Type, Union
+from typing import Any, NamedTuple, NoReturn, Optional, Union
 
 from .display import html
-from .errors import MaskWarning, refusal
+from .errors import MaskWarning, refusal, warn_user
 from .matrix_base import MatrixBase
 from .operands import common_session
 
@@ -219,13 +217,3 @@ def as_mask(mask: Union[MatrixBase, Mask, None], warns: bool = True) -> Optional
                 'whose value is not 0', MaskWarning)
         return Mask(mask)
     raise TypeError('a mask is A.S, A.V, ~A.S or ~A.V, not %r' % (mask,))
-
-
-def warn_user(words: str, kind: Type[Warning]) -> None:
-    """Warns of the line that called this package, whatever lies between."""
-    # as warnings find the line
-    frame, level = sys._getframe(1), 2  # pylint: disable=protected-access
-    package = __name__.partition('.')[0]
-    while frame.f_back is not None and frame.f_globals.get('__name__', '').split('.')[0] == package:
-        frame, level = frame.f_back, level + 1
-    warnings.warn(words, kind, stacklevel=level)

@@ -9,32 +9,84 @@ from __future__ import annotations
 # pylint finds neither the members of a named tuple with methods, nor how many values a list has
 # pylint: disable=unsubscriptable-object,no-member,no-value-for-parameter
 
+import difflib
 import enum
 import functools
 import itertools
 import numbers
 from collections import Counter
 from collections.abc import KeysView, Mapping, Set
-from typing import (TYPE_CHECKING, Any, Dict, Iterable, List, NamedTuple, Optional, Sequence,
-                    Tuple, TypeVar)
+from typing import (TYPE_CHECKING, Any, Dict, Iterable, Iterator, List, NamedTuple, Optional,
+                    Sequence, Tuple, TypeVar)
+
+import numpy
 
 from .errors import NamesDiffer
 
 if TYPE_CHECKING:
     from .matrix_base import MatrixBase
-    from .units import Unit
 
 N = TypeVar('N', bound='MatrixBase')
+FEW_NAMES = 6                                      # so many names are listed where one isn't found
+FEW_NEAR, LIKE = 2, .7                             # so many names that are so much alike
+TRUTHS = (bool, numpy.bool_)
 
 
-class Nodes(List[Any]):
-    """Names by index, and the index of a name: a list, in which no name stands twice. Nothing
-    changes one."""
+class Nodes(Sequence[Any]):
+    """Names by index, and the index of a name, in which no name stands twice. Nothing changes one:
+    `list(G.nodes)` is a list that can be changed.
 
-    def __init__(self, names: Iterable[Any]) -> None:
-        super().__init__(names)
+    It is a sequence that equals a list, or a tuple, of the same names, as networkx' views and
+    pandas' indexes are of theirs."""
+
+    def __init__(self, names: Iterable[Any], is_cut: bool = False) -> None:
+        # whether it is the one row, or column, that was cut from a graph
+        self.is_cut = is_cut
+        self._names: List[Any] = names._names if isinstance(names, Nodes) else list(names)
         # one object for all lists that were found equal to this one
         self.equal_lists: object = self
+
+    def __len__(self) -> int:
+        return len(self._names)
+
+    def __getitem__(self, at: Any) -> Any:
+        """The name at a place, or a list of those of a slice."""
+        return self._names[at]
+
+    def __iter__(self) -> Iterator[Any]:
+        return iter(self._names)
+
+    def __contains__(self, name: object) -> bool:
+        try:
+            return name in self.places
+        except TypeError:                          # what has no hash is no name
+            return False
+
+    def __eq__(self, other: object) -> bool:
+        """Whether another sequence has the same names in the same order."""
+        if isinstance(other, (Nodes, list, tuple)):
+            return self is other or self._names == list(other)
+        return NotImplemented
+
+    def __hash__(self) -> int:
+        return hash(tuple(self._names))
+
+    def __add__(self, other: Iterable[Any]) -> List[Any]:
+        return [*self._names, *other]
+
+    def __radd__(self, other: Iterable[Any]) -> List[Any]:
+        return [*other, *self._names]
+
+    def __repr__(self) -> str:
+        return repr(self._names)
+
+    if not TYPE_CHECKING:                          # which knows all attributes that there are
+        def __getattr__(self, name: str) -> Any:
+            if hasattr(list, name):
+                raise AttributeError('names of vertices have no %r, as nothing changes them: '
+                                     'list(G.nodes) is a list that can be changed, and G.nodes = '
+                                     'names gives the vertices others' % name)
+            raise AttributeError('%r object has no attribute %r' % ('Nodes', name))
 
     @functools.cached_property
     def places(self) -> Dict[Any, int]:
@@ -52,14 +104,14 @@ class Nodes(List[Any]):
         # most lists are told by their ends, which are looked at first
         if self and (self[0] != 0 or self[-1] != len(self) - 1):
             return False
-        return list.__eq__(self, list(range(len(self)))) is True
+        return self._names == list(range(len(self)))
 
     def equals(self, other: 'Nodes') -> bool:
         """Whether two lists have the same names in the same order. Two that have are compared once:
         both know it from then on."""
         mine, theirs = self.equal_lists, other.equal_lists
         if mine is not theirs:
-            if len(self) != len(other) or list.__eq__(self, other) is not True:
+            if not self == other:
                 return False
             other.equal_lists = mine
         return True
@@ -70,6 +122,51 @@ class Nodes(List[Any]):
             return self.places[name]
         except TypeError:                          # what has no hash is no name
             raise KeyError(name) from None
+
+
+class VertexUnit(int):
+    """What values are that are vertices: each stored number is the place of a name. As a number it
+    is 1; it equals the unit of the same names alone."""
+
+    names: Nodes
+
+    def __new__(cls, names: Nodes) -> 'VertexUnit':
+        made = super().__new__(cls, 1)
+        made.names = names
+        return made
+
+    def __reduce__(self) -> Tuple[Any, ...]:
+        return VertexUnit, (self.names,)
+
+    def __eq__(self, other: object) -> bool:
+        return isinstance(other, VertexUnit) and (self.names is other.names
+                                                  or self.names.equals(other.names))
+
+    def __ne__(self, other: object) -> bool:
+        return not self == other
+
+    def __hash__(self) -> int:
+        return hash(VertexUnit)
+
+    def __str__(self) -> str:
+        return 'vertices'
+
+    __repr__ = __str__
+
+
+def place_of(names: Nodes, node: Any) -> Optional[int]:
+    """The place of a vertex among names; None where it is none of them. A truth value, or a
+    fraction, is no whole number that equals it."""
+    try:
+        place = names.at(node)
+    except KeyError:
+        return None
+    return place if _is_alike(names[place], node) else None
+
+
+def _is_alike(name: Any, node: Any) -> bool:
+    """Whether two equal things are both truth values, or neither is."""
+    return isinstance(name, TRUTHS) == isinstance(node, TRUTHS)
 
 
 def check_names(names: Nodes) -> None:
@@ -128,9 +225,10 @@ class Axis(NamedTuple):
         if len(set(places)) < len(places):
             return Axis(None, Unnamed.POSITIONS)
         if self.names is None:
-            return axis_of(Nodes(places))
+            return Axis(Nodes(places, True)) if len(places) == 1 else axis_of(Nodes(places))
         is_all = len(places) == len(self.names) and list(places) == list(range(len(places)))
-        return self if is_all else Axis(Nodes(self.names[place] for place in places))
+        return self if is_all else Axis(Nodes((self.names[place] for place in places),
+                                              len(places) == 1))
 
     def listed(self, count: int) -> Sequence[Any]:
         """The names of so many rows, or columns: a list, or where they have none the numbers."""
@@ -155,6 +253,9 @@ Axes = Tuple[Axis, Axis]
 def list_of_names(names: Iterable[Any]) -> List[Any]:
     """Names as a list. TypeError for a set, which has no order, and for a dict, whose values would
     be lost."""
+    if isinstance(names, (str, bytes)):
+        raise TypeError('names are a list, one for each vertex, and not the text %r: write [%r, ..]'
+                        % (names, names))
     if isinstance(names, (Set, Mapping)) and not isinstance(names, KeysView):
         raise TypeError(
             'names are a list, one for each vertex in their order, and not a %s: write list(..)'
@@ -221,20 +322,23 @@ class Metadata(NamedTuple):
     """The names of the rows and of the columns, where they have any; whether an entry (i, j) may
     stand without one of (j, i), or with one of another value; and whether the values are weights
     that the caller gave. None: not known. `source` says what was taken of the file or table that
-    the matrix was read from, and is empty for results. A stored number x stands for x / `unit`, or,
-    where there are `value_names`, for the vertex of that place among these. `unnamed_rows` and
-    `unnamed_columns` say what those are called that have no names."""
+    the matrix was read from, and is empty for results. `unit` says what a stored number stands for.
+    `unnamed_rows` and `unnamed_columns` say what those are called that have no names."""
     rows: Optional[Nodes] = None
     columns: Optional[Nodes] = None
     directed: Optional[bool] = None
     weighted: Optional[bool] = None
     source: str = ''
-    unit: Unit = 1
-    value_names: Optional[Nodes] = None
+    unit: int = 1
     unnamed_rows: Unnamed = Unnamed.ANYTHING
     unnamed_columns: Unnamed = Unnamed.ANYTHING
     # 1 where rows and columns are two kinds of vertices, -1 of its transpose
     sides: int = 0
+
+    @property
+    def value_names(self) -> Optional[Nodes]:
+        """The names of the vertices that values are, where they are such."""
+        return self.unit.names if isinstance(self.unit, VertexUnit) else None
 
     def __repr__(self) -> str:
         sides = ['None' if names is None else '<%d names>' % len(names)
@@ -302,18 +406,18 @@ def joined(first: Metadata, second: Metadata, pairs: Pairs) -> List[Axis]:
     """What each pair of rows or columns of two matrices is called that have to mean the same
     vertices. NamesDiffer where two can't.
 
-    The one row of a row vector, and the one column of a column, are not compared: it has no name
-    where they differ."""
+    Rows that were cut from a graph, each alone, go together though their names differ, and so do
+    columns: what is made of them has no name there."""
     out = []
     for i, j, words in pairs:
         a, b = first.axis(i), second.axis(j)
         if a.agrees(b):
             out.append(a.with_other(b))
-        elif _is_one(a, b) and not (_is_vertex(first) and _is_vertex(second)):
+        elif _are_cut(a, b) and not (_is_vertex(first) and _is_vertex(second)):
             out.append(Axis())
         else:
-            raise NamesDiffer('%s have different names: %s; %s'
-                              % (words, _differences(a, b), _remedy(first, second, (a, b), pairs)))
+            raise NamesDiffer('%s have different names: %s; %s' % (
+                words, describe_differences(a, b), _remedy(first, second, (a, b), pairs)))
     return out
 
 
@@ -325,7 +429,7 @@ def _remedy(first: Metadata, second: Metadata, axes: Axes, pairs: Pairs) -> str:
             else ALIGN)
 
 
-def _differences(a: Axis, b: Axis) -> str:
+def describe_differences(a: Axis, b: Axis) -> str:
     """The first names that differ of two lists, with their places. Where there is no list, they are
     the places."""
     count = len(a.names if a.names is not None else b.names or ())
@@ -344,10 +448,18 @@ def hint_of(first: Metadata, second: Metadata) -> str:
                                 for axis in (one.axis(ROWS), one.axis(COLUMNS))) else '')
 
 
-def _is_one(a: Axis, b: Axis) -> bool:
-    """Whether these are the one row, or column, of a vector, of two that don't agree."""
-    names = a.names if a.names is not None else b.names
-    return names is not None and len(names) == 1
+def _are_cut(a: Axis, b: Axis) -> bool:
+    """Whether each is one row, or one column, that was cut from a graph, or made by positions."""
+    lists = [axis.names for axis in (a, b) if axis.names is not None]
+    return all(names.is_cut for names in lists)
+
+
+def along(shape: Tuple[int, int], notes: Metadata) -> int:
+    """Whether a vector is seen along its rows (0) or its columns (1): of a single entry along those
+    that have names."""
+    if shape != (1, 1):
+        return ROWS if shape[1] == 1 else COLUMNS
+    return COLUMNS if notes.rows is None and notes.columns is not None else ROWS
 
 
 def _is_vertex(notes: Metadata) -> bool:
@@ -390,3 +502,21 @@ def vertices_of(graph: Metadata) -> Optional[Axis]:
     differ."""
     rows, columns = graph.axis(ROWS), graph.axis(COLUMNS)
     return rows.with_other(columns) if rows.agrees(columns) and not graph.sides else None
+
+
+def suggest_names(node: Any, names: Sequence[Any]) -> str:
+    """The names that a wrong one may have meant, in words; nothing where none is like it."""
+    folded = ({name.casefold(): name for name in names if isinstance(name, str)}
+              if isinstance(node, str) else {})
+    found = ([folded[word] for word in difflib.get_close_matches(node.casefold(), folded, FEW_NEAR,
+                                                                 LIKE)] if folded else [])
+    return 'did you mean %s?' % ' or '.join(map(repr, found)) if found else ''
+
+
+def abbreviate_names(names: Sequence[Any]) -> str:
+    """Some names in words."""
+    if len(names) > 1 and type(names[0]) is int and names == list(
+        range(names[0], names[0] + len(names))):
+        return '%d to %d' % (names[0], names[-1])
+    some = ', '.join(map(repr, names[:FEW_NAMES]))
+    return some + (', .. (%d)' % len(names) if len(names) > FEW_NAMES else '')

@@ -20,7 +20,7 @@ if TYPE_CHECKING:
 
 BY_PARTS = 'mxm(.., parts=True) makes it by parts of the rows'
 SMALLER = (
-    'select() some rows with "rowle" and "rowgt", and do them one after the other; spmat.blocks '
+    'select() some rows with "rowle" and "rowgt", and do them one after the other; spmat_blocks '
     'does so over several sessions')
 
 

@@ -1,28 +1,21 @@
-"""Folds of rows, of columns and of all entries: by a binary operator, or by an aggregator, which no
-binary operator makes alone (how many, where the least is, the mean). By python-graphblas' names."""
+"""Aggregators: folds that no binary operator makes alone (how many, where the least is, the mean).
+Their names are python-graphblas'."""
 from __future__ import annotations
 
 from fractions import Fraction
-from typing import TYPE_CHECKING, Any, Callable, Dict, NamedTuple, NoReturn, Optional, TypeVar, cast
+from typing import Any, Callable, Dict, NamedTuple, NoReturn, Optional
 
-from . import result_metadata, units
-from .backends.placeholders import reading
-from .backends.protocol import Job
+from . import scale as scales
 from .io.coo import MOST
-from .job_operators import of_form
 from .mask import Mask, as_mask
-from .matrix_jobs import Jobs, MaskLike
-from .operators import Op, Semiring, binary, find
+from .metadata import VertexUnit
+from .operators import binary, find
 
-if TYPE_CHECKING:
-    from .matrix import Matrix
-
-C = TypeVar('C', bound='Reductions')
 HALF = 32                                          # bits of a half of a number
 # parts of a mean's unit, or fewer where means are so large that these don't fit
 FINEST = 10 ** 6
 
-# Folds by a ready operator, of the values or of what an operator makes of them.
+# Folds by a built-in operator, of the values or of what an operator makes of them.
 OPERATORS: Dict[str, str] = {'sum': 'plus', 'prod': 'times', 'last': 'second', 'any_value': 'any'}
 
 
@@ -70,7 +63,7 @@ STATISTICS = {'median': 'median', 'var': 'var', 'variance': 'var', 'std': 'std',
 
 
 def is_aggregator(op: Any) -> bool:
-    """Whether a fold is named that no ready or registered operator makes alone. ValueError for a
+    """Whether a fold is named that no built-in or registered operator makes alone. ValueError for a
     name that no fold has."""
     if not isinstance(op, str) or op in binary:
         return False
@@ -96,147 +89,6 @@ def _refuse_name(name: str) -> NoReturn:
     raise AssertionError(name)
 
 
-class Reductions(Jobs):
-    """What folds entries."""
-
-    def reduce_rowwise(self, op: Op = 'plus', *, mask: MaskLike = None,
-                       name: Optional[str] = None) -> 'Matrix':
-        """The fold of each row, as a column.
-
-        A row is folded from its first column to its last. One that is empty has no entry.
-
-        Parameters
-        ----------
-        op : Operator, str or callable, default 'plus'
-            A binary operator, or one of python-graphblas' aggregators: "sum", "prod", "last",
-            "any_value"; with 1 to 3 jobs more "count", "count_nonzero", "count_zero", "exists",
-            "all", "first_index", "last_index", "sum_of_squares", "peak_to_peak"; with 4 more, and a
-            value a row that the client sends, "argmin" and "argmax", the first column with the
-            least or greatest value; with 4 more "mean", in millionths that the client makes of sums
-            and counts; no sum wraps then.
-        mask : Mask, optional
-            Where the result may have entries; a mask of a column.
-        name : str, optional
-            What the result is called.
-
-        Returns
-        -------
-        Matrix
-            A column with an entry for each row that isn't empty.
-
-        Raises
-        ------
-        DimensionMismatch
-            Where the mask is no column of this length.
-
-        Notes
-        -----
-        1 job. In the GraphBLAS GrB_reduce by rows.
-
-        Examples
-        --------
-        >>> s.from_coo([0, 0, 2], [0, 1, 1], [1, 2, 3], 3, 2).reduce_rowwise().to_list()
-        [3, None, 3]
-        """
-        if is_aggregator(op):
-            return cast('Matrix', aggregate(self, cast(str, op), 1, mask, name))
-        found = of_form('reduce', op)
-        notes = result_metadata.derive('reduce', (found,), self.notes)
-        return self._queue(Job('reduce', (found,), (self.handle,), (self.nrows, 1)), (self,), notes,
-                           mask, name)
-
-    def reduce_columnwise(self: C, op: Op = 'plus', *, mask: Any = None,
-                          associative: Optional[bool] = None, name: Optional[str] = None) -> C:
-        """The fold of each column, as a row.
-
-        A column is folded from its first row to its last, for every operator. One that is empty has
-        no entry.
-
-        Parameters
-        ----------
-        op : Operator, str or callable, default 'plus'
-            A binary operator, or one of the aggregators that `reduce_rowwise` takes, of which
-            "argmin" gives rows.
-        mask : Mask, optional
-            Where the result may have entries; a mask of a row.
-        associative : bool, optional
-            The caller's word that the operator is associative, as for `mxm`: row blocks then fold
-            their own rows, and send a row each.
-        name : str, optional
-            What the result is called.
-
-        Returns
-        -------
-        Matrix
-            A row with an entry for each column that isn't empty.
-
-        Raises
-        ------
-        DimensionMismatch
-            Where the mask is no row of this length.
-
-        Notes
-        -----
-        1 job and no run: a product of a row of ones with this matrix, by `second`. The session
-        keeps the ones; it uploads them at the first use of a length.
-
-        Examples
-        --------
-        >>> s.from_coo([0, 1, 1], [0, 0, 2], [1, 2, 3], 2, 3).reduce_columnwise().to_list()
-        [3, None, 3]
-        """
-        if is_aggregator(op):
-            return cast(C, aggregate(self, str(op), 0, mask, name))
-        ring = Semiring(of_form('product', op), binary.second)
-        ones: Any = self.session.ones(self.nrows)
-        return cast(C, ones.mxm(self, ring, mask=mask, associative=associative, name=name))
-
-    @reading
-    def reduce_scalar(self, op: Op = 'plus', *, raw: bool = False) -> Any:
-        """The fold of all entries, as a number.
-
-        The folds of the rows are folded, so the operator has to be associative.
-
-        Parameters
-        ----------
-        op : Operator, str or callable, default 'plus'
-            A binary operator, or one of the aggregators of `reduce_rowwise` that aren't positions.
-        raw : bool, default False
-            Whether the stored whole number is given, also where the fold has a unit.
-
-        Returns
-        -------
-        int, float or None
-            An int, or where the fold has a unit a float, what it stands for; "mean" is a float.
-            None where there are no entries.
-
-        Raises
-        ------
-        TypeError
-            Of an aggregator whose answers are positions, such as "argmin".
-
-        Notes
-        -----
-        At most 2 jobs and 2 runs (1 and 1 of a row or a column), and one number comes back.
-
-        A sum or a product beyond 64 bits wraps, without a word unless there is a unit; a mean
-        doesn't. Algorithms refuse where theirs could.
-
-        Examples
-        --------
-        >>> s.from_coo([0, 0, 1], [0, 1, 1], [1, 2, 3], 2, 2).reduce_scalar()
-        6
-        >>> s.from_coo([0, 0, 1], [0, 1, 1], [1, 2, 3], 2, 2).reduce_scalar('max')
-        3
-        """
-        if is_aggregator(op):
-            return aggregate_all(self, str(op), raw)
-        rows = self if self.ncols == 1 else self.reduce_rowwise(op)
-        made = rows if rows.nrows == 1 else rows.reduce_columnwise(op, associative=True)
-        values = made.entries(arrays=False)[2]
-        return units.to_decimal(values[0], 1 if raw else made.unit) if values else None
-
-
 def fold_axis(matrix: Any, op: str, axis: int, mask: Any = None, name: Optional[str] = None) -> Any:
     """The column of the folds of the rows, or the row of those of the columns."""
     return (matrix.reduce_rowwise(op, mask=mask, name=name) if axis
@@ -253,7 +105,7 @@ def aggregate(matrix: Any, op: str, axis: int, mask: Any, name: Optional[str]) -
         made = fold_axis(FOLDS[op].of(matrix, axis), FOLDS[op].op, axis, where, name)
         names = matrix.notes.names(axis)
         if op in INDEXES and names is not None:    # a place is shown by the name that stands there
-            made.notes = made.notes._replace(value_names=names)
+            made.notes = made.notes._replace(unit=VertexUnit(names))
         return made
     if op == 'peak_to_peak':
         return fold_axis(matrix, 'max', axis).ewise_mult(fold_axis(matrix, 'min', axis), 'minus',
@@ -261,9 +113,16 @@ def aggregate(matrix: Any, op: str, axis: int, mask: Any, name: Optional[str]) -
     return _means(matrix, axis, where, name)
 
 
+def _check_numbers(matrix: Any) -> None:
+    """UnitsDiffer where values are vertices, which have no mean."""
+    if isinstance(matrix.unit, VertexUnit):
+        scales.refuse_vertices('a mean of vertices')
+
+
 def _means(matrix: Any, axis: int, where: Optional[Mask], name: Optional[str]) -> Any:
     """Means as parts of a unit, each the nearest."""
-    stored = units.with_unit(matrix, 1)
+    _check_numbers(matrix)
+    stored = scales.with_unit(matrix, 1)
     sums, high, counts = (fold_axis(made, 'plus', axis, where)
                           for made in (stored, stored.apply('arsh', right=HALF),
                                        stored.apply('one')))
@@ -275,7 +134,7 @@ def _means(matrix: Any, axis: int, where: Optional[Mask], name: Optional[str]) -
         parts //= 10
     made = sums.session.from_coo(rows, columns, [round(mean * parts) for mean in exact],
                                  *sums.shape, name=name)
-    made.notes = sums.notes._replace(unit=units.simplify_unit(Fraction(matrix.unit) * parts))
+    made.notes = sums.notes._replace(unit=matrix.unit * parts)
     return made
 
 
@@ -296,8 +155,10 @@ def aggregate_all(matrix: Any, op: str, raw: bool) -> Any:
             'of all' % (op, op))
     if op == 'count':
         return matrix.nvals
+    if op in ('mean', 'peak_to_peak'):
+        _check_numbers(matrix)
     if op == 'mean':
-        stored = units.with_unit(matrix, 1)
+        stored = scales.with_unit(matrix, 1)
         low, high = stored.reduce_scalar('plus'), stored.apply('arsh',
                                                                right=HALF).reduce_scalar('plus')
         count = matrix.nvals
@@ -306,7 +167,7 @@ def aggregate_all(matrix: Any, op: str, raw: bool) -> Any:
     if op == 'peak_to_peak':
         most, least = (matrix.reduce_scalar(end, raw=True) for end in ('max', 'min'))
         return (None if most is None or least is None
-                else units.to_decimal(most - least, 1 if raw else matrix.unit))
+                else scales.to_decimal(most - least, 1 if raw else matrix.unit))
     found, fold = ((matrix, OPERATORS[op]) if op in OPERATORS
                    else (FOLDS[op].of(matrix, 1), FOLDS[op].op))
     value = found.reduce_scalar(fold, raw=raw)

@@ -67,7 +67,8 @@ SENTENCES: Dict[str, str] = {
     'thread SPENT': 'run: a thread could not be started for a worker; those that were started '
     'went on, to so many steps',
     'busy': 'the server has as many sessions as it serves',
-    'login': 'the gateway knows no such user, or another token is right',
+    'login': 'the gateway knows no such user, or another token is right; `expired`: this one was '
+    'right, and an operator of the gateway can renew it',
     'quota': 'this user, or its group, has used up a quota',
     'ledger': 'the gateway can book no session now; try later',
     'engine': 'the gateway could not start a session',

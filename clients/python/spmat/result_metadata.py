@@ -2,8 +2,7 @@
 form of job.
 
 A job makes terms of values by one operator, and folds terms by one; a row says which of the form's
-operators do that, and which rows and columns have to mean the same vertices. What a value can be
-(`overflow`) follows from the same rows.
+operators do that, and which rows and columns have to mean the same vertices.
 """
 from __future__ import annotations
 
@@ -13,13 +12,13 @@ from __future__ import annotations
 import functools
 from typing import Dict, FrozenSet, NamedTuple, Optional, Sequence, Tuple
 
-from . import units
+from . import scale as scales
 from .errors import refusal
 from .mask import Mask
 from .metadata import (ALIKE, BY_POSITIONS, COLUMNS, ELEMENTWISE, MASK, NOTHING, PRODUCT, ROWS,
-                       Axis, Metadata, Nodes, Pairs, Unnamed, even, hint_of, joined, of_copy)
-from .operators import READY, Operator, binary
-from .units import Unit
+                       Axis, Metadata, Nodes, Pairs, Unnamed, VertexUnit, even, hint_of, joined,
+                       of_copy)
+from .operators import READY, Operator
 
 # Binary operators for which the order of operands doesn't matter: a product of a symmetric matrix
 # with itself stays symmetric.
@@ -29,18 +28,20 @@ COMMUTE: FrozenSet[str] = frozenset((
 
 
 def _ready(kind: str, *names: str) -> FrozenSet[Operator]:
-    """The ready operators of a kind by these names, whatever equal ones are called."""
+    """The built-in operators of a kind by these names, whatever equal ones are called."""
     return frozenset(READY[kind][name] for name in names)
 
 
 _COMMUTE = _ready('binary', *COMMUTE)
-# those whose result is one of both values
-_CHOOSE = _ready('binary', 'any', 'first', 'max', 'min', 'second')
 # Index operators that look at the value alone, and with a thunk of 0 those that look at the
 # distance from the diagonal: what they select of a symmetric matrix is one.
 _BY_VALUE = _ready('index', 'nonzero', 'thunk', 'valueeq', 'valuege', 'valuegt', 'valuele',
                    'valuelt', 'valuene')
 _BY_DIAGONAL = _ready('index', 'diag', 'offdiag')
+
+
+# where the fields of `Metadata` begin that say what rows and columns are called
+UNNAMED = Metadata._fields.index('unnamed_rows')
 
 
 class Rule(NamedTuple):
@@ -98,7 +99,7 @@ def derive(form: str, operators: Sequence[Operator], first: Metadata,
 
 def _is_nameless(notes: Metadata) -> bool:
     """Whether there are no lists of names, which take long to compare."""
-    return notes.rows is None and notes.columns is None and notes.value_names is None
+    return notes.rows is None and notes.columns is None and not isinstance(notes.unit, VertexUnit)
 
 
 # pylint: disable-next=too-many-arguments
@@ -117,8 +118,7 @@ def _derive(form: str, operators: Sequence[Operator], first: Metadata, second: O
             directed = even(first, other)
     else:
         directed = even(first, other) if rule.pairs is ELEMENTWISE else None
-    return found._replace(directed=directed, weighted=None, source='', unit=unit,
-                          value_names=_values_of(rule, operators, first, other))
+    return found._replace(directed=directed, weighted=None, source='', unit=unit)
 
 
 # rounds of an algorithm ask for the same again and again
@@ -143,39 +143,15 @@ def _with_names(form: str, first: Metadata, second: Optional[Metadata]) -> Metad
                  unnamed_columns=columns.unnamed, sides=sides)
 
 
-def _unit_of(rule: Rule, operators: Sequence[Operator], first: Unit, second: Unit) -> Unit:
+def _unit_of(rule: Rule, operators: Sequence[Operator], first: int, second: int) -> int:
     if first == 1 and second == 1:
         return 1
-    unit = first
     if rule.copies:
-        unit = units.common(operators[0], first, second)
-    elif rule.term is not None:
-        unit = units.of_both(operators[rule.term], first, second)
-    return unit if rule.fold is None else units.of_fold(operators[rule.fold], unit)
-
-
-def _values_of(rule: Rule, operators: Sequence[Operator], first: Metadata,
-               second: Metadata) -> Optional[Nodes]:
-    """The vertices that a result's values are: none where operands mean others, or an operator
-    makes numbers of them."""
-    if first.value_names is None and second.value_names is None:
-        return None
-    found = first.value_names
-    if rule.term is not None:
-        op = operators[rule.term]
-        if op == binary.first and not rule.copies:
-            found = first.value_names
-        elif op == binary.second and not rule.copies:
-            found = second.value_names
-        else:
-            found = _chosen(op, first.value_names, second.value_names)
-    return found if rule.fold is None else _chosen(operators[rule.fold], found, found)
-
-
-def _chosen(op: Operator, first: Optional[Nodes], second: Optional[Nodes]) -> Optional[Nodes]:
-    """The vertices that values are, each of which is one of two that meet."""
-    return (first if first is not None and second is not None and op in _CHOOSE
-            and first.equals(second) else None)
+        met = scales.common(operators[0], first, second)
+        return (scales.of_fold(operators[0], met) if first == second else
+                scales.of_both(operators[0], first, second))
+    unit = first if rule.term is None else scales.of_both(operators[rule.term], first, second)
+    return unit if rule.fold is None else scales.of_fold(operators[rule.fold], unit)
 
 
 def _are_alike(notes: Metadata) -> bool:
@@ -188,7 +164,7 @@ def _elementwise(first: Metadata, second: Metadata, pairs: Pairs) -> Metadata:
     """The notes of the first with what the rows and columns of both are called. Where these are the
     same, or one has none, nothing is compared."""
     alike = (first.rows is second.rows and first.columns is second.columns
-             and first[7:] == second[7:])
+             and first[UNNAMED:] == second[UNNAMED:])
     if second is NOTHING or alike:
         return first
     if first is NOTHING:
@@ -199,16 +175,15 @@ def _elementwise(first: Metadata, second: Metadata, pairs: Pairs) -> Metadata:
 
 # -- the forms of one operand, which keep entries where they are
 
-def of_applied(first: Metadata, op: Operator, alike: bool, unit: Unit) -> Metadata:
+def of_applied(first: Metadata, op: Operator, alike: bool, unit: int) -> Metadata:
     """What is known of the result of `apply`, whose unit is given; `alike` says that the operator
     doesn't look at rows and columns."""
-    if (first.value_names is None and first.directed is None and first.weighted is None
-        and not first.source and unit == first.unit):
+    if (first.directed is None and first.weighted is None and not first.source
+        and unit == first.unit):
         return first                               # all that is known are names, which stay
     same = op.kind == 'unary' and op == READY['unary'].identity
     return first._replace(directed=even(first) if alike or op in _BY_VALUE else None,
-                          weighted=first.weighted if same else None, source='', unit=unit,
-                          value_names=first.value_names if same else None)
+                          weighted=first.weighted if same else None, source='', unit=unit)
 
 
 def of_selected(first: Metadata, op: Operator, thunk: int) -> Metadata:
@@ -229,8 +204,7 @@ def masked(result: Metadata, mask: Metadata, complement: bool = False) -> Metada
     found = _elementwise(result, mask, MASK)
     if complement:
         found = _elementwise(result, found, MASK)
-    return found._replace(directed=even(result, mask), source='', unit=result.unit,
-                          value_names=result.value_names)
+    return found._replace(directed=even(result, mask), source='', unit=result.unit)
 
 
 def of_update(first: Metadata, second: Metadata, accum: Optional[Operator], where: Optional[Mask],
@@ -250,8 +224,7 @@ def of_update(first: Metadata, second: Metadata, accum: Optional[Operator], wher
     outside = masked(first, where.matrix.notes, not where.complement)
     both = _elementwise(outside, there, ELEMENTWISE)
     return both._replace(directed=even(outside, there), weighted=None,
-                         unit=units.common('update', first.unit, there.unit),
-                         value_names=_chosen(binary.first, first.value_names, there.value_names))
+                         unit=scales.common('update', first.unit, there.unit))
 
 
 # -- what the client makes
@@ -273,9 +246,8 @@ def on_diagonal(first: Metadata, along: int) -> Metadata:
     row (along its columns, 1) on its diagonal."""
     axis = first.axis(along)
     if axis == Axis():
-        return ALIKE._replace(directed=False, unit=first.unit, value_names=first.value_names)
-    return Metadata(directed=False, unit=first.unit,
-                 value_names=first.value_names).with_axes(axis, axis)
+        return ALIKE._replace(directed=False, unit=first.unit)
+    return Metadata(directed=False, unit=first.unit).with_axes(axis, axis)
 
 
 def of_transpose(first: Metadata) -> Metadata:

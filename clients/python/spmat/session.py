@@ -2,20 +2,21 @@
 `io.session_importers` makes its matrices."""
 from __future__ import annotations
 
-from typing import TYPE_CHECKING, Any, Dict, List, Optional, Type
+import contextlib
+from typing import TYPE_CHECKING, Any, Dict, Iterator, List, Optional, Type
 
-from .backends.placeholders import all_priced, backend_now
+from .backends.job_queue import Limit
 from .backends.protocol import Budget, Run
 from .backends.server import ServerBackend
 from .errors import OperatorRefused
 from .unsupported_syntax import SESSION, missing_attribute
+from .io.coo import whole
 from .io.session_importers import SessionSources
 from .limits import MOST_STEPS
 from .matrix import Matrix
 from .operators import Operator, diagnostics
 from .wire.connection import SECONDS, Connection, Progress, checked_settings
-from .wire.server_program import Program
-from .wire.transport import Address, Timeouts
+from .wire.transport import Address, Program, Timeouts
 
 if TYPE_CHECKING:
     import ssl
@@ -47,6 +48,8 @@ class Session(SessionSources):
     ----------
     runs, jobs, connection.commands : int
         How many of each were sent.
+    backend : ServerBackend
+        What takes the jobs of its matrices.
 
     Notes
     -----
@@ -106,22 +109,32 @@ class Session(SessionSources):
         Raises
         ------
         OSError
-            Where nobody listens, or TLS is refused.
+            If nobody listens, or TLS is refused.
         Closed
-            Where the connection is closed before a first answer.
+            If the connection is closed before a first answer.
         Busy
-            Where the server has as many sessions as it serves.
+            If the server has as many sessions as it serves.
         TimeoutError
-            Where a limit passes, here or in a later command; the session is closed then.
+            If a limit passes, here or in a later command; the session is closed then.
         ProtocolError
-            Where a reply doesn't answer its command; the session is closed then, too.
+            If a reply doesn't answer its command; the session is closed then, too.
         ValueError
-            Where `host` is no address of a gateway though it has `://`, or there is neither a token
+            If `host` is no address of a gateway though it has `://`, or there is neither a token
             nor a certificate.
+
+        See Also
+        --------
+        close : End the session.
+        budget : What the server grants.
 
         Notes
         -----
         No job. The session asks once for the budget, which says at once where there is no session.
+
+        Examples
+        --------
+        >>> import spmat
+        >>> s = spmat.Session.connect("localhost", 7171)       # doctest: +SKIP
         """
         session = cls.__new__(cls)
         address = (Address.of_gateway(host, token, ca, tls) if '://' in host
@@ -133,7 +146,7 @@ class Session(SessionSources):
     def _begin(self, connection: Connection, workers: Optional[int]) -> None:
         self.connection = connection
         self._workers = workers
-        self._backend = self._backend_type(self, connection, shared=workers is None)
+        self.backend = self._backend_type(self, connection, shared=workers is None)
         self._ones: Dict[int, Matrix] = {}
         self.budget()                              # says at once where there is no session
 
@@ -162,19 +175,6 @@ class Session(SessionSources):
                                   is None else 'ended')
 
     @property
-    def backend(self) -> ServerBackend:
-        """What takes the jobs of its matrices.
-
-        Returns
-        -------
-        ServerBackend
-            Its own backend, or while a call is priced one that foresees them.
-        """
-        if not all_priced:
-            return self._backend
-        return backend_now(self._backend)  # type: ignore[no-any-return]
-
-    @property
     def workers(self) -> Optional[int]:
         """How many threads a batch has at most.
 
@@ -184,15 +184,48 @@ class Session(SessionSources):
             None of a session of `spmat serve`, which doesn't say. Who knows it may set it there:
             algorithms go by it where many workers want another way than one. No answer depends on
             it.
+
+        See Also
+        --------
+        budget : The steps.
+
+        Examples
+        --------
+        >>> import spmat
+        >>> spmat.Session(workers=2).workers
+        2
         """
         return self._workers
 
     @workers.setter
     def workers(self, many: int) -> None:
-        if not self._backend.queue.shared:
+        if not self.backend.queue.shared:
             raise AttributeError('this session started its own program, with %d workers'
                                  % (self._workers or 1))
         self._workers = checked_settings(0, many)[1]
+
+    @property
+    def is_open(self) -> bool:
+        """Whether commands can be sent, as far as can be seen without sending one.
+
+        Returns
+        -------
+        bool
+            False after `close`, where the program has ended or the connection broke, and in a
+            process that was forked off.
+
+        See Also
+        --------
+        close : End the session.
+
+        Examples
+        --------
+        >>> import spmat
+        >>> s = spmat.Session()
+        >>> s.is_open
+        True
+        """
+        return self.connection.usable()
 
     @property
     def runs(self) -> int:
@@ -202,6 +235,20 @@ class Session(SessionSources):
         -------
         int
             Their number since the session began.
+
+        See Also
+        --------
+        jobs : Jobs that were asked for.
+
+        Examples
+        --------
+        >>> import spmat
+        >>> s = spmat.Session()
+        >>> before = s.runs
+        >>> s.from_dense([[1, 2]]).apply("abs").nvals
+        2
+        >>> s.runs - before
+        1
         """
         return self.backend.queue.runs
 
@@ -213,6 +260,20 @@ class Session(SessionSources):
         -------
         int
             Their number since the session began.
+
+        See Also
+        --------
+        runs : Round trips.
+        run : Run what waits.
+
+        Examples
+        --------
+        >>> import spmat
+        >>> s = spmat.Session()
+        >>> before = s.jobs
+        >>> A = s.from_dense([[1, 2]]).apply("abs").apply("ainv")
+        >>> s.jobs - before
+        2
         """
         return self.backend.jobs
 
@@ -221,10 +282,22 @@ class Session(SessionSources):
 
         Its matrices are gone; jobs that wait are not run.
 
+        See Also
+        --------
+        is_open : Whether commands can be sent.
+
         Notes
         -----
         No run. Where a reply is awaited the session ends at once; where it has ended already, this
         does nothing. GraphBLAS: `finalize`.
+
+        Examples
+        --------
+        >>> import spmat
+        >>> s = spmat.Session()
+        >>> s.close()
+        >>> s.is_open
+        False
         """
         self.connection.quit()
 
@@ -240,13 +313,89 @@ class Session(SessionSources):
         Raises
         ------
         Closed
-            Where the session has ended.
+            If the session has ended.
+
+        See Also
+        --------
+        limit : Bound a block of calls.
+        price : The cost of a call.
+        JobResult : The steps of one job.
 
         Notes
         -----
         No run.
+
+        Examples
+        --------
+        >>> import spmat
+        >>> s = spmat.Session(steps=1000)
+        >>> s.from_dense([[1, 2]]).apply("abs").new().steps
+        6
+        >>> s.budget()
+        Budget(left=994, reserved=0, spent=6)
         """
         return self.backend.budget()
+
+    @contextlib.contextmanager
+    def limit(self, steps: float) -> Iterator[Limit]:
+        """Bound what the jobs take that are queued in a `with`.
+
+        A batch whose prices are above what is left of the limit isn't run. Limits may be nested:
+        each holds.
+
+        Parameters
+        ----------
+        steps : number
+            The most steps, also 1e9.
+
+        Yields
+        ------
+        Limit
+            The limit, with the steps that are `spent` and `left`.
+
+        Raises
+        ------
+        BudgetExceeded
+            If a batch isn't run; at the end of the `with` where what then waits is above the
+            limit, and none was refused before. `partial` has what an algorithm had found by then.
+
+        See Also
+        --------
+        budget : What the session has left.
+        price : The cost of a call, before it runs.
+
+        Notes
+        -----
+        The server tells the price of each job as it is queued, and takes none out of the queue
+        again. So a batch that wasn't run still waits: where the session goes on, the next run
+        behind the `with` makes it, and is paid. A session of its own with `steps=` is a limit that
+        nothing passes. Jobs of all threads count that use the session meanwhile.
+
+        No run. Each run in the `with` takes one trip to the server more, and rounds of loops aren't
+        sent together. Sessions of row blocks have no limit but `steps=`.
+
+        Examples
+        --------
+        >>> import spmat
+        >>> s = spmat.Session()
+        >>> A = s.full(100, 100)
+        >>> try:
+        ...     with s.limit(1000):
+        ...         A.mxm(A).nvals
+        ... except spmat.BudgetExceeded as refused:
+        ...     print("refused")
+        ...
+        refused
+        """
+        limit, queue = Limit(whole(steps, 'number of steps')), self.backend.queue
+        queue.limits.append(limit)
+        try:
+            yield limit
+            if queue.waiting and not limit.passed:
+                with self.backend.lock():
+                    queue.keep_limits()
+        finally:
+            queue.limits.remove(limit)
 
     # -- matrices out
 
@@ -274,11 +423,25 @@ class Session(SessionSources):
         Raises
         ------
         OperatorRefused
-            Where the operator breaks a rule.
+            If the operator breaks a rule.
+
+        See Also
+        --------
+        code_of : The same, without a session.
+        check : Whether the verifier accepts it.
 
         Notes
         -----
         No job. The operator is uploaded.
+
+        Examples
+        --------
+        >>> import spmat
+        >>> s = spmat.Session()
+        >>> print(s.dis(spmat.binary.plus), end="")
+        mov64 r0, r1
+        add64 r0, r2
+        exit
         """
         return ''.join(line + '\n' for line in self.backend.lines_of('dis', op))
 
@@ -300,16 +463,28 @@ class Session(SessionSources):
         Raises
         ------
         OperatorRefused
-            Where the operator breaks a rule.
+            If the operator breaks a rule.
+
+        See Also
+        --------
+        check : Whether the verifier accepts it.
+        code_of : The same, without a session.
 
         Notes
         -----
         No job. The operator is uploaded.
+
+        Examples
+        --------
+        >>> import spmat
+        >>> s = spmat.Session()
+        >>> len(s.types(spmat.binary.plus))
+        3
         """
         return self.backend.lines_of('types', op)
 
     def check(self, op: Operator) -> diagnostics.Check:
-        """What the verifier says of an operator.
+        r"""What the verifier says of an operator.
 
         Parameters
         ----------
@@ -323,9 +498,24 @@ class Session(SessionSources):
             each; and where it is refused the `refusal`, with the rows up to there. Printed, it is a
             table. It is true where the operator is accepted.
 
+        See Also
+        --------
+        types : What the verifier knows at each instruction.
+        dis : The instructions.
+
         Notes
         -----
         No job. The operator is uploaded. A refusal by the verifier is returned, not raised.
+
+        Examples
+        --------
+        >>> import spmat
+        >>> s = spmat.Session()
+        >>> s.check(spmat.binary.plus).accepted
+        True
+        >>> refused = s.check(spmat.asm("unary", "mov64 r0, r5\nexit"))
+        >>> refused.accepted
+        False
         """
         try:
             lines, types = self.dis(op).splitlines(), self.types(op)
@@ -357,11 +547,24 @@ class Session(SessionSources):
         NoThread
             Where the server has no thread for the run.
 
+        See Also
+        --------
+        Matrix.new : Run up to one result.
+        jobs : How many were asked for.
+
         Notes
         -----
         Where the run is refused the queue is empty all the same, and each result of it raises
         NotMade from then on.
 
         1 run, and none where no job waits. GraphBLAS: `wait`.
+
+        Examples
+        --------
+        >>> import spmat
+        >>> s = spmat.Session()
+        >>> A = s.from_dense([[1, 2]]).apply("abs")
+        >>> [(job.form, job.price, job.steps) for job in s.run()]
+        [('apply', 8, 6)]
         """
         return self.backend.run()

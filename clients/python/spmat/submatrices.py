@@ -8,21 +8,23 @@ from __future__ import annotations
 
 import itertools
 from collections import Counter
-from typing import TYPE_CHECKING, Any, Optional, Sequence
+from typing import TYPE_CHECKING, Any, List, Optional, Sequence, Tuple, Union
 
 import numpy
 
-from . import result_metadata, units
-from .errors import refusal
+from . import result_metadata, scale as scales
+from .errors import refusal, warn_user
 from .indexing import WHAT
-from .mask import warn_user
+from .io.coo import shown, side, whole, whole_list
+from .io.matrix_text import Triples
 from .matrix_base import MatrixBase
-from .metadata import COLUMNS, NOTHING, ROWS, Axis, Nodes, Unnamed, axis_of, joined
+from .metadata import COLUMNS, NOTHING, ROWS, Axis, Nodes, Unnamed, axis_of, even, joined
 
 if TYPE_CHECKING:
     from .matrix import Matrix
 
 BOTH = (ROWS, COLUMNS)
+Sizes = Union[int, Sequence[int]]
 
 
 # -- rows and columns that are moved
@@ -34,12 +36,21 @@ def move(matrix: 'Matrix', axis: int, sources: Sequence[int], targets: Sequence[
     be called, where the caller knows that otherwise."""
     count, own = matrix.shape[axis], matrix.notes.axis(axis) if own is None else own
     if axis == ROWS:
-        ones = matrix.session.from_coo(targets, sources, 1, size, count)
-        ones.notes = NOTHING.with_axes(names, own)
+        ones = _put_ones(matrix, targets, sources, (size, count), (names, own))
         return ones.mxm(matrix, 'any_second', name=name)
-    ones = matrix.session.from_coo(sources, targets, 1, count, size)
-    ones.notes = NOTHING.with_axes(own, names)
+    ones = _put_ones(matrix, sources, targets, (count, size), (own, names))
     return matrix.mxm(ones, 'any_first', name=name)
+
+
+def _put_ones(matrix: 'Matrix', rows: Sequence[int], columns: Sequence[int], shape: Tuple[int, int],
+              axes: Tuple[Axis, Axis]) -> 'Matrix':
+    """Ones at places that differ, beside a matrix. They go to the server with the first job that
+    wants them."""
+    at = numpy.array((rows, columns), numpy.int64)
+    first, second = at[:, numpy.lexsort(at[::-1])]
+    made = matrix.session.backend.keep(Triples(first, second, numpy.ones_like(first), *shape))
+    made.notes = NOTHING.with_axes(*axes)
+    return made
 
 
 def take(matrix: 'Matrix', axis: int, places: Sequence[int],
@@ -50,10 +61,18 @@ def take(matrix: 'Matrix', axis: int, places: Sequence[int],
                 matrix.notes.axis(axis).part(places), name=name)
 
 
+def value_at(matrix: 'Matrix', row: int, column: int) -> Any:
+    """What the entry at a place stands for, None where it has none: 1 job."""
+    rows, columns = matrix.notes.axis(ROWS), matrix.notes.axis(COLUMNS)
+    first = _put_ones(matrix, [0], [row], (1, matrix.nrows), (Axis(), rows))
+    where = _put_ones(matrix, [0], [column], (1, matrix.ncols), (Axis(), columns))
+    return value_of(first.mxm(matrix, 'any_second', mask=where.S))
+
+
 def value_of(cell: 'Matrix') -> Any:
     """What the one entry of a matrix stands for, None where it has none."""
     values = cell.entries(arrays=False)[2]
-    return units.to_decimal(values[0], cell.unit) if values else None
+    return scales.to_decimal(values[0], cell.unit) if values else None
 
 
 # -- tiles
@@ -64,8 +83,9 @@ def concat(tiles: Sequence[Sequence[Any]], *, name: Optional[str] = None) -> 'Ma
     Parameters
     ----------
     tiles : list of lists of Matrix
-        Matrices of one session; None is a tile without entries. The tiles of a list have as many
-        rows each, those below one another as many columns. Each list has as many tiles.
+        Matrices of one session; None is a tile without entries. Tiles in one list have equal
+        numbers of rows, tiles below one another equal numbers of columns, and all lists are of one
+        length.
     name : str, optional
         A name for the matrix.
 
@@ -78,18 +98,31 @@ def concat(tiles: Sequence[Sequence[Any]], *, name: Optional[str] = None) -> 'Ma
     Raises
     ------
     DimensionMismatch
-        Where sizes don't fit.
+        If sizes don't fit.
     ValueError
-        Where a row or column of tiles has no size, as all of it is None, where lists have different
-        numbers of tiles, or where the names of tiles beside one another differ.
+        If a row or column of tiles is None throughout, if lists have different lengths, or if
+        neighbouring tiles have different names.
     TypeError
-        Where `tiles` is no list of lists.
+        If `tiles` is no list of lists.
+
+    See Also
+    --------
+    Matrix.split : The inverse.
+    Matrix.resize : Other sizes.
 
     Notes
     -----
     2 jobs a tile and 1 to join each with the others, and at most as many runs. In python-graphblas
     `ss.concat`, in SuiteSparse:GraphBLAS `GxB_Matrix_concat`, in scipy.sparse `bmat`, in numpy
     `block`.
+
+    Examples
+    --------
+    >>> import spmat
+    >>> s = spmat.Session()
+    >>> A, B = s.full(1, 2, 1), s.full(1, 1, 2)
+    >>> spmat.concat([[A, B]]).to_triples()
+    [(0, 0, 1), (0, 1, 1), (0, 2, 2)]
     """
     if any(isinstance(row, MatrixBase) or not isinstance(row, (list, tuple))
            for row in tiles) or not tiles:
@@ -187,12 +220,27 @@ def bipartite(B: Matrix) -> Matrix:
     Raises
     ------
     TooLarge
-        Where vertices, or entries, are more than 16,777,216 together (M4).
+        If vertices, or entries, are more than 16,777,216 together (M4).
+
+    See Also
+    --------
+    undirected : The graph of a square matrix.
+    Session.read_graph : With two kinds of vertices.
 
     Notes
     -----
     No job: the entries come to the client and go back, as for `T`. GraphBLAS:
     `Matrix_extractTuples`, and `Matrix_build`.
+
+    Examples
+    --------
+    >>> import spmat
+    >>> s = spmat.Session()
+    >>> B = s.from_edgelist([("Ann", "tea"), ("Bob", "tea")], bipartite=True)
+    >>> spmat.bipartite(B).nodes
+    ['Ann', 'Bob', 'tea']
+    >>> spmat.algorithms.bfs_levels(spmat.bipartite(B), "Ann").by_node()
+    {'Ann': 0, 'Bob': 2, 'tea': 1}
     """
     rows, columns, values = B.entries()
     ends, columns = B.nrows + B.ncols, columns + B.nrows
@@ -201,3 +249,58 @@ def bipartite(B: Matrix) -> Matrix:
                               numpy.concatenate((values, values)), ends, ends)
     made.notes = result_metadata.of_both_sides(B.notes, B.nrows, B.ncols)
     return made
+
+
+# -- sizes
+
+def take_part(matrix: Any, *bounds: Tuple[int, int]) -> Any:
+    """A part by positions, whatever rows and columns are called."""
+    part = matrix
+    for axis in BOTH:
+        if bounds[axis] != (0, matrix.shape[axis]):
+            part = take(part, axis, range(*bounds[axis]))
+    if part is not matrix:
+        note_directed(matrix, part, bounds[ROWS] == bounds[COLUMNS])
+    return part
+
+
+def note_directed(matrix: MatrixBase, part: Any, is_corner: bool) -> None:
+    """Notes of a part that it is undirected where it `is_corner`, with the same rows and columns,
+    of a matrix that is."""
+    part.notes = part.notes._replace(directed=even(matrix.notes) if is_corner else None)
+
+
+def find_bounds(count: int, sizes: Optional[Sizes], axis: int) -> List[Tuple[int, int]]:
+    """Where the parts of so many rows or columns begin and end: of some sizes, or of one, of which
+    the last is what is left."""
+    if sizes is None:
+        return [(0, count)]
+    if hasattr(sizes, '__index__'):
+        size = whole(sizes, 'size')
+        if size < 1:
+            raise ValueError('a part has 1 %s or more, not %s' % (WHAT[axis], shown(size)))
+        return [(first, min(first + size, count)) for first in range(0, count, size)] or [(0, 0)]
+    many = whole_list(sizes, 'size')
+    if any(size < 0 for size in many) or sum(many) != count:
+        raise ValueError('parts of %s %ss are %s together, and there are %d' % (
+            ' and '.join(map(shown, many)), WHAT[axis], shown(sum(many)), count))
+    return [(sum(many[:at]), sum(many[:at + 1])) for at in range(len(many))]
+
+
+def resize_axis(matrix: MatrixBase, axis: int, size: int, warns: bool) -> Axis:
+    """What rows or columns are called that were cut off, or have grown in number, which gives new
+    ones no names: it `warns` where some had names."""
+    old = matrix.notes.axis(axis)
+    if size <= matrix.shape[axis]:
+        return old.part(range(size)) if size < matrix.shape[axis] else old
+    if old.names is not None and warns:
+        warn_user('%d %ss have names and %d have none, so that numbers are positions in what '
+                  'resize makes: resize(.., nodes=[..]) names all of them' % (
+                      len(old.names), WHAT[axis], size - len(old.names)), UserWarning)
+    return old.alone() if old.names is None else Axis(None, Unnamed.POSITIONS)
+
+
+def fill_size(matrix: MatrixBase, size: int, other: int) -> int:
+    """A size, which may be -1 for what is left beside the other, as in numpy."""
+    size, other = whole(size, 'size'), whole(other, 'size')
+    return matrix.nrows * matrix.ncols // max(other, 1) if size == -1 else side(size, 0, 'size')

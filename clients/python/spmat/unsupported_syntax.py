@@ -17,6 +17,33 @@ _EXTREME = 'A.reduce_scalar("%s"), or A.reduce_rowwise("%s") for each row'
 MATRIX: Dict[str, str] = {
     **{name: _EXTREME % (name, name) for name in ('max', 'mean', 'min')},
     'add': 'A.ewise_add(B)',
+    'build': 's.from_coo(rows, columns, values), as nothing changes a matrix',
+    'clear': 's.from_triples([], nrows, ncols), as nothing changes a matrix',
+    'columns': 'A.column_nodes',
+    'count': 'A.nvals, or A.reduce_rowwise("count") for each row',
+    'density': 'A.nvals / (A.nrows * A.ncols)',
+    'drop': 'A[names, names] with the names that are kept, or A.select("!=", 3)',
+    'dropna': 'A: what is missing has no entry',
+    'fillna': 'A.to_frame(fill=0), or A.to_list(0) of a column',
+    'groupby': 'A.reduce_rowwise("plus") for each row, or A.to_pandas_edgelist().groupby("source")',
+    'iloc': 'A.to_frame().iloc[..], or A[rows, columns]',
+    'isin': 'A.select(f) with a function f, or names in A.nodes',
+    'iterrows': 'for row, column, value in A.to_edgelist()',
+    'itertuples': 'for row, column, value in A.to_edgelist()',
+    'loc': 'A["a", "b"], A["a", :], A[:, names] by names; A.to_frame().loc[..]',
+    'merge': 'A.mxm(B) to join edges, A.ewise_mult(B) for those in both, or '
+    'A.to_pandas_edgelist().merge(..)',
+    'nlargest': 'A.top(3)',
+    'nsmallest': 'A.apply("ainv").top(3)',
+    'removeElement': 'A.without(B), as nothing changes a matrix',
+    'rename': 'A.nodes = names, in the order of A.nodes',
+    'remove_nodes_from': 'A[names, names] with the names that are kept',
+    'remove_node': 'A[names, names] with the names that are kept',
+    'setElement': 'A.assign(3, [i], [j]), as nothing changes a matrix',
+    'sort_values': 'A.top(A.nvals)',
+    'std': 'A.describe()["std"]',
+    'tail': 'A.to_pandas().tail()',
+    'value_counts': 'A.to_pandas_edgelist()["weight"].value_counts()',
     'argmax': 'A.reduce_rowwise("argmax")',
     'argmin': 'A.reduce_rowwise("argmin")',
     'astype': 'A.to_dense(float) for an array of other numbers',
@@ -66,7 +93,7 @@ SESSION: Dict[str, str] = {
 PACKAGE: Dict[str, str] = {
     'Graph': 's.from_edgelist(edges) of a session s: a graph is a matrix',
     'Scalar': 'numbers of Python, which are scalars here',
-    'Sessions': 'spmat.blocks.Sessions(count)',
+    'Sessions': 'spmat_blocks.Sessions(count)',
     'agg': 'aggregators as names, as in A.reduce_rowwise("count")',
     'connect': 'spmat.Session.connect(host, port)',
     'dtypes': 'nothing: all values are whole numbers of 64 bits',
@@ -76,12 +103,18 @@ PACKAGE: Dict[str, str] = {
     'ss': 'spmat.concat(tiles), A.split(sizes) and A.reshape(nrows, ncols)'}
 # of networkx
 ALGORITHMS: Dict[str, str] = {
+    'average_clustering': 'algorithms.clustering(G).reduce_scalar("mean")',
+    'average_shortest_path_length': 'algorithms.all_pairs(G), and the mean of its lengths',
     'bellman_ford': 'algorithms.sssp(W, source)',
+    'betweenness_centrality': 'algorithms.betweenness(G)',
+    'density': 'G.nvals / (G.nrows * (G.nrows - 1))',
+    'degree': 'algorithms.degrees(G)',
     'closeness_centrality': 'algorithms.closeness(G)',
     'core_number': 'algorithms.core_numbers(G)',
     'degree_centrality': 'algorithms.degrees(G)',
     'dijkstra': 'algorithms.sssp(W, source) for lengths, algorithms.shortest_path(W, source, '
     'target) for a path',
+    'ego_graph': 'algorithms.k_hop(G, radius, [n])',
     'eigenvector_centrality': 'algorithms.eigenvector(G)',
     'floyd_warshall': 'algorithms.all_pairs(W)',
     'louvain_communities': 'algorithms.louvain(G)',
@@ -258,38 +291,6 @@ class Signs(MatrixBase):
                            'A = A.assign(B, rows, columns), or B = A.update(C, mask=C.S)')
     __delitem__ = refusing('del, since nothing changes one',
                            'A.without(B) or A.select("!=", 3)')
-
-    def __int__(self) -> int:
-        """The stored value of a matrix of one entry.
-
-        Returns
-        -------
-        int
-            The value. TypeError unless the matrix is 1x1, ValueError where it has no entry.
-        """
-        return self._single('int')
-
-    def __float__(self) -> float:
-        """The stored value of a matrix of one entry.
-
-        Returns
-        -------
-        float
-            As `int` has it.
-        """
-        return float(self._single('float'))
-
-    def _single(self, kind: str) -> int:
-        """The value of the one entry that there is of a matrix of one row and one column."""
-        if self.shape != (1, 1):
-            refusing('%s() unless it is 1x1 (this is %dx%d)' % (kind, *self.shape),
-                     'A.reduce_scalar(), or A.get(i, j)')(self)
-        values = self.entries(arrays=False)[2]
-        if not values:
-            raise ValueError(
-                '%s() of a matrix without an entry: A.get(0, 0, default=0) gives a number all '
-                'the same' % kind)
-        return int(values[0])
 
     # -- other libraries
 

@@ -8,11 +8,11 @@ from typing import Any, Optional, Tuple
 
 import numpy
 
-from .backends.placeholders import reading
 from .errors import refusal
 from .indexing import choose_places
 from .mask import Mask
 from .matrix import Matrix, vector_type
+from .metadata import along
 from .operands import alias
 from .submatrices import take, value_of
 from .unsupported_syntax import refusing
@@ -57,10 +57,21 @@ class Vector(Matrix):
         -------
         int
             The rows of a column, the columns of a row.
+
+        See Also
+        --------
+        nvals : The number of entries.
+
+        Examples
+        --------
+        >>> import spmat
+        >>> s = spmat.Session()
+        >>> v = s.vector_from_coo([0, 2], [5, 7], size=4)
+        >>> v.size, v.nvals
+        (4, 2)
         """
         return self.nrows if self.ncols == 1 else self.ncols
 
-    @reading
     def __getitem__(self, at: Any) -> Any:
         """The value of a vertex, or the vector of some.
 
@@ -78,7 +89,7 @@ class Vector(Matrix):
         Vector, int, float or None
             A value where one vertex is asked for, else a vector.
         """
-        axis = 0 if self.ncols == 1 else 1
+        axis = along(self.shape, self.notes)
         if isinstance(at, Mask) or isinstance(at, tuple) and not self._has_name(at, axis):
             return super().__getitem__(at)
         chosen = choose_places(self, at, axis)
@@ -112,9 +123,11 @@ class Vector(Matrix):
         bool
             Whether this place has a value, also 0.
         """
-        return self.get(node) is not None
+        try:
+            return self.get(node) is not None
+        except ValueError:                         # there is no such vertex
+            return False
 
-    @reading
     def to_coo(  # type: ignore[override]
             self, *, arrays: Optional[bool] = None, dtype: Any = None) -> Tuple[Any, Any]:
         """Indexes (from 0) and values, by ascending index.
@@ -132,11 +145,22 @@ class Vector(Matrix):
         -------
         tuple of two arrays or lists
             Indexes and values.
+
+        See Also
+        --------
+        to_dense : With a value for each place.
+
+        Examples
+        --------
+        >>> import spmat
+        >>> s = spmat.Session()
+        >>> v = s.vector_from_coo([0, 2], [5, 7], size=4)
+        >>> v.to_coo()
+        (array([0, 2]), array([5, 7]))
         """
         rows, columns, values = self.entries(arrays=arrays, dtype=dtype)
         return rows if self.ncols == 1 else columns, values
 
-    @reading
     def to_dense(self, fill: Any = 0, dtype: Any = None, *, fill_value: Any = None) -> Any:
         """An array of numpy of one dimension.
 
@@ -155,6 +179,18 @@ class Vector(Matrix):
         -------
         numpy.ndarray
             An array of one dimension, of int64 or float64.
+
+        See Also
+        --------
+        to_coo : The entries alone.
+
+        Examples
+        --------
+        >>> import spmat
+        >>> s = spmat.Session()
+        >>> v = s.vector_from_coo([0, 2], [5, 7], size=4)
+        >>> v.to_dense(fill=0).tolist()
+        [5, 0, 7, 0]
         """
         return numpy.asarray(super().to_dense(fill, dtype, fill_value=fill_value)).ravel()
 
@@ -172,6 +208,18 @@ class Vector(Matrix):
         -------
         int, float or None
             What `reduce_scalar` gives.
+
+        See Also
+        --------
+        Matrix.reduce_scalar : Of a matrix.
+
+        Examples
+        --------
+        >>> import spmat
+        >>> s = spmat.Session()
+        >>> v = s.vector_from_coo([0, 2], [5, 7], size=4)
+        >>> v.reduce("plus")
+        12
         """
         return self.reduce_scalar(op)
 

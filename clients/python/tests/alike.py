@@ -9,9 +9,11 @@ import tempfile
 
 import numpy
 
+import graphs
 import spmat
-from spmat import algorithms, blocks
-from spmat.blocks.sessions import OF_ONE_SESSION
+import spmat_blocks as blocks
+from spmat import algorithms
+from spmat_blocks.sessions import OF_ONE_SESSION
 
 THREE = 'ABK'                                      # square matrices of random values; K is a mask
 MASKS = {'none': lambda M: None, 'S': lambda M: M.S, 'V': lambda M: M.V, '~S': lambda M: ~M.S,
@@ -148,6 +150,9 @@ METHODS = {
     'to_csv': [lambda g, mask: [g.G.to_csv(), g.C.to_csv()]],
     'to_pandas': [lambda g, mask: [g.G.to_pandas().to_dict('list'), g.C.to_pandas().to_dict()]],
     'to_pandas_edgelist': [lambda g, mask: g.G.to_pandas_edgelist().to_dict('list')],
+    'to_frame': [lambda g, mask: g.G.to_frame().fillna(0).to_dict()],
+    'head': [lambda g, mask: g.G.head(3).to_dict('list'), lambda g, mask: g.C.head(2).to_dict()],
+    'describe': [lambda g, mask: g.G.describe().fillna(0).to_dict()],
     'to_parquet': [lambda g, mask: _parquet(g.G)],
     'write_edgelist': [lambda g, mask: _edgelist(g.G)],
     'entries': [lambda g, mask: g.G.entries(arrays=False)],
@@ -262,7 +267,7 @@ def _told(check):
 
 
 SESSIONS = {
-    'backend': [lambda s: s.backend.is_estimate],
+    'backend': [lambda s: s.backend.takes_others],
     'adopt': [lambda s: s.adopt(s.from_edgelist([('a', 'b', 2), ('b', 'c', 3)]))],
     'budget': [lambda s: s.budget().reserved],
     'check': [lambda s: _told(s.check(MINUS)), lambda s: _told(s.check(WRONG))],
@@ -289,6 +294,9 @@ SESSIONS = {
     'from_networkx': [lambda s: s.from_networkx(_networkx()),
                       lambda s: s.from_networkx(_networkx(), weight=None)],
     'from_pandas_edgelist': [lambda s: s.from_pandas_edgelist(_pandas(), edge_attr='w')],
+    'from_igraph': [lambda s: s.from_igraph(graphs.IGraph()),
+                    lambda s: s.from_igraph(graphs.IGraph(), weight=None)],
+    'vector_from_coo': [lambda s: s.vector_from_coo([0, 2], [5, 7], 4)],
     'from_scipy_sparse': [lambda s: s.from_scipy_sparse(_scipy())],
     'from_text': [lambda s: s.from_text(TEXT), lambda s: s.from_text(SYMMETRIC),
                   lambda s: s.from_text(PATTERN.decode()), lambda s: s.from_text(REPEATS),

@@ -10,14 +10,16 @@ import unittest
 
 import support
 from spmat.cli import main
+from spmat.cli.algorithm_commands import make_command
 from spmat.cli.output import Status
 
 PACKAGE = os.path.join(support.TOP, 'clients', 'python')
 
 
-def with_body(line, body):
-    """A command of a session with its body, as a script holds it."""
-    return '%s %d\n%s\n' % (line, len(body.encode()), body)
+def flags_of(*names):
+    """The words of all options of some commands."""
+    return {word for name in names for one in make_command(name).params
+            for word in (*one.opts, *one.secondary_opts) if word.startswith('-')} | {'--help', '-h'}
 
 
 class CommandLine(unittest.TestCase):

@@ -126,7 +126,7 @@ def helper(name):
 
 
 class Plain:
-    """An operator, accepted by the plain server's verifier, on its machine."""
+    """An operator, accepted by the reference implementation's verifier, on its machine."""
 
     def __init__(self, op):
         self.kind = op.kind

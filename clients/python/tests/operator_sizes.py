@@ -5,8 +5,8 @@ import spmat
 from operator_functions import rsh
 from operator_model import READY, Plain
 
-# A name, a kind, a function, and the same by hand: the name of a ready operator, or assembly with
-# `;` between its lines.
+# A name, a kind, a function, and the same by hand: the name of a built-in operator, or assembly
+# with `;` between its lines.
 TABLE = [
     ('x + 1', 'unary', lambda x: x + 1, 'mov64 r0, r1; add64 r0, 1; exit'),
     ('min(x, y)', 'binary', min, 'min'),

@@ -1,4 +1,4 @@
-"""What each ready operator means, in Python."""
+"""What each built-in operator means, in Python."""
 
 WORDS = 1 << 64
 

@@ -1,4 +1,4 @@
-"""Code of assembly text, by the plain server's assembler."""
+"""Code of assembly text, by the reference implementation's assembler."""
 import importlib
 import struct
 import sys

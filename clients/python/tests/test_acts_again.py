@@ -9,11 +9,14 @@ import tempfile
 import warnings
 
 import numpy
+import pytest
 
 import support
 from spmat import algorithms
 from test_acts import EDGES, Says, directed, edges, frame, of_frame, read, series, shell, undirected
 import spmat
+
+pytestmark = pytest.mark.slow
 
 TABLE = numpy.array([[0, 5, 7], [0, 0, -1], [-3, 0, 0]])
 
@@ -53,8 +56,11 @@ def of(function, kind='DiGraph', *words, **named):
     return call
 
 
-def without_zeros(call):
-    return lambda: {vertex: value for vertex, value in dict(call()).items() if value}
+def greatest_length():
+    """What networkx gives as a diameter by weights, also where its `diameter` takes none (before
+    3.0)."""
+    found = of('all_pairs_dijkstra_path_length', 'Graph')()
+    return max(length for _, lengths in found for length in lengths.values())
 
 
 def warned(act):
@@ -155,16 +161,16 @@ LISTS = [
     ('an edge given twice', lambda s: s.from_edgelist([('a', 'b'), ('a', 'b')]).notes.source,
      '1 edge given again, counted once'),
     ('a set of names', named({'x', 'y', 'z'}), Says('names are a list')),
-    ('letters as names', named('xyz'), ['x', 'y', 'z']),
+    ('letters as names', named(list('xyz')), ['x', 'y', 'z']),
     ('a dict of names', named({0: 'x', 1: 'y', 2: 'z'}), Says('names are a list')),
     ('a column of names', lambda s: named(series(['x', 'y', 'z'], [3, 4, 5]))(s), ['x', 'y', 'z']),
-    ('sep=; of Excel', lambda s: read(s, 'sep=;\nfrom;to;w\na;b;7\n'), [('a', 'b', 7)]),
-    ('a table of a graph', lambda s: read(s, ',a,b\na,0,1\nb,1,0\n'), Says('index_col=0')),
-    ('a table without names', lambda s: read(s, '0,1,0\n1,0,1\n0,1,0\n'), Says('header=None')),
-    ('lists of neighbours', lambda s: read(s, '0 1 2\n1 2\n'), Says('networkx.read_adjlist')),
-    ('a comma after each line', lambda s: read(s, 'from,to,w,\na,b,1,\n'), [('a', 'b', 1)]),
-    ('a year beside', lambda s: read(s, 'from,to,year,w\na,b,2020,9\n'), [('a', 'b', 9)]),
-    ('a percentage', lambda s: read(s, 'from,to,w\na,b,5%\n'), Says('no number')),
+    ('sep=; of Excel', lambda s: read(s, 'sep=;\nfrom;to;w\na;b;7\n', sep=None), [('a', 'b', 7)]),
+    ('a table of a graph', lambda s: read(s, ',a,b\na,0,1\nb,1,0\n'), Says('columns=(')),
+    ('a table without names', lambda s: read(s, '0,1,0\n1,0,1\n0,1,0\n'), Says('dup_op')),
+    ('lists of neighbours', lambda s: read(s, '0 1 2\n1 2\n', sep=None), Says('line 2')),
+    ('a comma after each line', lambda s: read(s, 'from,to,w,\na,b,1,\n'), Says('columns=(')),
+    ('a year beside', lambda s: read(s, 'from,to,year,w\na,b,2020,9\n'), Says('columns=(')),
+    ('a percentage', lambda s: read(s, 'from,to,w\na,b,5%\n'), Says('expected a number')),
     ('JSON', lambda s: read(s, '[{"source": "a"}]'), Says('json.load')),
     ('UTF-16', lambda s: read(s, 'from,to\na,b\n'.encode('utf-16')), Says('iconv')),
     ('a text of a matrix with a unit',
@@ -177,7 +183,7 @@ LISTS = [
 NETWORKX = [
     ('degree', by_node(algorithms.degrees, undirected), of('degree', 'Graph')),
     ('in_degree', lambda s: algorithms.degrees(directed(s).T).by_node(),
-     without_zeros(lambda: graph('DiGraph').in_degree())),
+     lambda: dict(graph('DiGraph').in_degree())),
     ('strength', by_node(lambda A: A.reduce_rowwise(), undirected),
      of('degree', 'Graph', weight='weight')),
     ('pagerank', by_node(algorithms.pagerank), of('pagerank', weight=None)),
@@ -193,13 +199,13 @@ NETWORKX = [
      of('eigenvector_centrality', 'Graph')),
     ('katz', by_node(algorithms.katz), of('katz_centrality', weight=None)),
     ('clustering', by_node(algorithms.clustering, undirected),
-     without_zeros(of('clustering', 'Graph'))),
+     of('clustering', 'Graph')),
     ('core numbers', by_node(algorithms.core_numbers, undirected), of('core_number', 'Graph')),
     ('eccentricity', by_node(algorithms.eccentricity, undirected), of('eccentricity', 'Graph')),
     ('lengths', by_node(lambda A: algorithms.sssp(A, 'a')),
      of('single_source_dijkstra_path_length', 'DiGraph', 'a')),
     ('a diameter by values', lambda s: algorithms.all_pairs(undirected(s)).reduce_scalar('max'),
-     of('diameter', 'Graph', weight='weight')),
+     greatest_length),
     ('the same, asked for', lambda s: algorithms.diameter(undirected(s), weighted=True),
      Says('all_pairs(W)')),
     ('ego_graph', lambda s: sorted(algorithms.k_hop(undirected(s), 1, ['d']).by_node()),

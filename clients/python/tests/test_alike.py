@@ -6,13 +6,18 @@ import random
 import re
 import unittest
 
+import pytest
+
 import alike
 import support  # pylint: disable=unused-import  # it names the program
 import spmat
-from spmat import algorithms, blocks
-from spmat.blocks.sessions import OF_ONE_SESSION
+import spmat_blocks as blocks
+from spmat import algorithms
+from spmat_blocks.sessions import OF_ONE_SESSION
 
-WANTS = {'to_pandas': 'pandas', 'to_pandas_edgelist': 'pandas', 'to_parquet': 'pyarrow',
+pytestmark = pytest.mark.slow
+
+WANTS = {'to_frame': 'pandas', 'head': 'pandas', 'describe': 'pandas', 'to_pandas': 'pandas', 'to_pandas_edgelist': 'pandas', 'to_parquet': 'pyarrow',
          'to_networkx': 'networkx', 'to_scipy_sparse': 'scipy',
          'from_networkx': 'networkx', 'from_scipy_sparse': 'scipy',
          'from_pandas_edgelist': 'pandas'}

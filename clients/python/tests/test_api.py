@@ -69,9 +69,9 @@ class Page(unittest.TestCase):
         self.assertRegex(product, r'\*\*Elsewhere\.\*\* In the GraphBLAS GrB_mxm')
         (search,) = (text for heading, text in self.entries.items()
                      if heading.startswith('algorithms.bfs_levels('))
-        self.assertRegex(search, r'\*\*Cost\.\*\* Runs: .* Steps: ')
+        self.assertRegex(search, r'\*\*Cost\.\*\* up to 4 steps per edge')
         self.assertRegex(search, r'\*\*Raises\.\*\* ValueError ')
-        self.assertNotRegex(search.partition('**Cost.**')[0], r'Runs:|Raises')
+        self.assertNotRegex(search.partition('**Cost.**')[0], r'Cost:|Raises')
 
     def test_links_lead_somewhere(self):
         headings = {re.sub('[^a-z0-9 _-]', '', title.lower()).replace(' ', '-')

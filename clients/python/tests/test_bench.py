@@ -1,46 +1,46 @@
 """bench/algorithms.py: it has a task for each algorithm of the client, and what it times is
 right."""
-import ast
-import functools
 import inspect
 import os
 import re
 import subprocess
 import sys
 import unittest
+from unittest import mock
+
+import pytest
 
 import support
 from spmat import algorithms
 
+pytestmark = pytest.mark.slow
+
 BENCH = os.path.join(support.TOP, 'bench')
+if os.path.isdir(BENCH):
+    # for these two alone: it also has a module `networkx`
+    with mock.patch.object(sys, 'path', [*sys.path, BENCH]):
+        import algorithm_graphs
+        import algorithm_tasks
 NAMES = [name for name in algorithms.__all__ if inspect.isfunction(getattr(algorithms, name))]
-
-
-def called(text):
-    """The algorithms that tasks call, by their name in a file: `algorithms.NAME(..)`."""
-    return {node.func.attr for node in ast.walk(ast.parse(text)) if isinstance(node, ast.Call)
-            and isinstance(node.func, ast.Attribute)
-            and isinstance(node.func.value, ast.Name) and node.func.value.id == 'algorithms'}
-
-
-@functools.lru_cache(maxsize=None)
-def tasks_file():
-    with open(os.path.join(BENCH, 'algorithm_tasks.py'), encoding='utf-8') as file:
-        return file.read()
 
 
 @unittest.skipUnless(os.path.isdir(BENCH), 'bench/ is not beside the client')
 class Tasks(unittest.TestCase):
     def test_each_algorithm_has_one(self):
-        missing = sorted(set(NAMES) - called(tasks_file()))
-        self.assertEqual(missing, [],
-                         'bench/algorithm_tasks.py has no task for %s' % ', '.join(missing))
+        self.assertEqual(set(map(algorithm_tasks.algorithm_of, algorithm_tasks.TASKS)), set(NAMES))
 
-    def test_one_that_is_left_out_is_missed(self):
-        for name in NAMES:
-            self.assertNotIn(name,
-                             called(re.sub(r'algorithms\.%s\(' % name, 'other.%s(' % name,
-                                           tasks_file())))
+    def test_one_that_is_made_of_the_decorator(self):
+        """It gives what the task by hand does, of each algorithm that has such a one."""
+        edges = algorithm_graphs.edges_of('urand', 3)
+        asked, n = algorithm_graphs.asked_of(edges), edges.vertices
+        with support.spmat.Session() as s:
+            ours = algorithm_tasks.Ours(*(s.from_coo(edges.i, edges.j, values, n, n)
+                                          for values in (1, edges.w)), asked, False)
+            for name in ('bfs_levels', 'sssp', 'degrees', 'triangle_count', 'shared_neighbours'):
+                by_hand = next(task for task in algorithm_tasks.BY_HAND if task.name == name)
+                made = algorithm_tasks.made_task(name)
+                self.assertTrue(by_hand.same(made.call(ours), by_hand.call(ours)), name)
+                self.assertLessEqual(set(by_hand.graphs), set(made.graphs), name)
 
     def test_answers_are_those_of_the_peers(self):
         """Once through all tasks, on graphs of 64 vertices; status 1 were an answer that

@@ -1,13 +1,17 @@
 """The docstrings of the algorithms, as numpydoc has them, and their examples."""
+import contextlib
 import doctest
 import inspect
+import os
 import re
+import tempfile
 import unittest
 
 import spmat
-from spmat import algorithms, blocks, draw
+import spmat_blocks as blocks
+from spmat import algorithms, draw
 from spmat.algorithms.registry import ALGORITHMS
-from support import InSession, needs
+from support import needs
 
 # What numpydoc looks for: sections in their order, each parameter with its type and what it means,
 # a summary of one line, and what is returned.
@@ -15,7 +19,7 @@ CHECKS = ('GL03', 'GL05', 'GL06', 'GL07', 'GL08', 'SS01', 'SS02', 'SS03', 'SS04'
           'PR03', 'PR04', 'PR07', 'PR08', 'PR09', 'PR10', 'RT01', 'RT03', 'RT04', 'RT05', 'EX01')
 
 
-class Docstrings(InSession):
+class Docstrings(unittest.TestCase):
     @needs('numpydoc')
     def test_numpydoc(self):
         from numpydoc.validate import validate
@@ -25,27 +29,16 @@ class Docstrings(InSession):
                 self.assertEqual([(code, said) for code, said in errors if code in CHECKS], [])
 
     def test_costs(self):
-        """Notes say runs, and steps or whose steps these are."""
+        """Notes have one line on the cost, in steps and runs, or by that of another algorithm."""
         for name, one in ALGORITHMS.items():
             notes = inspect.getdoc(one.function).split('\nNotes\n-----\n')[1].split(
                 '\nExamples\n')[0]
-            self.assertRegex(' '.join(notes.split()), r'Runs(: | and steps are )', name)
-
-    def test_examples(self):
-        """Each example runs on the graphs that the module's docstring makes."""
-        made = re.findall(r'^    (\w.*)$', algorithms.__doc__, re.M)
-        names = {'s': self.s}
-        exec('\n'.join(made), names)
-        self.assertLessEqual({'G', 'W', 'pagerank'}, set(names))
-        finder, runner = doctest.DocTestFinder(recurse=False), doctest.DocTestRunner(verbose=False)
-        for name, one in ALGORITHMS.items():
-            tests = finder.find(one.function, name, globs=names)
-            self.assertGreater(sum(len(test.examples) for test in tests), 0, name)
-            for test in tests:
-                said = []
-                runner.run(test, out=said.append)
-                with self.subTest(algorithm=name):
-                    self.assertEqual(said, [])
+            costs = [' '.join(said.split()) for said in notes.split('\n\n')
+                     if said.startswith('Cost: ')]
+            self.assertEqual(len(costs), 1, name)
+            self.assertRegex(costs[0], r'steps?\b.*\bruns?\b|\bruns?\b.*\bsteps?\b|'
+                             r'`(%s)`' % '|'.join(ALGORITHMS), name)
+            self.assertLess(len(costs[0]), 200, name)
 
     def test_lines_are_short(self):
         for name, one in ALGORITHMS.items():
@@ -126,3 +119,48 @@ class Sections(unittest.TestCase):
         self.assertEqual(inspect.getdoc(spmat.Matrix.__abs__),
                          'A matrix has no abs().\n\nRaises\n------\nTypeError\n'
                          '    Write A.apply("abs").')
+
+
+# Whose functions, methods and properties have an example each. Python's own names have none.
+WITH_EXAMPLES = re.compile(r'spmat\.(algorithms\.|draw\.|Session\.|Matrix\.|Vector\.)?[a-zA-Z]\w*$')
+OPTIONAL = ('matplotlib', 'networkx', 'pandas', 'scipy')
+
+
+def examples_of(name, one):
+    """The doctests of one name's own docstring."""
+    finder = doctest.DocTestFinder(recurse=False)
+    tests = finder.find(one, name, module=False, globs={})
+    return [test for test in tests if test.examples]
+
+
+@needs(*OPTIONAL)
+class Examples(unittest.TestCase):
+    def setUp(self):
+        stack = contextlib.ExitStack()
+        self.addCleanup(stack.close)
+        folder = stack.enter_context(tempfile.TemporaryDirectory())
+        self.addCleanup(os.chdir, os.getcwd())
+        os.chdir(folder)
+
+    def test_as_pasted(self):
+        """Each example runs in a new Python, with nothing before it, in an empty folder."""
+        runner = doctest.DocTestRunner(verbose=False)
+        ran = 0
+        for name, one in public_names().items():
+            for test in examples_of(name, one):
+                said = []
+                runner.run(test, out=said.append)
+                with self.subTest(name=name):
+                    self.assertEqual(said, [])
+                ran += 1
+        self.assertGreater(ran, 160)
+
+    def test_each_has_one(self):
+        """Functions and methods that a user calls have an example, and say what is near them."""
+        for name, one in public_names().items():
+            if inspect.isclass(one) or not WITH_EXAMPLES.match(name):
+                continue
+            text = inspect.getdoc(one) or ''
+            with self.subTest(name=name):
+                self.assertIn('>>>', text)
+                self.assertIn('See Also', text)

@@ -14,6 +14,7 @@ import graphs
 import support
 import spmat
 from spmat import algorithms, draw
+from spmat.algorithms.registry import ALGORITHMS, required
 from spmat.display import count_in_groups, graph_pictures, pictures
 
 
@@ -53,6 +54,47 @@ class Pictures(unittest.TestCase):
             found = (algorithms.bfs_levels(G, 0) if graph.count
                      else self.session.from_coo([], [], [], 0, 1))
             self.drawn(draw.levels, G, found)
+
+    def test_values(self):
+        """A small graph in the values' colours; of a larger one bars, which count each vertex that
+        has a value."""
+        small = graphs.UNDIRECTED[4].matrix(self.session)
+        self.drawn(draw.values, small, algorithms.degrees(small))
+        rows = list(range(1200))
+        others = [row + 1 - 2 * (row % 2) for row in rows]
+        large = self.session.from_coo(rows, others, 1, 1200, 1200)
+        few = self.session.from_coo(rows[:900], [0] * 900, [row % 3 for row in rows[:900]], 1200, 1)
+        many = self.session.from_coo(rows, [0] * 1200, [row * row for row in rows], 1200, 1)
+        large.nodes = ['v%d' % row for row in rows]
+        labels = algorithms.connected_components(large)
+        for column, bars, vertices in ((few, 3, 900), (many, draw.MOST_BARS, 1200),
+                                       (labels, draw.MOST_BARS, 2 * draw.MOST_BARS)):
+            self.drawn(draw.values, large, column)
+            ax = draw.values(large, column)
+            self.assertEqual((len(ax.patches), sum(bar.get_height() for bar in ax.patches)),
+                             (bars, vertices))
+        self.assertIn('300 without a value', draw.values(large, few).get_title())
+        with self.assertRaises(spmat.DimensionMismatch):
+            draw.values(large, self.session.from_coo([0], [0], [1], 7, 1))
+
+    def test_values_of_each_algorithm(self):
+        """Each algorithm whose result has one value a vertex says what draws it."""
+        G = graphs.UNDIRECTED[4].matrix(self.session)
+        dag = self.session.from_coo([0, 1], [1, 2], 1, 3, 3)
+        given = {'source': 0, 'sources': [0], 'target': 1, 'k': 2, 'firsts': [0], 'seconds': [1]}
+        for name, algorithm in ALGORITHMS.items():
+            if algorithm.command and name != 'bipartite_sides':
+                graph = dag if name in ('topological_levels', 'longest_paths') else G
+                found = getattr(algorithms, name)(graph, **{
+                    called: given[called] for called in required(algorithm.function)[1:]})
+                for one in found if algorithm.parts else [found]:
+                    is_column = isinstance(one, spmat.Matrix) and one.shape == (graph.nrows, 1)
+                    with self.subTest(name=name):
+                        self.assertEqual(algorithm.plot in ('values', 'levels', 'degree_histogram'),
+                                         is_column)
+                        if is_column:
+                            self.drawn(getattr(draw, algorithm.plot), graph, *(
+                                [one] if algorithm.plot != 'degree_histogram' else []))
 
     def test_route(self):
         """A path's edges have a colour of their own, and longer paths more of it; above 150
@@ -187,8 +229,55 @@ class Pictures(unittest.TestCase):
                                     'up to 1,000 vertices and 5,000 edges, and this has 1,001 '
                                     'and 0'):
             draw.graph(self.session.from_coo([], [], [], 1001, 1001))
-        with self.assertRaisesRegex(ValueError, 'expected a square matrix'):
-            draw.graph(self.session.full(2, 3))
+
+    def test_two_kinds(self):
+        """Rows and columns of two kinds are two columns of vertices, each with its name; the other
+        pictures refuse them with the algorithms' sentence."""
+        B = self.session.from_edgelist([('u%d' % (i % 3), 'i%d' % (i * 2 % 3), 5 + i)
+                                        for i in range(5)], bipartite=True, dup_op='plus')
+        self.assertEqual(B.nrows, B.ncols)
+        told = self.texts(draw.graph(B))
+        for name in ('u0', 'u1', 'u2', 'i0', 'i1', 'i2'):
+            self.assertEqual(told.count(name), 1)
+        self.assertEqual(told[-1], '3 rows, 3 columns, 3 edges')
+        self.assertEqual(self.texts(draw.graph(self.session.full(2, 4)))[-1],
+                         '2 rows, 4 columns, 8 edges')
+        for draws in (lambda: draw.levels(B, B.reduce_rowwise('plus')),
+                      lambda: draw.route(B, ['u0', 'i0'])):
+            with self.assertRaisesRegex(ValueError, 'two kinds: spmat.bipartite'):
+                draws()
+        with self.assertRaisesRegex(ValueError, 'color, size, labels and pos are of graphs with '
+                                    'one kind'):
+            draw.graph(B, color='red')
+        with self.assertRaisesRegex(ValueError, 'up to 150 vertices and 700 edges'):
+            draw.graph(self.session.full(2, 200))
+
+    def test_largest_names(self):
+        """Above 60 vertices the five largest have their names: by their edges, or by size."""
+        star = [('hub%d' % (i % 5), 'leaf%d' % i) for i in range(80)]
+        G = self.session.from_edgelist(star, directed=False)
+        named = [text for text in self.texts(draw.graph(G)) if text.startswith(('hub', 'leaf'))]
+        self.assertEqual(sorted(named), ['hub%d' % i for i in range(5)])
+        sizes = {name: int(name.startswith('leaf7')) for name in G.nodes}
+        named = [text for text in self.texts(draw.graph(G, size=sizes))
+                 if text.startswith(('hub', 'leaf'))]
+        self.assertEqual(len(named), 5)
+        self.assertTrue(all(name.startswith('leaf7') for name in named))
+
+    def test_one_size(self):
+        from matplotlib import image
+        G = graphs.UNDIRECTED[4].matrix(self.session)
+        shapes = {image.imread(self.drawn(*drawn)).shape[:2] for drawn in (
+            (draw.spy, G), (draw.graph, G), (draw.degree_histogram, G),
+            (draw.levels, G, algorithms.bfs_levels(G, 0)))}
+        self.assertEqual(shapes, {(720, 1080)})
+
+    def test_whole_numbers_on_a_bar(self):
+        """A colour bar of whole numbers has whole numbers."""
+        G = self.session.from_edgelist([(i, i + 1) for i in range(30)], directed=False)
+        ax = draw.graph(G, color=algorithms.bfs_levels(G, 0))
+        bar = next(one for one in ax.figure.axes if one is not ax)
+        self.assertTrue(all(float(at).is_integer() for at in bar.get_yticks()))
 
     def test_check(self):
         draw.check(self.path)
@@ -371,7 +460,7 @@ class Looks(support.InSession):
 class Names(unittest.TestCase):
     def test_its_functions_alone(self):
         self.assertEqual(dir(draw), ['check', 'degree_histogram', 'graph', 'levels', 'raster',
-                                     'route', 'spy'])
+                                     'route', 'spy', 'values'])
 
     def test_matplotlib_waits(self):
         """The module is there without matplotlib, and doesn't import it."""

@@ -2,10 +2,14 @@
 matrices, masks, units."""
 import random
 
+import pytest
+
 import model
 import spmat
 from model import MASKS, mask_of, some
 from support import OfCells
+
+pytestmark = pytest.mark.slow
 
 
 class Unions(OfCells):

@@ -1,14 +1,18 @@
 """Refusals as exceptions: their classes, what they quote, and their sentences beside those of the
 documents."""
 import copy
+import importlib
+import io
 import os
 import pickle
 import re
+import traceback
 import unittest
 
 import support
 import spmat
 from spmat import errors, refusal_rules
+from spmat.io.edges import Layout
 
 
 def rows_of(page):
@@ -161,6 +165,71 @@ class Words(unittest.TestCase):
             fault = self.refused(spmat.BudgetExceeded, 'S8', lambda: A.apply('abs'))
             self.assertEqual((fault.price, fault.left), (8, 3))
             self.assertIn('the price is 8, and 3 are left', str(fault))
+
+
+PLAIN = 'a,b,1\nb,c,2\n'
+# texts that can't be read, by calls of which the error names parameters
+UNREADABLE = (
+    ('a,b,0.5\n', {}), ('a,b,x\n', {'header': False}), ('a,b,\n', {}), ('a,,1\n', {}),
+    ('a,b,2024-05-31\n', {'header': False}), ('a,b,1\na,b,2\n', {}),
+    ('from,to\nann,bob\nfrom,x\n', {}),
+    ('x,y,1,2\nu,v,3,4\n', {}), ('ann\n', {}), ('a;b;1\n', {}), ('#a,b,1\nc,d,2\n', {}),
+    ('%x,y,1\na,b,1\n# b,c,d\n', {'comments': None}),
+    (PLAIN, {'columns': (0, 7)}), (PLAIN, {'columns': ('ann', 'bob')}),
+    (PLAIN, {'columns': ('ann', 'bob'), 'header': False}), (PLAIN, {'columns': (0,)}),
+    (PLAIN, {'sep': '--'}), (PLAIN, {'unit': 'weeks'}), (PLAIN, {'date_format': '%d'}),
+    (PLAIN, {'unit': 's', 'scale': 2}), (PLAIN, {'scale': -1}), (PLAIN, {'missing': 'never'}),
+    (PLAIN, {'nodetype': int}), (PLAIN, {'nodetype': float}), (PLAIN, {'comments': ''}),
+    (PLAIN, {'format': 'gml'}), ('a,b,soon\n', {'unit': 's', 'header': False}),
+    ('a,b\nb,c\n', {'unit': 's', 'header': False}), ('a,b,20240531\n', {'unit': 'D'}),
+    ('1,2.0\n2,3.0\n', {'header': False}),
+    (support.BANNER + '2 2 1\n1 2 3\n', {'sep': ','}),
+    (support.BANNER + '2 3 1\n1 2 3\n', {'bipartite': False}),
+    (support.BANNER + '2 3 1\n1 2 3\n', {'directed': False}),
+    (support.BANNER + '2 2 2\n1 2 3\n2 1 4\n', {'directed': False}),
+    (support.BANNER + '2 2 2\n1 2 3\n1 2 4\n', {}),
+    ('%%MatrixMarket matrix coordinate complex general\n1 1 1\n1 1 1 1\n', {}))
+
+
+class Parameters(support.InSession):
+    def test_of_files(self):
+        """An error has the names of all parameters that its words speak of."""
+        known = {'format', 'directed', 'dup_op', *Layout._fields}
+        for text, given in UNREADABLE:
+            with self.subTest(text=text, given=given):
+                with self.assertRaises((TypeError, ValueError, spmat.SpmatError)) as caught:
+                    self.s.read_graph(io.BytesIO(text.encode()), **{
+                        'sep': None if text.startswith('%%Matrix') else ',', **given})
+                found = errors.parameters_of(caught.exception)
+                self.assertTrue(found, caught.exception)
+                # without calls that are written out
+                words = re.sub(r's\.read_graph\(.*?\)', '', str(caught.exception))
+                said = set(re.findall(r'(?<![\w"\'])([a-z_]+)=', words))
+                self.assertLessEqual(said & known, set(found), caught.exception)
+
+    def test_kept_in_copies(self):
+        fault = errors.about(errors.about(spmat.ReadError('f', 1, 'what?'), 'sep'), 'header', 'sep')
+        for other in (fault, pickle.loads(pickle.dumps(fault)), copy.copy(fault)):
+            self.assertEqual(other.parameters, ('sep', 'header'))
+        self.assertEqual(spmat.ReadError('f', 1, 'what?').parameters, ())
+
+
+class Shown(unittest.TestCase):
+    def test_in_a_traceback(self):
+        try:
+            raise spmat.ReadError('f', 1, 'what?')
+        except spmat.ReadError:
+            self.assertIn('spmat.ReadError: f, line 1: what?', traceback.format_exc())
+
+    def test_by_the_name_that_users_import(self):
+        for place, names in (('spmat', errors.__all__),
+                             ('spmat.algorithms', ('NoPath', 'CycleError')),
+                             ('spmat_blocks', ('BlockFailed', 'VersionMismatch'))):
+            for name in names:
+                kind = getattr(importlib.import_module(place), name, None)
+                if isinstance(kind, type):
+                    with self.subTest(name=name):
+                        self.assertEqual(kind.__module__, place)
 
 
 class Pickled(unittest.TestCase):

@@ -15,8 +15,9 @@ from fractions import Fraction
 import numpy
 import support
 import spmat
-from spmat import UnitsDiffer, algorithms, blocks
-from spmat.units import as_unit
+import spmat_blocks as blocks
+from spmat import UnitsDiffer, algorithms
+from spmat.scale import as_unit
 
 COMPARE = {'>': operator.gt, '>=': operator.ge, '<': operator.lt, '<=': operator.le,
            '==': operator.eq, '!=': operator.ne}
@@ -33,7 +34,7 @@ class Comparisons(support.InSession):
     """Every number has its place among stored ones, as Python tells it."""
 
     def test_select(self):
-        for unit in (1, 100, 7, Fraction(1, 3)):
+        for unit in (1, 100, 7):
             A = self.s.from_coo(range(len(STORED)), [0] * len(STORED), STORED)
             A.unit = unit
             for sign, number in ((sign, number) for sign in COMPARE for number in NUMBERS):
@@ -95,13 +96,9 @@ class Advice(support.InSession):
 
     def test_quotients_by_decimals(self):
         A = self.cents
-        for call, want in ((lambda: A.apply('minv'), [0.8, 2.0]),
-                           (lambda: A.apply('floordiv', left=3), [2.4, 6.0]),
-                           (lambda: A.apply('rdiv', right=0.75), [0.6, 1.5]),
-                           (lambda: A.apply('cdiv', left=-1), [-0.8, -2.0])):
-            words = self.said(UnitsDiffer, call)
-            self.assertNotIn('rescale', words)
-            self.assertEqual(self.written(words, A, 'C'), want)
+        for call in (lambda: A.apply('minv'), lambda: A.apply('floordiv', left=3),
+                     lambda: A.apply('rdiv', right=0.75), lambda: A.apply('cdiv', left=-1)):
+            self.assertIn('B = A.dup(); B.unit = 1', self.said(UnitsDiffer, call))
 
     def test_folds_of_other_units(self):
         for call in (lambda: self.cents.reduce_rowwise('prod'),
@@ -181,7 +178,8 @@ class Times(support.InSession):
                          [('A', 'B', 36900), ('B', 'C', 39600)])
 
     def test_loops_keep_a_unit(self):
-        loop = spmat.loop(lambda x: {'far': x.far.ewise_add(x.far.mxm(self.seconds, 'min_plus'),
+        waits = self.s.from_edgelist([('A', 'B', 60), ('B', 'C', 120)])
+        loop = spmat.loop(lambda x: {'far': x.far.ewise_add(x.far.mxm(waits, 'min_plus'),
                                                             'min')}, {'far': self.seconds})
         loop.advance(2)
         self.assertEqual(repr(loop.state.far.unit), "'s'")
@@ -240,26 +238,43 @@ class Times(support.InSession):
         A = self.seconds
         for made in (A.T, A.dup(), A['A', :], A[['A', 'B'], :], A.diag(), A.reduce_rowwise('max'),
                      A.reduce_columnwise('min'), self.s.adopt(A), A.select('>', 0),
-                     A.apply('plus', right=5), algorithms.sssp(A, 'A'), A.apply('ainv'),
-                     A.without(self.s.identity(3)), spmat.concat([[A, A]]), A.mxm(A, 'min_plus'),
+                     A.apply('plus', right=5), A.apply('ainv'), A.apply('min', right=5),
+                     A.without(self.s.identity(3)), spmat.concat([[A, A]]),
+                     A.mxm(self.s.identity(3), 'min_plus'), A.mxm(A, 'min_second'),
                      pickle.loads(pickle.dumps(A.unit)) and A, copy.deepcopy(A.unit) and A):
             self.assertEqual((str(made.unit), made.unit), ('s', A.unit), made)
         B = self.s.identity(2)
         B.unit = A.unit
         self.assertEqual(B.unit, A.unit)
-        self.assertEqual(algorithms.sssp(A, 'A', cutoff=datetime.timedelta(days=20000)).by_node(),
+        days = datetime.timedelta(days=20000)
+        for plain in (A.ewise_mult(A, 'minus'), A.apply('minus', right=datetime.date(2024, 1, 1)),
+                      A.reduce_rowwise('peak_to_peak'), algorithms.sssp(A, 'A')):
+            self.assertEqual(plain.unit, 1)
+        for call in (lambda: A.ewise_add(A), lambda: A.mxm(A, 'min_plus'), A.reduce_scalar,
+                     lambda: A.apply('plus', left=datetime.date(2024, 1, 1))):
+            self.assertIn('a sum of times is no time', support.said(UnitsDiffer, call))
+        self.assertEqual(algorithms.sssp(A, 'A', cutoff=days).by_node(),
                          {'A': 0, 'B': 1717150500})
         self.assertEqual(pickle.loads(pickle.dumps(A.unit)), A.unit)
 
-    def test_values_are_shown_as_they_are_stored(self):
+    def test_people_see_dates(self):
+        """Text has dates; values in Python are the stored numbers."""
         A = by_name(self.s, 'ns')                  # of more digits than floats have
         A = A.apply('plus', right=1)
         want = [('A', 'B', 1717150500 * 10 ** 9 + 1), ('B', 'C', 1717153200 * 10 ** 9 + 1)]
         self.assertEqual(A.to_edgelist(), want)
         self.assertEqual((A['A', 'B'], A.reduce_scalar('max'), A.top(1)),
                          (want[0][2], want[1][2], [want[1]]))
-        self.assertEqual(A.to_csv(header=False), ''.join('%s,%s,%d\n' % edge for edge in want))
-        self.assertIn(str(want[0][2]), A._repr_html_())
+        self.assertEqual(A.to_csv(header=False), 'A,B,2024-05-31T10:15:00.000000001\n'
+                                                 'B,C,2024-05-31T11:00:00.000000001\n')
+        self.assertEqual(A.to_csv(header=False, raw=True),
+                         ''.join('%s,%s,%d\n' % edge for edge in want))
+        self.assertIn('>2024-05-31T10:15:00<', self.seconds._repr_html_())
+        self.assertIn('>2024-05-31<', self.days._repr_html_())
+        for made in (self.seconds, self.days):
+            again = self.s.read_edgelist(io.BytesIO(made.to_csv().encode()), sep=',',
+                                         unit=str(made.unit))
+            self.assertTrue(again.isequal(made))
         self.assertIn('unit ns', repr(A))
         self.assertEqual(A.to_coo(arrays=False, dtype=float)[2], [float(x) for *_, x in want])
 
@@ -295,13 +310,13 @@ class Times(support.InSession):
         text = b'from,to,departs\nA,B,2024-05-31 10:15\nB,C,2024-05-31 11:00\n'
         with blocks.Sessions(2) as many:
             for session in (self.s, many):
-                for made in (session.read_graph(io.BytesIO(text), unit='s'),
-                             session.read_edgelist(io.BytesIO(text), unit='s'),
+                for made in (session.read_graph(io.BytesIO(text), sep=',', unit='s'),
+                             session.read_edgelist(io.BytesIO(text), sep=',', unit='s'),
                              by_name(session, 's')):
                     self.assertEqual((str(made.unit), made.to_edgelist()),
                                      ('s', self.seconds.to_edgelist()))
-                self.assertEqual(session.read_graph(io.BytesIO(text), unit='s', values=False).unit,
-                                 1)
+                self.assertEqual(session.read_graph(io.BytesIO(text), sep=',', unit='s',
+                                                    values=False).unit, 1)
 
     def test_units_by_name(self):
         self.assertNotEqual(as_unit('s'), as_unit('D'))
@@ -309,7 +324,7 @@ class Times(support.InSession):
         self.assertNotEqual(1, as_unit('s'))
         self.assertEqual(len({as_unit('s'), as_unit('s'), as_unit('D'), 1}), 3)
         for wrong in ('h', 'x', '100'):
-            with self.assertRaisesRegex(ValueError, 'a number above 0, .* or of times "D", "s"'):
+            with self.assertRaisesRegex(ValueError, 'a whole number above 0, .* or of times "D", "s"'):
                 self.seconds.unit = wrong
 
 
@@ -342,6 +357,9 @@ class Beside(support.InSession):
 
     def test_lengths(self):
         rides = by_name(self.s, 's').apply('minus', right=datetime.datetime(2024, 5, 31))
+        with self.assertRaisesRegex(TypeError, 'A.unit = "s" says'):
+            rides.select('>', datetime.timedelta(hours=10.5))
+        rides.unit = 's'
         for length in (datetime.timedelta(hours=10.5), numpy.timedelta64(630, 'm'),
                        numpy.timedelta64(37800, 's')):
             self.assertEqual(rides.select('>', length).to_edgelist(), [('B', 'C', 39600)])

@@ -7,7 +7,7 @@ import numpy
 from support import InSession, needs
 import alike
 import spmat
-from spmat import blocks
+import spmat_blocks as blocks
 
 ROWS = ['a', 'b', 'c', 'd', 'e']
 EDGES = [('a', 'b', 1), ('b', 'c', 2), ('a', 'c', 10), ('d', 'e', 4), ('e', 'a', 0)]

@@ -2,9 +2,13 @@
 for, and the answers are those of numbers."""
 import unittest
 
+import pytest
+
 import alike
 import support  # noqa: F401 (finds the program)
 import spmat
+
+pytestmark = pytest.mark.slow
 
 LABELS = ['Ann', 'Bob', 'Cid', 'Dee', 'Eve', 'Fay', 'Gus', 'Hal', 'Ida']
 EDGES = {'a ring, chords and a tail': [(0, 1, 3), (1, 2, 1), (2, 3, 4), (3, 4, 1), (4, 5, 5),

@@ -1,11 +1,13 @@
 """Matrices: in and out by the standard library alone, each job, masks, and what a call costs in
 jobs and runs."""
+import copy
 import pickle
 import unittest
 
 import support  # noqa: F401 (finds the program)
 import spmat
-from spmat import Semiring, asm, binary, blocks, code, indexunary, semiring, unary
+import spmat_blocks as blocks
+from spmat import Semiring, asm, binary, code, indexunary, semiring, unary
 from spmat.wire import connection
 
 A_MAP = {(0, 0): 5, (0, 2): -3, (1, 1): 0, (2, 0): 7, (2, 2): 2}
@@ -137,6 +139,8 @@ class InAndOut(Matrices):
     def test_not_pickled(self):
         for thing in (self.s, self.A):
             self.assertIn('pickled', support.said(TypeError, pickle.dumps, thing))
+        for copied in (copy.copy, copy.deepcopy):
+            self.assertIn('A.dup() copies it', support.said(TypeError, copied, self.A))
 
 
 class Jobs(Matrices):

@@ -1,4 +1,6 @@
 """Each algorithm beside networkx, on graphs that it brings. Skipped where there is no networkx."""
+import pytest
+
 import support
 import spmat
 from spmat import algorithms
@@ -7,6 +9,8 @@ try:
     import networkx
 except ImportError:
     pass
+
+pytestmark = pytest.mark.slow
 
 
 def _graphs():

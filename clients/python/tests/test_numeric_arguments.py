@@ -13,9 +13,10 @@ import numpy
 
 import spmat
 import support
-from spmat import algorithms, blocks, draw
+import spmat_blocks as blocks
+from spmat import algorithms, draw
 
-HERE = os.path.dirname(spmat.__file__)
+HERE = tuple(os.path.dirname(package.__file__) for package in (spmat, blocks))
 VAST = 10 ** 400                                   # beyond floats
 LONG = 10 ** 5000                                  # beyond what Python writes as text
 NUMBERS = (VAST, -VAST, LONG, 2 ** 63, -2 ** 63 - 1, 2 ** 31, -1, 0, float('nan'), float('inf'),
@@ -33,6 +34,7 @@ WORK = {'power': 99, 'advance': 99}
 # what isn't called with numbers: it reads files or tables, which have tests of their own, or ends
 # the session
 LEFT_OUT = {'mmread', 'read_graph', 'read_edgelist', 'from_pandas_edgelist', 'from_networkx',
+            'from_igraph', 'limit',
             'from_scipy_sparse', 'load', 'save', 'close', 'connect', 'to_parquet', 'to_csv',
             'write_edgelist', 'mmwrite', 'to_pandas', 'to_pandas_edgelist', 'from_text', 'rounds'}
 
@@ -60,7 +62,7 @@ class EachNumber(support.InSession):
             'rows': [0, 1], 'columns': [1, 0], 'indptr': [0, 1, 2], 'nested': {0: {1: 1}},
             'triples': [(0, 1, 2)], 'edges': [('a', 'b', 1)], 'step': lambda m: m, 'value': 1,
             'until': spmat.empty('x'), 'left_default': 0, 'right_default': 0, 'unit': 1, 'what': 1,
-            'mask': A.S, 'row_sizes': [1, 2], 'row': 0, 'column': 0}
+            'indices': [0, 1], 'mask': A.S, 'row_sizes': [1, 2], 'row': 0, 'column': 0}
 
     def try_each(self, label, call, numbers=NUMBERS):
         """A call with each number: it is done, or refused in words."""
@@ -123,7 +125,7 @@ class EachNumber(support.InSession):
         for kind, name in itertools.product((spmat.Session, blocks.Sessions), ('steps', 'workers')):
             self.try_each('%s(%s=)' % (kind.__name__, name),
                           lambda number: opened(kind)(**{name: number}))
-        for name in ('engine', 'blocks', 'patience'):
+        for name in ('engine', 'blocks'):
             self.try_each('Sessions(%s=)' % name,
                           lambda number: opened(blocks.Sessions)(**{name: number}))
         for name in ('port', 'timeout', 'run_timeout'):

@@ -2,11 +2,16 @@
 import os
 import unittest
 
+import pytest
+
 import support
 import spmat
-from spmat import blocks, oversized_jobs
+import spmat_blocks as blocks
+from spmat import oversized_jobs
 from spmat.backends.protocol import Job
 from spmat.errors import refusal
+
+pytestmark = pytest.mark.slow
 
 
 class Limits(support.InSession):

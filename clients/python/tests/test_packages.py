@@ -46,8 +46,8 @@ class Packages(unittest.TestCase):
         self.assertIn('spmat.cli', list_folders())
         self.assertEqual(list_packages(), list_folders())
 
-    def test_numpy_is_required(self):
-        self.assertIn('\ndependencies = ["numpy>=1.22"]\n', read_project())
+    def test_what_is_required(self):
+        self.assertIn('\ndependencies = ["numpy>=1.22", "click>=8.1"]\n', read_project())
 
     def test_each_extra_brings_its_modules(self):
         found = read_extras()
@@ -70,13 +70,16 @@ class Packages(unittest.TestCase):
     @unittest.skipUnless(os.path.isdir(os.path.join(support.TOP, 'packaging')),
                          'an installed client has no packaging')
     def test_debian_recommends_the_same(self):
+        """Those of the client, and of the package of row blocks that it recommends."""
         with open(os.path.join(support.TOP, 'packaging', 'debian', 'control'),
                   encoding='utf-8') as file:
-            fields = file.read().split('Package: python3-spmat\n')[1].split('Description:')[0]
-        self.assertRegex(fields, r'(?m)^Depends: .*\bpython3-numpy$')
-        recommended = set(re.findall(r'[\w-]+',
-                                     re.search(r'^Recommends: (.*?)^\w', fields,
-                                               re.M | re.S).group(1)))
+            packages = {text.partition('\n')[0]: text.split('Description:')[0]
+                        for text in file.read().split('Package: ')[1:]}
+        self.assertRegex(packages['python3-spmat'],
+                         r'(?m)^Depends: .*\bpython3-click \(>= 8\.1\), python3-numpy$')
+        recommended = {word for name in ('python3-spmat', 'python3-spmat-blocks')
+                       for word in re.findall(r'[\w-]+', re.search(
+                           r'^Recommends: (.*?)(?:^\w|\Z)', packages[name], re.M | re.S).group(1))}
         self.assertLessEqual({extra.debian for extra in extras.EXTRAS.values() if extra.debian},
                              recommended)
 

@@ -5,6 +5,8 @@ import heapq
 from fractions import Fraction
 from unittest import mock
 
+import pytest
+
 import graphs
 import support
 from spmat import algorithms
@@ -14,6 +16,8 @@ try:
     import networkx
 except ImportError:
     pass
+
+pytestmark = pytest.mark.slow
 
 
 def propagated(near, rounds):

@@ -1,6 +1,6 @@
-"""Every algorithm gives by the program that is tested what it gives by the plain server, which was
-written from the documents alone: the same matrices, the same refusals, the same steps. The calls
-are those of `alike`, on four kinds of small graphs."""
+"""Every algorithm gives by the program that is tested what it gives by the reference
+implementation, which was written from the documents alone: the same matrices, the same refusals,
+the same steps. The calls are those of `alike`, on four kinds of small graphs."""
 import os
 import random
 import sys

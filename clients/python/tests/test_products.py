@@ -3,12 +3,15 @@ import itertools
 import random
 
 import numpy
+import pytest
 
 import model
 import spmat
 from model import some
-from spmat import blocks
+import spmat_blocks as blocks
 from support import OfCells
+
+pytestmark = pytest.mark.slow
 
 
 class Products(OfCells):

@@ -7,9 +7,13 @@ import os
 import random
 import unittest
 
+import pytest
+
 import model
 import support  # noqa: F401 (finds the program)
 import spmat
+
+pytestmark = pytest.mark.slow
 
 CALLS = 20
 HELD = 6

@@ -1,5 +1,5 @@
-"""The first lines of the READMEs, the client's and the repository's: what they print is what is
-said."""
+"""What the READMEs and the client's page print is what they say, and the client's README leads
+somewhere from a wheel, too."""
 import contextlib
 import io
 import os
@@ -23,12 +23,21 @@ def has_backends():
     return hasattr(networkx, 'config')
 
 
+CLIENT = os.path.join('clients', 'python', 'README.md')
+LONGEST = 60                                       # lines of the client's README
+# a page of the site, which stands in the repository under the same name
+OF_SITE = re.compile(r'https://[^/]+/((?:docs/)?\w+)\.html$')
+
+
 class Page(unittest.TestCase):
-    def blocks(self, folder=os.path.join('clients', 'python')):
-        with open(os.path.join(support.TOP, folder, 'README.md'), encoding='utf-8') as file:
-            page = file.read()
+    def text(self, page):
+        with open(os.path.join(support.TOP, page), encoding='utf-8') as file:
+            return file.read()
+
+    def blocks(self, name):
+        page = self.text(name)
         return [re.sub('^    ', '', block, flags=re.M)
-                for block in re.findall(r'(?:^    .*\n)+', page, re.M)]
+                for block in re.findall(r'^    .*\n(?:    .*\n|\n(?=    ))*', page, re.M)]
 
     def printed(self, lines):
         said = io.StringIO()
@@ -42,20 +51,32 @@ class Page(unittest.TestCase):
                 os.chdir(before)
         return said.getvalue()
 
-    def test_what_it_prints(self):
-        blocks = self.blocks()
-        pairs = [(lines, said) for lines, said in zip(blocks, blocks[1:])
-                 if lines.startswith('import') and 'print(' in lines]
-        self.assertGreaterEqual(len(pairs), 2)
-        for lines, said in pairs:
-            if not lines.startswith('import networkx') or has_backends():
-                self.assertEqual(self.printed(lines), said)
-        self.assertLessEqual(pairs[0][0].count('\n'), 10)
+    def test_what_they_print(self):
+        for page, least in ((CLIENT, 1), ('docs/python.md', 5)):
+            blocks = self.blocks(page)
+            pairs = [(lines, said) for lines, said in zip(blocks, blocks[1:])
+                     if lines.startswith('import') and 'print(' in lines]
+            self.assertGreaterEqual(len(pairs), least)
+            for lines, said in pairs:
+                if not lines.startswith('import networkx') or has_backends():
+                    self.assertEqual(self.printed(lines), said)
+
+    def test_in_a_wheel(self):
+        """A wheel has this README and nothing beside it: its links are whole addresses, of pages
+        that the site has."""
+        text = self.text(CLIENT)
+        self.assertLessEqual(text.count('\n'), LONGEST)
+        links = re.findall(r'\]\(([^)]+)\)', text)
+        self.assertGreater(len(links), 5)
+        for link in links:
+            page = OF_SITE.match(link)
+            self.assertIsNotNone(page, link)
+            self.assertTrue(os.path.exists(os.path.join(support.TOP, page.group(1) + '.md')), link)
 
     def test_first_command(self):
-        """What a newcomer runs first, by the plain server: within ten seconds on a machine that
-        does nothing else."""
-        blocks = self.blocks('.')
+        """What a newcomer runs first, by the reference implementation: within ten seconds on a
+        machine that does nothing else."""
+        blocks = self.blocks('README.md')
         command, said = next(pair for pair in zip(blocks, blocks[1:])
                              if pair[0].startswith('PYTHONPATH='))
         begun = time.process_time() + sum(os.times()[2:4])
@@ -68,15 +89,15 @@ class Page(unittest.TestCase):
         self.assertLess(time.process_time() + sum(os.times()[2:4]) - begun, 10)
 
     def test_what_the_repository_prints(self):
-        blocks = self.blocks('.')
+        blocks = self.blocks('README.md')
         lines, said = next(pair for pair in zip(blocks, blocks[1:]) if pair[0].startswith('import'))
         self.assertEqual(self.printed(lines), said)
 
     def test_refusal(self):
-        blocks = self.blocks()
+        blocks = self.blocks('docs/python.md')
         lines, said = next(pair for pair in zip(blocks, blocks[1:])
-                           if pair[1].startswith('spmat.errors'))
+                           if pair[1].startswith('spmat.OperatorRefused'))
         with self.assertRaises(spmat.OperatorRefused) as fault:
             self.printed(lines)
-        self.assertEqual('spmat.errors.OperatorRefused: %s' % fault.exception,
+        self.assertEqual('spmat.OperatorRefused: %s' % fault.exception,
                          ' '.join(said.split()))

@@ -2,10 +2,14 @@
 row blocks."""
 import random
 
+import pytest
+
 import model
 from model import mask_of, some
-from spmat import blocks
+import spmat_blocks as blocks
 from support import OfCells
+
+pytestmark = pytest.mark.slow
 
 AGGREGATORS = {
     'sum': lambda at, v: sum(v), 'prod': lambda at, v: model.fold('times', v),

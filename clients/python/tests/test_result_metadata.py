@@ -5,10 +5,15 @@ import random
 import tempfile
 import unittest
 
+import pytest
+
 import support
 import spmat
-from spmat import algorithms, blocks
+import spmat_blocks as blocks
+from spmat import algorithms
 from spmat.metadata import Nodes
+
+pytestmark = pytest.mark.slow
 
 NAMES = ['ann', 'bob', 'cid', 'dee']
 PAIRS = [(0, 1), (1, 2), (2, 0), (2, 3)]
@@ -64,14 +69,14 @@ class Names(unittest.TestCase):
 
     def test_different_names_are_refused(self):
         G, H = self.s.full(2, 2), self.s.full(2, 2)
-        G.nodes, H.nodes = 'ab', 'ba'
+        G.nodes, H.nodes = list('ab'), list('ba')
         with self.assertRaises(spmat.NamesDiffer):
             G.ewise_add(H)
-        H.nodes = 'ab'
+        H.nodes = list('ab')
         self.assertEqual(G.ewise_add(H).nodes, ['a', 'b'])
         self.assertEqual(G.ewise_mult(self.s.full(2, 2)).nodes, ['a', 'b'])
         with self.assertRaises(ValueError):
-            G.nodes = 'abc'
+            G.nodes = list('abc')
 
     def test_vertices_by_name(self):
         G = next(self.graphs())
@@ -161,7 +166,7 @@ class TwoKinds(support.InSession):
 
     def test_files(self):
         file = io.BytesIO(b'source,target,weight\na,b,1\nb,a,2\n')
-        self.refused(self.s.read_edgelist(file, bipartite=True).to_networkx)
+        self.refused(self.s.read_edgelist(file, bipartite=True, sep=',').to_networkx)
         with tempfile.TemporaryDirectory() as path:
             self.s.save(path + '/two.spmat', B=self.s.from_edgelist(SAME, bipartite=True))
             self.refused(self.s.load(path + '/two.spmat')['B'].to_networkx)

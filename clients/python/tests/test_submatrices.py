@@ -2,9 +2,13 @@
 import random
 import warnings
 
+import pytest
+
 import spmat
 from model import some
 from support import OfCells
+
+pytestmark = pytest.mark.slow
 
 
 class Tiles(OfCells):

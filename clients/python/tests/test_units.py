@@ -11,20 +11,23 @@ from decimal import Decimal
 from fractions import Fraction
 
 import numpy
+import pytest
 
 import command_line
 import support
 import spmat
 from ready_meanings import BINARY
-from spmat import UnitsDiffer, algorithms, binary, blocks
+import spmat_blocks as blocks
+from spmat import UnitsDiffer, algorithms, binary
 
-UNITS = ((1, 1), (1, 100), (100, 1), (100, 100), (100, 1000), (1000, 100), (3, 3),
-         (Fraction(1, 2), Fraction(1, 2)), (Fraction(1, 2), 1000), (3, 100))
+pytestmark = pytest.mark.slow
+
+UNITS = ((1, 1), (1, 100), (100, 1), (100, 100), (100, 1000), (1000, 100), (3, 3), (3, 100))
 LEAST, MOST = -2 ** 63, 2 ** 63 - 1
 
 
 def meanings(names):
-    """What ready operators come to in numbers."""
+    """What built-in operators come to in numbers."""
     return {name: BINARY[name] for name in names.split()}
 
 
@@ -126,7 +129,7 @@ class Acts(Case):
                          [('A', 'B', 0.62), ('B', 'C', 0.25)])
         self.assertEqual(A.apply('cdiv', right=-2).to_edgelist(),
                          [('A', 'B', -0.62), ('B', 'C', -0.25)])
-        self.assertEqual(A.apply('lsh', right=1).to_edgelist(), [('A', 'B', 2.5), ('B', 'C', 1.0)])
+        self.assertEqual(A.apply('lsh', right=1).to_edgelist(), [('A', 'B', 250), ('B', 'C', 100)])
         self.assertEqual(A.select('rowle', 0).to_edgelist(), [('A', 'B', 1.25)])
         self.assertEqual(A.apply('colindex', right=5).to_edgelist(), [('A', 'B', 6), ('B', 'C', 7)])
         for call in (lambda: A.apply('plus', right=0.125), lambda: A.apply('times', right=0.5),
@@ -154,7 +157,7 @@ class Acts(Case):
         self.differ(lambda: A.ewise_add(again), 'a unit of 100,', 'B of 1;')
         again.unit = 100
         self.assertEqual(A.ewise_add(again).to_edgelist(), [('A', 'B', 2.51), ('B', 'C', 1.01)])
-        # its program is that of a ready operator, so that its result's unit is known; the number
+        # its program is that of a built-in operator, so that its result's unit is known; the number
         # beside it is a stored one all the same
         self.assertEqual(A.apply(lambda x, y: x + y, right=25).to_edgelist(),
                          [('A', 'B', 1.5), ('B', 'C', 0.75)])
@@ -189,12 +192,11 @@ class Acts(Case):
 
     def test_a_unit_is_a_number_above_0(self):
         A = self.cents.dup()
-        for unit, want in ((7, 7), (2.5, Fraction(5, 2)), (0.1, Fraction(1, 10)),
-                           (Decimal('1e3'), 1000), (Fraction(4, 2), 2)):
+        for unit, want in ((7, 7), (100.0, 100), (Decimal('1e3'), 1000), (Fraction(4, 2), 2)):
             A.unit = unit
             self.assertEqual((A.unit, type(A.unit)), (want, type(want)))
-        for unit in (0, -1, float('nan'), float('inf'), None, 'x', '100'):
-            with self.assertRaisesRegex(ValueError, 'a number above 0'):
+        for unit in (0, -1, float('nan'), float('inf'), None, 'x', '100', 2.5, Fraction(1, 3)):
+            with self.assertRaisesRegex(ValueError, 'a whole number above 0'):
                 A.unit = unit
 
     def test_words(self):
@@ -223,7 +225,7 @@ class Acts(Case):
 
 
 class Table(Case):
-    """All ready binary operators by all units, in numbers."""
+    """All built-in binary operators by all units, in numbers."""
 
     def pairs(self):
         chance = random.Random(7)
@@ -358,7 +360,7 @@ class Rescaled(Case):
             self.assertEqual((A.rescale(unit).unit, A.rescale(unit).to_edgelist()),
                              (unit, A.to_edgelist()))
         self.assertIs(A.rescale(100), A)
-        for unit in (10, 1, 0.5, 50, 7):
+        for unit in (10, 1, 50, 7):
             with self.assertRaisesRegex(ValueError, 'would lose digits .*exact=False'):
                 A.rescale(unit)
         for unit in (0, -1, 'x'):
@@ -376,8 +378,7 @@ class Rescaled(Case):
         stored = [*range(-12, 13), MOST, LEAST, MOST - 1,
                   *(chance.randrange(LEAST, MOST) for _ in range(40))]
         for sessions in (self.s, blocks.Sessions(2)):
-            for before, after in ((100, 10), (100, 1), (1000, 3), (4, 2), (7, 5),
-                                  (Fraction(1, 2), Fraction(1, 5))):
+            for before, after in ((100, 10), (100, 1), (1000, 3), (4, 2), (7, 5)):
                 A = sessions.from_coo(range(len(stored)), [0] * len(stored), stored)
                 A.unit = before
                 want = [round(Fraction(x) * after / before) for x in stored]
@@ -427,8 +428,9 @@ class OutAndIn(Case):
                 self.same(sessions.read_graph(path, scale=1000))
                 self.same(sessions.read_edgelist(path, scale=1000))
             G.write_edgelist(self.path)
-            self.same(sessions.read_graph(self.path, scale=1000))
-            self.assertEqual(sessions.read_graph(self.path, values=False, scale=1000).unit, 1)
+            self.same(sessions.read_graph(self.path, sep=' ', scale=1000))
+            self.assertEqual(sessions.read_graph(self.path, sep=' ', values=False,
+                                                 scale=1000).unit, 1)
             self.same(sessions.load(self.saved(sessions, G))['G'])
             self.same(sessions.adopt(G))
             self.same(sessions.from_edgelist(self.edges + self.edges, scale=1000, dup_op='first'))
@@ -493,7 +495,7 @@ class OutAndIn(Case):
                                   (LEAST, 1000, '-9223372036854775.808'), (125, 100, '1.25'),
                                   (100, 100, '1.0'),
                                   (-5, 1000, '-0.005'), (0, 10, '0.0'), (1, 3, repr(1 / 3)),
-                                  (970, 10000, '0.097'), (7, Fraction(1, 2), '14.0'),
+                                  (970, 10000, '0.097'),
                                   (1, 1 << 40, '0.0000000000009094947017729282379150390625'),
                                   (5, 1, '5')):
             column = made(self.s, {(0, 0): value}, unit, (2, 1))
@@ -695,7 +697,7 @@ class Commands(command_line.CommandLine):
                               '--weighted'), '1 b 0.0\n1 c 0.25\n1 d 4.25\n'),
                             (('longest-paths', '--top', '1'), 'd 6.0\n'),
                             (('bfs-levels', '--source', 'a'), 'a 0\nb 1\nc 1\nd 2\n'),
-                            (('degrees',), 'a 2\nb 1\nc 1\n'),
+                            (('degrees',), 'a 2\nb 1\nc 1\nd 0\n'),
                             (('sssp', '--source', 'c', '--csv'), 'node,sssp\nc,0.0\nd,4.0\n'),
                             (('sssp', '--source', 'c', '--json'),
                              '[\n{"node": "c", "sssp": 0.0},\n{"node": "d", "sssp": 4.0}\n]\n')):

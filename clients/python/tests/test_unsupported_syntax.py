@@ -7,7 +7,8 @@ import weakref
 import numpy
 
 import spmat
-from spmat import algorithms, blocks, unsupported_syntax
+import spmat_blocks as blocks
+from spmat import algorithms, unsupported_syntax
 from support import InSession
 
 

@@ -1,11 +1,15 @@
 """Parts that are set, beside a plain model: random small matrices, masks, names, and row blocks."""
 import random
 
+import pytest
+
 import model
 import spmat
 from model import MASKS, mask_of, some
-from spmat import blocks
+import spmat_blocks as blocks
 from support import OfCells
+
+pytestmark = pytest.mark.slow
 
 
 class Assign(OfCells):

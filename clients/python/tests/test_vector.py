@@ -101,7 +101,7 @@ class Vectors(support.InSession):
                 call(self.levels)
 
     def test_priced(self):
-        priced = spmat.price(lambda: algorithms.degrees(self.G).to_coo())
+        priced = spmat.price(lambda: algorithms.degrees(self.G))
         self.assertTrue(priced.complete)
         self.assertEqual(self.levels.size, 5)
 

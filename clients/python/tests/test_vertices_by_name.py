@@ -10,11 +10,16 @@ import subprocess
 import tempfile
 import unittest
 
+import pytest
+
 import support
 import spmat
 from command_line import CommandLine
-from spmat import algorithms, blocks
+import spmat_blocks as blocks
+from spmat import algorithms
 from spmat.algorithms.registry import ALGORITHMS, BOTH_WAYS, WITHOUT_LOOPS
+
+pytestmark = pytest.mark.slow
 
 COUNT = 7
 NAMES = {
@@ -278,8 +283,10 @@ TRIANGLES = [(0, 2, 7), (3, 5, 1)]
 GRAPHS = {'market': [1, 2, 3, 4, 5, 6, 7], 'dimacs': [1, 2, 3, 4, 5, 6, 7],
           'numbers': [-3, 0, 1, 2, 4, 8, 9], 'text': ['0', 'b b', '2', 'a', '1', '6', 'x']}
 WORDS = {'source': ['--source', 2], 'sources': ['--source', 4, '--source', 1],
-         'target': ['--target', 5], 'pair': ['--pair', 1, 3, '--pair', 5, 3],
+         'target': ['--target', 5], 'firsts': ['--pair', 1, 3, '--pair', 5, 3],
          'k': ['--k', '2']}
+# whose target says alone where the search ends
+ENDS_EARLIER = ('bfs-levels', 'bfs-parents', 'sssp')
 VERTEX_FIELDS = ('node', 'source', 'target', 'predecessor')
 
 
@@ -296,13 +303,15 @@ class Commands(CommandLine):
                                                  ''.join('a %s %s %d\n' % one for one in named)))
             return [kind, '--format', 'dimacs']
         self.write(kind, ''.join('%s\t%s\t%d\n' % one for one in named))
-        return [kind, '--no-header', '--columns', '0,1,2', '--delimiter', '\t']
+        return [kind, '--no-header', '--columns', '0,1,2', '--sep', '\t']
 
     def answer(self, command, kind, names, edges):
         """What a command says of the graph, as objects."""
         from spmat.cli.algorithm_commands import COMMANDS
         algorithm, words = COMMANDS[command], []
-        for option in algorithm.options:
+        for option in algorithm.parameters:
+            if option == 'target' and command in ENDS_EARLIER:
+                continue
             words += [str(names[word]) if isinstance(word, int) else word
                       for word in WORDS.get(option, ())]
         more = (['--undirected'] if algorithm.wanted is WITHOUT_LOOPS
@@ -321,7 +330,7 @@ class Commands(CommandLine):
                       *([command.replace('-', '_')] if algorithm.are_vertices else [])]
             self.assertTrue(due, command)
             for kind, names in GRAPHS.items():
-                if kind == 'dimacs' and not set(WORDS) & set(algorithm.options):
+                if kind == 'dimacs' and not set(WORDS) & set(algorithm.parameters):
                     continue                       # its names are those of the Matrix Market file
                 renamed = [{field: names[value] if field in fields else value
                             for field, value in row.items()} for row in due]

@@ -16,14 +16,14 @@ class Words(unittest.TestCase):
     def test_names_of_operators(self):
         for kind, name, words in (
             ('unary', 'plus',
-             "no ready unary operator is called 'plus', but a binary one is: bind an operand by "
+             "no built-in unary operator is called 'plus', but a binary one is: bind an operand by "
              "right= or left="),
-            ('binary', 'abs', "no ready binary operator is called 'abs', but a unary one is"),
+            ('binary', 'abs', "no built-in binary operator is called 'abs', but a unary one is"),
             ('binary', 'nonzero',
-             "no ready binary operator is called 'nonzero', but a unary and an index one is"),
-            ('unary', 'tril', "no ready unary operator is called 'tril', but an index one is"),
-            ('binary', 'tims', "no ready binary operator is called 'tims'; near it: times"),
-            ('binary', 'qqqq', "no ready binary operator is called 'qqqq'")):
+             "no built-in binary operator is called 'nonzero', but a unary and an index one is"),
+            ('unary', 'tril', "no built-in unary operator is called 'tril', but an index one is"),
+            ('binary', 'tims', "no built-in binary operator is called 'tims'; near it: times"),
+            ('binary', 'qqqq', "no built-in binary operator is called 'qqqq'")):
             self.assertEqual(said(ValueError, operators.find, kind, name), words)
 
     def test_hexadecimal(self):
@@ -32,7 +32,8 @@ class Words(unittest.TestCase):
         self.assertIn('a kind is unary', said(ValueError, spmat.code, 'Unary', '95'))
 
     def test_operators_in_few_words(self):
-        self.assertEqual(repr(spmat.unary), '<ready unary operators: %s>' % ', '.join(spmat.unary))
+        self.assertEqual(repr(spmat.unary),
+                         '<built-in unary operators: %s>' % ', '.join(spmat.unary))
         self.assertEqual(repr(FromC('binary', code=bytes(80), name='gap')), '<binary operator gap>')
 
     def test_settings(self):
@@ -91,11 +92,11 @@ class Words(unittest.TestCase):
 
     def test_text_of_an_operator(self):
         self.assertEqual(said(ValueError, operators.find, 'unary', 'mov64 r0, r1\nexit'),
-                         "no ready unary operator is called 'mov64 r0, r1\\nexit': "
+                         "no built-in unary operator is called 'mov64 r0, r1\\nexit': "
                          "spmat.asm('unary', text) makes one of assembly text")
         self.assertEqual(said(ValueError, operators.find, 'index', '> 3'),
-                         "no ready index operator is called '> 3': the number stands apart, as in "
-                         'A.select(">", 3)')
+                         "no built-in index operator is called '> 3': the number stands apart, as "
+                         'in A.select(">", 3)')
 
     def test_where_edges_come_from(self):
         with spmat.Session() as s:

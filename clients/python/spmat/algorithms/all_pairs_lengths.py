@@ -10,15 +10,16 @@ from ..errors import refusal
 from ..limits import MOST_SIDE
 from ..matrix import Matrix
 from ..operators import Operator, Semiring, asm, binary
-from . import path_bounds, step_bounds
 from .cached_properties import extremes
 from .types import Vertices
 from .registry import algorithm
 from .single_source_paths import CYCLE, TOO_LONG
-from .strong_components import strongly_connected_components
+from .components import label_strong_components
 from .traversal import is_whole, read_column
 from .utils import (Progress, find_places, loops, mark_rows, name_rows, order, product, tell,
                     warn_of_repeated)
+
+__all__ = ['all_pairs', 'path_lengths', 'transitive_closure']
 
 # entries a row up to which the graph is squared, so that one push covers more edges
 SHORT = 16
@@ -99,15 +100,14 @@ def _check_room(W: Matrix) -> None:
     pairs than a matrix may hold."""
     if W.nrows ** 2 <= MOST_SIDE or not is_whole(W):
         return
-    sizes = numpy.bincount(read_column(strongly_connected_components(W)).values)
+    sizes = numpy.bincount(read_column(label_strong_components(W)).values)
     pairs = sum(many * many for many in sizes.tolist())
     if pairs > MOST_SIDE:
         raise refusal('J7', detail='%d pairs of vertices have a path: path_lengths takes some '
                       'sources at a time' % pairs)
 
 
-@algorithm('lengths of shortest paths between all', values=True, lengths=True,
-           steps=path_bounds.all_pairs, shape=step_bounds.square)
+@algorithm('lengths of shortest paths between all', values=True, lengths=True, plot=None)
 def all_pairs(W: Matrix, progress: Progress = None) -> Matrix:
     """The length of the shortest path from each vertex (the row) to each (the column).
 
@@ -128,25 +128,33 @@ def all_pairs(W: Matrix, progress: Progress = None) -> Matrix:
     ValueError
         If there is a cycle of negative length, or lengths could pass 2^63.
     TooLarge
-        If the result has more than 16,777,216 entries, 4,096 vertices that all reach one another:
-        where the graph has parts with more pairs before the first round.
+        If the result has more than 16,777,216 entries, as 4,097 vertices that all reach one another
+        would give.
+
+    See Also
+    --------
+    path_lengths : Lengths from some sources.
+    transitive_closure : Only which vertices are reached.
+    sssp : Lengths from one source.
 
     Notes
     -----
-    There is a round for each edge of the longest of the shortest paths, or for every 2, 4, .. of
-    them where rows are short: the graph is squared first while a row has 16 entries or fewer and a
-    square three times as many at most. What changed in a round is multiplied in the next, and
-    nothing else: where all edges have one length that is each pair of vertices once for each edge
-    (`networkx` does the same by n searches).
+    Each round multiplies the lengths that changed in the previous round by the edges. While rows
+    are short, the graph is squared first, so that a round covers 2, 4 or more edges of a path.
 
-    Runs: 3 a round, 3 for each squaring, 6 of a graph of more than 65,536 entries, and 8; more
-    where the product is made by parts (16,777,216 multiplications). Steps: up to 9 for each edge
-    behind a pair whose length changed, and 12 an entry of the result, a round.
+    Cost: up to 9 steps per edge behind a changed pair and 12 per entry of the result, per round,
+    with 3 runs per round, and 8.
+
+    A graph of more than 65,536 entries takes 6 more runs.
 
     GraphBLAS: `mxm` over min and plus. networkx: `all_pairs_bellman_ford_path_length`.
 
     Examples
     --------
+    >>> import spmat
+    >>> from spmat.algorithms import all_pairs
+    >>> W = spmat.Session().from_triples(
+    ...     [(0, 1, 2), (1, 2, 1), (2, 3, 4), (0, 3, 8)], 4, 4)
     >>> all_pairs(W)[0, 3]
     7
     """
@@ -202,8 +210,8 @@ def _check_cycles(lengths: Matrix) -> None:
         raise ValueError(CYCLE)
 
 
-@algorithm('lengths of shortest paths from some vertices', 'sources', values=True, lengths=True,
-           steps=path_bounds.path_lengths, shape=step_bounds.rows_of_sources)
+@algorithm('lengths of shortest paths from some vertices', values=True, lengths=True, plot=None,
+           hints={'sources': 'all_pairs(W) has the lengths from all vertices'})
 def path_lengths(W: Matrix, sources: Vertices, progress: Progress = None) -> Matrix:
     """The length of the shortest path from each of some vertices to each vertex.
 
@@ -220,8 +228,8 @@ def path_lengths(W: Matrix, sources: Vertices, progress: Progress = None) -> Mat
     -------
     Matrix
         A row for each source in their order; no entry where no path leads. Sources and the vertices
-        that they reach make up to 16,777,216 entries. Where a source is given twice no row has a
-        name, and a warning says so.
+        that they reach make up to 16,777,216 entries. If a source is given twice, rows have no
+        names, and a warning says so.
 
     Raises
     ------
@@ -229,17 +237,26 @@ def path_lengths(W: Matrix, sources: Vertices, progress: Progress = None) -> Mat
         If a source is no vertex, lengths along a path could reach 2^60 in size, or a source reaches
         a cycle of negative length.
 
+    See Also
+    --------
+    all_pairs : Lengths from all vertices.
+    sssp : Lengths from one source.
+
     Notes
     -----
-    Rounds are as for `all_pairs`.
+    It works as `all_pairs` does, on a row per source.
 
-    Runs: 3 a round, 3 for each squaring, 6 of a graph of more than 65,536 entries, and 8; more
-    where the product is made by parts. Steps: as for `all_pairs`, of these rows.
+    Cost: up to 9 steps per edge behind a changed pair and 12 per entry of the result, per round,
+    with 3 runs per round.
 
     GraphBLAS: `mxm` over min and plus. networkx: `multi_source_dijkstra_path_length`.
 
     Examples
     --------
+    >>> import spmat
+    >>> from spmat.algorithms import path_lengths
+    >>> W = spmat.Session().from_triples(
+    ...     [(0, 1, 2), (1, 2, 1), (2, 3, 4), (0, 3, 8)], 4, 4)
     >>> path_lengths(W, [0, 2]).to_dict()
     {(0, 0): 0, (0, 1): 2, (0, 2): 3, (0, 3): 7, (1, 2): 0, (1, 3): 4}
     """
@@ -265,8 +282,7 @@ def lengths_from(start: Matrix, reach: Tuple[Matrix, int], progress: Progress = 
     return known.apply('arsh', right=1)
 
 
-@algorithm('which vertices reach which', plot='spy',
-           steps=path_bounds.transitive_closure, shape=step_bounds.square)
+@algorithm('which vertices reach which', plot='spy')
 def transitive_closure(G: Matrix, progress: Progress = None) -> Matrix:
     """An entry 1 from each vertex to each that a path of at least one edge leads to.
 
@@ -287,17 +303,26 @@ def transitive_closure(G: Matrix, progress: Progress = None) -> Matrix:
     TooLarge
         If the result has more than 16,777,216 entries.
 
+    See Also
+    --------
+    all_pairs : The lengths of these paths.
+    has_path : One pair.
+
     Notes
     -----
-    Rounds are as for `all_pairs`. Each pair is multiplied once, with the edges behind it.
+    It works as `all_pairs` does. Each pair is multiplied once by the edges behind it.
 
-    Runs: 3 a round, 3 for each squaring, and 2; more where the product is made by parts. Steps: up
-    to 4 for each edge behind a pair, and 8 an entry of the result, a round.
+    Cost: up to 4 steps per edge behind a pair and 8 per entry of the result, per round, with 3 runs
+    per round.
 
     GraphBLAS: `mxm` over any and pair. networkx: `transitive_closure`.
 
     Examples
     --------
+    >>> import spmat
+    >>> from spmat.algorithms import transitive_closure
+    >>> W = spmat.Session().from_triples(
+    ...     [(0, 1, 2), (1, 2, 1), (2, 3, 4), (0, 3, 8)], 4, 4)
     >>> transitive_closure(W).nvals
     6
     """

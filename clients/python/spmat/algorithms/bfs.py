@@ -5,11 +5,12 @@ from typing import Callable, Dict, List, NamedTuple, Optional, Tuple
 
 import numpy
 
+from ..errors import about
 from ..io.coo import shown
 from ..loops import Loop, State, empty
 from ..matrix import Matrix
 from ..operators import Semiring, binary
-from . import path_bounds, server_loops, step_bounds
+from . import server_loops
 from .cached_properties import is_both_ways
 from .registry import algorithm
 from .results import keep_partial, unless_empty
@@ -18,6 +19,8 @@ from .traversal import Traversal, Unseen, Vector, find_traversal, put_known
 from .types import Array, Place, Vertex, Vertices
 from .utils import (Progress, beside, find_place, find_places, find_sources, mark_rows, name_rows,
                     order, product, tell, warn_of_repeated)
+
+__all__ = ['bfs_levels', 'bfs_parents', 'k_hop']
 
 REACHED = Semiring(binary.any, binary.first)
 LEAST = Semiring(binary.min, binary.first)
@@ -108,7 +111,8 @@ def _search_column(G: Matrix, source: Vertices, GT: Optional[Matrix], progress: 
     order(G, GT)
     many = find_places(G, source)
     if depth is not None and (isinstance(depth, bool) or not isinstance(depth, int) or depth < 0):
-        raise ValueError('a depth is a number of edges, 0 or more, not %r' % (depth,))
+        raise about(ValueError('a depth is a number of edges, 0 or more, not %r' % (depth,)),
+                    'depth')
     if not many:
         raise ValueError('a search wants a vertex to begin with')
     end = None if target is None else find_place(G, target)
@@ -117,8 +121,9 @@ def _search_column(G: Matrix, source: Vertices, GT: Optional[Matrix], progress: 
                                                            parents, numbers))
 
 
-@algorithm('edges from a vertex to each other one', 'source', plot='levels',
-           runs=lambda g: 3 * (g.rounds + 1), steps=path_bounds.bfs_levels)
+@algorithm('edges from a vertex to each other one', plot='levels',
+           runs=lambda g: 3 * (g.rounds + 1),
+           hints={'weighted': 'sssp(W, source) has lengths by values'})
 def bfs_levels(G: Matrix, source: Vertices, GT: Optional[Matrix] = None, progress: Progress = None,
                *, depth: Optional[int] = None, target: Optional[Vertex] = None,
                check: bool = True) -> Matrix:
@@ -131,15 +136,15 @@ def bfs_levels(G: Matrix, source: Vertices, GT: Optional[Matrix] = None, progres
     source : vertex or list of vertices
         Where the search begins. Of several sources the nearest counts.
     GT : Matrix, optional
-        The transpose. It serves blocks alone.
+        The transpose; only row blocks use it.
     progress : callable, optional
         `progress('level', k, 0)` is called after each level.
     depth : int, optional
-        The search ends after so many levels.
+        The most levels to search.
     target : vertex, optional
         The search ends as soon as the level of this vertex is known.
     check : bool, default True
-        Whether `GT` is checked to be the transpose, by 4 jobs, once.
+        Whether to check that `GT` is the transpose: by 4 jobs, once.
 
     Returns
     -------
@@ -151,38 +156,47 @@ def bfs_levels(G: Matrix, source: Vertices, GT: Optional[Matrix] = None, progres
     ValueError
         If a source is no vertex, `depth` is below 0, or `GT` isn't the transpose.
     BudgetExceeded
-        If the budget ends amid the work; `partial` has the levels that were found by then.
+        If the budget runs out; `partial` has the levels found by then.
+
+    See Also
+    --------
+    bfs_parents : The tree of such a search.
+    sssp : Lengths by the values of edges.
+    k_hop : Several searches of a few levels.
 
     Notes
     -----
-    Each level pushes its front along the edges that leave it, and the client keeps what was seen:
-    so the whole costs what the edges cost that leave the vertices which are reached, and a round
-    trip a level. Where a front's edges are many beside the vertices of a large graph, the product
-    is made under a mask of those that weren't seen, which is kept by jobs. On a budget of more than
-    2^56 steps the levels of an undirected graph behind the 32nd are a loop that stays at the
-    server, which takes less time, and more steps.
+    A breadth-first search. Each level follows the edges that leave the previous one; the client
+    remembers which vertices it has seen.
 
-    Runs: 1 a level, and 1 if some vertex isn't reached; 2 more a level with a large front. Steps:
-    up to 4 an edge; 4 a vertex and level with a large front. In a loop 4 runs a level, and up to 30
-    steps an edge, with 15 to see once that each leads both ways.
+    Cost: up to 4 steps per edge that leaves a reached vertex, and 1 run per level.
+
+    A level with a large front takes 4 steps per vertex and 2 more runs. On a budget of more than
+    2^56 steps, levels after the 32nd of an undirected graph run as a loop on the server: less time,
+    4 runs per level, up to 30 steps per edge.
 
     GraphBLAS: `vxm` over any and first. LAGraph: `LAGr_BreadthFirstSearch`. networkx:
     `single_source_shortest_path_length`.
 
     Examples
     --------
+    >>> import spmat
+    >>> from spmat.algorithms import bfs_levels
+    >>> G = spmat.Session().from_edgelist(
+    ...     [(0, 1), (0, 2), (1, 2), (2, 3), (3, 4), (3, 5), (4, 5)], directed=False)
     >>> bfs_levels(G, 0).to_list()
     [0, 1, 1, 2, 3, 3]
     """
     return _search_column(G, source, GT, progress, depth, target, check, False)
 
 
-@algorithm('the tree of a breadth-first search', 'source', are_vertices=True,
-           runs=lambda g: 4 * (g.rounds + 1), steps=path_bounds.bfs_parents)
+@algorithm('the tree of a breadth-first search', are_vertices=True,
+           runs=lambda g: 4 * (g.rounds + 1),
+           hints={'weighted': 'shortest_paths(G, source, weighted=True) has a tree by values'})
 def bfs_parents(G: Matrix, source: Vertices, GT: Optional[Matrix] = None,
                 progress: Progress = None, *, depth: Optional[int] = None,
                 target: Optional[Vertex] = None, check: bool = True) -> Matrix:
-    """From which vertex a breadth-first search comes to each one, as a column.
+    """The vertex from which a breadth-first search reaches each vertex, as a column.
 
     Parameters
     ----------
@@ -191,72 +205,83 @@ def bfs_parents(G: Matrix, source: Vertices, GT: Optional[Matrix] = None,
     source : vertex or list of vertices
         Where the search begins.
     GT : Matrix, optional
-        The transpose. It serves blocks alone.
+        The transpose; only row blocks use it.
     progress : callable, optional
         `progress('level', k, 0)` is called after each level.
     depth : int, optional
-        The search ends after so many levels.
+        The most levels to search.
     target : vertex, optional
         The search ends as soon as the parent of this vertex is known.
     check : bool, default True
-        Whether `GT` is checked to be the transpose, by 4 jobs, once.
+        Whether to check that `GT` is the transpose: by 4 jobs, once.
 
     Returns
     -------
     Matrix
-        A column with a vertex for each: of several the least, at a source the source itself, and
-        no entry where no path leads.
+        A column of vertices: of several possible parents the least, at a source the source itself,
+        and no entry where no path leads.
 
     Raises
     ------
     ValueError
         If a source is no vertex, `depth` is below 0, or `GT` isn't the transpose.
     BudgetExceeded
-        If the budget ends amid the work; `partial` has the parents that were found by then.
+        If the budget runs out; `partial` has the parents found by then.
+
+    See Also
+    --------
+    bfs_levels : The number of edges to each vertex.
+    shortest_paths : The same tree, with its paths.
 
     Notes
     -----
-    It goes the way of `bfs_levels`.
+    It searches as `bfs_levels` does.
 
-    Runs: 1 a level, and 1 if some vertex isn't reached; 3 more a level with a large front. Steps:
-    up to 6 an edge; 7 a vertex and level with a large front. In a loop 5 runs a level, and up to 40
-    steps an edge.
+    Cost: up to 6 steps per edge that leaves a reached vertex, and 1 run per level.
+
+    A level with a large front takes 7 steps per vertex and 3 more runs; as a loop on the server, 5
+    runs per level and up to 40 steps per edge.
 
     GraphBLAS: `vxm` over min and first. LAGraph: `LAGr_BreadthFirstSearch`. networkx:
     `bfs_predecessors`.
 
     Examples
     --------
+    >>> import spmat
+    >>> from spmat.algorithms import bfs_parents
+    >>> G = spmat.Session().from_edgelist(
+    ...     [(0, 1), (0, 2), (1, 2), (2, 3), (3, 4), (3, 5), (4, 5)], directed=False)
     >>> bfs_parents(G, 0).to_list()
     [0, 0, 0, 2, 3, 3]
     """
     return _search_column(G, source, GT, progress, depth, target, check, True)
 
 
-@algorithm('the vertices within k edges of some', 'k', 'sources', says='Which vertices lie within '
+@algorithm('the vertices within k edges of some', plot=None, says='Which vertices lie within '
            'k edges of each source (of all vertices without --source): source, vertex, number of '
-           'edges; 0 at the source itself.', steps=path_bounds.k_hop,
-           shape=step_bounds.rows_of_sources)
+           'edges; 0 at the source itself.', flags={'k': ['--depth']},
+           hints={'k': 'the number of edges stands before the vertices; in networkx, '
+                        'ego_graph(G, n, radius) has it behind them'})
 def k_hop(G: Matrix, k: int, sources: Optional[Vertices] = None,
           progress: Progress = None) -> Matrix:
-    """Which vertices lie within k edges of each source, with the numbers of edges.
+    """The vertices within k edges of each source, with the numbers of edges.
 
     Parameters
     ----------
     G : Matrix
         The graph; an entry (i, j) is an edge from i to j.
     k : int
-        The most edges.
+        Vertices lie at most so many edges away.
     sources : list of vertices, optional
-        Where the searches begin; all vertices without it.
+        Where the searches begin. Without it all vertices.
     progress : callable, optional
         `progress('level', i, k)` is called after each level.
 
     Returns
     -------
     Matrix
-        A row for each source in their order, whose entries are the numbers of edges; 0 at the
-        source. Where a source is given twice no row has a name, and a warning says so.
+        A row for each source, in their order, with the numbers of edges; 0 at the source. If a
+        source is given twice, rows have no names, and a warning says so.
 
     Raises
     ------
@@ -265,28 +290,37 @@ def k_hop(G: Matrix, k: int, sources: Optional[Vertices] = None,
     TooLarge
         If the result has more than 16,777,216 entries.
 
+    See Also
+    --------
+    bfs_levels : One search, to its end.
+    path_lengths : Lengths by the values of edges.
+
     Notes
     -----
-    Levels are a loop that stays at the server, in one session. Whether each edge leads both ways is
-    found out once (2 jobs, 13 steps an edge and 5 a vertex).
+    All searches advance together, one level per product. In one session the levels run as a loop on
+    the server.
 
-    Runs: 5 a level, more where the product is made by parts, and 4. Steps: up to 4 for each edge
-    that leaves a vertex which is found, and 12 an entry of the result; 6 more an entry and level
-    where an edge leads one way alone, and else an entry of the last 32 levels. Of a search with up
-    to 262,144 places some levels in vain are among them.
+    Cost: up to 4 steps per edge that leaves a vertex found and 12 per entry of the result; 5 runs
+    per level, and 4.
 
-    GraphBLAS: `mxm` over any and a level more, of a row for each source. networkx:
-    `single_source_shortest_path_length` with a cutoff; `ego_graph(G, n, radius)` has the vertices
-    of `k_hop(G, radius, [n])`.
+    A directed graph takes 6 more steps per entry and level. Whether the graph is undirected is
+    checked once: 13 steps per edge and 5 per vertex.
+
+    GraphBLAS: `mxm` over any, with a row per source. networkx: `single_source_shortest_path_length`
+    with a cutoff; `ego_graph(G, n, radius)` has the vertices of `k_hop(G, radius, [n])`.
 
     Examples
     --------
+    >>> import spmat
+    >>> from spmat.algorithms import k_hop
+    >>> G = spmat.Session().from_edgelist(
+    ...     [(0, 1), (0, 2), (1, 2), (2, 3), (3, 4), (3, 5), (4, 5)], directed=False)
     >>> k_hop(G, 1, [2]).to_dict()
     {(0, 0): 1, (0, 1): 1, (0, 2): 0, (0, 3): 1}
     """
     at = find_sources(G, sources)
     if k < 0:
-        raise ValueError('a number of edges is 0 or more, not %s' % shown(k))
+        raise about(ValueError('a number of edges is 0 or more, not %s' % shown(k)), 'k')
     warn_of_repeated(G, at)
     return name_rows(G, _find_hops(G, k, at, progress), at)
 

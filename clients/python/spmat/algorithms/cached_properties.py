@@ -5,8 +5,8 @@ from __future__ import annotations
 import random
 from typing import Any, Callable, Optional, Tuple, cast
 
+from ..backends.estimate import ESTIMATES, estimate_here
 from ..matrix import Matrix
-from ..matrix_base import MatrixBase
 from ..metadata import NOTHING
 from ..operands import alias, is_same
 from ..operators import asm
@@ -50,8 +50,12 @@ UNDIRECTED = ('algorithms.undirected(G) is the graph without directions, weights
 def found(graph: Matrix, name: str, find: Callable[[], Any]) -> Any:
     """A fact of a graph's entries: as it was found before, or as it is found now. Of a matrix
     another one each time, without names."""
-    fact = graph.session.backend.find_fact(cast(Any, graph), name, find)
-    return alias(fact, NOTHING) if isinstance(fact, MatrixBase) else fact
+    estimate = estimate_here() if ESTIMATES else None
+    kept = graph.kept if estimate is None else estimate.facts_of(graph.kept)
+    if name not in kept:
+        kept[name] = find()
+    fact = kept[name]
+    return alias(fact, NOTHING) if isinstance(fact, Matrix) else fact
 
 
 def _odd() -> int:
@@ -96,13 +100,12 @@ def check_undirected(graph: Matrix, check: bool, loops: bool = False) -> None:
     itself."""
     if not check:
         return
-    with graph.session.backend.granting({'both ways': True, 'loops': False}):
-        if not is_both_ways(graph):
-            raise ValueError('expected an undirected graph, but an edge leads one way alone: '
-                             + UNDIRECTED)
-        if not loops and has_loops(graph):
-            raise ValueError('expected a graph without loops, but there is an edge from a vertex '
-                             'to itself: ' + UNDIRECTED)
+    if not is_both_ways(graph):
+        raise ValueError('expected an undirected graph, but an edge leads one way alone: '
+                         + UNDIRECTED)
+    if not loops and has_loops(graph):
+        raise ValueError('expected a graph without loops, but there is an edge from a vertex to '
+                         'itself: ' + UNDIRECTED)
 
 
 def is_transpose(graph: Matrix, other: Matrix, values: bool = False) -> bool:

@@ -1,23 +1,26 @@
-"""Communities by label propagation, and the modularity of any."""
+"""Communities: their modularity, label propagation, and the Louvain method."""
 from __future__ import annotations
 
 from fractions import Fraction
-from typing import Any, Dict, Hashable, Iterable, List, Mapping, Tuple, Union
+from typing import Any, Dict, Hashable, Iterable, List, Mapping, NamedTuple, Tuple, Union
 
 import numpy
 
+from ..errors import about
 from ..io.coo import shown, whole
 from ..io.matrix_text import Triples
 from ..matrix import Matrix
 from ..metadata import VERTICES, joined
 from ..operators import asm
-from . import step_bounds
-from .cached_properties import check_undirected, extremes, has_loops, is_both_ways
-from .types import Array, Place
+from .cached_properties import check_undirected, check_weights, extremes, has_loops, is_both_ways
+from .independent_set import Seed, draw_on_paper, generator_of
 from .registry import BOTH_WAYS, algorithm
-from .results import keep_partial
+from .results import Communities, as_result, keep_partial
 from .traversal import keep, put_all, read_column
+from .types import Array, Place
 from .utils import Progress, beside, contract, find_place, name_of, order, product, tell
+
+__all__ = ['label_propagation', 'louvain', 'modularity']
 
 ROUNDS = 10                            # of label propagation
 MOST_SUM = 1 << 62                     # of all edges: loops count twice
@@ -25,16 +28,21 @@ SHOWN = 3                              # vertices without a community that are n
 Partition = Union[Matrix, Mapping[Any, Hashable], Iterable[Iterable[Any]]]
 """A column with any number for each vertex' community, as `louvain` gives it; {vertex: community},
 or a Series of pandas by vertex; or a list of sets, or lists, of vertices."""
+BATCHES = 8                            # parts of the vertices that decide one after the other
+LEAST = 1e-7                           # what a level has to gain
+ENOUGH = 1e-4                          # .. and a sweep, for that another one follows
+MOST_LEVELS = 16
+SWEEPS = 20                            # of one level, at most
+FLOAT_BITS = 53                        # of all weights together, which are compared as floats
 
 
-@algorithm('communities, by a vertex of each', 'rounds', are_vertices=True, wanted=BOTH_WAYS,
-           steps=step_bounds.label_propagation)
+@algorithm('communities, by a vertex of each', are_vertices=True, wanted=BOTH_WAYS)
 def label_propagation(G: Matrix, rounds: int = ROUNDS, progress: Progress = None, *,
                       check: bool = True) -> Matrix:
     """The community of each vertex of an undirected graph, as a column of labels.
 
-    Each vertex begins with itself as its label, and in each round all take the label that most of
-    their neighbours have, of several the least. It ends when no label changes.
+    Each vertex begins with itself as its label. In each round every vertex takes the label most
+    common among its neighbours, and of several the least. The rounds end when no label changes.
 
     Parameters
     ----------
@@ -45,8 +53,7 @@ def label_propagation(G: Matrix, rounds: int = ROUNDS, progress: Progress = None
     progress : callable, optional
         `progress('round', k, rounds)` is called after each round.
     check : bool, default True
-        Whether it is checked that each edge leads both ways: 2 jobs, 3 runs, 13 steps an edge and 5
-        a vertex, once.
+        Whether to check that the graph is undirected: once, 13 steps per edge and 5 per vertex.
 
     Returns
     -------
@@ -56,27 +63,36 @@ def label_propagation(G: Matrix, rounds: int = ROUNDS, progress: Progress = None
     Raises
     ------
     ValueError
-        If `rounds` is below 1, or an edge leads one way alone.
+        If `rounds` is below 1, or the graph is directed.
     BudgetExceeded
-        If the budget ends amid the work; `partial` has the labels of the last round.
+        If the budget runs out; `partial` has the labels of the last round.
+
+    See Also
+    --------
+    louvain : Communities of great modularity.
+    modularity : How good communities are.
 
     Notes
     -----
-    Runs: 3 a round, more where the product is made by parts, and 1. Steps: up to 5 an edge, and 9
-    for each label among a vertex' neighbours, a round; 4 an edge.
+    Cost: up to 5 steps per edge and 9 per distinct label among the neighbours of each vertex, per
+    round, with 3 runs per round; 4 steps per edge once.
 
-    GraphBLAS: G times a matrix with a one at each vertex' label, over plus and first of ones; the
-    greatest of each row. LAGraph: `LAGraph_cdlp`, as LDBC Graphalytics defines it. networkx:
-    `label_propagation_communities` has another rule for ties.
+    GraphBLAS: G times a matrix with a one at each vertex's label; then the greatest of each row.
+    LAGraph: `LAGraph_cdlp`, as LDBC Graphalytics defines it. networkx:
+    `label_propagation_communities` breaks ties by another rule.
 
     Examples
     --------
+    >>> import spmat
+    >>> from spmat.algorithms import label_propagation
+    >>> G = spmat.Session().from_edgelist(
+    ...     [(0, 1), (0, 2), (1, 2), (2, 3), (3, 4), (3, 5), (4, 5)], directed=False)
     >>> label_propagation(G).to_list()
     [0, 0, 0, 2, 2, 2]
     """
     count, rounds = order(G), whole(rounds, 'number of rounds')
     if rounds < 1:
-        raise ValueError('expected 1 round or more, not %s' % shown(rounds))
+        raise about(ValueError('expected 1 round or more, not %s' % shown(rounds)), 'rounds')
     check_undirected(G, check, loops=True)
     graph, own = G.select('offdiag', 0), numpy.arange(count)
     # how many have a label, and of those with as many the least label, in one number
@@ -116,26 +132,25 @@ def number_labels(labels: Array) -> Tuple[Array, int]:
     return ranks[which.reshape(-1)], len(first)
 
 
-@algorithm('how many more edges lie within communities than by chance', command=False,
-           steps=step_bounds.modularity)
+@algorithm('how many more edges lie within communities than by chance', command=False)
 def modularity(G: Matrix, labels: Partition, resolution: float = 1.0, *,
                weighted: bool = False) -> float:
     """The modularity of communities.
 
-    That is the share of edges that lie inside one, less the share that would if edges were drawn at
-    random between vertices of the same degrees, times the resolution.
+    That is the share of edges inside communities, minus `resolution` times the share expected if
+    edges were drawn at random between vertices of the same degrees.
 
     Parameters
     ----------
     G : Matrix
         The graph. Loops count as networkx has them.
     labels : Matrix, dict, or list of sets
-        The communities: what `louvain` gives, or another column with any number for each vertex'
-        community; {vertex: community}; or sets, or lists, of vertices.
+        The communities: the result of `louvain`, or another column with a number per community; a
+        dict {vertex: community}; or sets or lists of vertices.
     resolution : float, default 1.0
-        How much the share by chance counts.
+        The weight of the expected share.
     weighted : bool, default False
-        Whether values count; else each edge counts as 1.
+        Whether values count as weights; otherwise each edge counts as 1.
 
     Returns
     -------
@@ -145,17 +160,28 @@ def modularity(G: Matrix, labels: Partition, resolution: float = 1.0, *,
     Raises
     ------
     ValueError
-        If a vertex is in no community, or in two, or isn't one of the graph's, and if values add up
-        to nothing, or could pass 2^62.
+        If a vertex is in no community or in two, or isn't in the graph; if values add up to 0, or
+        could pass 2^62.
     TypeError
         If communities have another form.
 
+    See Also
+    --------
+    louvain : Communities of great modularity.
+    label_propagation : Communities by labels.
+
     Notes
     -----
-    Runs: 12. Steps: up to 22 an edge. networkx: `modularity`.
+    Cost: up to 22 steps per edge, in 12 runs.
+
+    networkx: `modularity`.
 
     Examples
     --------
+    >>> import spmat
+    >>> from spmat.algorithms import modularity
+    >>> G = spmat.Session().from_edgelist(
+    ...     [(0, 1), (0, 2), (1, 2), (2, 3), (3, 4), (3, 5), (4, 5)], directed=False)
     >>> round(modularity(G, [{0, 1, 2}, {3, 4, 5}]), 3)
     0.357
     """
@@ -245,3 +271,202 @@ def _read_column(graph: Matrix, column: Any) -> Tuple[Iterable[Tuple[Any, Any]],
 
 
 # -- Louvain's method
+
+
+class _Edges(NamedTuple):
+    """Edges by the vertices that they leave, ascending, without loops."""
+    rows: Array
+    columns: Array
+    values: Array
+
+    def select(self, some: Array) -> '_Edges':
+        """Those for which a flag is set."""
+        return _Edges(self.rows[some], self.columns[some], self.values[some])
+
+
+class _Level:
+    """One level: a graph whose vertices move between communities. The client has its edges."""
+
+    def __init__(self, graph: Matrix, resolution: float) -> None:
+        rows, columns, values = graph.to_coo()
+        self.count, self.resolution, self.total = graph.nrows, resolution, int(values.sum())
+        self.weights = numpy.bincount(rows, values, self.count)
+        self._loops = int(values[rows == columns].sum())
+        self.edges = _Edges(rows, columns, values.astype(float)).select(rows != columns)
+        self.labels = numpy.arange(self.count)
+        self._sums, self._sizes = self.weights.copy(), numpy.ones(self.count, numpy.int64)
+
+    def modularity(self) -> float:
+        """That of the communities, exact up to the last rounding."""
+        rows, columns, values = self.edges
+        inside = int(values[self.labels[rows] == self.labels[columns]].sum()) + self._loops
+        drawn = sum(int(many) ** 2 for many in self._sums.tolist())
+        return float(compute_modularity(inside, self.total, drawn, self.resolution))
+
+    def settle(self, seed: int) -> float:
+        """Sweeps while these gain; the modularity of the best communities, which are kept."""
+        turns = draw_on_paper(self.count, seed)[self.edges.rows] % BATCHES
+        batches = [self.edges.select(turns == number) for number in range(BATCHES)]
+        best, labels = self.modularity(), self.labels.copy()
+        moves = numpy.ones(self.count, bool)
+        for _ in range(SWEEPS):
+            moves = self._sweep(batches, moves)
+            if not moves.any():
+                break
+            found = self.modularity()
+            gained = found - best
+            if gained > 0:
+                best, labels = found, self.labels.copy()
+            if gained < ENOUGH:
+                break
+        self.labels = labels
+        return best
+
+    def _sweep(self, batches: List[_Edges], moves: Array) -> Array:
+        """Lets each vertex that may move go where it gains most, batch after batch. Which may move
+        next: those beside one that went."""
+        before = self.labels.copy()
+        for batch in batches:
+            some = batch if moves.all() else batch.select(moves[batch.rows])
+            if len(some.rows):
+                self._move(some)
+        went = self.labels != before
+        beside_ = numpy.zeros(self.count, bool)
+        beside_[self.edges.columns[went[self.edges.rows]]] = True
+        return beside_
+
+    def _move(self, edges: _Edges) -> None:
+        """Moves the vertices that some edges leave, all at once."""
+        keys = edges.rows * self.count + self.labels[edges.columns]
+        ranks = numpy.argsort(keys, kind='stable')
+        keys = keys[ranks]
+        starts = _find_starts(keys)
+        near = numpy.add.reduceat(edges.values[ranks], starts)    # of a vertex to a community
+        at, label = numpy.divmod(keys[starts], self.count)
+        firsts = _find_starts(at)
+        counts = numpy.diff(numpy.append(firsts, len(at)))
+        weight, is_own = self.weights[at], label == self.labels[at]
+        scale = self.resolution / self.total
+        gains = near - scale * weight * (self._sums[label] - weight * is_own)
+        best = numpy.maximum.reduceat(gains, firsts)
+        vertices = at[firsts]
+        own = self.labels[vertices]
+        stays = -scale * weight[firsts] * (self._sums[own] - weight[firsts])
+        stays[numpy.repeat(numpy.arange(len(firsts)), counts)[is_own]] = gains[is_own]
+        tops = numpy.flatnonzero(gains == numpy.repeat(best, counts))
+        tops = tops[_find_starts(at[tops])]        # of several best the least label
+        self._go(vertices, label[tops], best > stays + 1e-12)
+
+    def _go(self, vertices: Array, labels: Array, gains: Array) -> None:
+        """Moves vertices that gain by it. Of two that are alone and want to join each other one
+        stays."""
+        own = self.labels[vertices]
+        alone = (self._sizes[own] == 1) & (self._sizes[labels] == 1)
+        goes = gains & ~(alone & (labels > own))
+        vertices, labels, own = vertices[goes], labels[goes], own[goes]
+        weights = self.weights[vertices]
+        for change, community in ((-1, own), (1, labels)):
+            self._sums += change * numpy.bincount(community, weights, self.count)
+            self._sizes += change * numpy.bincount(community, minlength=self.count)
+        self.labels[vertices] = labels
+
+
+def _find_starts(ascending: Array) -> Array:
+    """Where each number of an ascending array, which isn't empty, begins."""
+    differ = numpy.ones(len(ascending), bool)
+    numpy.not_equal(ascending[1:], ascending[:-1], out=differ[1:])
+    return numpy.flatnonzero(differ)
+
+
+class _Reached(NamedTuple):
+    """The best communities that were found: a number for each vertex, their modularity, and after
+    how many levels."""
+    labels: Array
+    modularity: float
+    levels: int
+
+    def communities(self, G: Matrix) -> Communities:
+        """The same, each by its least vertex."""
+        _, first, which = numpy.unique(self.labels, return_index=True, return_inverse=True)
+        return as_result(Communities, beside(G, put_all(G, first[which.reshape(-1)])),
+                         modularity=self.modularity, levels=self.levels)
+
+
+@algorithm('communities of great modularity, by a vertex of each', are_vertices=True,
+           tells=lambda result: 'modularity %.6f' % result.modularity, wanted=BOTH_WAYS,
+           says='Communities by Louvain\'s method; their modularity is told on standard error.')
+def louvain(G: Matrix, resolution: float = 1.0, seed: Seed = 0, progress: Progress = None, *,
+            weighted: bool = False, check: bool = True) -> Communities:
+    """Communities of great modularity in an undirected graph, by Louvain's method.
+
+    Parameters
+    ----------
+    G : Matrix
+        An undirected graph. Loops count.
+    resolution : float, default 1.0
+        A greater one gives smaller communities.
+    seed : int, None, or a generator of random or numpy, default 0
+        Draws the order in which vertices move. None draws a new one at each call.
+    progress : callable, optional
+        `progress('level', k, 0)` is called after each level.
+    weighted : bool, default False
+        Whether values count as weights, 0 or more; otherwise each edge counts as 1.
+    check : bool, default True
+        Whether to check that the graph is undirected: once, 13 steps per edge.
+
+    Returns
+    -------
+    Communities
+        A column of labels with their `modularity`. A label is the least vertex of its community;
+        `.sets()` has the communities.
+
+    Raises
+    ------
+    ValueError
+        If the graph is directed, a value is below 0, or the values add up to nothing, or to 2^53 or
+        more.
+    BudgetExceeded
+        If the budget runs out; `partial` has the best communities by then, with their modularity.
+
+    See Also
+    --------
+    modularity : How good communities are.
+    label_propagation : A faster method.
+
+    Notes
+    -----
+    In each sweep, an eighth of the vertices at a time move to the neighbouring community that gains
+    most; the seed draws the order. Sweeps end when the modularity gains no more. Each community
+    then becomes a vertex of the next level. There are up to 16 levels of up to 20 sweeps.
+
+    Cost: up to 20 steps per edge of a level, and 3 runs per level.
+
+    networkx: `louvain_communities`. igraph: `community_multilevel`.
+
+    Examples
+    --------
+    >>> import spmat
+    >>> from spmat.algorithms import louvain
+    >>> G = spmat.Session().from_edgelist(
+    ...     [(0, 1), (0, 2), (1, 2), (2, 3), (3, 4), (3, 5), (4, 5)], directed=False)
+    >>> louvain(G).sets()
+    [{0, 1, 2}, {3, 4, 5}]
+    """
+    count = order(G)
+    check_undirected(G, check, loops=True)
+    if weighted:
+        check_weights(G, FLOAT_BITS)
+    graph, chance = double_loops(G, weighted), generator_of(seed)
+    level = _Level(graph, resolution)
+    now = _Reached(numpy.arange(count), level.modularity(), 0)
+    with keep_partial(lambda: now.communities(G) if now.levels else None):
+        while now.levels < MOST_LEVELS:
+            found = level.settle(chance.getrandbits(32))
+            numbers, many = number_labels(level.labels)
+            tell(progress, 'level', now.levels + 1)
+            if found <= now.modularity + LEAST:
+                return now._replace(levels=now.levels + 1).communities(G)
+            now = _Reached(numbers[now.labels], found, now.levels + 1)
+            graph = contract(graph, (numpy.arange(len(numbers)), numbers), many, 'plus')
+            level = _Level(graph, resolution)
+    return now.communities(G)

@@ -1,21 +1,28 @@
-"""Connected components, and the two sides of a graph."""
+"""Connected components, the two sides of a bipartite graph, and strong components."""
 from __future__ import annotations
 
-from typing import Iterator, List, Optional
+from typing import Dict, Iterator, List, Optional, Tuple
 
 import numpy
 
+from ..io.matrix_text import Triples
+from ..loops import Loop, State, empty
 from ..matrix import Matrix
 from ..operands import is_same
 from ..operators import Semiring, asm, binary
-from . import step_bounds
-from .bfs import Search, run_search
-from .cached_properties import check_undirected, is_both_ways, transpose_of
+from .bfs import NONE, Search, run_search
+from .cached_properties import check_undirected, found, is_both_ways, transpose_of
+from .independent_set import draw_numbers
 from .registry import algorithm
-from .traversal import (Columns, Traversal, Vector, find_traversal, find_vectors, is_ample,
-                        put_all, read_values)
+from .topological_order import find_topological_levels
+from .traversal import (Columns, Traversal, Vector, find_traversal, find_vectors, is_ample, keep,
+                        put_all, put_column, read_column, read_edges, read_values, read_vector,
+                        spread, vector_of)
 from .types import Array, Place
-from .utils import (Progress, beside, column, mark_rows, name_of, nothing, order, rows_of, tell)
+from .utils import (Progress, as_many, beside, column, iterate, loops, mark_rows, name_of, nothing,
+                    order, product, rows_of, settle, tell)
+
+__all__ = ['bipartite_sides', 'connected_components', 'strongly_connected_components']
 
 GREATEST = Semiring(binary.max, binary.first)
 LEAST = Semiring(binary.min, binary.first)
@@ -25,6 +32,14 @@ FEW_OTHERS = 8                                     # few are left where that is 
 FEW_PAIRS = 16                                     # pairs of labels are few where that is
 BLOCK = 1 << 13                                    # vertices whose labels stay in a cache
 PAIRED = asm('binary', 'mov64 r0, r1\nlsh64 r0, 32\nor64 r0, r2\nexit\n', 'paired')
+DONE = -1                                          # the part of a vertex whose component is known
+# edges of a graph that the client looks at by itself, and of what is left of a larger one
+AT_ONCE, SMALL = 1 << 15, 1 << 18
+# rounds against the edges before the transpose pays
+PULLS = 16
+# times that all edges are looked at for ends of paths, or for what one vertex reaches
+SWEEPS = 32
+FEW = 1 << 9                                       # edges that Tarjan's algorithm is quick with
 
 
 class Labels:
@@ -154,11 +169,10 @@ def _read_alike(lines: Traversal, made: List[Matrix]) -> List[Vector]:
 
 
 @algorithm("the least vertex of each one's component", are_vertices=True,
-           runs=lambda g: 2 * g.rounds + 3 + (g.vertices >= LARGE),
-           steps=step_bounds.connected_components)
+           runs=lambda g: 2 * g.rounds + 3 + (g.vertices >= LARGE))
 def connected_components(G: Matrix, GT: Optional[Matrix] = None, progress: Progress = None, *,
                          check: bool = True) -> Matrix:
-    """The least vertex of each one's component, as a column; edges lead both ways.
+    """The component of each vertex, as a column: its least vertex. Directions don't count.
 
     Of a directed graph these are the weak components.
 
@@ -167,12 +181,12 @@ def connected_components(G: Matrix, GT: Optional[Matrix] = None, progress: Progr
     G : Matrix
         The graph; an entry (i, j) is an edge from i to j.
     GT : Matrix, optional
-        Of an undirected graph G itself; without it that is found out. Another transpose serves
-        blocks alone.
+        For an undirected graph, G itself; by default the client finds out. Only row blocks use
+        another transpose.
     progress : callable, optional
         `progress('round', k, 0)` is called after each round.
     check : bool, default True
-        Whether it is checked that each edge leads both ways where `GT` is G.
+        Whether to check that the graph is undirected where `GT` is G.
 
     Returns
     -------
@@ -182,31 +196,44 @@ def connected_components(G: Matrix, GT: Optional[Matrix] = None, progress: Progr
     Raises
     ------
     ValueError
-        If G is handed in as `GT`, and an edge leads one way alone. (With `check=False` neighbours
-        are those that edges lead to.)
+        If `GT` is G, and the graph is directed. (With `check=False`, the neighbours are those that
+        edges lead to.)
+
+    See Also
+    --------
+    strongly_connected_components : Components by paths that go both ways.
+    bipartite_sides : The two sides of a bipartite graph.
 
     Notes
     -----
-    Each vertex is joined with its least and its greatest neighbour, which the client follows to
-    their ends. (Of a graph of 16,384 vertices or more with the greatest only where many are outside
-    the greatest component by then.) Then those outside the greatest component alone look for
-    neighbours with other labels. A component that has one is joined with another: so each round
-    leaves at most half of them, and there are no more rounds than the logarithm of the number of
-    vertices, however long the paths are.
+    Each vertex is joined with its least and its greatest neighbour, and the client follows these to
+    their ends. Each later round looks only at vertices outside the greatest component, and at least
+    halves the number of components. So the number of rounds is at most the logarithm of the number
+    of vertices, however long the paths are.
 
-    Runs: 2 a round, and 3; 1 more for such a large graph, and 1 for a directed one. Steps: up to 10
-    an edge and 6 a vertex; in later rounds 20 an edge of the vertices outside the greatest
-    component, and for a directed graph 10 an edge. Whether each edge leads both ways is found out
-    once, by 2 jobs (13 steps an edge and 5 a vertex), and kept with the matrix.
+    Cost: up to 10 steps per edge and 6 per vertex in the first round, and 20 per edge outside the
+    greatest component later; 2 runs per round.
+
+    A directed graph takes 10 more steps per edge. Whether the graph is undirected is checked once:
+    13 steps per edge and 5 per vertex.
 
     GraphBLAS: `mxv` over min and second, max and second. LAGraph: `LAGr_ConnectedComponents`
     (FastSV). networkx: `connected_components`, `weakly_connected_components`.
 
     Examples
     --------
+    >>> import spmat
+    >>> from spmat.algorithms import connected_components
+    >>> G = spmat.Session().from_edgelist(
+    ...     [(0, 1), (0, 2), (1, 2), (2, 3), (3, 4), (3, 5), (4, 5)], directed=False)
     >>> connected_components(G).to_list()
     [0, 0, 0, 0, 0, 0]
     """
+    return label_components(G, GT, progress, check)
+
+
+def label_components(G: Matrix, GT: Optional[Matrix], progress: Progress, check: bool) -> Matrix:
+    """The least vertex of each one's component, as a column."""
     count = order(G, GT)
     near, labels, number = Neighbours(G, GT, check), Labels(count), 1
     for each in near.all():
@@ -222,7 +249,7 @@ def connected_components(G: Matrix, GT: Optional[Matrix] = None, progress: Progr
     return beside(G, put_all(G, labels.of))
 
 
-@algorithm('two sides without an edge inside one', steps=step_bounds.bipartite_sides)
+@algorithm('two sides without an edge inside one')
 def bipartite_sides(G: Matrix, GT: Optional[Matrix] = None, progress: Progress = None, *,
                     check: bool = True) -> Matrix:
     """A side, 0 or 1, for each vertex, as a column: each edge leads from one side to the other.
@@ -232,11 +259,11 @@ def bipartite_sides(G: Matrix, GT: Optional[Matrix] = None, progress: Progress =
     G : Matrix
         The graph; an entry (i, j) is an edge from i to j.
     GT : Matrix, optional
-        The transpose. Without it the client makes it, once; for an undirected graph hand in G.
+        The transpose. By default the client makes it, once; for an undirected graph, pass G.
     progress : callable, optional
         It is called as by `connected_components`.
     check : bool, default True
-        Whether `GT` is checked to be the transpose, by 4 jobs, once.
+        Whether to check that `GT` is the transpose: by 4 jobs, once.
 
     Returns
     -------
@@ -246,18 +273,29 @@ def bipartite_sides(G: Matrix, GT: Optional[Matrix] = None, progress: Progress =
     Raises
     ------
     ValueError
-        If there are no such sides: it names an edge whose ends are both an odd, or both an even
-        number of edges away from the least vertex. If `GT` isn't the transpose.
+        If there are no such sides: the message names an edge whose two ends would be on one side.
+        If `GT` isn't the transpose.
+
+    See Also
+    --------
+    connected_components : The components.
+    maximal_independent_set : Vertices of which no two are neighbours.
 
     Notes
     -----
-    Runs: those of `connected_components` and of a search from all least vertices at once, and 7.
-    Steps: theirs, and 15 an edge and 30 a vertex.
+    The search begins at the least vertex of each component.
+
+    Cost: that of `connected_components` and of a `bfs_levels`, with 15 steps per edge, 30 per
+    vertex and 7 runs more.
 
     networkx: `bipartite.color`.
 
     Examples
     --------
+    >>> import spmat
+    >>> from spmat.algorithms import bipartite_sides
+    >>> W = spmat.Session().from_triples(
+    ...     [(0, 1, 2), (1, 2, 1), (2, 3, 4), (0, 3, 8)], 4, 4)
     >>> bipartite_sides(W).to_list()
     [0, 1, 0, 1]
     """
@@ -267,7 +305,7 @@ def bipartite_sides(G: Matrix, GT: Optional[Matrix] = None, progress: Progress =
     back = transpose_of(G, GT, check)
     near = G if is_same(back, G) else G.ewise_add(back, 'first')
     own = column(G, 0).apply('rowindex', right=0)
-    least = connected_components(near, near, progress, check=False)
+    least = label_components(near, near, progress, False)
     firsts = rows_of(least.ewise_mult(own, 'eq').select('nonzero'))
     levels = run_search(find_traversal(near, near, False), Search(firsts), False)
     side = put_all(G, levels & 1)
@@ -286,3 +324,293 @@ def _edge(G: Matrix, near: Matrix, side: Matrix, at: Place) -> str:
     other = next(Place(vertex) for vertex in row if sides[vertex] == sides[int(at)])
     names = name_of(G, at), name_of(G, other)
     return 'the edge between %r and %r joins vertices of one side' % names
+
+
+class Parts:
+    """What is known of each vertex: the least vertex of its component, where that is known, and a
+    number that those share which could be in one component."""
+
+    def __init__(self, count: int) -> None:
+        self.count = count
+        self.label: Array = numpy.arange(count)
+        self.part: Array = numpy.zeros(count, numpy.int64)
+
+    def close(self, vertices: Array, labels: Array) -> None:
+        """These have their components, by the least vertices."""
+        self.label[vertices], self.part[vertices] = labels, DONE
+
+    def divide(self, forward: Array, backward: Array) -> None:
+        """Those that one vertex reaches, and those that reach it. Who is both is in its component;
+        no other is in one component with somebody who isn't the same of both."""
+        kind = numpy.zeros(self.count, numpy.int64)
+        kind[forward] += 1
+        kind[backward] += 2
+        self.part = numpy.where(self.part == DONE, DONE, 4 * self.part + kind)
+        both = numpy.flatnonzero(kind == 3)
+        self.close(both, both[:1])
+
+
+@algorithm("the least vertex of each one's strong component", are_vertices=True)
+def strongly_connected_components(G: Matrix, GT: Optional[Matrix] = None, progress: Progress = None,
+                                  *, check: bool = True) -> Matrix:
+    """The strongly connected component of each vertex, as a column: its least vertex.
+
+    Two vertices are in one component if a path leads from each to the other.
+
+    Parameters
+    ----------
+    G : Matrix
+        The graph; an entry (i, j) is an edge from i to j.
+    GT : Matrix, optional
+        The transpose. By default the client makes it if a search against the edges has more than 16
+        levels.
+    progress : callable, optional
+        `progress('round', k, 0)` is called after each round.
+    check : bool, default True
+        Whether to check that `GT` is the transpose: by 4 jobs, once.
+
+    Returns
+    -------
+    Matrix
+        A column with a vertex for each; `.sets()` has the components.
+
+    Raises
+    ------
+    ValueError
+        If `GT` isn't the transpose.
+
+    See Also
+    --------
+    connected_components : Components by paths in either direction.
+    topological_levels : Levels of a graph without cycles.
+
+    Notes
+    -----
+    Two searches from the vertex with the most edges find the first component. The client finishes
+    what is left by Tarjan's algorithm, once that is 262,144 edges or fewer. A larger rest is first
+    trimmed of vertices that are on no cycle, and then searched from many vertices at once.
+
+    Cost: two searches (`bfs_levels`) and 10 runs; with many components 6 runs more per level of
+    trimming.
+
+    networkx: `strongly_connected_components`.
+
+    Examples
+    --------
+    >>> import spmat
+    >>> from spmat.algorithms import strongly_connected_components
+    >>> W = spmat.Session().from_triples(
+    ...     [(0, 1, 2), (1, 2, 1), (2, 3, 4), (0, 3, 8)], 4, 4)
+    >>> strongly_connected_components(W).to_list()
+    [0, 1, 2, 3]
+    """
+    if GT is not None:
+        order(G, GT)
+        transpose_of(G, GT, check)
+    return label_strong_components(G, GT, progress)
+
+
+def label_strong_components(G: Matrix, GT: Optional[Matrix] = None,
+                            progress: Progress = None) -> Matrix:
+    """The least vertex of each one's strong component, as a column."""
+    count = order(G)
+    if count == 0:
+        return nothing(G)
+    parts, near, number = Parts(count), G, 0
+    back: Optional[Matrix] = None
+    while near.nvals > (SMALL if number else AT_ONCE):
+        if number == 0:
+            _search_around(G, GT, parts)
+        else:
+            back = near.T if back is None else _inside(back, parts)
+            _close_ends(near, back, parts)
+            near, back = _inside(near, parts), _inside(back, parts)
+            _close_colours(near, back, parts, number)
+        near, number = _inside(near, parts), number + 1
+        tell(progress, 'round', number)
+    if near.nvals or not number:
+        parts.close(*find_strong_components(*read_edges(near)))
+        tell(progress, 'round', number + 1)
+    return beside(G, put_all(G, parts.label))
+
+
+def _search_around(G: Matrix, GT: Optional[Matrix], parts: Parts) -> None:
+    """The component of the vertex with the most edges, by those that leave it times those that lead
+    to it."""
+    middle: Optional[Place] = found(G, 'most joined', lambda: _find_most_joined(G))
+    if middle is None:
+        return
+    parts.divide(_search(G, middle), _reaching(G, GT, middle))
+
+
+def _search(G: Matrix, start: Place) -> Array:
+    """The vertices that one reaches."""
+    levels = run_search(find_traversal(G, None, False), Search([start]), False)
+    return numpy.flatnonzero(levels != NONE)
+
+
+def _find_most_joined(G: Matrix) -> Optional[Place]:
+    """The vertex with the most edges of both directions; None where no vertex has edges of both."""
+    outgoing = G.mxv(column(G, 1), 'plus_pair')
+    incoming = G.session.ones(G.nrows).mxm(G, 'plus_pair')
+    scores = spread(read_column(outgoing), G.nrows)
+    scores *= spread(read_vector(incoming.to_text(), 1), G.nrows)
+    best = int(scores.argmax())
+    return Place(best) if scores[best] else None
+
+
+def _reaching(G: Matrix, GT: Optional[Matrix], middle: Place) -> Array:
+    """The vertices from which a path leads to one. Without a transpose all vertices look along
+    their edges, a few times."""
+    back = GT if GT is not None else G.kept.get('transpose')
+    if back is None:
+        pulled = _pull(G, middle)
+        if pulled is not None:
+            return pulled
+        back = transpose_of(G, None, False)
+    return _search(back, middle)
+
+
+def _pull(G: Matrix, middle: Place) -> Optional[Array]:
+    """The same against the edges: in each round those vertices look along their edges that weren't
+    seen. None where that takes too many rounds."""
+    start = put_column(G, vector_of([middle], [1]))
+
+    def step(s: State) -> Dict[str, Matrix]:
+        front = G.mxv(s.front, 'any_pair', mask=s.unseen.S)
+        return {'front': front, 'unseen': _subtract(s.unseen, front)}
+    loop = Loop(step, {'front': start, 'unseen': _subtract(column(G, 1), start)}, ['front'], True)
+    # a round behind the end would look at the edges of all that weren't seen
+    end = empty('front')._replace(rests=False)
+    if not loop.rounds(end, PULLS, lambda first, rounds: None):
+        return None
+    reached: Array = loop.shown['front'].drain(values=False).places
+    return numpy.append(reached, int(middle))
+
+
+def _subtract(some: Matrix, gone: Matrix) -> Matrix:
+    """A column of ones without those entries where another has some."""
+    return some.ewise_add(gone, 'zero').select('nonzero')
+
+
+def _inside(G: Matrix, parts: Parts) -> Matrix:
+    """The edges between two vertices of one part whose components aren't known."""
+    at = numpy.flatnonzero(parts.part != DONE)
+    diagonal = keep(G, Triples(at, at, parts.part[at], parts.count, parts.count))
+    same = product(product(diagonal, G, 'any_first'), diagonal, 'any_minus')
+    return same.select('valueeq', 0).apply('one')
+
+
+def _close_ends(near: Matrix, back: Matrix, parts: Parts) -> None:
+    """The vertices that no cycle leads to, or that lead to none, are components of their own."""
+    for way in (near, back):
+        gone = numpy.flatnonzero((find_topological_levels(way) != NONE) & (parts.part != DONE))
+        parts.close(gone, gone)
+
+
+def _close_colours(near: Matrix, back: Matrix, parts: Parts, seed: int) -> None:
+    """The components of those vertices whose score is the least of all that reach them."""
+    at = numpy.flatnonzero(parts.part != DONE)
+    own = draw_numbers(put_column(near, Vector(at, numpy.ones_like(at))), seed)
+    taken = back.ewise_add(loops(back, 1), 'first')
+    colour = settle(lambda score: taken.mxv(score, 'min_second'), own)
+    first = colour.ewise_mult(own, 'eq').select('nonzero')
+    colours = colour.diag()
+    there = product(near, colours, 'any_second')
+    same = product(colours, near, 'any_first').ewise_mult(there, 'eq').select('nonzero')
+    reached = iterate(first, lambda had: had.ewise_add(same.mxv(had, 'any_pair'), 'first'), as_many)
+    at, values = read_column(colour.ewise_mult(reached, 'first'))
+    # rows ascend: the first with a value is the least
+    _, where, which = numpy.unique(values, return_index=True, return_inverse=True)
+    parts.close(at, at[where][which.reshape(-1)])
+
+
+# -- what the client does by itself with a few edges, where a trip would cost more than the work
+
+def find_strong_components(rows: Array, columns: Array) -> Tuple[Array, Array]:
+    """The vertices with an edge of the given ones, whose rows ascend, and the least vertex of each
+    one's strongly connected component. Vertices that no edge leads to, or none leaves, are taken
+    off, and the component of the one with the most edges; the others by Tarjan's algorithm."""
+    vertices, first, second = _renumber(rows, columns)
+    parts = Parts(len(vertices))
+    first, second = _trim(first, second, parts.count)
+    if len(first) > FEW:
+        leave, enter = (numpy.bincount(ends, minlength=parts.count) for ends in (first, second))
+        middle = int((leave * enter).argmax())
+        there, back = _reach(first, second, middle), _reach(second, first, middle)
+        if there is not None and back is not None:
+            parts.divide(there, back)
+            keeps = (parts.part[first] == parts.part[second]) & (parts.part[first] != DONE)
+            first, second = _trim(first[keeps], second[keeps], parts.count)
+    inner, first, second = _renumber(first, second)
+    parts.close(inner, inner[_tarjan(first, second, len(inner))])
+    return vertices, vertices[parts.label]
+
+
+def _renumber(rows: Array, columns: Array) -> Tuple[Array, Array, Array]:
+    """The vertices that have edges, and the edges between their numbers among these."""
+    is_end = numpy.zeros(1 + max(rows.max(initial=-1), columns.max(initial=-1)), bool)
+    is_end[rows] = is_end[columns] = True
+    numbers = numpy.cumsum(is_end) - 1
+    return numpy.flatnonzero(is_end), numbers[rows], numbers[columns]
+
+
+def _trim(first: Array, second: Array, count: int) -> Tuple[Array, Array]:
+    """The edges without those that lead to a vertex that none leaves, or leave one that none leads
+    to."""
+    for _ in range(SWEEPS):
+        keeps = numpy.bincount(second, minlength=count)[first] > 0
+        keeps &= numpy.bincount(first, minlength=count)[second] > 0
+        if keeps.all():
+            break
+        first, second = first[keeps], second[keeps]
+    return first, second
+
+
+def _reach(first: Array, second: Array, start: int) -> Optional[Array]:
+    """The vertices that one reaches; None where paths are long."""
+    seen = numpy.zeros(1 + max(first.max(), second.max()), bool)
+    seen[start], many = True, 0
+    for _ in range(SWEEPS):
+        seen[second[seen[first]]] = True
+        before, many = many, numpy.count_nonzero(seen)
+        if many == before:
+            return numpy.flatnonzero(seen)
+    return None
+
+
+def _tarjan(first: Array, second: Array, count: int) -> List[int]:
+    """The least vertex of each one's component. `first` ascends. Tarjan's algorithm as Pearce has
+    it, with a list for the calls."""
+    ends = numpy.cumsum(numpy.bincount(first, minlength=count)).tolist()
+    following, heads = [0, *ends[:-1]], second.tolist()
+    number, low, out = [0] * count, [0] * count, list(range(count))
+    met, open_ = 0, []  # type: int, List[int]
+    for root in range(count):
+        path = [] if low[root] else [root]
+        while path:
+            at = path[-1]
+            if not low[at]:
+                met += 1
+                number[at] = low[at] = met
+            if following[at] < ends[at]:
+                there = heads[following[at]]
+                following[at] += 1
+                if not low[there]:
+                    path.append(there)
+                elif low[there] < low[at]:
+                    low[at] = low[there]
+                continue
+            path.pop()
+            open_.append(at)
+            if low[at] == number[at]:              # all behind it on the stack are its component
+                begin = len(open_) - 1
+                while begin and low[open_[begin - 1]] >= low[at]:
+                    begin -= 1
+                least = min(open_[begin:])
+                for member in open_[begin:]:
+                    out[member], low[member] = least, count + 1
+                del open_[begin:]
+            elif low[at] < low[path[-1]]:
+                low[path[-1]] = low[at]
+    return out

@@ -5,23 +5,24 @@ from typing import Any, Dict, Iterator, List, Optional, Set
 
 import numpy
 
+from ..errors import about
 from ..io.coo import shown, whole
 from ..loops import Loop, State, empty
 from ..loops.trips import Round
 from ..matrix import Matrix
 from ..metadata import Nodes
 from ..operators import Semiring, asm, binary
-from . import step_bounds
 from .cached_properties import check_undirected
-from .components import connected_components
+from .components import label_components
 from .types import Array
 from .registry import WITHOUT_LOOPS, algorithm
 from .results import Result, as_result, keep_partial
 from .server_loops import hear
 from .traversal import (Vector, find_traversal, is_ample, put_all, put_column, put_known, put_row,
                         read_column, read_edges, spread)
-from .triangle_counts import degrees
-from .utils import Progress, beside, contract, order, tell
+from .utils import Progress, beside, contract, count_edges, order, tell
+
+__all__ = ['core_numbers', 'k_core']
 
 COUNTS = Semiring(binary.plus, binary.first)
 GONE = UNKNOWN = -1
@@ -30,7 +31,7 @@ LOWERED = Semiring(binary.any, asm('binary', 'mov64 r0, r2\njsle64 r1, 0, 1\nsub
 RAISED = asm('binary', 'mov64 r0, r1\njsle64 r2, 0, 1\nadd64 r0, r2\nexit\n')
 # vertices that are left where a loop at the server does the rest
 HANDED_OVER = 1 << 12
-AT_ONCE = step_bounds.FEW_EDGES                    # edges that the client looks at by itself
+AT_ONCE = 1 << 15                                # edges that the client looks at by itself
 
 
 class Peeling:
@@ -46,7 +47,7 @@ class Peeling:
             self.left = numpy.bincount(rows, minlength=G.nrows)
             self._heads = numpy.split(heads, numpy.cumsum(self.left)[:-1])
         else:
-            self.left = spread(read_column(degrees(G)), G.nrows)
+            self.left = spread(read_column(count_edges(G)), G.nrows)
         self.alive = numpy.flatnonzero(self.left)
 
     def least(self) -> Optional[int]:
@@ -106,15 +107,15 @@ class Core(Result):
         runs."""
         at = self.to_coo()[0]
         part = _among(self.graph, at)
-        labels = connected_components(part, part, check=False)
+        labels = label_components(part, part, None, False)
         names = self.nodes
         labels.nodes = Nodes(at.tolist() if names is None else [names[vertex] for vertex in at])
         found: List[Set[Any]] = labels.sets()
         return found
 
 
-@algorithm('vertices with k neighbours or more', 'k', wanted=WITHOUT_LOOPS, ranked=True,
-           runs=lambda g: 3 * g.rounds + 3, steps=step_bounds.k_core)
+@algorithm('vertices with k neighbours or more', wanted=WITHOUT_LOOPS, ranked=True,
+           runs=lambda g: 3 * g.rounds + 3)
 def k_core(G: Matrix, k: int, progress: Progress = None, *, check: bool = True) -> Core:
     """The vertices of the largest part of a graph in which each has at least k neighbours.
 
@@ -123,43 +124,50 @@ def k_core(G: Matrix, k: int, progress: Progress = None, *, check: bool = True) 
     G : Matrix
         An undirected graph without loops.
     k : int
-        The number of neighbours; with 0 these are all vertices.
+        The least number of neighbours in the core; with 0, all vertices are left.
     progress : callable, optional
         `progress('round', i, 0)` is called after each round.
     check : bool, default True
-        Whether it is checked that each edge leads both ways, and none from a vertex to itself: 3
-        jobs, 4 runs, 18 steps an edge and 5 a vertex, once.
+        Whether to check that the graph is undirected and has no loops: once, 18 steps per edge and
+        5 per vertex.
 
     Returns
     -------
     Core
-        A column with the number of neighbours there; `.sets()` has the components of that part.
+        A column with the numbers of neighbours in the core; `.sets()` has the core's components.
 
     Raises
     ------
     ValueError
-        If k is below 0, the graph has loops, or an edge leads one way alone.
+        If k is below 0, the graph has loops, or the graph is directed.
+
+    See Also
+    --------
+    core_numbers : The greatest k of each vertex.
+    k_truss : The same with triangles.
 
     Notes
     -----
-    In each round those fall that have too few neighbours left, and push that along their edges: no
-    other vertex is looked at.
+    Each round removes vertices with too few neighbours, and looks at their neighbours alone.
 
-    Runs: 1 a round, and 2; 1 for a graph of up to 32,768 edges, which the client peels by itself.
-    Steps: up to 5 an edge; none for such a graph.
+    Cost: up to 5 steps per edge, and 1 run per round; 1 run for a graph of up to 32,768 edges,
+    which the client reads.
 
-    GraphBLAS: `vxm` over plus and first of those that fell. LAGraph: `LAGraph_KCore`. networkx:
-    `k_core`.
+    GraphBLAS: `vxm` over plus and first. LAGraph: `LAGraph_KCore`. networkx: `k_core`.
 
     Examples
     --------
+    >>> import spmat
+    >>> from spmat.algorithms import k_core
+    >>> G = spmat.Session().from_edgelist(
+    ...     [(0, 1), (0, 2), (1, 2), (2, 3), (3, 4), (3, 5), (4, 5)], directed=False)
     >>> k_core(G, 2).by_node()
     {0: 2, 1: 2, 2: 3, 3: 3, 4: 2, 5: 2}
     """
     order(G)
     k = whole(k, 'number of neighbours')
     if k < 0:
-        raise ValueError('a k-core has k of 0 or above, not %s' % shown(k))
+        raise about(ValueError('a k-core has k of 0 or above, not %s' % shown(k)), 'k')
     check_undirected(G, check)
     peeling = Peeling(G, progress)
     for _ in peeling.peel(k):
@@ -169,9 +177,9 @@ def k_core(G: Matrix, k: int, progress: Progress = None, *, check: bool = True) 
 
 
 @algorithm('the greatest k of a core with each vertex', wanted=WITHOUT_LOOPS, ranked=True,
-           runs=lambda g: 3 * g.rounds + 3, steps=step_bounds.core_numbers)
+           runs=lambda g: 3 * g.rounds + 3)
 def core_numbers(G: Matrix, progress: Progress = None, *, check: bool = True) -> Matrix:
-    """The greatest k for each vertex with which it is in the k-core, as a column.
+    """The core number of each vertex, as a column: the greatest k whose k-core contains it.
 
     Parameters
     ----------
@@ -190,25 +198,33 @@ def core_numbers(G: Matrix, progress: Progress = None, *, check: bool = True) ->
     Raises
     ------
     ValueError
-        If the graph has loops, or an edge leads one way alone.
+        If the graph has loops, or the graph is directed.
     BudgetExceeded
-        If the budget ends amid the work; `partial` has an entry for each vertex whose number is
-        known.
+        If the budget runs out; `partial` has an entry for each vertex whose number is known.
+
+    See Also
+    --------
+    k_core : The core for one k.
+    degrees : The number of neighbours.
 
     Notes
     -----
-    The graph is peeled once, for all k, and each vertex pushes once, when it falls; the client
-    reads a graph of 32,768 edges and vertices or fewer, and peels it by itself. Once 4,096 vertices
-    of a larger one are left, and on a budget of more than 2^56 steps, the rest is a loop that stays
-    at the server.
+    The graph is peeled once, for all k. On a budget of more than 2^56 steps, the last 4,096
+    vertices of a large graph are peeled by a loop on the server.
 
-    Runs: 1 a round, and 2; in the loop 4 a round, and 4. Steps: up to 10 an edge; in the loop 20
-    for each vertex that is left, a round, and 20 an edge among them.
+    Cost: up to 10 steps per edge, and 1 run per round; 1 run for a graph of up to 32,768 edges,
+    which the client reads.
+
+    The loop takes 4 runs per round, 20 steps per vertex left and round, and 20 per edge among them.
 
     LAGraph: `LAGraph_KCore` for all k. networkx: `core_number`. igraph: `coreness`.
 
     Examples
     --------
+    >>> import spmat
+    >>> from spmat.algorithms import core_numbers
+    >>> G = spmat.Session().from_edgelist(
+    ...     [(0, 1), (0, 2), (1, 2), (2, 3), (3, 4), (3, 5), (4, 5)], directed=False)
     >>> core_numbers(G).to_list()
     [2, 2, 2, 2, 2, 2]
     """

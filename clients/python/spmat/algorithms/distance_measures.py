@@ -9,7 +9,7 @@ from __future__ import annotations
 
 import functools
 import itertools
-from typing import Callable, Dict, List, NamedTuple, Optional, Tuple
+from typing import Any, Callable, Dict, List, Mapping, NamedTuple, Optional, Tuple
 
 import numpy
 
@@ -19,14 +19,14 @@ from ..matrix import Matrix
 from ..metadata import without_names
 from ..operands import is_same
 from ..operators import Semiring, asm, binary
-from . import path_bounds
 from .bfs import NONE, Search, run_search
 from .cached_properties import is_both_ways, transpose_of
 from .registry import algorithm
 from .traversal import find_traversal, read_column
-from .triangle_counts import degrees
 from .types import Array, Place
-from .utils import Progress, beside, name_of, nothing, order, tell
+from .utils import Progress, beside, count_edges, name_of, nothing, order, tell
+
+__all__ = ['Bounds', 'diameter', 'distance_counts', 'eccentricity']
 
 WORD = 64
 # words at a vertex: more make the matrices larger, and nothing faster
@@ -34,6 +34,11 @@ MOST_WORDS = 32
 # pairs of searches that may leave three quarters of the vertices, before all of these are searched
 # from
 PATIENCE = 6
+# pairs of searches for the diameter
+MOST_PAIRS = 32
+# what counts values
+LENGTHS = {'weighted': 'all_pairs(W).reduce_rowwise("max") has the greatest length from each '
+                       'vertex by values, and reduce_scalar("max") of it that of all'}
 NEW = asm('binary', 'mov64 r0, r2\nxor64 r0, -1\nand64 r0, r1\nexit\n', 'new_bits')
 MOVED, PUSHED = Semiring(binary.bor, binary.second), Semiring(binary.bor, binary.first)
 BITS = asm('unary', '''\
@@ -124,51 +129,76 @@ def _farthest(G: Matrix, sources: List[Place]) -> int:
     return loop.number - 1                         # the last round found nothing
 
 
-@algorithm('how many vertices are how far from each', fields=('node', 'distance', 'vertices'),
-           says='How many vertices are how far from each: vertex, number of edges, number of '
-                'vertices.', steps=path_bounds.distance_counts)
+def _list_counts(found: List[Matrix], given: Mapping[str, Any]) -> List[Tuple[Any, int, int]]:
+    """A row for each vertex and distance, with a count."""
+    counts = sorted((i, distance, count) for distance, column in enumerate(found, 1)
+                    for i, _, count in column.to_triples())
+    return [(name_of(given['G'], Place(i)), distance, count) for i, distance, count in counts]
+
+
+@algorithm('from how many vertices paths lead to each', plot=None, rows=_list_counts,
+           fields=('node', 'distance', 'vertices'),
+           says='From how many vertices paths lead to each: vertex, number of edges, number of '
+                'vertices.')
 def distance_counts(G: Matrix, GT: Optional[Matrix] = None, progress: Progress = None, *,
                     check: bool = True) -> List[Matrix]:
-    """How many vertices are how far from each.
+    """At each distance, the number of vertices from which paths lead to each vertex.
 
     Parameters
     ----------
     G : Matrix
         The graph; an entry (i, j) is an edge from i to j.
     GT : Matrix, optional
-        The transpose. Without it the client makes it, once; for an undirected graph hand in G.
+        The transpose. By default the client makes it, once; for an undirected graph, pass G.
     progress : callable, optional
         `progress('batch', k, n)` is called after each batch of searches.
     check : bool, default True
-        Whether `GT` is checked to be the transpose, by 4 jobs, once.
+        Whether to check that `GT` is the transpose: by 4 jobs, once.
 
     Returns
     -------
     list of Matrix
-        Column k - 1 has at each vertex the number of those from which the shortest path to it has k
-        edges; no entry where there are none. For those that it leads to hand in the transpose
-        first, and G after it.
+        Column k - 1 has, for each vertex, how many vertices have a shortest path of k edges to it;
+        no entry if none has. For paths that leave each vertex, pass the transpose first, and G
+        second.
 
     Raises
     ------
     ValueError
         If `GT` isn't the transpose.
 
+    See Also
+    --------
+    eccentricity : The greatest distance of each vertex.
+    closeness : A centrality by distances.
+    all_pairs : The distances themselves.
+
     Notes
     -----
-    Runs: 4 a level of a batch, and 3 a batch. A batch is 64 searches, or as many times 64, up to
-    32, as one product has room for. Steps: up to 3 an edge and 40 a vertex, for each 64 searches
-    and level.
+    Searches run from 64 vertices at once, or from up to 32 times 64 if one product has room for
+    them.
 
-    GraphBLAS: `mxm` over "or" and second. Sums of these columns are networkx'
-    `closeness_centrality`, `harmonic_centrality`, `wiener_index` and
-    `average_shortest_path_length`.
+    Cost: up to 3 steps per edge and 40 per vertex, per level and 64 searches; 4 runs per level of a
+    batch.
+
+    GraphBLAS: `mxm` over "or" and second. networkx: `closeness_centrality`, `harmonic_centrality`,
+    `wiener_index` and `average_shortest_path_length` are sums of these columns.
 
     Examples
     --------
+    >>> import spmat
+    >>> from spmat.algorithms import distance_counts
+    >>> G = spmat.Session().from_edgelist(
+    ...     [(0, 1), (0, 2), (1, 2), (2, 3), (3, 4), (3, 5), (4, 5)], directed=False)
     >>> [column.to_list() for column in distance_counts(G)]
     [[2, 2, 3, 3, 2, 2], [1, 1, 2, 2, 1, 1], [2, 2, None, None, 2, 2]]
     """
+    return count_distances(G, GT, progress, check)
+
+
+def count_distances(G: Matrix, GT: Optional[Matrix], progress: Progress,
+                    check: bool) -> List[Matrix]:
+    """The columns of `distance_counts`."""
     order(G, GT)
     GT = transpose_of(G, GT, check)
     found: List[Matrix] = []
@@ -183,8 +213,7 @@ def distance_counts(G: Matrix, GT: Optional[Matrix] = None, progress: Progress =
     return [beside(G, many) for many in found]
 
 
-@algorithm('edges from each vertex to the farthest one', ranked=True,
-           steps=path_bounds.eccentricity)
+@algorithm('edges from each vertex to the farthest one', ranked=True, hints=LENGTHS)
 def eccentricity(G: Matrix, GT: Optional[Matrix] = None, progress: Progress = None, *,
                  check: bool = True) -> Matrix:
     """The number of edges of the longest of the shortest paths from each vertex, as a column.
@@ -194,31 +223,40 @@ def eccentricity(G: Matrix, GT: Optional[Matrix] = None, progress: Progress = No
     G : Matrix
         The graph; an entry (i, j) is an edge from i to j.
     GT : Matrix, optional
-        The transpose. Without it the client makes it, once; for an undirected graph hand in G.
+        The transpose. By default the client makes it, once; for an undirected graph, pass G.
     progress : callable, optional
         `progress('batch', k, n)` is called after each batch of searches.
     check : bool, default True
-        Whether `GT` is checked to be the transpose, by 4 jobs, once.
+        Whether to check that `GT` is the transpose: by 4 jobs, once.
 
     Returns
     -------
     Matrix
-        A column; no entry where no path begins. A vertex that doesn't reach all others has the
-        greatest distance to one that it reaches (networkx refuses such graphs).
+        A column; no entry where no path begins. For a vertex that doesn't reach all others, it is
+        the greatest distance to one that it reaches; networkx refuses such graphs.
 
     Raises
     ------
     ValueError
         If `GT` isn't the transpose.
 
+    See Also
+    --------
+    diameter : The greatest of all.
+    distance_counts : Numbers of vertices by distance.
+
     Notes
     -----
-    Runs: 5 a level of a batch, and 3 a batch. Steps: as for `distance_counts`.
+    Cost: that of `distance_counts`, with 5 runs per level of a batch.
 
     networkx: `eccentricity`. igraph: `eccentricity`.
 
     Examples
     --------
+    >>> import spmat
+    >>> from spmat.algorithms import eccentricity
+    >>> G = spmat.Session().from_edgelist(
+    ...     [(0, 1), (0, 2), (1, 2), (2, 3), (3, 4), (3, 5), (4, 5)], directed=False)
     >>> eccentricity(G).to_list()
     [3, 3, 2, 2, 3, 3]
     """
@@ -234,7 +272,9 @@ def eccentricity(G: Matrix, GT: Optional[Matrix] = None, progress: Progress = No
     return beside(G, found[0])
 
 
-@algorithm('edges between the two that are farthest apart', steps=path_bounds.diameter)
+@algorithm('edges between the two that are farthest apart', plot=None, fields=('least', 'most'),
+           rows=lambda found, _: found.least if found.least == found.most else [found],
+           hints=LENGTHS)
 def diameter(G: Matrix, GT: Optional[Matrix] = None, searches: Optional[int] = None,
              progress: Progress = None, *, check: bool = True) -> Bounds:
     """The number of edges of the longest of all shortest paths, as bounds.
@@ -244,20 +284,20 @@ def diameter(G: Matrix, GT: Optional[Matrix] = None, searches: Optional[int] = N
     G : Matrix
         The graph; an entry (i, j) is an edge from i to j.
     GT : Matrix, optional
-        The transpose. Without it the client makes it, once; for an undirected graph hand in G.
+        The transpose. By default the client makes it, once; for an undirected graph, pass G.
     searches : int, optional
-        The bounds are what so many pairs of searches tell (one each way), which is exact where both
-        are one; without it they are exact.
+        How many pairs of searches to make, one each way. The bounds may then differ; by default
+        they are equal, and exact.
     progress : callable, optional
         `progress('search', k, searches)` is called after each pair, with 0 for no number, and
         `progress('batch', k, n)` after each batch.
     check : bool, default True
-        Whether `GT` is checked to be the transpose, by 4 jobs, once.
+        Whether to check that `GT` is the transpose: by 4 jobs, once.
 
     Returns
     -------
     Bounds
-        What the number is at `least` and at `most`.
+        The number is from `least` to `most`.
 
     Raises
     ------
@@ -265,21 +305,27 @@ def diameter(G: Matrix, GT: Optional[Matrix] = None, searches: Optional[int] = N
         If the graph has no vertex, some vertex doesn't reach all others, or `GT` isn't the
         transpose.
 
+    See Also
+    --------
+    eccentricity : The number of each vertex.
+    bfs_levels : One search.
+
     Notes
     -----
-    Each vertex whose distances are known bounds those of all others; the next search is from the
-    vertex that may have the greatest, then from the one that may have the least (Takes and
-    Kosters). Without `searches` that goes on while it pays. Those vertices that could still have a
-    greater distance are then searched from in batches, as for `eccentricity`: on graphs of long
-    paths few are left, on random ones most.
+    Known distances bound all others (Takes and Kosters). Searches go on from the vertices that may
+    have the greatest and the least, while that pays. The rest is searched in batches, as by
+    `eccentricity`: few vertices on graphs of long paths, most on random ones.
 
-    Runs: for each pair of searches those of two `bfs_levels`; 4 a level of a batch, and 2. Steps:
-    those of these searches and batches.
+    Cost: two `bfs_levels` per pair of searches, and a `distance_counts` of the vertices left.
 
     networkx: `diameter`. igraph: `diameter`.
 
     Examples
     --------
+    >>> import spmat
+    >>> from spmat.algorithms import diameter
+    >>> G = spmat.Session().from_edgelist(
+    ...     [(0, 1), (0, 2), (1, 2), (2, 3), (3, 4), (3, 5), (4, 5)], directed=False)
     >>> diameter(G)
     Bounds(least=3, most=3)
     """
@@ -296,7 +342,7 @@ def diameter(G: Matrix, GT: Optional[Matrix] = None, searches: Optional[int] = N
 
 def _most_joined(G: Matrix) -> Place:
     """The first vertex with the most edges."""
-    many = read_column(degrees(G))
+    many = read_column(count_edges(G))
     return Place(int(many.at[many.values.argmax()]) if len(many.at) else 0)
 
 
@@ -345,7 +391,7 @@ class Eccentricities:
             if 4 * left < 3 * least_left:
                 last, least_left = number, left
             if searches is None and (left <= WORD or number - last >= PATIENCE
-                                     or number == path_bounds.MOST_PAIRS):
+                                     or number == MOST_PAIRS):
                 break
         return left
 

@@ -9,12 +9,13 @@ import numpy
 from ..matrix import Matrix
 from ..operators import Semiring, asm, binary
 from ..operators.evaluation import evaluate
-from . import step_bounds
 from .cached_properties import check_undirected
 from .types import Array
 from .registry import BOTH_WAYS, algorithm
 from .traversal import Vector, find_vectors, put_column, vector_of
 from .utils import Progress, beside, order, tell
+
+__all__ = ['maximal_independent_set']
 
 THERE = Semiring(binary.first, binary.zero)        # "one of them is a neighbour", marked 0
 GREATEST = Semiring(binary.max, binary.first)
@@ -76,23 +77,22 @@ def draw_on_paper(count: int, seed: int) -> Array:
     return drawn
 
 
-@algorithm('vertices of which no two are neighbours', 'seed', wanted=BOTH_WAYS,
-           runs=lambda g: 7 * g.rounds + 3, steps=step_bounds.maximal_independent_set)
+@algorithm('vertices of which no two are neighbours', wanted=BOTH_WAYS,
+           runs=lambda g: 7 * g.rounds + 3)
 def maximal_independent_set(G: Matrix, seed: Seed = 0, progress: Progress = None, *,
                             check: bool = True) -> Matrix:
-    """Vertices of which no two are neighbours, and to which no other can be added.
+    """Vertices of which no two are neighbours, and to which none can be added.
 
     Parameters
     ----------
     G : Matrix
         An undirected graph; loops don't count.
     seed : int, None, or a generator of random or numpy, default 0
-        It decides which of the sets it is; None draws another at each call.
+        Decides which of the possible sets is found. None draws a new one at each call.
     progress : callable, optional
         `progress('round', k, 0)` is called after each round.
     check : bool, default True
-        Whether it is checked that each edge leads both ways: 2 jobs, 3 runs, 13 steps an edge and 5
-        a vertex, once.
+        Whether to check that the graph is undirected: once, 13 steps per edge and 5 per vertex.
 
     Returns
     -------
@@ -102,20 +102,30 @@ def maximal_independent_set(G: Matrix, seed: Seed = 0, progress: Progress = None
     Raises
     ------
     ValueError
-        If an edge leads one way alone.
+        If the graph is directed.
+
+    See Also
+    --------
+    bipartite_sides : Two sides without edges inside.
+    louvain : Communities.
 
     Notes
     -----
-    Luby's algorithm: who has the greatest score among its neighbours is chosen. Rounds: about the
-    logarithm of the number of vertices.
+    Luby's algorithm: a vertex joins the set if its random score is the greatest among its
+    neighbours. The number of rounds is about the logarithm of the number of vertices.
 
-    Runs: 7 a round, and 3. Steps: up to 10 an edge and 16 a vertex, a round; 5 an edge, 22 a
-    vertex.
+    Cost: up to 10 steps per edge and 16 per vertex, per round, with 7 runs per round.
+
+    Preparation takes 5 steps per edge, 22 per vertex and 3 runs.
 
     LAGraph: `LAGraph_MaximalIndependentSet`. networkx: `maximal_independent_set`.
 
     Examples
     --------
+    >>> import spmat
+    >>> from spmat.algorithms import maximal_independent_set
+    >>> G = spmat.Session().from_edgelist(
+    ...     [(0, 1), (0, 2), (1, 2), (2, 3), (3, 4), (3, 5), (4, 5)], directed=False)
     >>> maximal_independent_set(G).nvals
     2
     """

@@ -2,25 +2,26 @@
 each vertex, and how near it is to those that reach it."""
 from __future__ import annotations
 
-from fractions import Fraction
 from typing import List, NamedTuple, Optional, Tuple, Union
 
 import numpy
 
-from .. import units
+from .. import scale as scales
+from ..errors import about
 from ..io.coo import shown
 from ..matrix import Matrix
 from ..metadata import without_names
 from ..operators import Semiring, asm, binary
-from . import path_bounds
 from .all_pairs_lengths import lengths_from, reach_of
 from .cached_properties import extremes, is_both_ways, is_transpose, transpose_of
-from .distance_measures import distance_counts
+from .distance_measures import count_distances
 from .types import Array, Place, Vertices
 from .registry import algorithm
 from .results import Centrality, as_centrality, unit_of
 from .traversal import put_all, read_column, read_vector, spread
 from .utils import Progress, beside, find_sources, mark_rows, order, product, tell
+
+__all__ = ['betweenness', 'closeness']
 
 REACHED = Semiring(binary.any, binary.first)
 PATHS = Semiring(binary.plus, binary.first)
@@ -106,38 +107,38 @@ class Tight:
                        PATHS, counts)
 
 
-@algorithm('shortest paths through each vertex', 'sources', 'weighted', scale=SCALE, ranked=True,
+@algorithm('shortest paths through each vertex', scale=SCALE, ranked=True,
            says='How many shortest paths between two other vertices go through each vertex: for '
            'each two vertices the share of their shortest paths. Of an undirected graph each two '
            'vertices count once. With --source only paths from these count. With --weighted values '
-           'of edges are lengths, 1 or more.', steps=path_bounds.betweenness)
+           'of edges are lengths, 1 or more.')
 def betweenness(G: Matrix, sources: Optional[Vertices] = None, tolerance: float = 1e-3,
                 scale: int = SCALE, progress: Progress = None, *,
                 weighted: bool = False) -> Centrality:
-    """How many shortest paths between two other vertices go through each vertex.
+    """The betweenness of each vertex: how many shortest paths of two others go through it.
 
     Parameters
     ----------
     G : Matrix
         The graph; an entry (i, j) is an edge from i to j.
     sources : list of vertices, optional
-        Paths from these alone count, and each direction by itself, as LAGraph has it; else those
-        from all vertices, and of an undirected graph each two vertices once.
+        Count only paths from these, each direction by itself, as LAGraph does. By default paths
+        from all vertices count, each pair of an undirected graph once.
     tolerance : float, default 1e-3
-        Each vertex' number is too small by less than that and one unit for each source, or the
-        call is refused.
+        Each number is too small by less than this and one unit per source; otherwise the call is
+        refused.
     scale : int, default 2**20
         The units of 1, up to 2^30.
     progress : callable, optional
         `progress('source', k, n)` is called after each batch of sources.
     weighted : bool, default False
-        Whether values are lengths, 1 or more; else each edge is 1 long.
+        Whether values are lengths, 1 or more; otherwise each edge has length 1.
 
     Returns
     -------
     Centrality
-        A column in units of 1/scale: for each two vertices the share of their shortest paths, added
-        up. `error` says by how much a number is too small at most.
+        A column in units of 1/scale: the shares of the shortest paths of all pairs, added up.
+        `error` is the most by which a number is too small.
 
     Raises
     ------
@@ -145,30 +146,37 @@ def betweenness(G: Matrix, sources: Optional[Vertices] = None, tolerance: float 
         If there are too many paths, `scale` isn't 1 to 2^30, or with `weighted` a value is below 1
         or lengths are beyond 2^60.
 
+    See Also
+    --------
+    closeness : A centrality by distances.
+    pagerank : A centrality by links.
+
     Notes
     -----
-    Brandes' algorithm in fixed point. Paths are counted in 62 bits, and a grid of 35 by 35 has
-    more; all shortest paths from a source may be no more than 2^k times the tolerance, where k is
-    62 less the bits of the number of vertices. It costs a search from each source, forth and back.
+    Brandes' algorithm in fixed point: a search from each source, forth and back. Paths are counted
+    in 62 bits, so a graph with too many shortest paths is refused, such as a grid of 35 by 35.
 
-    Runs: 12 a level and batch; a batch has 4,194,304 / n sources. Steps: up to 10 an edge and 30 a
-    vertex, a source; 20 a vertex and level more where an edge leads one way alone. With weights a
-    batch has 4,194,304 / m sources of a graph of m edges, and takes the runs and steps of
-    `path_lengths` besides; a level is a number of edges of shortest paths, and steps are up to 20
-    an edge for each number of edges that the shortest paths to its start have, and 20 a vertex and
-    level, a source.
+    Cost: up to 10 steps per edge and 30 per vertex, per source; 12 runs per level of a batch of
+    4,194,304 / n sources.
+
+    A directed graph takes 20 more steps per vertex and level. With weights a batch has 4,194,304 /
+    m sources of m edges, and the cost of `path_lengths` is added.
 
     LAGraph: `LAGr_Betweenness`. networkx: `betweenness_centrality` with `normalized=False`.
 
     Examples
     --------
+    >>> import spmat
+    >>> from spmat.algorithms import betweenness
+    >>> G = spmat.Session().from_edgelist(
+    ...     [(0, 1), (0, 2), (1, 2), (2, 3), (3, 4), (3, 5), (4, 5)], directed=False)
     >>> betweenness(G).by_node()
     {0: 0.0, 1: 0.0, 2: 6.0, 3: 6.0, 4: 0.0, 5: 0.0}
     """
     at, count = find_sources(G, sources), G.nrows
     if not 1 <= scale <= 1 << 30 or not 0 < tolerance < 1:
-        raise ValueError('a scale is 1 to 2^30, and a tolerance lies between 0 and 1: not %s and %s'
-                         % (shown(scale), shown(tolerance)))
+        raise about(ValueError('a scale is 1 to 2^30, and a tolerance lies between 0 and 1: not %s '
+                               'and %s' % (shown(scale), shown(tolerance))), 'tolerance', 'scale')
     if count * len(at) * scale >= 1 << 62:
         raise ValueError('%d sources of %d vertices are too many for a scale of %d'
                          % (len(at), count, scale))
@@ -267,36 +275,36 @@ class Reach(NamedTuple):
     total: Array
 
 
-@algorithm('how near each vertex is to those that reach it', 'weighted', scale=CLOSENESS_SCALE,
-           ranked=True, reads_unit=True, steps=path_bounds.closeness, says='How near each vertex '
+@algorithm('how near each vertex is to those that reach it', scale=CLOSENESS_SCALE,
+           ranked=True, reads_unit=True, says='How near each vertex '
            'is to those that reach it: of r of n vertices, at distances that add up to d, (r - '
            '1)/d times (r - 1)/(n - 1). With --weighted values of edges are lengths, 0 or more.')
 def closeness(G: Matrix, GT: Optional[Matrix] = None, scale: int = CLOSENESS_SCALE,
               progress: Progress = None, *, weighted: bool = False,
               check: bool = True) -> Centrality:
-    """How near each vertex is to those that reach it, as a column in units of 1/scale.
+    """The closeness centrality of each vertex, as a column in units of 1/scale.
 
     Parameters
     ----------
     G : Matrix
         The graph; an entry (i, j) is an edge from i to j.
     GT : Matrix, optional
-        The transpose. Without it the client makes it, once; for an undirected graph hand in G.
+        The transpose. By default the client makes it, once; for an undirected graph, pass G.
     scale : int, default 2**40
         The units of 1, up to 2^52.
     progress : callable, optional
         `progress('batch', k, n)` is called after each batch of searches.
     weighted : bool, default False
-        Whether a distance is a sum of values, which are 0 or more; else it is a number of edges.
+        Whether a distance is a sum of values, 0 or more; otherwise it is a number of edges.
     check : bool, default True
-        Whether `GT` is checked to be the transpose, by 4 jobs, once.
+        Whether to check that `GT` is the transpose: by 4 jobs, once.
 
     Returns
     -------
     Centrality
-        Of r of n vertices that reach a vertex (itself too), at distances that add up to d,
-        (r - 1)/d times (r - 1)/(n - 1), which is 0 where none does. No number is farther from the
-        true one than `error`, which is what rounding takes.
+        If r of n vertices reach a vertex (itself included), at distances that add up to d, its
+        number is (r - 1)/d times (r - 1)/(n - 1), and 0 if no other reaches it. No number is
+        farther from the true one than `error`.
 
     Raises
     ------
@@ -304,28 +312,36 @@ def closeness(G: Matrix, GT: Optional[Matrix] = None, scale: int = CLOSENESS_SCA
         If `scale` isn't 1 to 2^52, a length is below 0, lengths could add up to 2^62, or `GT` isn't
         the transpose.
 
+    See Also
+    --------
+    distance_counts : Numbers of vertices by distance.
+    betweenness : A centrality by paths.
+
     Notes
     -----
-    Runs: those of `distance_counts`, and so are steps; with `weighted` those of `path_lengths` from
-    all vertices to all, 4,194,304 lengths at a time, 2 runs and 8 steps a length more.
+    Cost: that of `distance_counts`; with `weighted`, that of `path_lengths` from all vertices and 8
+    steps per length.
 
-    networkx: `closeness_centrality`, with `distance=` where values count. igraph: `closeness`, but
-    for the second factor.
+    networkx: `closeness_centrality`, with `distance=` where values count. igraph: `closeness`,
+    without the second factor.
 
     Examples
     --------
+    >>> import spmat
+    >>> from spmat.algorithms import closeness
+    >>> G = spmat.Session().from_edgelist(
+    ...     [(0, 1), (0, 2), (1, 2), (2, 3), (3, 4), (3, 5), (4, 5)], directed=False)
     >>> closeness(G, G, 1000).by_node()
     {0: 0.5, 1: 0.5, 2: 0.714, 3: 0.714, 4: 0.5, 5: 0.5}
     """
     count = order(G, GT)
     if not 1 <= scale <= 1 << 52:
         raise ValueError('a scale is 1 to 2^52, not %s' % shown(scale))
-    unit = unit_of(G, GT) if weighted else Fraction(1)
-    stored = units.with_unit(G, 1)
-    G, GT = stored, stored if GT is G else None if GT is None else units.with_unit(GT, 1)
+    unit = unit_of(G, GT) if weighted else 1
+    stored = scales.with_unit(G, 1)
+    G, GT = stored, stored if GT is G else None if GT is None else scales.with_unit(GT, 1)
     reach = _sum_lengths(G, GT, progress, check) if weighted else _sum_edges(G, GT, progress, check)
-    times, by = unit.numerator * scale, unit.denominator * max(1, count - 1)
-    found = [r ** 2 * times // (d * by) if d else 0
+    found = [r ** 2 * unit * scale // (d * max(1, count - 1)) if d else 0
              for r, d in zip(reach.others.tolist(), reach.total.tolist())]
     if max(found, default=0) >= 1 << 63:
         raise ValueError('a number of %.3g has no place in 64 bits in units of 1/%d: give a '
@@ -336,7 +352,7 @@ def closeness(G: Matrix, GT: Optional[Matrix] = None, scale: int = CLOSENESS_SCA
 def _sum_edges(G: Matrix, GT: Optional[Matrix], progress: Progress, check: bool) -> Reach:
     """By numbers of edges."""
     others, total = numpy.zeros((2, G.nrows), numpy.int64)
-    for level, column in enumerate(distance_counts(G, GT, progress, check=check), 1):
+    for level, column in enumerate(count_distances(G, GT, progress, check), 1):
         at, values = read_column(column)
         others[at] += values
         total[at] += level * values

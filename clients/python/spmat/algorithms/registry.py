@@ -1,25 +1,27 @@
-"""The list of algorithms, which their modules fill: `@algorithm(..)` above a function makes it one
+"""The list of algorithms, which their modules fill. `@algorithm(..)` above a function makes it one
 of `spmat.algorithms`, a row of the table that its help begins with, and a command of the command
-line. Its arguments are looked at before its first job, each by its annotation, so that an error
-names the argument, what it is and what came."""
+line. It looks at the arguments before the first job, each by its annotation, so that an error names
+the argument, what it is and what came."""
 from __future__ import annotations
 
 import datetime
 import decimal
 import enum
+import functools
 import inspect
 import math
 import numbers
 import re
 from fractions import Fraction
 from typing import (Any, Callable, Dict, Iterator, List, Mapping, NamedTuple, Optional, Sequence,
-                    Tuple, TypeVar, Union)
+                    Tuple, TypeVar, cast)
 
 import numpy
 
-from ..backends.placeholders import Placeholder
+from ..errors import BudgetExceeded, about
 from ..io.coo import real, shown, whole
-from ..pricing.call_sizes import Bound, CallSizes
+from ..vector import as_matrix, as_vector
+from .results import in_unit, of_vertices, with_zeros
 
 F = TypeVar('F', bound=Callable[..., Any])
 
@@ -43,50 +45,87 @@ class Size(NamedTuple):
 
 Runs = Callable[[Size], int]
 """The most runs of a call, without the checks that are made once for a graph."""
-Steps = Callable[[CallSizes], Union[int, Bound, None]]
-"""The most steps of a call, with the checks; None where no bound is known."""
+Rows = Callable[[Any, Mapping[str, Any]], Any]
 
 
 class Algorithm(NamedTuple):
-    """An algorithm: its function, and what it gives in a few words. Then what the command line has
-    to know: the options beside those of every graph, what a value is counted in (1 where it is a
-    whole number), whether a value is a vertex, what draws the result, which graphs it is for,
-    whether their values count, whether the greatest values can be asked for alone, the fields of a
-    row of a list, whether what it gives is in the unit of the values where these count, whether the
-    function itself looks at that unit, and what the command says of itself where that isn't what
-    the function says. `runs` is what its docstring says of its runs, for tests: on a graph whose
-    rounds are few, and whose products aren't made by parts. `steps` are the most that a call takes,
-    which `spmat.price` tells. `shape` is that of a result which is a matrix, but no column."""
+    """An algorithm: its function, and what it gives in a few words. The command line, the manual
+    page and the bench read the rest from here, from the signature and from the docstring.
+
+    Attributes
+    ----------
+    scale : int
+        What a value is counted in; 1 where it is a whole number.
+    are_vertices, counts : bool
+        Whether a value is a vertex; whether each vertex has an entry, also one that counts nothing.
+    plot : str or None
+        The function of `draw` that draws the result: `values` where each vertex has one.
+    wanted : Wanted
+        Which graphs it is for.
+    values, lengths, reads_unit : bool
+        Whether values of edges count; whether results are in their unit; whether the function
+        itself looks at that unit.
+    ranked : bool
+        Whether the greatest values can be asked for alone.
+    fields : sequence of str
+        The fields of a row, where a command prints a list.
+    rows : callable, optional
+        What a command prints, of the result and the arguments by their names: a number, rows, or a
+        matrix. Without it the result itself.
+    parts : sequence of str
+        What the results are, where there are several: a command prints the first, and has a flag
+        for each other one.
+    tells : callable, optional
+        What a command says of the result on standard error.
+    flags : mapping
+        Further names of options, by the parameter: ``{'k': ['--depth']}``.
+    says : str
+        What the command says of itself, where that isn't what the function says.
+    command : bool
+        Whether it is a command.
+    runs : callable, optional
+        What the docstring says of its runs, for tests: on a graph whose rounds are few, and whose
+        products aren't made by parts.
+    hints : mapping
+        What may have been meant by an argument that is wrong, or that it hasn't.
+    """
     function: Callable[..., Any]
     gives: str
-    options: Sequence[str]
     scale: int = 1
     are_vertices: bool = False
-    plot: Optional[str] = None
+    counts: bool = False
+    plot: Optional[str] = 'values'
     wanted: Wanted = Wanted.ANY
     values: bool = False
     ranked: bool = False
     fields: Sequence[str] = ()
+    rows: Optional[Rows] = None
+    parts: Sequence[str] = ()
+    tells: Optional[Callable[[Any], str]] = None
+    flags: Mapping[str, Sequence[str]] = {}
     lengths: bool = False
     reads_unit: bool = False
     says: str = ''
     command: bool = True
     runs: Optional[Runs] = None
-    steps: Optional[Steps] = None
-    shape: Optional[Callable[[CallSizes], Tuple[int, int]]] = None
+    hints: Mapping[str, str] = {}
+
+    @property
+    def signature(self) -> Mapping[str, inspect.Parameter]:
+        """What the function takes, by name."""
+        return inspect.signature(self.function).parameters
 
     @property
     def parameters(self) -> List[str]:
         """The names of what the function takes."""
-        return list(inspect.signature(self.function).parameters)
+        return list(self.signature)
 
-    @property
-    def flags(self) -> List[str]:
-        """The options of its command: those that it names, and `weighted` wherever the function
-        takes it."""
-        more = [name for name in ('weighted',) if name in self.parameters
-                and name not in self.options]
-        return [*self.options, *more]
+    def describe(self, parameter: str) -> str:
+        """What the docstring says of a parameter: its first sentence."""
+        found = re.search(r'^(?:\w+, )*%s\b[^\n]*:.*\n((?:    .*\n?)+)' % parameter,
+                          inspect.getdoc(self.function) or '', re.M)
+        words = ' '.join(found.group(1).split()) if found else ''
+        return re.split(r'(?<=\w)\.(?= [A-Z]|$)', words)[0]
 
     def uses_values(self, weighted: bool) -> bool:
         """Whether the values of edges count."""
@@ -98,36 +137,30 @@ class Algorithm(NamedTuple):
         found = re.search(r'LAGraph:\s+`(\w+)`', inspect.getdoc(self.function) or '')
         return found.group(1) if found else ''
 
-    def stand(self, sizes: CallSizes) -> Any:
-        """What stands for the result of a call, which isn't made."""
-        kind = self.function.__annotations__.get('return')
-        if self.shape is None and kind not in ('M', 'Matrix', *RESULTS):
-            return Placeholder()
-        # pylint: disable-next=not-callable  # of a field that is None by default it thinks so
-        shape = (sizes.vertices, 1) if self.shape is None else self.shape(sizes)
-        made = sizes.graph.session.backend.make_estimate(shape, 0, shape[0] * shape[1])
-        if shape[0] == sizes.vertices:
-            made.nodes = sizes.graph.nodes
-        for name in RESULTS.get(str(kind), ()):
-            setattr(made, name, Placeholder())
-        return made
 
-
-# What results of these classes know beside their numbers.
-RESULTS: Dict[str,
-              Sequence[str]] = {'Centrality': ('error', 'measure', 'tolerance', 'rounds', 'values',
-                                               'scale'),
-                                'Communities': ('modularity', 'levels', 'labels'), 'Core': ()}
 ALGORITHMS: Dict[str, Algorithm] = {}
 
 
-def algorithm(gives: str, *options: str, runs: Optional[Runs] = None, steps: Optional[Steps] = None,
-              **more: Any) -> Callable[[F], F]:
-    """Puts a function on the list; see `Algorithm` for what may be said of it."""
+def algorithm(gives: str, **more: Any) -> Callable[[F], F]:
+    """Makes a function an algorithm; see `Algorithm` for what may be said of it."""
     def register(function: F) -> F:
-        ALGORITHMS[function.__name__] = Algorithm(function, gives, options, runs=runs, steps=steps,
-                                                  **more)
-        return function
+        one = ALGORITHMS[function.__name__] = Algorithm(function, gives, **more)
+        bind = checks_arguments(one)
+
+        @functools.wraps(function)
+        def call(*args: Any, **named: Any) -> Any:
+            given = bind(args, named)
+            try:
+                found = in_unit(one, given)
+            except BudgetExceeded as fault:
+                if not fault.algorithm and len(fault.numbers) >= 2:
+                    fault.name_algorithm(function.__name__)
+                raise
+            if one.are_vertices:
+                of_vertices(found)
+            found = with_zeros(found) if one.counts else found
+            return tuple(map(as_vector, found)) if type(found) is tuple else as_vector(found)
+        return cast(F, call)
     return register
 
 
@@ -147,28 +180,10 @@ def required(function: Callable[..., Any]) -> Tuple[str, ...]:
 
 # -- what callers hand in
 
-Arguments = Tuple[Tuple[Any, ...], Dict[str, Any]]
-Check = Callable[[Tuple[Any, ...], Mapping[str, Any]], Arguments]
+Bind = Callable[[Tuple[Any, ...], Mapping[str, Any]], inspect.BoundArguments]
 Read = Callable[[Any], Any]
 """Gives what is worked with, such as a number of Python for one of numpy. TypeError or ValueError
 where it is of another kind."""
-# What counts values where an algorithm doesn't, and what takes two vertices in place of a matrix.
-LENGTHS = ('all_pairs(W).reduce_rowwise("max") has the greatest length from each vertex by values, '
-           'and reduce_scalar("max") of it that of all')
-DICTS = 'column.by_node() and dict(series) are such dicts'
-HINTS: Dict[Tuple[str, str], str] = {
-    ('bfs_levels', 'weighted'): 'sssp(W, source) has lengths by values',
-    ('bfs_parents', 'weighted'): 'shortest_paths(G, source, weighted=True) has a tree by values',
-    ('common_neighbours', 'GT'): 'shared_neighbours(G, [u], [v]) counts those of given vertices',
-    ('degrees', 'weighted'): 'G.reduce_rowwise("plus") adds values up',
-    ('diameter', 'weighted'): LENGTHS,
-    ('eccentricity', 'weighted'): LENGTHS,
-    ('jaccard', 'GT'): 'pairs= is a matrix with an entry for each pair that is asked',
-    ('pagerank', 'personalization'): DICTS,
-    ('pagerank', 'dangling'): DICTS,
-    ('k_hop', 'k'): 'the number of edges stands before the vertices; in networkx, '
-                    'ego_graph(G, n, radius) has it behind them',
-}
 LONGEST = 60                                       # words on what came
 WEIGHTS = ('weight', 'weights', 'weighted', 'distance')
 
@@ -203,22 +218,31 @@ def _such(holds: Callable[[Any], bool]) -> Read:
     return read
 
 
+def _weights(one: Any) -> Mapping[Any, Any]:
+    """Numbers by vertex: a mapping, a Series of pandas, or a column."""
+    if _is_matrix(one):
+        return one.by_node()  # type: ignore[no-any-return]
+    if not isinstance(one, Mapping) and not hasattr(one, 'iloc'):
+        raise TypeError
+    return dict(one.items())
+
+
 KINDS: Dict[str, Tuple[str, Read]] = {
     'Matrix': ('a matrix', _such(_is_matrix)),
     'int': ('a whole number', whole),
     'float': ('a finite number', _finite),
     'bool': ('True or False', _such(lambda one: isinstance(one, (int, numpy.bool_)))),
-    'Weights': ('a dict of numbers by vertex', _such(lambda one: isinstance(one, Mapping))),
+    'Weights': ('a dict, a Series or a column of numbers by vertex', _weights),
     'Progress': ('a function of (what, done, of)', _such(callable)),
     'cutoff': ('a number, or a time of a matrix of times', _length)}
 
 
-def checks_arguments(function: Callable[..., Any]) -> Check:
+def checks_arguments(algorithm: Algorithm) -> Bind:
     """What looks at the arguments of a call of an algorithm.
 
     Parameters
     ----------
-    function : callable
+    algorithm : Algorithm
         The algorithm. The annotations of its parameters say what they are.
 
     Returns
@@ -228,8 +252,7 @@ def checks_arguments(function: Callable[..., Any]) -> Check:
         takes them. It raises TypeError where one is of another kind, or there is no such argument,
         and ValueError for another number.
     """
-    signature = inspect.signature(function)
-    name = function.__name__
+    signature = inspect.signature(algorithm.function)
     kinds: Dict[str, Tuple[str, Read]] = {}
     for called, parameter in list(signature.parameters.items())[1:]:
         annotation = str(parameter.annotation).replace('Optional[', '').rstrip(']')
@@ -239,26 +262,26 @@ def checks_arguments(function: Callable[..., Any]) -> Check:
     optional = {called for called, parameter in signature.parameters.items()
                 if parameter.default is None}
 
-    def check(args: Tuple[Any, ...], named: Mapping[str, Any]) -> Arguments:
+    def bind(args: Tuple[Any, ...], named: Mapping[str, Any]) -> inspect.BoundArguments:
         try:
-            given = signature.bind(*args, **named).arguments
+            bound = signature.bind(*args, **named)
         except TypeError as fault:
-            raise TypeError(_unknown(name, signature, str(fault), named)) from None
+            raise TypeError(_unknown(algorithm, signature, str(fault), named)) from None
+        given = bound.arguments
         for called, one in given.items():
-            if (called not in kinds or isinstance(one, Placeholder)
-                or (one is None and called in optional)):
+            if called not in kinds or (one is None and called in optional):
+                given[called] = as_matrix(one)
                 continue
             what, read = kinds[called]
             try:
-                given[called] = read(one)
+                given[called] = as_matrix(read(one))
             except (TypeError, ValueError):
                 kind = ValueError if _is_number(one) and 'number' in what else TypeError
-                raise kind('%s= of %s is %s, not %s: %s' % (
-                    called, name, what, _shorten_repr(one),
-                    _advice(name, called, signature))) from None
-        return (tuple(given.get(called, one) for called, one in zip(signature.parameters, args)),
-                {called: given.get(called, one) for called, one in named.items()})
-    return check
+                raise about(kind('%s= of %s is %s, not %s: %s' % (
+                    called, algorithm.function.__name__, what, _shorten_repr(one),
+                    _advice(algorithm, called, signature))), called) from None
+        return bound
+    return bind
 
 
 def _shorten_repr(one: Any) -> str:
@@ -268,24 +291,26 @@ def _shorten_repr(one: Any) -> str:
     return 'of type ' + type(one).__name__ if is_long else words
 
 
-def _unknown(name: str, signature: inspect.Signature, said: str,
+def _unknown(algorithm: Algorithm, signature: inspect.Signature, said: str,
              named: Mapping[str, Any]) -> str:
     """What is said of a call whose arguments are others than the function has."""
+    name = algorithm.function.__name__
     wrong = next((called for called in named if called not in signature.parameters), None)
     if wrong not in WEIGHTS:
-        return '%s: %s' % (said, _advice(name, wrong or '', signature))
+        return '%s: %s' % (said, _advice(algorithm, wrong or '', signature))
     if 'weighted' in signature.parameters:
         return ('%s has no %s=: weighted=True counts the values of edges, which are the weights'
                 % (name, wrong))
     is_plain = next(iter(signature.parameters)) == 'G'
     why = 'it counts each edge as 1' if is_plain else 'it counts values anyway'
-    words = ['%s has no %s=: %s' % (name, wrong, why), HINTS.get((name, 'weighted'))]
+    words = ['%s has no %s=: %s' % (name, wrong, why), algorithm.hints.get('weighted')]
     return '; '.join(filter(None, words))
 
 
-def _advice(name: str, called: str, signature: inspect.Signature) -> str:
+def _advice(algorithm: Algorithm, called: str, signature: inspect.Signature) -> str:
     """How the function is called, and what may have been meant."""
     words = ', '.join(one.name if one.default is one.empty else '%s=%r' % (one.name, one.default)
                       for one in signature.parameters.values())
-    hint = HINTS.get((name, called))
-    return 'it is called as %s(%s)%s' % (name, words, '; ' + hint if hint else '')
+    hint = algorithm.hints.get(called)
+    return 'it is called as %s(%s)%s' % (algorithm.function.__name__, words,
+                                         '; ' + hint if hint else '')

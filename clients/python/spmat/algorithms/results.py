@@ -6,19 +6,20 @@ import contextlib
 import functools
 import inspect
 import math
-from fractions import Fraction
 from typing import TYPE_CHECKING, Any, Callable, Dict, Iterator, Optional, Type, TypeVar
 
-from .. import units
+from .. import scale as scales
 from ..errors import BudgetExceeded, SpmatError
-from ..matrix_base import MatrixBase
-from .registry import Algorithm
+from ..matrix import Matrix
+from ..metadata import VertexUnit
 
 if TYPE_CHECKING:
-    from ..matrix import Matrix
+    from .registry import Algorithm
     Column = Matrix
 else:
     Column = object
+
+__all__ = ['Centrality', 'Communities']
 
 BOUND, RESIDUAL, CHANGE = 'error at most', 'residual', 'last change'
 R = TypeVar('R', bound='Result')
@@ -137,22 +138,24 @@ def as_centrality(column: Any, unit: int, error: float, measure: str = BOUND, *,
                      rounds=rounds)
 
 
-def name_values(algorithm: Algorithm, function: Callable[..., Any]) -> Callable[..., Any]:
-    """A function of an algorithm whose values are vertices: its result knows their names."""
-    if not algorithm.are_vertices:
-        return function
-
-    @functools.wraps(function)
-    def call(*args: Any, **named: Any) -> Any:
-        found = function(*args, **named)
-        return of_vertices(found)
-    return call
-
-
 def of_vertices(column: Matrix) -> Matrix:
     """A column whose values are vertices of the graph that has its rows."""
-    column.notes = column.notes._replace(value_names=column.notes.rows)
+    names = column.notes.rows
+    if names is not None:
+        column.notes = column.notes._replace(unit=VertexUnit(names))
     return column
+
+
+def with_zeros(column: Any) -> Any:
+    """A column that has an entry for each vertex, so that means and minima know those that count
+    0: 1 job."""
+    zeros = column.session.full(column.nrows, 1, 0)
+    zeros.notes = zeros.notes._replace(unit=column.unit)
+    made = column.ewise_add(zeros, 'first')
+    if isinstance(column, Centrality):
+        made = as_centrality(made, column.scale, column.error, column.measure,
+                             tolerance=column.tolerance, rounds=column.rounds)
+    return made
 
 
 # -- where a budget ends
@@ -177,67 +180,61 @@ def keep_partial(find: Callable[[], Any]) -> Iterator[None]:
 
 # -- units
 
-def keep_units(algorithm: Algorithm) -> Callable[..., Any]:
-    """An algorithm's function, which takes graphs of any unit. UnitsDiffer where a graph and its
+def in_unit(algorithm: 'Algorithm', given: inspect.BoundArguments) -> Any:
+    """What an algorithm gives, which takes graphs of any unit. UnitsDiffer where a graph and its
     transpose have two, and values count."""
-    function = algorithm.function
-    if algorithm.reads_unit:
-        return function
-    signature = inspect.signature(function)
-
-    @functools.wraps(function)
-    def call(*args: Any, **named: Any) -> Any:
-        if not any(isinstance(one, MatrixBase) and one.unit != 1
-                   for one in (*args, *named.values())):
-            return function(*args, **named)
-        given = signature.bind(*args, **named)
-        graph = next(iter(given.arguments.values()))
-        unit = graph.unit if isinstance(graph, MatrixBase) else 1
-        counts = algorithm.values or bool(given.arguments.get('weighted'))
-        if counts:
-            _check_transpose(algorithm, given.arguments, unit)
-        if counts and algorithm.lengths and given.arguments.get('cutoff') is not None:
-            given.arguments['cutoff'] = _floor(given.arguments['cutoff'], unit)
-        # so that a graph that is its own transpose stays so
-        views: Dict[int, Any] = {}
-        for name, one in given.arguments.items():
-            if isinstance(one, MatrixBase):
-                given.arguments[name] = views.setdefault(id(one), units.with_unit(one, 1))
-        found = function(*given.args, **given.kwargs)
-        return _in_unit(found, unit) if counts and algorithm.lengths else found
-    return call
+    some = given.arguments
+    if algorithm.reads_unit or not any(isinstance(one, Matrix) and one.unit != 1
+                                       for one in some.values()):
+        return algorithm.function(*given.args, **given.kwargs)
+    graph = next(iter(some.values()))
+    unit = graph.unit if isinstance(graph, Matrix) else 1
+    counts = algorithm.values or bool(some.get('weighted'))
+    if counts:
+        _check_transpose(algorithm, some, unit)
+    if counts and algorithm.lengths and some.get('cutoff') is not None:
+        some['cutoff'] = _floor(some['cutoff'], unit)
+    # so that a graph that is its own transpose stays so
+    views: Dict[int, Any] = {}
+    for name, one in some.items():
+        if isinstance(one, Matrix):
+            some[name] = views.setdefault(id(one), scales.with_unit(one, 1))
+    found = algorithm.function(*given.args, **given.kwargs)
+    if not counts or not algorithm.lengths or isinstance(unit, scales.TimeUnit):
+        return found                               # a sum of times is no time
+    return _mark_unit(found, unit)
 
 
-def unit_of(graph: Matrix, transpose: Optional[Matrix]) -> Fraction:
+def unit_of(graph: Matrix, transpose: Optional[Matrix]) -> int:
     """The unit of the values of a graph. UnitsDiffer where its transpose has another one."""
     if transpose is not None:
-        units.common('a graph and its transpose', graph.unit, transpose.unit)
-    return Fraction(graph.unit)
+        scales.common('a graph and its transpose', graph.unit, transpose.unit)
+    return graph.unit
 
 
-def _check_transpose(algorithm: Algorithm, given: Dict[str, Any], unit: units.Unit) -> None:
+def _check_transpose(algorithm: 'Algorithm', given: Dict[str, Any], unit: int) -> None:
     for name in ('GT', 'WT'):
-        if isinstance(given.get(name), MatrixBase):
-            units.common('%s of a graph and its transpose' % algorithm.function.__name__, unit,
+        if isinstance(given.get(name), Matrix):
+            scales.common('%s of a graph and its transpose' % algorithm.function.__name__, unit,
                          given[name].unit)
 
 
-def _floor(cutoff: Any, unit: units.Unit) -> Any:
+def _floor(cutoff: Any, unit: int) -> Any:
     """The greatest stored number that is no farther."""
     try:
-        return math.floor(units.exact_in(cutoff, unit))
+        return math.floor(scales.exact_in(cutoff, unit))
     except (TypeError, ValueError):                # the algorithm says what is wrong with it
         return cutoff
 
 
-def _in_unit(found: Any, unit: units.Unit) -> Any:
+def _mark_unit(found: Any, unit: int) -> Any:
     """A result whose lengths are in a unit: a matrix, a path, a tree of paths, or a list of these.
     """
-    if isinstance(found, MatrixBase):
+    if isinstance(found, Matrix):
         found.unit = unit
     elif hasattr(found, 'set_unit'):
         found.set_unit(unit)
     elif isinstance(found, list):
         for one in found:
-            _in_unit(one, unit)
+            _mark_unit(one, unit)
     return found

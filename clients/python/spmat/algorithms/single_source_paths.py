@@ -8,13 +8,15 @@ import numpy
 
 from ..matrix import Matrix
 from ..operators import Semiring, asm, binary
-from . import path_bounds, server_loops
+from . import server_loops
 from .bfs import make_column
 from .cached_properties import extremes
 from .types import Array, Place, Vertex
 from .registry import algorithm
 from .traversal import (Traversal, Vector, find_traversal, is_ample, join, select_known, vector_of)
 from .utils import Progress, find_place, order, tell
+
+__all__ = ['sssp']
 
 CYCLE = 'a cycle of negative length: paths along it have no least length'
 WRAPS = ('a path is longer than 2^63 - 1, and its length would wrap: divide the values '
@@ -213,8 +215,8 @@ def find_lengths(W: Matrix, source: Place, WT: Optional[Matrix], query: Query,
     return known
 
 
-@algorithm('lengths of shortest paths from a vertex', 'source', values=True, lengths=True,
-           runs=lambda g: g.rounds + 8, steps=path_bounds.sssp)
+@algorithm('lengths of shortest paths from a vertex', values=True, lengths=True,
+           runs=lambda g: g.rounds + 8)
 def sssp(W: Matrix, source: Vertex, WT: Optional[Matrix] = None, progress: Progress = None, *,
          cutoff: Optional[int] = None, target: Optional[Vertex] = None,
          check: bool = True) -> Matrix:
@@ -227,17 +229,16 @@ def sssp(W: Matrix, source: Vertex, WT: Optional[Matrix] = None, progress: Progr
     source : vertex
         Where the paths begin.
     WT : Matrix, optional
-        The transpose. It serves blocks alone.
+        The transpose; only row blocks use it.
     progress : callable, optional
         `progress('round', k, 0)` is called after each round.
     cutoff : int, optional
-        What is farther is left out.
+        Vertices farther away are left out.
     target : vertex, optional
-        The length of this vertex is right, and where no edge is negative the search ends as soon
-        as it is known: others may be missing, or too long, then.
+        The vertex to find. Without negative edges the search ends as soon as its length is known;
+        other lengths may then be missing, or too long.
     check : bool, default True
-        Whether `WT` is checked to be the transpose, and lengths are looked at that could wrap;
-        else they are taken to stay below 2^63.
+        Whether to check that `WT` is the transpose, and that no length could pass 2^63.
 
     Returns
     -------
@@ -250,27 +251,37 @@ def sssp(W: Matrix, source: Vertex, WT: Optional[Matrix] = None, progress: Progr
         If the source is no vertex, or reaches a cycle of negative length, if lengths could wrap,
         or `WT` isn't the transpose.
     BudgetExceeded
-        If the budget ends amid the work; `partial` has the lengths that were known by then, of
-        paths that there are: none is less than the shortest.
+        If the budget runs out; `partial` has the lengths known by then, each of a path, though
+        maybe not of the shortest.
+
+    See Also
+    --------
+    bfs_levels : Lengths as numbers of edges.
+    shortest_path : One path.
+    shortest_paths : The tree of all paths.
+    path_lengths : Lengths from several sources.
 
     Notes
     -----
-    Each round lengthens the paths to vertices whose length changed, by one edge; where no edge is
-    negative the nearest first, a band of lengths at a time (delta-stepping). The client keeps the
-    lengths. On a budget of more than 2^56 steps the rounds behind the 32nd of an undirected graph
-    are a loop that stays at the server, where no edge is negative and there is neither cutoff nor
-    target: it takes less time, and more steps, up to 300 an edge.
+    Each round lengthens, by one edge, the paths to vertices whose length has changed. Without
+    negative edges, the nearest vertices come first, one band of lengths at a time (delta-stepping).
 
-    Runs: 1 a round, and 4; 4 more where `WT` is looked at. There are as many rounds as edges in the
-    longest of the shortest paths, and 1; with bands some more, but no more than vertices. Steps: up
-    to 7 an edge that leaves a vertex whose length changed, a round; 8 an edge and 4 a vertex, once,
-    for the least and the greatest value, which are kept with the matrix.
+    Cost: up to 7 steps per edge that leaves a changed vertex, per round, with 1 run per round; once
+    8 steps per edge and 4 per vertex.
+
+    There are as many rounds as edges on the longest of the shortest paths, and some more with
+    bands. On a budget of more than 2^56 steps, rounds after the 32nd of an undirected graph run as
+    a loop on the server: less time, up to 300 steps per edge.
 
     GraphBLAS: `vxm` over min and plus (Bellman and Ford; Meyer and Sanders). LAGraph:
     `LAGr_SingleSourceShortestPath`. networkx: `single_source_bellman_ford_path_length`.
 
     Examples
     --------
+    >>> import spmat
+    >>> from spmat.algorithms import sssp
+    >>> W = spmat.Session().from_triples(
+    ...     [(0, 1, 2), (1, 2, 1), (2, 3, 4), (0, 3, 8)], 4, 4)
     >>> sssp(W, 0).to_list()
     [0, 2, 3, 7]
     """

@@ -9,7 +9,6 @@ from ..io.matrix_text import Triples
 from ..matrix import Matrix
 from ..metadata import of_copy
 from ..operators import asm
-from . import step_bounds
 from .cached_properties import check_undirected, extremes, found, is_transpose
 from .components import Labels
 from .types import Array
@@ -17,7 +16,9 @@ from .registry import BOTH_WAYS, algorithm
 from .traversal import keep, read_column, read_values
 from .utils import Progress, contract, order, tell
 
-AT_ONCE = step_bounds.FEW_EDGES                    # edges that the client looks at by itself
+__all__ = ['minimum_spanning_forest']
+
+AT_ONCE = 1 << 15                                # edges that the client looks at by itself
 EVEN = 10 ** 18                                    # below it numbers of edges have as many digits
 
 
@@ -114,10 +115,11 @@ class Forest:
 
 
 @algorithm('the lightest edges that join what is joined', wanted=BOTH_WAYS, values=True,
-           lengths=True, says='The edges of a minimum spanning forest of an undirected graph, each '
-           'once, with their weights, which may be negative. Of edges of one weight the one with '
-           'the lesser vertices is taken. Loops don\'t count. --both-ways takes each edge of a '
-           'list both ways.', steps=step_bounds.minimum_spanning_forest, shape=step_bounds.square)
+           plot='spy', rows=lambda matrix, _: matrix.select('triu'), lengths=True,
+           says='The edges of a minimum spanning forest of an undirected graph, each once, with '
+           'their weights, which may be negative. Of edges of one weight the one with the lesser '
+           'vertices is taken. Loops don\'t count. --both-ways takes each edge of a list both '
+           'ways.')
 def minimum_spanning_forest(W: Matrix, progress: Progress = None, *, check: bool = True) -> Matrix:
     """The edges of a minimum spanning forest of an undirected graph, both ways.
 
@@ -128,37 +130,43 @@ def minimum_spanning_forest(W: Matrix, progress: Progress = None, *, check: bool
     progress : callable, optional
         `progress('round', k, 0)` is called after each round.
     check : bool, default True
-        Whether it is checked that each edge leads both ways, with one value: 6 jobs, 55 steps an
-        edge and 15 a vertex, once.
+        Whether to check that each edge leads both ways with one value: once, 55 steps per edge and
+        15 per vertex.
 
     Returns
     -------
     Matrix
-        The edges with their weights. Of edges of one weight the one with the lesser vertices is
+        The edges with their weights. Of edges of equal weight, the one with the lesser vertices is
         taken.
 
     Raises
     ------
     ValueError
-        If an edge leads one way alone, or its two values differ, or if weights and vertices are too
-        many to be told apart in 62 bits: (greatest - least weight + 1) times the square of the
-        number of vertices is above 2^62.
+        If the graph is directed, if the two values of an edge differ, or if weights and vertices
+        are too many to be told apart in 62 bits: (greatest - least weight + 1) times the square of
+        the number of vertices is above 2^62.
+
+    See Also
+    --------
+    connected_components : The components that its trees span.
 
     Notes
     -----
-    In each round every component takes the lightest edge that leaves it; the client joins
-    components that met, and the graph shrinks to one vertex for each: two products with matrices of
-    ones that the client makes. So there are no more rounds than the logarithm of the number of
-    vertices. Once 32,768 edges or fewer are left, the client reads them, and makes the other
-    rounds by itself.
+    Borůvka's algorithm. In each round every component takes its lightest outgoing edge, and the
+    graph shrinks to one vertex per component. So the number of rounds is at most the logarithm of
+    the number of vertices. The client finishes once 32,768 edges or fewer are left.
 
-    Runs: 5 a round of more edges, more where a product is made by parts, and 6. Steps: up to 14 an
-    edge, and 20 an edge of the graph as it has shrunk, a round; none for a graph of few edges.
+    Cost: up to 14 steps per edge and 20 per edge of the shrunken graph, per round, with 5 runs per
+    round; none for a graph of few edges.
 
-    Borůvka's algorithm. LAGraph: `LAGraph_msf`. networkx: `minimum_spanning_edges`.
+    LAGraph: `LAGraph_msf`. networkx: `minimum_spanning_edges`.
 
     Examples
     --------
+    >>> import spmat
+    >>> from spmat.algorithms import minimum_spanning_forest
+    >>> G = spmat.Session().from_edgelist(
+    ...     [(0, 1), (0, 2), (1, 2), (2, 3), (3, 4), (3, 5), (4, 5)], directed=False)
     >>> minimum_spanning_forest(G).nvals // 2
     5
     """

@@ -10,7 +10,6 @@ from ..loops import Loop, State, empty
 from ..loops.trips import Round
 from ..matrix import Matrix
 from ..operators import Semiring, asm, binary
-from . import step_bounds
 from .bfs import NONE
 from .cached_properties import extremes
 from .types import Array, Place
@@ -19,6 +18,8 @@ from .server_loops import hear
 from .single_source_paths import MOST, WRAPS
 from .traversal import keep, put_all
 from .utils import Progress, beside, name_of, nothing, order
+
+__all__ = ['CycleError', 'longest_paths', 'topological_levels']
 
 # An edge takes one from what the vertex that it leads to still waits for.
 TAKEN = Semiring(binary.plus, asm('binary', 'mov64 r0, -1\nexit\n', 'minus_one'))
@@ -45,6 +46,7 @@ class CycleError(ValueError):
         Its vertices in their order, by their names where the graph has any, each with an edge to
         the next, and the last to the first.
     """
+    __module__ = 'spmat.algorithms'
 
     def __init__(self, cycle: List[Any]) -> None:
         is_short = len(cycle) <= SHOWN
@@ -118,8 +120,7 @@ def _column(G: Matrix, numbers: Array) -> Matrix:
 
 
 @algorithm('levels of a graph without cycles',
-           runs=lambda g: 6 * min(4 * g.rounds + 12, g.rounds + 128) + 5,
-           steps=step_bounds.topological_levels)
+           runs=lambda g: 6 * min(4 * g.rounds + 12, g.rounds + 128) + 5)
 def topological_levels(G: Matrix, progress: Progress = None) -> Matrix:
     """The number of edges of the longest path that ends at each vertex, as a column.
 
@@ -143,18 +144,25 @@ def topological_levels(G: Matrix, progress: Progress = None) -> Matrix:
     CycleError
         If there is a cycle; `cycle` shows one. It is a ValueError.
 
+    See Also
+    --------
+    longest_paths : The same with lengths of edges.
+    strongly_connected_components : Where there are cycles.
+
     Notes
     -----
-    Levels are a loop that stays at the server. A level's cost follows the edges that leave it, and
-    their ends.
+    Levels run as a loop on the server.
 
-    Runs: 6 a level, and 5. Steps: all levels together take up to 12 an edge, and 30 a vertex. Of a
-    short graph up to 12 levels in vain are among them.
+    Cost: up to 12 steps per edge and 30 per vertex for all levels; 6 runs per level, and 5.
 
     GraphBLAS: rows of counts by `vxm` over plus. networkx: `topological_generations`.
 
     Examples
     --------
+    >>> import spmat
+    >>> from spmat.algorithms import topological_levels
+    >>> W = spmat.Session().from_triples(
+    ...     [(0, 1, 2), (1, 2, 1), (2, 3, 4), (0, 3, 8)], 4, 4)
     >>> topological_levels(W).to_list()
     [0, 1, 2, 3]
     """
@@ -164,8 +172,7 @@ def topological_levels(G: Matrix, progress: Progress = None) -> Matrix:
 
 
 @algorithm('lengths of longest paths in a graph without cycles', values=True, lengths=True,
-           ranked=True, runs=lambda g: 8 * min(4 * g.rounds + 12, g.rounds + 128) + 9,
-           steps=step_bounds.longest_paths)
+           ranked=True, runs=lambda g: 8 * min(4 * g.rounds + 12, g.rounds + 128) + 9)
 def longest_paths(W: Matrix, progress: Progress = None, *, check: bool = True) -> Matrix:
     """The length of the longest path that ends at each vertex, as a column.
 
@@ -176,12 +183,12 @@ def longest_paths(W: Matrix, progress: Progress = None, *, check: bool = True) -
     progress : callable, optional
         `progress('level', k, 0)` is called after each level.
     check : bool, default True
-        Whether lengths that would wrap are refused; else they are taken as they come.
+        Whether to refuse lengths that would pass 2^63 - 1; otherwise they wrap.
 
     Returns
     -------
     Matrix
-        A column; a path may begin anywhere, so no length is below 0.
+        A column. A path may begin anywhere, so no length is below 0.
 
     Raises
     ------
@@ -190,15 +197,23 @@ def longest_paths(W: Matrix, progress: Progress = None, *, check: bool = True) -
     ValueError
         If a length would wrap.
 
+    See Also
+    --------
+    topological_levels : The same, counted in edges.
+    sssp : Shortest paths.
+
     Notes
     -----
-    Runs: 8 a level, and 9; 2 more a level where so many edges of the greatest length would be
-    longer than 2^63 - 1. Steps: as for `topological_levels`, twice, and 8 an edge.
+    Cost: up to 32 steps per edge and 60 per vertex for all levels; 8 runs per level, and 9.
 
-    networkx: `dag_longest_path_length` is the greatest of them.
+    networkx: `dag_longest_path_length` is the greatest of these lengths.
 
     Examples
     --------
+    >>> import spmat
+    >>> from spmat.algorithms import longest_paths
+    >>> W = spmat.Session().from_triples(
+    ...     [(0, 1, 2), (1, 2, 1), (2, 3, 4), (0, 3, 8)], 4, 4)
     >>> longest_paths(W).to_list()
     [0, 2, 3, 8]
     """

@@ -17,11 +17,10 @@ as long by the clock: a pull looks at all rows, and wants the front as a column,
 """
 from __future__ import annotations
 
-from typing import Any, Dict, List, NamedTuple, Optional, Sequence, Tuple, cast
+from typing import Dict, Any, List, NamedTuple, Optional, Sequence, Tuple, cast
 
 import numpy
 
-from ..backends.protocol import AMPLE
 from ..io import matrix_text
 from ..io.matrix_text import Triples
 from ..loops.round_text import Push
@@ -133,12 +132,10 @@ class Rows(Traversal):
 
     def push(self, front: Vector, ring: Semiring, values: bool = True) -> Vector:
         """By one trip; as a job where it is refused, so that the error is that of a job."""
-        got = None
-        if not self.graph.session.backend.is_estimate:
-            if ring not in self._pushes:
-                self._pushes[ring] = Push(self.graph, ring)
-            row = Triples(numpy.zeros_like(front.at), front.at, front.values, 1, self.count)
-            got = self._pushes[ring](row, values)
+        if ring not in self._pushes:
+            self._pushes[ring] = Push(self.graph, ring)
+        row = Triples(numpy.zeros_like(front.at), front.at, front.values, 1, self.count)
+        got = self._pushes[ring](row, values)
         if got is None:
             return super().push(front, ring, values)
         return Vector(got.places, got.values)
@@ -164,9 +161,7 @@ class Columns(Traversal):
 
     def wants_full(self, vector: Matrix) -> bool:
         """The server prices a product with a column that isn't full by a walk along the graph."""
-        if not self.graph.in_one_place:
-            return False
-        return self.graph.session.backend.is_estimate or bool(vector.nvals < self.count)
+        return self.graph.in_one_place and bool(vector.nvals < self.count)
 
 
 class BlockFronts(Traversal):
@@ -224,7 +219,7 @@ def is_whole(graph: Matrix) -> bool:
 
 def is_ample(graph: Matrix) -> bool:
     """Whether one session has the graph, with a budget so large that nobody counts its steps."""
-    return graph.in_one_place and graph.session.backend.queue.left > AMPLE
+    return graph.in_one_place and bool(graph.session.backend.queue.is_ample)
 
 
 def is_shared(graph: Matrix) -> bool:

@@ -8,7 +8,6 @@ from typing import Any, Callable, Iterable, List, Optional, Tuple, TypeVar, cast
 import numpy
 
 from .. import metadata
-from ..backends.placeholders import current_price
 from ..errors import NotSettled
 from ..io.matrix_text import Triples
 from ..job_operators import Ring
@@ -16,6 +15,8 @@ from ..matrix import Matrix
 from ..operands import common_session
 from .cached_properties import found
 from .types import Array, Place, Vertex, Vertices
+
+__all__ = ['Progress']
 
 S = TypeVar('S')
 Progress = Optional[Callable[[str, int, int], None]]
@@ -68,9 +69,8 @@ def find_sources(graph: Matrix, sources: Optional[Vertices]) -> List[Place]:
 
 def warn_of_repeated(graph: Matrix, rows: List[Place]) -> None:
     """Warns where a vertex that has a name is given twice: each would have a row of its name, and
-    no two rows have one name, so that none has. A price says nothing: the call itself does."""
-    if (not graph.session.backend.is_estimate and graph.notes.axis(metadata.ROWS).has_names
-        and len(set(rows)) < len(rows)):
+    no two rows have one name, so that none has."""
+    if graph.notes.axis(metadata.ROWS).has_names and len(set(rows)) < len(rows):
         twice = next(row for at, row in enumerate(rows) if row in rows[:at])
         warnings.warn('the vertex %r is given twice, and no two rows have one name: the rows of '
                       'the result have none; list(dict.fromkeys(names)) has each once'
@@ -93,7 +93,7 @@ def rows_of(column: Matrix) -> List[Place]:
 
 def name_of(graph: Matrix, at: Place) -> Any:
     """The name of the vertex in a row, where the graph has names, else its number."""
-    return int(at) if graph.nodes is None else graph.nodes[at]
+    return int(at) if graph.nodes is None else graph.nodes[int(at)]
 
 
 def beside(graph: Matrix, result: Matrix) -> Matrix:
@@ -144,6 +144,11 @@ def nothing(like: Matrix) -> Matrix:
     return like.session.backend.keep(Triples(none, none, none, like.nrows, 1))
 
 
+def count_edges(graph: Matrix) -> Matrix:
+    """How many edges leave each vertex, as a column without those that none leaves."""
+    return graph.apply('one').reduce_rowwise('plus')
+
+
 def loops(like: Matrix, value: int) -> Matrix:
     """A loop of one value at each vertex: a diagonal matrix. It is kept with the graph."""
     made: Matrix = found(like, 'loops of %d' % value,
@@ -177,7 +182,7 @@ def contract(graph: Matrix, groups: Tuple[Array, Array], many: int, add: str) ->
 
 def tell(progress: Progress, word: str, number: int, of: int = 0) -> None:
     """Tells who waits that something has ended."""
-    if progress is not None and current_price() is None:
+    if progress is not None:
         progress(word, number, of)
 
 

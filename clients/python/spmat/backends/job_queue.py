@@ -3,24 +3,72 @@ settle."""
 from __future__ import annotations
 
 import copy
-from typing import Dict, List, Mapping, Optional, Tuple
+import itertools
+import operator
+import re
+from typing import Dict, Iterable, List, Mapping, Optional, Tuple
 
-from ..errors import BudgetExceeded, Refused, SpmatError
+from ..errors import BudgetExceeded, Refused, SpmatError, refusal
 from ..limits import MOST_PRICE, MOST_SIDE
-from ..wire.commands import Command, Reply
+from ..wire.commands import Command, Limits, Reply, raise_fault
 from ..wire.connection import Connection
-from ..wire.reply_checks import Limits, check_number, raise_fault
+from .estimate import ESTIMATES, stop_estimate
 from .names import SMALL, ServerHandle
-from .protocol import AMPLE, JobResult, Most, Run
+from .protocol import AMPLE, JobResult, Most, Run, serial
+
+# the entries and the steps that a line of the reply to `run` ends with
+COUNTS = re.compile(r'([0-9]{1,20}) ([0-9]{1,20})')
+REFUSED, MOST = operator.attrgetter('is_refused'), operator.attrgetter('most')
+
+
+class Limit:
+    """The steps that the jobs of a session may take in a `with`: those that are queued in it.
+
+    Attributes
+    ----------
+    steps : int
+        How many they may take.
+    spent : int
+        How many they took.
+    passed : bool
+        Whether a batch wasn't run for it.
+    """
+
+    def __init__(self, steps: int) -> None:
+        self.steps, self.spent, self.passed = steps, 0, False
+        self._begun = next(serial)
+
+    @property
+    def left(self) -> int:
+        """What may still be spent.
+
+        Returns
+        -------
+        int
+            The difference.
+        """
+        return self.steps - self.spent
+
+    def counts(self, job: ServerHandle) -> bool:
+        """Whether a job is one of these."""
+        return job.serial > self._begun
+
+    def check(self, jobs: Iterable[ServerHandle]) -> None:
+        """BudgetExceeded where the prices of a batch are above what is left."""
+        price = sum(job.price or 0 for job in jobs if self.counts(job))
+        if price > self.left:
+            self.passed = True
+            raise refusal('S8', (price, self.left), detail='the price is %d, and %d are left of '
+                          'the limit of %d: what is queued runs when the session next runs jobs'
+                          % (price, self.left, self.steps))
 
 
 class Queue:
     """Jobs that wait to be run, sent or not, and runs that wait to be sent. A job is known by the
     handle of its result, which the queue holds until the job ran.
 
-    `left` is what the budget has for sure: all of it where nobody shares it. `ceiling` is what it
-    can have at most, were all prices settled with nothing. `report` gets what a run settled, while
-    somebody wants that."""
+    `left` is what the budget has for sure: all of it where nobody shares it. `report` gets what a
+    run settled, while somebody wants that. Each of the `limits` holds for all jobs."""
 
     def __init__(self, connection: Connection, shared: bool) -> None:
         self.connection, self.shared = connection, shared
@@ -31,17 +79,22 @@ class Queue:
         self.unknown = 0
         # jobs that the server has queued since its last run, as its replies say
         self.queued_there = 0
-        self.left = self.ceiling = 0
+        self.left = 0
         self.runs = 0
+        self.limits: List[Limit] = []
         self.report: Optional[Run] = None
 
     def __len__(self) -> int:
         return len(self.waiting)
 
-    def note_budget(self, left: int, reserved: int) -> None:
-        """What the server says of the budget, whoever reserved it. What is spent doesn't come
-        back."""
-        self.left, self.ceiling = left, left + reserved
+    def note_budget(self, left: int, *_: int) -> None:
+        """What the server says of the budget."""
+        self.left = left
+
+    @property
+    def is_ample(self) -> bool:
+        """Whether so much is left that nobody counts steps."""
+        return self.left > AMPLE and not self.limits
 
     @property
     def is_idle(self) -> bool:
@@ -71,16 +124,17 @@ class Queue:
         queued all the same."""
         connection = self.connection
         try:
-            try:
-                connection.exchange(QueuedJob(self, job, line))
-            except BudgetExceeded:
-                if not self.waiting:
-                    raise
-                self.run_later()
-                connection.exchange()
-                if connection.refused is not None:
-                    raise connection.refused from None
-                connection.exchange(QueuedJob(self, job, line))
+            connection.exchange(QueuedJob(self, job, line))
+            return
+        except BudgetExceeded as fault:
+            if not self.waiting:
+                raise fault.with_advice() from None
+        self.run_later()
+        connection.exchange()
+        if connection.refused is not None:
+            raise connection.refused
+        try:
+            connection.exchange(QueuedJob(self, job, line))
         except BudgetExceeded as fault:
             raise fault.with_advice() from None
 
@@ -95,10 +149,21 @@ class Queue:
         if self.connection.owes:
             self.connection.settle()
         if self.waiting:
+            if ESTIMATES:
+                stop_estimate()
+            if self.limits:
+                self.keep_limits()
             self.connection.put(QueuedRun(self, list(self.waiting.values())))
             self.waiting.clear()
             self.running += 1
             self.runs += 1
+
+    def keep_limits(self) -> None:
+        """BudgetExceeded where what waits would pass a limit, by the prices that the server tells
+        as it queues the jobs, and by what earlier runs took."""
+        self.connection.exchange()
+        for limit in self.limits:
+            limit.check(self.waiting.values())
 
 
 class QueuedJob(Command):
@@ -158,18 +223,18 @@ class QueuedRun(Command):
     def check(self, reply: Reply) -> None:
         """ProtocolError where the lines of a run aren't those of its jobs, or where their steps
         don't add up to what was spent."""
-        jobs, spent = [job for job in self._jobs if not job.is_refused], 0
+        jobs, spent = list(itertools.filterfalse(REFUSED, self._jobs)), 0
         if len(reply.lines) != len(jobs):
             raise_fault('run', '%d lines, one for each job' % len(jobs),
                         ['%d lines' % len(reply.lines)])
         for line, job in zip(reply.lines, jobs):
-            said = line.split()
-            start = [job.key, *map(str, job.shape)]
-            if len(said) != 5 or said[:3] != start:
-                raise_fault('run', '`%s ENTRIES STEPS`' % ' '.join(start), said)
+            start, price = '%s %d %d ' % (job.key, *job.shape), job.price or 0
             most = job.most if job.most < MOST_SIDE else MOST_SIDE
-            entries = check_number('ENTRIES', said[3], (0, most), 'run', said)
-            steps = check_number('STEPS', said[4], (0, job.price or 0), 'run', said)
+            said = COUNTS.fullmatch(line, len(start)) if line.startswith(start) else None
+            entries, steps = map(int, said.groups()) if said is not None else (-1, -1)
+            if not (0 <= entries <= most and 0 <= steps <= price):
+                raise_fault('run', '`%sENTRIES STEPS`, of up to %d and %d' % (start, most, price),
+                            [line])
             self._counts.append((job, entries, steps))
             spent += steps
         if spent != reply.numbers[1]:
@@ -181,7 +246,8 @@ class QueuedRun(Command):
         for job, entries, steps in self._counts:
             assert job.price is not None
             queue.left += job.price - steps
-            queue.ceiling -= steps
+            for limit in queue.limits:
+                limit.spent += steps if limit.counts(job) else 0
             if job.shape[0] + entries > SMALL:     # a new name stands for what is small
                 job.note_size(job.shape[0], entries)
             if job.lost is None:
@@ -191,8 +257,10 @@ class QueuedRun(Command):
                                          job.steps or 0) for job, _, _ in self._counts]
 
     def lost(self, cause: BaseException) -> None:
-        if isinstance(cause, Refused):             # which doesn't say what was spent
-            self._queue.left = 0
+        if isinstance(cause, Refused):
+            self._queue.left = 0                   # until the server says what is left
+            for limit in self._queue.limits:
+                limit.spent += getattr(cause, 'spent', None) or 0
         for job in self._jobs:
             _lose(job, cause)
         self._end()
@@ -202,7 +270,7 @@ class QueuedRun(Command):
         queue.queued_there = 0
         queue.running -= 1
         # of those that were handed in at once, none was added
-        queue.unknown = max(0, queue.unknown - sum(job.most for job in self._jobs))
+        queue.unknown = max(0, queue.unknown - sum(map(MOST, self._jobs)))
 
 
 def _lose(job: ServerHandle, cause: BaseException) -> None:

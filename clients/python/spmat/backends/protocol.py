@@ -6,16 +6,13 @@ a `Handle` for the result:
     server      one session, over a connection
     blocks      row blocks: a job is the same job at the server of each block
     trace       notes the jobs of a round of a loop, and runs none
-    estimate    computes nothing but what a job comes to, at the least and at the most
 """
 from __future__ import annotations
 
 import abc
-import contextlib
 import itertools
 import weakref
-from typing import (TYPE_CHECKING, Any, Callable, ContextManager, Dict, Iterator, List, NamedTuple,
-                    Optional, Tuple, Type)
+from typing import TYPE_CHECKING, Any, Dict, Iterator, List, NamedTuple, Optional, Tuple, Type
 
 from ..display import html
 from ..errors import NotMade
@@ -23,7 +20,7 @@ from ..io import matrix_text
 from ..io.matrix_text import Triples
 from ..limits import MOST_SIDE
 from ..operators import Operator
-from ..wire.protocol import FORMS, Places
+from ..wire.commands import FORMS, Places
 
 if TYPE_CHECKING:
     from ..matrix import Matrix
@@ -200,13 +197,9 @@ class Backend(abc.ABC):
     session: Any
     # whether it looks itself at handles that another backend gave
     takes_others = False
-    may_wrap = False                               # of a traced step: whether values may not fit
     in_one_place = True                            # whether one session has each matrix whole
-    is_estimate = False                            # whether it only foresees what jobs come to
     # whether it makes a product `is_by_parts` itself by halves of the rows
     halves_products = False
-    # steps that can be left at the most, as far as that is known here
-    ceiling = AMPLE
     # the class of its matrices, where that isn't `Matrix`
     matrix_type: Optional[Type['Matrix']] = None
 
@@ -281,19 +274,3 @@ class Backend(abc.ABC):
         """The matrix of `put`."""
         from ..matrix import Matrix
         return (self.matrix_type or Matrix)(self.session, self.put(entries))
-
-    def find_fact(self, matrix: 'Matrix', name: str, find: Callable[[], Any]) -> Any:
-        """A fact of a matrix' entries: as it was found before, or as it is found now."""
-        if name not in matrix.kept:
-            matrix.kept[name] = find()
-        return matrix.kept[name]
-
-    def make_estimate(self, shape: Tuple[int, int], least: int, most: int) -> 'Matrix':
-        """What stands for a matrix of so many entries, where jobs are only foreseen."""
-        raise NotImplementedError
-
-    def granting(self, facts: Dict[str, Any]) -> 'ContextManager[Any]':
-        """In its `with` these facts are what a graph has to have, or the call ends in an error: an
-        estimate takes them for granted."""
-        _ = facts
-        return contextlib.nullcontext()

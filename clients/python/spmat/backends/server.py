@@ -14,10 +14,10 @@ from ..io import matrix_text
 from ..io.matrix_text import Triples
 from ..limits import MOST_OPERATOR, MOST_SIDE, MOST_TEXT, QUEUE
 from ..operators import Operator, diagnostics
-from ..wire.commands import Command, Reply
-from ..wire.connection import Connection
-from ..wire.reply_checks import NOTHING, Limits, check_text, longest_text, sizes_of_text
-from ..wire.session_lock import SessionLock
+from ..wire.commands import (NOTHING, Command, Limits, Reply, check_text, longest_text,
+                             sizes_of_text)
+from ..wire.connection import Connection, SessionLock
+from .estimate import ESTIMATES, estimate_here
 from .job_queue import Queue, without_frames
 from .names import DeferredHandle, ServerNames, ServerHandle
 from .protocol import Backend, Budget, Handle, Job, Run, most_of
@@ -77,11 +77,6 @@ class ServerBackend(Backend):
         self._lock = connection.lock
         self._operators: Dict[Operator, Uploaded] = {}
 
-    @property
-    def ceiling(self) -> int:  # type: ignore[override]
-        """What can be left at the most, were all prices settled with nothing."""
-        return self.queue.ceiling
-
     def lock(self) -> SessionLock:
         """One thread at a time, and no Ctrl-C amid."""
         return self._lock
@@ -116,7 +111,7 @@ class ServerBackend(Backend):
         """What the budget holds. No run."""
         with self._lock:
             budget = Budget(*self.command('budget').numbers)
-            self.queue.note_budget(budget.left, budget.reserved)
+            self.queue.note_budget(budget.left)
             return budget
 
     # -- matrices
@@ -238,7 +233,10 @@ class ServerBackend(Backend):
 
         A job that can be refused by nothing but want of memory, as what is known of its operands'
         entries tells, is sent with the next command that needs an answer, and so is the run before
-        it; any other at once."""
+        it; any other at once. A job of a call that is priced is only foreseen."""
+        estimate = estimate_here() if ESTIMATES else None
+        if estimate is not None:
+            return estimate.submit(self, job)
         with self._lock:
             words, length = [job.form, ''], 0
             for op in job.operators:

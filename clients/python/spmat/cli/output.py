@@ -1,7 +1,7 @@
 """What commands print, and how they end.
 
 A result is plain lines, CSV (`--csv`) or JSON (`--json`), all of the same fields and rows. A
-command adds the options by `add_form_options`, makes a `Result` of what it found, and hands
+command has the options of `form_options`, makes a `Result` of what it found, and hands
 `format_lines(options, result)` to `write`. Plain lines have no header; CSV has one, in words that
 `read_graph` knows; JSON is a list with an object a row, or an object alone where the result is
 `single`. Rows may come one by one from a generator.
@@ -11,7 +11,6 @@ spmat-graph(1) has the same list.
 """
 from __future__ import annotations
 
-import argparse
 import contextlib
 import decimal
 import enum
@@ -26,11 +25,14 @@ import socket
 import struct
 import sys
 import zlib
-from typing import (Any, Callable, Iterable, Iterator, List, NamedTuple, Optional, Sequence, Tuple,
-                    Type, Union)
+from types import SimpleNamespace
+from typing import (IO, Any, Callable, Iterable, Iterator, List, NamedTuple, Optional, Sequence,
+                    Tuple, Type, Union)
+
+import click
 
 from ..errors import (MORE_STEPS, BudgetExceeded, Busy, Closed, CompileError, NoThread, NotMade,
-                      OutOfMemory, ReadError, Refused, SpmatError, TextRefused, arguments_in)
+                      OutOfMemory, ReadError, Refused, SpmatError, TextRefused, parameters_of)
 from ..io.edge_list_writer import csv_line
 from ..matrix import Matrix
 from ..progress import Bar
@@ -59,7 +61,7 @@ class Status(enum.IntEnum):
     OTHER = 1, 'the result could not be written, or a Python package is missing'
     WORDS = 2, 'the words of the command line are wrong'
     FILE = 3, 'a file is missing, could not be read, or is no graph that the command takes'
-    REFUSED = 4, 'refused by a rule: an operator, a size, a limit, a command of a script'
+    REFUSED = 4, 'refused by a rule: an operator, a size, a limit'
     BUDGET = 5, 'the budget of steps is spent'
     BUSY = 6, ('too little memory, too few threads, or no seat at the server: try later, or '
                'smaller')
@@ -84,6 +86,7 @@ UNREADABLE = (EOFError, UnicodeDecodeError, zlib.error, lzma.LZMAError, struct.e
 CAUSES: Tuple[Tuple[Tuple[Type[BaseException], ...], Status], ...] = (
     ((KeyboardInterrupt,), Status.INTERRUPTED),
     ((BrokenPipeError,), Status.PIPE),
+    ((click.ClickException,), Status.WORDS),
     ((BudgetExceeded,), Status.BUDGET),
     ((OutOfMemory, NoThread, Busy, MemoryError), Status.BUSY),
     ((Closed, ConnectionError, socket.timeout), Status.UNREACHED),
@@ -131,6 +134,9 @@ def words_of(fault: BaseException) -> str:
     """What a fault says, in one line and in the command line's words."""
     if isinstance(fault, KeyboardInterrupt):
         return 'interrupted'
+    if isinstance(fault, click.UsageError):
+        where = fault.ctx.command_path if fault.ctx is not None else PROGRAM
+        return '%s (%s --help)' % (fault.format_message().rstrip('.'), where)
     if isinstance(fault, MemoryError):
         return 'this machine has too little memory for it'
     if isinstance(fault, OSError) and fault.strerror:
@@ -144,18 +150,21 @@ def words_of(fault: BaseException) -> str:
     return words + describe_flags(fault)
 
 
-# Arguments of Python whose flags have other names; '' for what the command line doesn't have.
+# Parameters of Python whose flags have other names; '' for what the command line doesn't have.
 FLAGS = {'bipartite': '--bipartite or --one-kind', 'check': '',
          'comments': '--comments or --no-comments', 'directed': '--both-ways',
-         'header': '--header or --no-header', 'missing': '--missing', 'name': '--function',
+         'header': '--header or --no-header', 'nodelist': '',
          'tls': '--tls, --cacert, --cert or --key', 'token': '', 'values': '--pattern'}
 
 
+def flag_of(parameter: str) -> str:
+    """The flag of a parameter of Python."""
+    return FLAGS.get(parameter, '--' + parameter.replace('_', '-'))
+
+
 def describe_flags(fault: BaseException) -> str:
-    """Name the flags for the arguments that an error is about."""
-    last = find_refusal(fault)
-    arguments = getattr(last, 'arguments', None) or arguments_in(getattr(last, 'words', str(last)))
-    flags = [FLAGS.get(name, '--' + name.replace('_', '-')) for name in arguments]
+    """Name the flags for the parameters that an error is about."""
+    flags = map(flag_of, parameters_of(find_refusal(fault)))
     found = ', '.join(filter(None, dict.fromkeys(flags)))
     return ' (flags: %s)' % found if found else ''
 
@@ -190,30 +199,9 @@ class Result(NamedTuple):
     single: bool = False
 
 
-def add_form_options(command: Any, mtx: bool = False) -> None:
-    """The forms of a result, of which one is chosen; `mtx` for results that are matrices."""
-    form = command.add_mutually_exclusive_group()
-    if mtx:
-        form.add_argument('--mtx', action='store_true', help='the result as Matrix Market text')
-    form.add_argument('--csv', action='store_true', help='the result as CSV, with a header')
-    form.add_argument('--json', action='store_true',
-                      help='the result as JSON: a list with an object a row')
-
-
-def add_output_options(command: argparse.ArgumentParser, ranked: bool = False) -> None:
-    """Where the result goes, and in which form; how many of it where it is `ranked`."""
-    add_form_options(command, mtx=True)
-    command.set_defaults(top=None)
-    if ranked:
-        command.add_argument('--top', type=int, metavar='N',
-                             help='the N greatest alone, the greatest first')
-    command.add_argument('--output', metavar='FILE',
-                         help='where the result goes (default: standard output)')
-
-
 # -- forms
 
-def format_lines(options: argparse.Namespace, result: Result) -> Iterable[str]:
+def format_lines(options: SimpleNamespace, result: Result) -> Iterable[str]:
     """A result in the form that the options ask for."""
     if options.json:
         return _format_json(result)
@@ -239,14 +227,8 @@ def _format_json(result: Result) -> Iterator[str]:
     """An object a row, each on a line of its own."""
     objects = (json.dumps(dict(zip(result.fields, map(_plain_object, row))), ensure_ascii=False)
                for row in result.rows)
-    if result.single:
-        yield from (text + '\n' for text in objects)
-        return
-    before = '['
-    for text in objects:
-        yield before + '\n' + text
-        before = ','
-    yield '[]\n' if before == '[' else '\n]\n'
+    texts = ',\n'.join(objects)
+    yield texts + '\n' if result.single else '[\n%s\n]\n' % texts if texts else '[]\n'
 
 
 def _plain_object(cell: Any) -> Any:
@@ -270,7 +252,7 @@ def is_column(matrix: Matrix) -> bool:
     return matrix.ncols == 1 and matrix.column_nodes is None
 
 
-def list_entries(options: argparse.Namespace, matrix: Matrix, called: str,
+def list_entries(options: SimpleNamespace, matrix: Matrix, called: str,
                  show: Callable[[int], Any] = int) -> Result:
     """A matrix as rows, one an entry: the names of its row and its column, of a column the row's
     alone, and what is shown of the value, which is called so. Nothing is asked of the server once
@@ -286,10 +268,10 @@ def list_entries(options: argparse.Namespace, matrix: Matrix, called: str,
 
 # -- where a result goes
 
-def check_output(options: argparse.Namespace) -> None:
+def check_output(options: SimpleNamespace) -> None:
     """Say before the work if the words don't go together, or the result can go nowhere."""
     if options.mtx and options.top is not None:
-        options.parser.error('argument --top: not with --mtx, which has the whole result')
+        raise click.UsageError('--top: not with --mtx, which has the whole result')
     folder = os.path.dirname(options.output or '')
     if folder and not os.path.isdir(folder):
         raise Ended(Status.OTHER, '%s: no such folder' % folder)
@@ -309,24 +291,17 @@ def writing(path: Optional[str]) -> Iterator[None]:
                     (path or 'standard output', fault.strerror or fault)) from None
 
 
-def print_lines(lines: Iterable[str]) -> None:
-    """Write lines to standard output, now."""
-    with writing(None):
-        sys.stdout.writelines(lines)
-        sys.stdout.flush()
-
-
-def write(options: argparse.Namespace, lines: Iterable[str]) -> None:
-    """Write a result where it goes."""
-    if options.output is None:
-        print_lines(lines)
-        return
-    with writing(options.output), open(options.output, 'w', encoding='utf-8') as file:
+def write(options: SimpleNamespace, lines: Iterable[str]) -> None:
+    """Write a result where it goes, now."""
+    with writing(options.output), contextlib.ExitStack() as opened:
+        file: IO[str] = sys.stdout if options.output is None else opened.enter_context(
+            open(options.output, 'w', encoding='utf-8'))
         file.writelines(lines)
+        file.flush()
 
 
 @contextlib.contextmanager
-def open_progress(options: argparse.Namespace) -> Iterator[Optional[Bar]]:
+def open_progress(options: SimpleNamespace) -> Iterator[Optional[Bar]]:
     """Show progress if standard error is a terminal and tqdm is installed. Standard output may be
     the same terminal: write to it after this, or clear the bar before."""
     if options.quiet or not sys.stderr.isatty() or importlib.util.find_spec('tqdm') is None:

@@ -8,9 +8,10 @@ import numpy
 
 from ..extras import import_extra
 from ..matrix import Matrix
-from ..units import to_decimal
+from ..metadata import vertices_of
+from ..scale import TimeUnit, to_decimal, to_text
 from . import count_in_groups, pictures
-from .pictures import (GREY, INK, LARGE, LINE, LONG, MIDDLE, MOST_LABELS, PALE, SHORT, WARM, XY,
+from .pictures import (GREY, INK, LARGE, LINE, MIDDLE, MOST_LABELS, PALE, SHORT, WARM, XY,
                        Edge, Target)
 
 MOST_VERTICES, MOST_EDGES = 1000, 5000             # of a whole graph
@@ -22,12 +23,25 @@ CROWDED = 45               # vertices one above another that leave no room for n
 MOST_STRETCH = 1.5         # how many times as wide as high a layout's points are scaled at most
 
 
+def has_two_kinds(G: Matrix) -> bool:
+    """Tell whether the rows and the columns of a matrix are vertices of two kinds."""
+    return G.nrows != G.ncols or vertices_of(G.notes) is None
+
+
+def is_drawable(G: Matrix) -> bool:
+    """Whether a picture shows each vertex and edge of a graph."""
+    return G.nrows <= MOST_VERTICES and G.nvals <= 2 * MOST_EDGES
+
+
 def check_is_drawable(G: Matrix) -> None:
-    """ValueError if a matrix is no graph, or has more than a picture shows."""
-    if G.nrows != G.ncols:
-        raise ValueError('expected a square matrix, got %dx%d: `spmat.bipartite` makes one of it'
-                         % G.shape)
-    if G.nrows > MOST_VERTICES or G.nvals > 2 * MOST_EDGES:
+    """ValueError if a graph has more than a picture shows."""
+    if has_two_kinds(G):
+        if G.nrows + G.ncols > MOST_LEVELED or G.nvals > MOST_LEVELED_EDGES:
+            raise ValueError('a picture of two kinds of vertices shows up to %d vertices and %d '
+                             'edges, and this has %d and %d: draw.spy shows any'
+                             % (MOST_LEVELED, MOST_LEVELED_EDGES, G.nrows + G.ncols, G.nvals))
+        return
+    if not is_drawable(G):
         raise ValueError(
             'a picture of a graph shows up to %s vertices and %s edges, and this has %s and %s: '
             'draw.spy and draw.degree_histogram show any, draw.graph(G[some, some]) a part'
@@ -41,16 +55,16 @@ def draw_graph(G: Matrix, color: Any, size: Any, labels: Any, pos: Any, target: 
     is_directed = any((j, i) not in pairs for i, j in pairs)
     lines = [(i, j) for i, j in sorted(pairs) if is_directed or i < j]
     colours, areas = pictures.choose_colours(G, color), pictures.choose_areas(G, size)
-    texts = pictures.choose_texts(G, labels)
+    degrees = numpy.bincount([end for pair in pairs for end in pair], minlength=G.nrows)
+    texts = pictures.choose_texts(G, labels, degrees if size is None else areas)
     positions = choose_positions(G, pos, pairs)
-    side = max(4.8, min(11.0, .9 * math.sqrt(max(1, G.nrows)) + 1.5))
-    ax = pictures.open_axes(target, side, side)
+    ax = pictures.open_axes(target)
     draw_lines(ax, positions, lines, pairs if is_directed else set(), areas)
     if G.notes.weighted and len(lines) <= MOST_EDGE_VALUES:
         for i, j in lines:
             share = .3 if is_directed and (j, i) in pairs else .5
             at = positions[i] + share * (positions[j] - positions[i])
-            pictures.add_note(ax, format(to_decimal(values[i, j], G.unit), ','), at, (0, -3),
+            pictures.add_note(ax, describe_value(values[i, j], G), at, (0, -3),
                               fontsize=7, color=WARM, zorder=3, path_effects=pictures.make_halo())
     pictures.draw_dots(ax, positions, colours.dots, areas)
     draw_labels(ax, positions, texts, colours.dots, areas)
@@ -61,6 +75,39 @@ def draw_graph(G: Matrix, color: Any, size: Any, labels: Any, pos: Any, target: 
     ax.set_axis_off()
     unshown = ['%s not shown' % pictures.count_words(loops, 'loop')] if loops else []
     pictures.set_title(ax, {'vertex': G.nrows, 'edge': len(lines)}, *unshown, color=GREY)
+    return ax
+
+
+def describe_value(value: int, G: Matrix) -> str:
+    """What a stored number stands for, as it is written beside an edge."""
+    return (to_text(value, G.unit) if isinstance(G.unit, TimeUnit)
+            else format(to_decimal(value, G.unit), ','))
+
+
+def draw_two_kinds(G: Matrix, target: Target) -> Any:
+    """Draw rows and columns as two columns of vertices, with a line for each entry."""
+    values = {(i, G.nrows + j): value for i, j, value in G.to_triples()}
+    count = G.nrows + G.ncols
+    columns = order_columns(count, {i: int(i >= G.nrows) for i in range(count)}, set(values))
+    ax = pictures.open_axes(target)
+    at = {i: (float(side), -k / max(1, len(column) - 1))
+          for side, column in enumerate(columns[:2]) for k, i in enumerate(column)}
+    for (i, j), value in values.items():
+        pictures.draw_edge(ax, (at[i], at[j]), (5, 5), arrow=False, color=LINE, linewidth=.8)
+        if G.notes.weighted and len(values) <= MOST_EDGE_VALUES:
+            middle = (.3, at[i][1] + .3 * (at[j][1] - at[i][1]))
+            pictures.add_note(ax, describe_value(value, G), middle, (0, -3),
+                              fontsize=7, color=WARM, path_effects=pictures.make_halo())
+    pictures.draw_dots(ax, [at[i] for i in range(count)], [INK] * G.nrows + [WARM] * G.ncols,
+                       MIDDLE)
+    names = [*(G.row_nodes or range(G.nrows)), *(G.column_nodes or range(G.ncols))]
+    for i, name in enumerate(names if count <= 2 * MOST_LABELS else ()):
+        side = 1 if i >= G.nrows else -1
+        pictures.add_note(ax, pictures.shorten(name), at[i], (8 * side, -3), fontsize=7,
+                          ha='left' if side > 0 else 'right')
+    ax.set_xlim(-.5, 1.5)
+    ax.set_axis_off()
+    pictures.set_title(ax, {'row': G.nrows, 'column': G.ncols, 'edge': len(values)}, color=GREY)
     return ax
 
 
@@ -150,9 +197,7 @@ def draw_columns(G: Matrix, at: Mapping[int, int], target: Target,
     deepest = max(at.values(), default=-1)
     columns = order_columns(G.nrows, at, pairs)
     tallest, longest = max(map(len, columns), default=1), pictures.longest_name(G)
-    wide = 1.7 + (.06 * min(LONG, longest) if longest > SHORT else 0)
-    ax = pictures.open_axes(target, max(5, min(16, wide * len(columns))),
-                            max(4, min(9, (.4 if G.nrows <= MOST_LABELS else .2) * tallest)))
+    ax = pictures.open_axes(target)
     positions: Dict[int, XY] = {
         i: (level + .4 * (level > deepest), (len(column) - 1) / 2 - k)
         for level, column in enumerate(columns) for k, i in enumerate(column)}
@@ -210,7 +255,7 @@ def draw_leveled_dots(ax: Any, G: Matrix, at_xy: Mapping[int, XY], at: Mapping[i
     heights = [y for _, y in positions]
     is_crowded = max(heights, default=0.) - min(heights, default=0.) > CROWDED
     if G.nrows <= MOST_LABELS or not is_crowded:
-        draw_labels(ax, positions, pictures.choose_texts(G, True), colours, areas)
+        draw_labels(ax, positions, pictures.choose_texts(G, True, areas), colours, areas)
     if len(at) < G.nrows:
         pictures.add_note(ax, 'not reached', (deepest + 1.4, 0), (0, -14), color=GREY,
                           xycoords=('data', 'axes fraction'))
@@ -219,7 +264,7 @@ def draw_leveled_dots(ax: Any, G: Matrix, at_xy: Mapping[int, XY], at: Mapping[i
 def draw_circles(G: Matrix, at: Mapping[int, int], counts: Any, target: Target) -> Any:
     """Draw a circle for each level, whose area follows the logarithm of its vertices, with the
     entries to the next level on a line, and those within it below."""
-    ax = pictures.open_axes(target, max(6, 1.7 * len(counts)), 3.6)
+    ax = pictures.open_axes(target)
     levels = numpy.full(G.nrows, -1)
     levels[list(at)] = list(at.values())
     between = count_in_groups(G, levels, levels).to_dict()
@@ -248,7 +293,7 @@ def draw_circles(G: Matrix, at: Mapping[int, int], counts: Any, target: Target) 
 
 def draw_curve(_: Matrix, __: Mapping[int, int], counts: Any, target: Target) -> Any:
     """Draw how many vertices each level has."""
-    ax = pictures.open_axes(target, 7, 4)
+    ax = pictures.open_axes(target)
     ax.fill_between(range(len(counts)), counts, step='mid', color=INK, alpha=.85, linewidth=0)
     ax.set_xlim(-.5, len(counts) - .5)
     ax.set_ylim(0)
@@ -273,7 +318,7 @@ def draw_chain(names: List[str], values: Sequence[Any], target: Target) -> Any:
     """Draw vertices from left to right, ten to a row, with what their edges have."""
     positions = [(k % 10, -(k // 10)) for k in range(len(names))]
     rows = (len(names) - 1) // 10
-    ax = pictures.open_axes(target, max(3, 1.4 * min(10, len(names))), 1.2 + .9 * rows)
+    ax = pictures.open_axes(target)
     for start, end, value in zip(positions, positions[1:], values):
         pictures.draw_edge(ax, (start, end), (9, 9), color=WARM, linewidth=1.6)
         middle = (start[0] + end[0]) / 2, (start[1] + end[1]) / 2

@@ -2,45 +2,32 @@
 `_repr_html_` gives.
 
 A matrix that waits is run for it, at the price that its job has reserved. Up to 50,000 entries come
-to the client; of more the server is asked for the corner and counts the raster (3 jobs, 2 runs),
-and where the budget refuses that, the sizes alone are shown. Matrices in row blocks are in
-`blocks.html`.
+to the client; of more the server is asked for the corner, by 1 job, and where the budget refuses
+that, the sizes alone are shown. `draw.spy` shows where all entries are.
 """
 from __future__ import annotations
 
 import html
-import itertools
-import math
-from typing import TYPE_CHECKING, Any, Dict, List, Mapping, NamedTuple, Optional, Sequence, Tuple
-
-import numpy
+from typing import TYPE_CHECKING, Any, Dict, List, Mapping, Optional, Sequence, Tuple
 
 from ..errors import SpmatError
 from ..metadata import without_names
-from ..units import to_text
-from . import count_in_groups
+from ..scale import is_whole, to_text
 
 if TYPE_CHECKING:
     from ..backends.protocol import Budget, JobResult
-    from ..matrix_base import MatrixBase
     from ..mask import Mask
     from ..matrix import Matrix
     from ..operators import Operator, Semiring
     from ..operators.diagnostics import Check, Listing
 
-# rows and columns of the corner, cells of the raster, pixels of its side
-CORNER, CELLS, SIDE = 8, 48, 144
-SHADES = 8                                         # of cells of the raster
+CORNER = 8                                         # rows and columns that are shown
+DIGITS = 6                                         # of a decimal in the corner
 FEW = 50_000
+UNBOUNDED = 1 << 62                                # steps that no session spends
 CELL = 'text-align:right;padding:1px 6px;white-space:nowrap;border:1px solid #ddd'
 HEAD = 'text-align:right;padding:1px 6px;color:#5a6672;font-weight:normal;border:1px solid #ddd'
 Cells = Dict[Tuple[int, int], int]
-
-
-class Shown(NamedTuple):
-    """The values of the corner, and how many entries each cell of the raster has."""
-    corner: Cells
-    raster: Cells
 
 
 def text_of(thing: Any) -> str:
@@ -58,17 +45,14 @@ def table(heads: Sequence[Any], rows: Sequence[Sequence[Any]]) -> str:
 
 
 def matrix(shown: 'Matrix') -> str:
-    """A matrix: its sizes and entries, what is known of it, a corner with values, and where its
-    entries are."""
+    """A matrix: its sizes and entries, what is known of it, and a corner with values."""
     about = [sizes(shown)]
     try:
         about.append('%s entries' % format(shown.nvals, ','))
-        found = few(shown) if shown.nvals <= FEW else many(shown)
+        near = find_corner(shown)
     except SpmatError as fault:
         return headed('Matrix', about + known(shown), '<div>%s</div>' % text_of(fault))
-    return headed('Matrix', about + known(shown),
-                  beside(corner(shown, values_of(shown, found.corner)),
-                         raster(shown.shape, found.raster)))
+    return headed('Matrix', about + known(shown), corner(shown, values_of(shown, near)))
 
 
 def mask(shown: 'Mask') -> str:
@@ -82,16 +66,13 @@ def mask(shown: 'Mask') -> str:
     if not of.in_one_place:
         return headed('Mask', about, '')
     try:
-        found = few(of) if of.nvals <= FEW else many(of)
+        near = find_corner(of)
     except SpmatError as fault:
         return headed('Mask', about, '<div>%s</div>' % text_of(fault))
     cells = [(i, j) for i in range(min(CORNER, of.nrows)) for j in range(min(CORNER, of.ncols))]
     open_ = {at: 1 for at in cells
-             if (at in found.corner and not (shown.value and found.corner[at] == 0))
-             != shown.complement}
-    # the raster is that of the matrix, so beside a complement it would show the contrary
-    parts = [corner(of, open_)] + ([] if shown.complement else [raster(of.shape, found.raster)])
-    return headed('Mask', about, beside(*parts))
+             if (at in near and not (shown.value and near[at] == 0)) != shown.complement}
+    return headed('Mask', about, corner(of, open_))
 
 
 def semiring(shown: 'Semiring') -> str:
@@ -111,16 +92,16 @@ def semirings(uses: Dict[str, str]) -> str:
         ['', 'what a product tells'], list(uses.items()))
 
 
-def sizes(shown: 'MatrixBase') -> str:
+def sizes(shown: 'Matrix') -> str:
     """Rows and columns."""
     return '%s &times; %s' % tuple(format(side, ',') for side in shown.shape)
 
 
-def known(shown: 'MatrixBase') -> List[str]:
+def known(shown: 'Matrix') -> List[str]:
     """What is known of a matrix beside its entries."""
     facts = {'directed': shown.directed is True, 'undirected': shown.directed is False,
-             'unit %s' % shown.unit: shown.unit != 1,
-             'values are vertices': shown.unit == 1 and shown.notes.value_names is not None,
+             'unit %s' % shown.unit: shown.unit != 1 and shown.notes.value_names is None,
+             'values are vertices': shown.notes.value_names is not None,
              'named': shown.row_nodes is not None or shown.column_nodes is not None}
     return [fact for fact, is_so in facts.items() if is_so]
 
@@ -136,28 +117,10 @@ def beside(*parts: str) -> str:
     return '<div style="display:flex;gap:16px;align-items:flex-start">%s</div>' % ''.join(parts)
 
 
-def few(shown: 'Matrix') -> Shown:
-    """What is shown of a matrix of few entries, all of which come to the client."""
-    near: Cells = {}
-    counts: Cells = {}
-    for i, j, value in shown.to_triples():
-        if i < CORNER and j < CORNER:
-            near[i, j] = value
-        cell = _cells(i, shown.nrows), _cells(j, shown.ncols)
-        counts[cell] = counts.get(cell, 0) + 1
-    return Shown(near, counts)
-
-
-def _cells(at: Any, count: int) -> Any:
-    """The cell of a raster that a row or a column is in, or those that many are in."""
-    return at * min(CELLS, count) // max(1, count)
-
-
-def many(shown: 'Matrix') -> Shown:
-    """What is shown of a matrix of many entries: by one job the corner, by two the raster."""
-    near = first_cells(shown)
-    counts = count_in_groups(shown, *(_cells(numpy.arange(side), side) for side in shown.shape))
-    return Shown(near.to_dict(), counts.to_dict())
+def find_corner(shown: 'Matrix') -> Cells:
+    """The stored values of the corner: all entries come to the client where they are few."""
+    held = shown if shown.nvals <= FEW else first_cells(shown)
+    return {(i, j): value for i, j, value in held.to_triples() if i < CORNER and j < CORNER}
 
 
 def first_cells(shown: 'Matrix') -> 'Matrix':
@@ -170,14 +133,18 @@ def first_cells(shown: 'Matrix') -> 'Matrix':
     return first.mxm(shown, 'any_second', mask=where.S)
 
 
-def values_of(shown: 'MatrixBase', near: Cells) -> Dict[Tuple[int, int], str]:
-    """What stored values stand for, as text."""
+def values_of(shown: 'Matrix', near: Cells) -> Dict[Tuple[int, int], str]:
+    """What stored values stand for, as text: decimals with six digits."""
     vertices = shown.notes.value_names
-    return {at: to_text(value, shown.unit) if vertices is None else str(vertices[value])
-            for at, value in near.items()}
+    if vertices is not None:
+        return {at: str(vertices[value]) for at, value in near.items()}
+    texts = {at: to_text(value, shown.unit) for at, value in near.items()}
+    return texts if is_whole(shown.unit) else {
+        at: text if len(text) <= DIGITS + 2 or '.' not in text else
+        '%.*g' % (DIGITS, float(text)) for at, text in texts.items()}
 
 
-def corner(shown: 'MatrixBase', near: Mapping[Tuple[int, int], Any]) -> str:
+def corner(shown: 'Matrix', near: Mapping[Tuple[int, int], Any]) -> str:
     """The first rows and columns with their values and names."""
     rows, columns = (range(min(CORNER, side)) for side in shown.shape)
     first: Sequence[Any] = shown.row_nodes or range(shown.nrows)
@@ -187,33 +154,6 @@ def corner(shown: 'MatrixBase', near: Mapping[Tuple[int, int], Any]) -> str:
                              for i in rows]
     body += [['..', *('..' for _ in columns), *more]] if shown.nrows > CORNER else []
     return table(['', *(second[j] for j in columns), *more], body)
-
-
-def raster(shape: Tuple[int, int], counts: Cells) -> str:
-    """A square for each cell that has entries, the darker the more, by the logarithm of their
-    number."""
-    rows, columns = (max(1, min(CELLS, side)) for side in shape)
-    size = SIDE / max(rows, columns)
-    most = math.log(max(counts.values(), default=1) + 1)
-    cells = sorted((i, j, math.ceil(SHADES * math.log(count + 1) / most))
-                   for (i, j), count in counts.items())
-    # a path for each shade, since a notebook keeps every byte of this: of cells beside one another
-    # the column and the place in this order differ by the same number
-    shades: Dict[int, List[str]] = {}
-    for (i, shade, _), run in itertools.groupby(
-            enumerate(cells), lambda cell: (cell[1][0], cell[1][2], cell[1][1] - cell[0])):
-        columns_of_run = [j for _, (_, j, _) in run]
-        width = len(columns_of_run)
-        shades.setdefault(shade, []).append('M%d %dh%dv1h-%dz'
-                                            % (columns_of_run[0], i, width, width))
-    paths = ''.join('<path fill-opacity="%.2f" d="%s"/>' % (.3 + .7 * shade / SHADES,
-                                                            ''.join(parts))
-                    for shade, parts in sorted(shades.items()))
-    return ('<svg width="%d" height="%d" viewBox="0 0 %d %d" preserveAspectRatio="none" '
-            'style="border:1px solid #ddd;background:#fff" role="img" aria-label="where the '
-            'entries '
-            'are"><g fill="#1f4e79" shape-rendering="crispEdges">%s</g></svg>'
-            % (math.ceil(columns * size), math.ceil(rows * size), columns, rows, paths))
 
 
 def operator(op: 'Operator') -> str:
@@ -266,6 +206,8 @@ def check(found: 'Check') -> str:
 def budget(shown: 'Budget') -> str:
     """A budget, with a bar of what is spent and reserved."""
     whole = max(1, sum(shown))
+    if whole >= UNBOUNDED:
+        return '<div><b>Budget</b> without a limit, %s spent</div>' % format(shown.spent, ',')
     bar = ''.join('<span style="display:inline-block;height:8px;width:%.1fpx;background:%s"></span>'
                   % (240 * part / whole, colour)
                   for part, colour in ((shown.spent, '#1f4e79'), (shown.reserved, '#b5651d'),

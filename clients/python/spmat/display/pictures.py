@@ -21,7 +21,9 @@ MOST_HUES = 9              # of more groups the smallest share a grey
 INK, PALE, GREY, WARM, LINE = '#1f4e79', '#c9d3dd', '#5a6672', '#b5651d', '#9aa7b4'
 LEAST_AREA, MOST_AREA = 20., 500.                  # of dots that have a size, in square points
 LARGE, MIDDLE, SMALL = 225., 64., 16.              # areas of other dots
-MOST_LABELS = 60           # a graph of more vertices has no names on it
+MOST_LABELS = 60           # a graph of more vertices has the names of its LARGEST alone
+LARGEST = 5
+SIZE, DPI = (9, 6), 120    # of a figure, in inches, and dots an inch
 PLURALS = {'entry': 'entries', 'vertex': 'vertices'}
 
 
@@ -33,24 +35,25 @@ class Target(NamedTuple):
     path: Optional[Path]
 
 
-def open_axes(target: Target, width: float, height: float) -> Any:
+def open_axes(target: Target) -> Any:
     """Choose the axes to draw on: the caller's, or pyplot's. What goes to a file has a figure that
-    pyplot doesn't keep, since pyplot holds each figure until somebody closes it."""
+    pyplot doesn't keep, since pyplot holds each figure until somebody closes it. Each figure of
+    ours has one size, so that pictures fit beside one another."""
     if target.ax is not None:
         return target.ax
     if target.path is not None:
         figure = import_extra('matplotlib.figure', 'a picture').Figure
-        return figure(figsize=(width, height), dpi=130).add_subplot()
+        return figure(figsize=SIZE, dpi=DPI, layout='constrained').add_subplot()
     pyplot = import_extra('matplotlib.pyplot', 'a picture')
     if pyplot.get_fignums() and not pyplot.gca().has_data():
         return pyplot.gca()                        # as plt.figure(figsize=..) left it
-    return pyplot.figure(figsize=(width, height)).add_subplot()
+    return pyplot.figure(figsize=SIZE, layout='constrained').add_subplot()
 
 
 def finish(ax: Any, path: Optional[Path]) -> Any:
     """Write the figure of the axes to a path, if there is one, and return the axes."""
     if path is not None:
-        ax.figure.savefig(path, bbox_inches='tight')
+        ax.figure.savefig(path)
     return ax
 
 
@@ -162,11 +165,12 @@ def values_of_vertices(G: Matrix, given: Any, what: str) -> Dict[int, Any]:
 
 class Colours(NamedTuple):
     """A colour for each vertex, and what explains it: pairs of a colour and a text for a legend, or
-    the scale of a colour bar."""
+    the scale of a colour bar, whose numbers may all be whole."""
     dots: List[Any]
     legend: Sequence[Tuple[Any, str]] = ()
     scale: Any = None
     title: Optional[str] = None
+    is_whole: bool = False
 
 
 def choose_colours(G: Matrix, color: Any) -> Colours:
@@ -191,7 +195,8 @@ def choose_colours(G: Matrix, color: Any) -> Colours:
         colours, legend = {value: scale.to_rgba(value) for value in distinct}, []
     dots = [colours[values[i]] if i in values else PALE for i in range(G.nrows)]
     pale = [(PALE, 'no value')] if len(values) < G.nrows else []
-    return Colours(dots, [*legend, *pale], scale, 'community (vertices)' if are_groups else None)
+    return Colours(dots, [*legend, *pale], scale, 'community (vertices)' if are_groups else None,
+                   all(value == int(value) for value in distinct))
 
 
 def _choose_hues(values: Mapping[int, Any]) -> Tuple[Dict[Any, Any], List[Tuple[Any, str]]]:
@@ -225,6 +230,8 @@ def add_legend(ax: Any, colours: Colours) -> None:
     if colours.scale is not None:
         bar = ax.figure.colorbar(colours.scale, ax=ax, fraction=.04, pad=.02)
         bar.ax.tick_params(labelsize=8)
+        if colours.is_whole:
+            bar.ax.yaxis.get_major_locator().set_params(integer=True)
 
 
 def choose_areas(G: Matrix, size: Any) -> Any:
@@ -243,9 +250,14 @@ def choose_areas(G: Matrix, size: Any) -> Any:
     return LEAST_AREA + (MOST_AREA - LEAST_AREA) * numbers / numpy.max(numbers, initial=1e-300)
 
 
-def choose_texts(G: Matrix, labels: Any) -> Dict[int, str]:
-    """Choose what stands at each vertex."""
-    labels = G.nrows <= MOST_LABELS if labels is None else labels
+def choose_texts(G: Matrix, labels: Any, weights: Any) -> Dict[int, str]:
+    """Choose what stands at each vertex: its name, or of many vertices the names of those with the
+    greatest weights."""
+    if labels is None and G.nrows > MOST_LABELS:
+        all_names: Sequence[Any] = G.nodes or range(G.nrows)
+        return {int(i): str(all_names[i])
+                for i in numpy.argsort(-numpy.asarray(weights), kind='stable')[:LARGEST]}
+    labels = True if labels is None else labels
     if isinstance(labels, bool):
         names = (G.nodes or range(G.nrows)) if labels else ()
         return {i: str(name) for i, name in enumerate(names)}

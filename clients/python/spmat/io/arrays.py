@@ -17,6 +17,9 @@ if TYPE_CHECKING:
 else:
     Array = numpy.ndarray
 
+# words for the two ends of an edge, as headers and columns of tables have them
+PAIRS = (('source', 'target'), ('from', 'to'), ('src', 'dst'), ('origin', 'destination'),
+         ('sender', 'receiver'), ('parent', 'child'))
 NO_COLUMN = {'DataFrame': 'has two dimensions: name one of its columns, frame["a"]',
              'dict': 'has keys beside values: write list(..) of either',
              'set': 'has no order: write sorted(..)', 'frozenset': 'has no order: write sorted(..)',
@@ -77,7 +80,8 @@ def plain_column(many: Any, what: str) -> Any:
             raise ValueError(
                 'a %s is missing (entry %d): fillna(0) gives it a value, dropna() leaves it out'
                 % (what, list(gaps()).index(True)))
-        found = many.to_numpy()
+        # truth values that may be missing, and aren't
+        found = many.to_numpy(bool) if str(many.dtype) == 'boolean' else many.to_numpy()
         return found if found.dtype.kind != 'O' else found.tolist()
     if hasattr(many, '__array__'):
         return numpy.asarray(many)
@@ -121,6 +125,16 @@ def columns_of_frame(frame: Any) -> Tuple[Any, Any, Any]:
             'expected a table of two or three columns (row, column, value), not of %d: '
             'from_dense takes a table of values, from_pandas_edgelist names the columns'
             % len(parts))
+    words = [str(label).lower() for label in frame.columns]
+    ends = next((pair for pair in (*PAIRS, ('row', 'column'))
+                 if all(words.count(word) == 1 for word in pair)), None)
+    if ends is not None and ends != tuple(words[:2]):
+        labels = [frame.columns[words.index(word)] for word in ends]
+        raise ValueError(
+            'the columns of a table are taken in order: row, column, value; and these are %s: '
+            'frame[%r] has them in order, or from_pandas_edgelist(frame, %r, %r) by name' % (
+                ', '.join(map(str, frame.columns)),
+                labels + [label for label in frame.columns if label not in labels], *labels))
     return parts[0], parts[1], parts[2] if len(parts) == 3 else 1
 
 
@@ -135,6 +149,7 @@ def table_of(thing: Any) -> Table:
     label that stands twice."""
     if is_frame(thing):
         rows, columns = _names_of(thing.index, 'row'), _names_of(thing.columns, 'column')
+        _check_labels(thing)
         return Table(_cells_of(thing), rows, rows if rows is not None and columns is not None
                      and list(rows) == list(columns) else columns)
     if is_series(thing):
@@ -151,6 +166,19 @@ def table_of(thing: Any) -> Table:
         raise ValueError('a table is a list of rows, or a list of numbers, and row %d is %r'
                          % (many.index(not many[0]), rows_[many.index(not many[0])]))
     return Table([list(row) for row in rows_] if any(many) else [[cell] for cell in rows_])
+
+
+def _check_labels(frame: Any) -> None:
+    """ValueError for a square table whose rows and columns have the same labels, but for those of
+    one side being numbers, and of the other text."""
+    sides = list(map(str, frame.index)), list(map(str, frame.columns))
+    kinds = set(map(type, frame.index)), set(map(type, frame.columns))
+    if (len(sides[0]) > 1 and set(sides[0]) == set(sides[1]) and kinds[0].isdisjoint(kinds[1])
+        and str in kinds[0] | kinds[1]):
+        raise ValueError(
+            'the labels of rows are %r, .., those of columns %r, ..: 1 and \'1\' are two names; '
+            'frame.columns = frame.columns.astype(frame.index.dtype) gives both the same'
+            % (frame.index[0], frame.columns[0]))
 
 
 def _check_table(thing: Any) -> None:

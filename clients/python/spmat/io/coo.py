@@ -11,7 +11,7 @@ from typing import Any, Callable, Dict, Iterable, List, Mapping, Optional, Tuple
 
 import numpy
 
-from ..errors import Refused, refusal
+from ..errors import Refused, about, refusal
 from ..limits import MOST_SIDE
 from .arrays import columns_of_frame, is_frame, is_gap, is_many, plain_column
 from .matrix_text import Triples
@@ -99,12 +99,15 @@ def whole(number: Any, what: str = 'value') -> int:
         return operator.index(number)
     except TypeError:
         pass
-    if not isinstance(number, numbers.Real):
+    if not isinstance(number, (numbers.Real, decimal.Decimal)):
         raise TypeError('a %s is a whole number, not %s' % (what, shown(number)))
     if number != number:                           # pylint: disable=comparison-with-itself
         raise ValueError('a %s is missing: it is nan' % what)
-    if number in (math.inf, -math.inf) or number != int(number):
-        raise ValueError('a %s is a whole number, not %s%s' % (what, shown(number), _mend(what)))
+    if number in (math.inf, -math.inf):
+        raise ValueError('a %s is a whole number, not %s' % (what, shown(number)))
+    if number != int(number):
+        raise about(ValueError('a %s is a whole number, not %s%s' % (
+            what, shown(number), _mend(what))), *_scales(what))
     return int(number)
 
 
@@ -143,6 +146,11 @@ def _mend(what: str) -> str:
     return ': scale it first' if what in ('thunk', 'fill') else ''
 
 
+def _scales(what: str) -> Tuple[str, ...]:
+    """The parameter that makes whole numbers of some."""
+    return ('scale',) if what in ('value', 'weight') else ()
+
+
 def word(number: Any, what: str) -> int:
     """A whole number within 64 bits."""
     got = whole(number, what)
@@ -153,11 +161,18 @@ def word(number: Any, what: str) -> int:
 
 def whole_list(many: Iterable[Any], what: str) -> List[int]:
     """Numbers as ints; see `whole`."""
-    many = list(many)
+    many = without_truth(list(many))
     try:
         return list(map(operator.index, many))
     except TypeError:
         return [_convert_at(whole, number, what, at) for at, number in enumerate(many)]
+
+
+def without_truth(many: List[Any]) -> List[Any]:
+    """A list with 0 and 1 in place of numpy's truth values, which won't be numbers some day."""
+    if numpy.bool_ not in set(map(type, many)):
+        return many
+    return [int(one) if isinstance(one, numpy.bool_) else one for one in many]
 
 
 def _convert_at(convert: Callable[[Any, str], int], number: Any, what: str, at: int) -> int:
@@ -296,18 +311,48 @@ def repeated(triples: Triples, at: int, symmetric: bool = False) -> Refused:
     i, j = int(triples.rows[at]), int(triples.columns[at])
     places = ((i, j), (j, i)) if symmetric else ((i, j),)
     first = next(k for k, place in enumerate(zip(triples.rows, triples.columns)) if place in places)
-    return refusal('M8', detail='row %d, column %d is given as entry %d and as entry %d; %s'
-                   % (i, j, first, at, DUP_OP))
+    return about(refusal('M8', detail='row %d, column %d is given as entry %d and as entry %d; %s'
+                         % (i, j, first, at, DUP_OP)), 'dup_op')
 
 
 Fold = Callable[[Triples], Any]
+# what folds compute by numbers without an end, of which those of 64 bits may wrap
+EXACT: Dict[str, Callable[[int, int], int]] = {'plus': operator.add, 'minus': operator.sub,
+                                               'times': operator.mul}
 
 
-def unrepeated(triples: Triples, fold: Fold) -> Triples:
+def _check_folds(triples: Triples, at: Any, starts: Any, named: str) -> None:
+    """ValueError where values of one position, whose entries begin at some of the places `at`, are
+    folded to a number beyond 64 bits."""
+    sizes = numpy.abs(triples.values[at].astype(float))
+    with numpy.errstate(over='ignore'):
+        most = (numpy.multiply.reduceat(numpy.maximum(sizes, 1), starts) if named == 'times'
+                else numpy.add.reduceat(sizes, starts))
+    ends = numpy.append(starts[1:], len(at))
+    for group in numpy.flatnonzero(most >= 2.0 ** 62).tolist():
+        places = at[starts[group]:ends[group]]
+        values = triples.values[places].tolist()
+        if named == 'times' and 0 in values:
+            continue
+        found = values[0]
+        for value in values[1:]:
+            found = EXACT[named](found, value)
+            if named == 'times' and abs(found) > MOST + 1:
+                break                              # no factor is 0, so it stays there
+        if not LEAST <= found <= MOST:
+            raise about(ValueError(
+                'the values at row %d, column %d make a number beyond 64 bits by dup_op=%r, where '
+                'it would wrap: a smaller scale= may have room' % (
+                    triples.rows[places[0]], triples.columns[places[0]], named)),
+                        'dup_op', 'scale')
+
+
+def unrepeated(triples: Triples, fold: Fold, named: str = '') -> Triples:
     """Triples in which each position stands once. `fold` gets the values of those that stand
     several times as a matrix with a row for each such position, its values from column 0 in their
     order, and answers one value a row. It isn't called where there are none. Those that stand alone
-    come as they do, and behind them those that are folded."""
+    come as they do, and behind them those that are folded. ValueError where one of these would wrap
+    at 64 bits, by a fold that is `named` in EXACT."""
     key = triples.rows * max(triples.ncols, 1) + triples.columns
     ordered = numpy.sort(key)
     again = numpy.unique(ordered[1:][ordered[1:] == ordered[:-1]])
@@ -320,6 +365,8 @@ def unrepeated(triples: Triples, fold: Fold) -> Triples:
     row = place[at]
     starts = numpy.flatnonzero(numpy.append(True, row[1:] != row[:-1]))
     lengths = numpy.diff(numpy.append(starts, len(row)))
+    if named in EXACT:
+        _check_folds(triples, at, starts, named)
     column = numpy.arange(len(row)) - numpy.repeat(starts, lengths)
     folded = fold(Triples(row, column, triples.values[at], len(again), int(lengths.max())))
     first = at[starts]

@@ -3,15 +3,16 @@ have to be, and refused where no list has them."""
 from __future__ import annotations
 
 import itertools
-import warnings
 from typing import Any, Dict, Iterable, Iterator, List, Optional, Sequence
 
-from ..errors import ReadError
-from . import edge_list_layout
-from .columns import Layout
-from .edges import WHOLE
+import numpy
+
+from ..errors import ReadError, warn_user
+from . import edge_lists
+from .edges import WHOLE, Layout
 from .formats import describe_other, format_of
 from .graph_formats import has_dictionaries
+from .saved_names import can_save
 from .values import is_missing
 
 MARKS = ('#', '%', '\ufeff')                       # what a line begins with that is no row
@@ -62,33 +63,30 @@ def _check_names(texts: Dict[Any, str], sep: str) -> None:
         except UnicodeEncodeError:
             raise ValueError('the name %r has no form in UTF-8: %s' % (name, OTHERWISE)) from None
         if sep == ' ' and text.split() != [text]:
-            raise ValueError('the name %r has what parts the fields in it: another delimiter=, or '
+            raise ValueError('the name %r has what parts the fields in it: another sep=, or '
                              'to_csv, which quotes' % (name,))
         if sep == ' ' and (text.startswith(MARKS) or is_missing(text)):
             raise ValueError(
                 'the name %r would be taken for a comment, or for a missing name: another '
-                'delimiter=, or to_csv, which quotes' % (name,))
+                'sep=, or to_csv, which quotes' % (name,))
 
 
 def check_reading(sep: str, lines: Sequence[str], header: bool, width: int) -> None:
     """ValueError where the first lines of a list would be read otherwise than they are written,
     without a word."""
-    text = ''.join(lines).encode()
-    if not lines or sep not in '\t;,| ':
+    text, layout = ''.join(lines).encode(), Layout(sep=sep)
+    if not lines:
         return
     format = format_of(text)
     taken = 'a file of the format ' + format if format != 'edges' else describe_other(text)
-    taken = taken or ('a dictionary of attributes' if has_dictionaries(text, Layout()) else None)
-    parted = edge_list_layout.find_delimiter(text)
-    if taken is None and (parted or ' ') != sep:
-        taken = 'fields parted by %s' % edge_list_layout.CALLED[parted]
+    taken = taken or ('a dictionary of attributes' if has_dictionaries(text, layout) else None)
     if taken is None:
         try:
-            table = edge_list_layout.lay_out('', text, Layout())
+            table = edge_lists.lay_out('', text, layout)
         except ReadError:                          # which asks, and says what to answer
             return
-        if (table.skipped, table.form.ends, table.form.value) == (
-            int(header), (0, 1), 2 if width > 2 else None):
+        if (table.first, table.form.ends, table.form.value) == (
+            1 + header, (0, 1), 2 if width > 2 else None) or not table.body:
             return
         taken = table.summary.partition(': ')[2]
     raise ValueError(
@@ -97,23 +95,31 @@ def check_reading(sep: str, lines: Sequence[str], header: bool, width: int) -> N
 
 
 def warn_of_types(names: Iterable[Any]) -> None:
-    """Warns where names come back as others: text that reads as whole numbers, and what is neither
-    text nor a whole number."""
-    kinds = set(map(type, names))
-    if kinds == {str} and all(map(WHOLE.fullmatch, names)):
-        warnings.warn('the names are text such as %r, which is read as numbers: nodetype=str reads '
-                      'it as text' % (next(iter(names)),), stacklevel=4)
-    elif kinds - {str} and kinds != {int}:
-        odd = next(name for name in names if type(name) is not str)
-        warnings.warn('names such as %r are read as text: save() keeps them as they are' % (odd,),
-                      stacklevel=4)
+    """Warns where names come back as others: text that reads as whole numbers or as missing, and
+    what is neither text nor a whole number."""
+    names = list(names)
+    others = [name for name in names if type(name) is not str]
+    if not others and names and all(map(WHOLE.fullmatch, names)):
+        warn_user('the names are text such as %r, which is read as numbers: nodetype=str reads '
+                  'it as text' % (names[0],), UserWarning)
+    elif others and (len(others) < len(names) or any(
+        isinstance(name, bool) or not isinstance(name, (int, numpy.integer)) for name in others)):
+        odd = next((name for name in others if not can_save(name)), others[0])
+        warn_user('names such as %r are read as text: %s' % (
+            odd, 'save() keeps them as they are' if can_save(odd) else
+            'no file keeps them, and G.nodes = list(map(str, G.nodes)) makes text of them'),
+                  UserWarning)
+    missing = next((name for name in names if is_missing(str(name))), None)
+    if missing is not None:
+        warn_user('names such as %r are read as missing ones: missing=None reads them as names'
+                  % (missing,), UserWarning)
 
 
-def warn_of_isolated(count: int, depth: int = 4) -> None:
+def warn_of_isolated(count: int) -> None:
     """Warns where vertices have no edge, and so no line, so that a list read back lacks them."""
     if count:
-        warnings.warn(
+        warn_user(
             '%d vert%s no edge, and a list of edges doesn\'t name them: save() keeps them, and '
             'nodelist=G.nodes reads the list with them' % (count,
                                                            'ex has' if count == 1 else 'ices have'),
-            stacklevel=depth)
+            UserWarning)

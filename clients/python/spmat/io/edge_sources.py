@@ -9,14 +9,12 @@ from typing import Any, Callable, Dict, Iterable, List, Optional, Sequence, Tupl
 
 import numpy
 
-from ..errors import refusal
+from ..errors import about, parameters_of, refusal, warn_user
 from ..limits import MOST_SIDE
-from ..mask import warn_user
-from ..metadata import Metadata, Nodes
+from ..metadata import Metadata, Nodes, list_of_names
 from . import coo
 from .arrays import is_frame, is_gap
-from .columns import Layout
-from .edges import Edges, Graph, How, LeftOut, code_names, graph_of
+from .edges import Edges, Graph, How, Layout, LeftOut, code_names, graph_of
 from .matrix_text import Triples
 from .values import SKIP, SKIPS, TAKES, Rounding, is_time, whole_numbers
 
@@ -40,7 +38,7 @@ def graph_of_list(edges: Iterable[Any], how: How, layout: Layout) -> Graph:
         return ValueError('edge %d: %s' % (places[at], words))
 
     def wrong(at: int, why: Exception) -> Exception:
-        return type(why)('edge %d: %s' % (places[at], why))
+        return about(type(why)('edge %d: %s' % (places[at], why)), *parameters_of(why))
     values, done = (None, '') if len(columns) < 3 else convert_values(columns[2], layout, wrong)
     found = Edges(columns[0], columns[1], values, fault, done, left_out)
     check_times(layout, found)
@@ -50,8 +48,9 @@ def graph_of_list(edges: Iterable[Any], how: How, layout: Layout) -> Graph:
 def check_times(layout: Layout, edges: Edges) -> None:
     """ValueError where values are said to be times, and no edge has a value: each would be 1."""
     if layout.unit is not None and layout.values and edges.values is None and len(edges.sources):
-        raise ValueError('unit=%r says in what values are counted, and no edge has one: name the '
-                         'column that has them, or leave unit= out' % layout.unit)
+        raise about(ValueError(
+            'unit=%r says in what values are counted, and no edge has one: name the column that '
+            'has them, or leave unit= out' % layout.unit), 'unit', 'columns')
 
 
 def convert_values(values: Any, layout: Layout,
@@ -63,8 +62,9 @@ def convert_values(values: Any, layout: Layout,
               if isinstance(values, list) else [])
     clock = layout.clock()
     if absent and clock is not None:
-        raise wrong(absent[0], ValueError('it has no time, and values are times: give each edge '
-                                          'one, or leave unit= out'))
+        raise about(wrong(absent[0], ValueError(
+            'it has no time, and values are times: give each edge one, or leave unit= out')),
+                    'unit')
     if clock is not None:
         found = clock.read(values, lambda at, words: wrong(at, ValueError(words)))
         return found, str(clock)
@@ -74,7 +74,7 @@ def convert_values(values: Any, layout: Layout,
     def wrong_or_time(at: int, why: Exception) -> Exception:
         value = values[at]
         if not isinstance(value, (int, float)) and is_time(value):
-            why = TypeError('a value is a whole number, not %r: %s' % (value, TAKES))
+            why = about(TypeError('a value is a whole number, not %r: %s' % (value, TAKES)), 'unit')
         return wrong(at, why)
     rounding = Rounding(layout.scale)
     found = whole_numbers(values, rounding, wrong_or_time)
@@ -101,8 +101,8 @@ def _complete_edges(columns: Sequence[List[Any]],
         places = {at for column in some for at in _absent_from(column)}
         if places and missing != SKIP:
             name = ', missing=None takes it for a name' if what == 'a name' else ''
-            raise ValueError('edge %d: %s is missing: %s%s' % (min(places), what, SKIPS % 'edge',
-                                                               name))
+            raise about(ValueError('edge %d: %s is missing: %s%s' % (
+                min(places), what, SKIPS % 'edge', name)), 'missing')
         gone.append(places)
     nameless, valueless = gone[0], gone[1] - gone[0]
     left: Sequence[int] = range(len(columns[0]))
@@ -183,9 +183,9 @@ def edges_of_frame(frame: Any, ends: Tuple[Any, Any], attribute: Any, layout: La
 
     def wrong(at: int, why: Exception) -> Exception:
         is_span = attribute is not None and frame[attribute].dtype.kind == 'm'
-        return type(why)('row %r: %s%s' % (
+        return about(type(why)('row %r: %s%s' % (
             frame.index[at], why, ': frame[%r].dt.total_seconds() has seconds' % (attribute,)
-            if is_span else ''))
+            if is_span else '')), *parameters_of(why))
     values, done = None, ''
     if attribute is not None:
         values, done = convert_values(_list_values(frame[attribute], layout), layout, wrong)
@@ -197,7 +197,7 @@ def edges_of_frame(frame: Any, ends: Tuple[Any, Any], attribute: Any, layout: La
 
 def _list_values(column: Any, layout: Layout) -> Any:
     """A column of values: an array of numbers, else a list of whatever it has."""
-    if layout.unit is None and column.dtype.kind == 'i':
+    if layout.unit is None and column.dtype.kind in 'ib':
         return column.to_numpy('int64')
     return (column.to_numpy() if layout.unit is None and column.dtype == 'float64'
             else column.tolist())
@@ -212,8 +212,8 @@ def _complete_rows(frame: Any, ends: Tuple[Any, Any], attribute: Any,
                  else nameless & False)
     for gone, what in ((nameless, 'a name is missing'), (valueless, 'the value is missing')):
         if gone.any() and missing != SKIP:
-            raise ValueError('row %r: %s: %s' % (frame.index[int(gone.argmax())], what,
-                                                 SKIPS % 'row'))
+            raise about(ValueError('row %r: %s: %s' % (
+                frame.index[int(gone.argmax())], what, SKIPS % 'row')), 'missing')
     gone = nameless | valueless
     return (frame[~gone] if gone.any() else frame), LeftOut(names=int(nameless.sum()),
                                                             values=int(valueless.sum()))
@@ -261,7 +261,7 @@ def triples_of_graph(graph: Any, weight: Optional[str], nodelist: Optional[Seque
             'for each edge has to be put into an attribute first: '
             'networkx.set_edge_attributes(G, values, "w"), and weight="w"')
     near = neighbourhoods(graph)
-    nodes = Nodes(near if nodelist is None else nodelist)
+    nodes = Nodes(near if nodelist is None else list_of_names(nodelist))
     _check_nodes(nodes, near)
     blocks = list(near.values())
     if nodelist is not None:
@@ -273,7 +273,8 @@ def triples_of_graph(graph: Any, weight: Optional[str], nodelist: Optional[Seque
 
     def wrong(at: int, why: Exception) -> Exception:
         row = bisect.bisect_right(list(itertools.accumulate(counts)), at)
-        return type(why)('the edge from %r to %r: %s' % (nodes[row], ends[at], why))
+        return about(type(why)('the edge from %r to %r: %s' % (nodes[row], ends[at], why)),
+                     *parameters_of(why))
     rounding = Rounding(scale)
     values = (numpy.ones(len(ends), numpy.int64) if weight is None
               else whole_numbers([data.get(weight, 1) for data in held], rounding, wrong, 'weight'))
@@ -317,9 +318,9 @@ def _list_parallel(blocks: List[Neighbours], nodes: Nodes,
         before = len(ends)
         for end, keys in block.items():
             if len(keys) > 1 and not folds:
-                raise ValueError(
+                raise about(ValueError(
                     '%d edges lead from %r to %r: dup_op= says how parallel ones are folded, '
-                    'such as "plus", "min" or "first"' % (len(keys), node, end))
+                    'such as "plus", "min" or "first"' % (len(keys), node, end)), 'dup_op')
             ends.extend([end] * len(keys))
             held.extend(keys.values())
         counts.append(len(ends) - before)

@@ -3,27 +3,79 @@ and what becomes of edges that repeat.
 
 Names that are whole numbers come in ascending order, others as they first stand. Where the names
 are just 0 to n - 1 they are the vertices, and the matrix has no names besides. Edges come from
-files (`edge_list_reader`, `graph_formats`), from lists and tables of pandas (`edge_sources`).
+files (`edge_lists`, `graph_formats`), from lists and tables of pandas (`edge_sources`).
 """
 from __future__ import annotations
 
 import re
-from typing import Any, Callable, Dict, Iterable, List, NamedTuple, Optional, Sequence, Tuple
+from typing import (Any, Callable, Dict, Iterable, List, NamedTuple, Optional, Sequence, Tuple,
+                    Union)
 
 import numpy
 
-from ..errors import refusal
+from ..errors import about, refusal
 from ..extras import import_extra
 from ..limits import MOST_SIDE
-from ..metadata import Metadata, Nodes, axis_of
+from ..metadata import Metadata, Nodes, axis_of, list_of_names
 from . import matrix_market
+from .coo import shown
 from .matrix_text import Triples
+from .values import RAISE, SKIP, Clock
 
 FOLDS = ('dup_op="plus" adds their values up, "min" or "max" keeps the least or the greatest, '
          '"first" or "second" the one that comes first or last')
 WHOLE = re.compile('0|-?[1-9][0-9]*')              # a whole number, as Python writes it
 # whole numbers in a range of so many times their count are numbered by a table
 DENSE = 8
+
+
+Comments = Union[bool, str, Sequence[str], None]
+"""True: lines above the first row that begin with # or %. A text or several: whatever stands behind
+one, in any line. None: nothing."""
+Column = Union[int, str]
+# what numpy has of its own where Python has a number or a text
+PLAIN = (numpy.integer, numpy.floating, numpy.str_)
+
+
+class Layout(NamedTuple):
+    """How a list is written. None: by what stands in it. `columns` are those of the two names, and
+    perhaps of the value: numbers from 0, or words of the header. `bipartite` says whether sources
+    and targets are two kinds of vertices; None where nobody said it, which is asked where the
+    header names two. `missing` None takes nothing for missing; `nodetype` is str or int where names
+    are to be these. Values are times in `unit`, where that is given, and written in
+    `date_format`."""
+    sep: Optional[str] = None
+    header: Optional[bool] = None
+    columns: Optional[Sequence[Column]] = None
+    values: bool = True
+    scale: Optional[float] = None
+    bipartite: Optional[bool] = None
+    comments: Comments = True
+    missing: Optional[str] = RAISE
+    nodetype: Optional[type] = None
+    unit: Optional[str] = None
+    date_format: Optional[str] = None
+
+    def check(self) -> None:
+        """ValueError for words that say nothing, or don't go together."""
+        if self.missing not in (RAISE, SKIP, None):
+            raise about(ValueError('missing is "raise", "skip" or None, which takes nothing for '
+                                   'missing; not ' + shown(self.missing)), 'missing')
+        if self.nodetype not in (None, str, int):
+            raise about(ValueError('nodetype is str or int, or None for whole numbers where all '
+                                   'are; not %r' % (self.nodetype,)), 'nodetype')
+        self.clock()
+
+    def clock(self) -> Optional[Clock]:
+        """What makes numbers of times; None where values are no times. ValueError for words that
+        don't go together."""
+        if self.unit is None and self.date_format is not None:
+            raise about(ValueError('date_format= says how times are written: unit="s" takes them'),
+                        'date_format', 'unit')
+        if self.unit is not None and self.scale is not None:
+            raise about(ValueError('values are times (unit=) or numbers (scale=): one of both'),
+                        'unit', 'scale')
+        return None if self.unit is None else Clock(self.unit, self.date_format)
 
 
 class LeftOut(NamedTuple):
@@ -111,9 +163,9 @@ def check_direction(how: How) -> None:
         raise ValueError('nodelist= has vertices of one kind, and bipartite=True takes two: '
                          'B[row_names, column_names] takes some of each')
     if how.bipartite and not how.directed:
-        raise ValueError(
+        raise about(ValueError(
             'a bipartite matrix has rows and columns of two kinds, so an edge has no second '
-            'direction: directed=True')
+            'direction: directed=True'), 'bipartite', 'directed')
 
 
 def graph_of(edges: Edges, how: How) -> Graph:
@@ -144,7 +196,7 @@ def graph_of(edges: Edges, how: How) -> Graph:
 
 def _among(edges: Edges, nodelist: Sequence[Any]) -> Tuple[Edges, Any, Any, Nodes]:
     """The edges between some vertices, the numbers of their ends, and the vertices."""
-    names = Nodes(nodelist)
+    names = Nodes(list_of_names(nodelist))
     if isinstance(nodelist, range) and nodelist.step == 1 and all(isinstance(column, numpy.ndarray)
                                                                   for column in edges[:2]):
         # of DIMACS, whose few edges may have many vertices
@@ -153,6 +205,11 @@ def _among(edges: Edges, nodelist: Sequence[Any]) -> Tuple[Edges, Any, Any, Node
         if len(names.places) != len(names):
             raise ValueError('a node stands twice in nodelist')
         rows, columns = (_find_names(column, names) for column in edges[:2])
+    if len(rows) and len(names) and (rows < 0).all() and (columns < 0).all():
+        known = _find_first(edges)
+        kinds = '' if type(names[0]) is type(known[0]) else ": 1 and '1' differ"
+        raise ValueError('no name of nodelist is a vertex of an edge: it has %r, and the first '
+                         'edge is from %r to %r%s' % (names[0], *known, kinds))
     inside = numpy.flatnonzero((rows >= 0) & (rows < len(names)) & (columns >= 0)
                                & (columns < len(names)))
     values = None if edges.values is None else edges.values[inside]
@@ -160,6 +217,12 @@ def _among(edges: Edges, nodelist: Sequence[Any]) -> Tuple[Edges, Any, Any, Node
     return (edges._replace(values=values,
                            fault=lambda at, words: edges.fault(int(inside[at]), words),
                            left_out=left_out), rows[inside], columns[inside], names)
+
+
+def _find_first(edges: Edges) -> List[Any]:
+    """The names of the first edge."""
+    return [column.names[int(column.codes[0])] if isinstance(column, Names) else column[0]
+            for column in edges[:2]]
 
 
 def _find_names(column: Any, names: Nodes) -> Any:
@@ -174,19 +237,26 @@ def number_names(columns: Sequence[Any]) -> Tuple[List[Any], Nodes]:
     if all(isinstance(column, numpy.ndarray) for column in columns):
         found, ascending = number_ascending(list(columns))
         return found, Nodes(ascending.tolist())
-    if all(isinstance(column, Names) for column in columns):
+    if all(isinstance(column, Names) and not all(type(name) is int for name in column.names)
+           for column in columns):
         if len(columns) > 1:
             # of both kinds of ends, so that each name is in use
             return [column.codes for column in columns], Nodes(columns[0].names)
         codes, seen = import_extra('pandas', 'a list of edges').factorize(columns[0].codes)
         return [codes], Nodes(map(columns[0].names.__getitem__, seen.tolist()))
-    lists = [column.tolist() if hasattr(column, 'tolist') else list(column) for column in columns]
+    lists = [plain_names(column) for column in columns]
     if all(type(name) is int for many in lists for name in many):
         nodes = Nodes(sorted(set().union(*lists)))
     else:
         nodes = Nodes(_first_seen(name for edge in zip(*lists) for name in edge))
     return [numpy.fromiter(map(nodes.places.__getitem__, many), numpy.int64, len(many))
             for many in lists], nodes
+
+
+def plain_names(names: Any) -> List[Any]:
+    """Names as a list, numbers and texts of numpy as those of Python."""
+    found = names.tolist() if hasattr(names, 'tolist') else list(names)
+    return [name.item() if isinstance(name, PLAIN) else name for name in found]
 
 
 def _first_seen(names: Iterable[Any]) -> Dict[Any, None]:
@@ -237,8 +307,9 @@ def _keep_first(triples: Triples, notes: Metadata, edges: Edges,
         before = int(numpy.flatnonzero((rows[:again] == rows[again])
                                        & (columns[:again] == columns[again]))[0])
         where = str(edges.fault(before, '')).partition(': ')[0]
-        raise edges.fault(again, 'the edge between %r and %r is there already, with %s; %s' % (
-            names[0][int(rows[again])], names[1][int(columns[again])], where, FOLDS))
+        ends = names[0][int(rows[again])], names[1][int(columns[again])]
+        raise about(edges.fault(again, 'the edge between %r and %r is there already, with %s; %s'
+                                % (*ends, where, FOLDS)), 'dup_op')
     left_out = edges.left_out._replace(repeats=repeats)
     once = Graph(Triples(rows[kept], columns[kept], triples.values[kept], *triples[3:]),
                  notes._replace(source=left_out.added_to(edges.summary)), lambda: once)
@@ -261,5 +332,5 @@ def code_names(sources: Any, targets: Any, are_shared: bool = False) -> Tuple[Na
         codes = codes[objects]
     else:
         codes, unique = pandas.factorize(both)
-    names = list(unique)
+    names = plain_names(unique)
     return Names(codes[0::2], names), Names(codes[1::2], names)

@@ -7,11 +7,10 @@ import json
 import re
 from typing import Callable, Dict, NamedTuple, Optional, Sequence, Tuple
 
-from ..errors import ReadError
-from . import edge_list_reader, graph_formats
-from .columns import Layout
+from ..errors import ReadError, about, parameters_of
+from . import edge_lists, graph_formats
 from .edge_sources import check_times
-from .edges import Edges, Graph, How, graph_of
+from .edges import Edges, Graph, How, Layout, graph_of
 from .matrix_text import line_at
 
 PARTED = {'csv': ',', 'tsv': '\t'}
@@ -138,14 +137,16 @@ def check_format(file: str, text: bytes, format: Optional[str]) -> str:
                          % (', '.join(FORMATS), format))
     found = format_of(text)
     if format == 'mtx' and found != 'mtx':
-        raise ReadError(file, 1, 'this is no Matrix Market file, which begins with %%MatrixMarket; '
-                        'read_graph(), and the command line without --format mtx, read ' + READABLE,
-                        line_at(text, 1))
+        raise about(ReadError(
+            file, 1, 'this is no Matrix Market file, which begins with %%MatrixMarket; '
+            'read_graph(), and the command line without --format mtx, read ' + READABLE,
+            line_at(text, 1)), 'format')
     if format not in (None, 'mtx') and found == 'mtx':
-        raise ReadError(file, 1, 'this is a Matrix Market file, and %s was asked for' % format,
-                        line_at(text, 1))
+        raise about(ReadError(file, 1, 'this is a Matrix Market file, and %s was asked for'
+                              % format, line_at(text, 1)), 'format')
     if format in (*graph_formats.CALLED, 'parquet') and found != format:
-        raise ReadError(file, 1, 'this is no file of the format %s' % format, line_at(text, 1))
+        raise about(ReadError(file, 1, 'this is no file of the format %s' % format,
+                              line_at(text, 1)), 'format')
     other = describe_other(text) if found == 'edges' else None
     if other is not None:
         raise ReadError(file, None, other)
@@ -154,7 +155,7 @@ def check_format(file: str, text: bytes, format: Optional[str]) -> str:
 
 # What is said of columns of text, and where it has no meaning: there it is refused, since the words
 # would do nothing.
-OF_TEXT = ('delimiter', 'header', 'comments', 'nodetype')
+OF_TEXT = ('sep', 'header', 'comments', 'nodetype')
 OF_COLUMNS = (*OF_TEXT, 'columns', 'missing')
 DICTIONARIES = "networkx' edge list"
 NOT_OF: Dict[str, Sequence[str]] = {
@@ -173,11 +174,11 @@ def check_layout(file: str, format: str, request: Request) -> None:
     if named:
         mends = {'unit': 'G.unit = %r says of the matrix that it has times' % request.layout.unit,
                  'nodelist': 'G[nodelist, nodelist] takes these of the matrix'}
-        raise ReadError(file, None,
-                        named[0] + '= is for a list of edges%s, and this is a file of the format '
-                        '%s; %s' % ('' if format in ('mtx', *GRAPH_FORMATS)
-                                    else ' in columns of text', format,
-                                    mends.get(named[0], 'leave it out')))
+        raise about(ReadError(file, None,
+                              named[0] + '= is for a list of edges%s, and this is a file of the '
+                              'format %s; %s' % ('' if format in ('mtx', *GRAPH_FORMATS)
+                                                 else ' in columns of text', format,
+                                                 mends.get(named[0], 'leave it out'))), named[0])
 
 
 # -- reading it
@@ -207,7 +208,7 @@ def edges_of(file: str, text: bytes, request: Request) -> Tuple[Edges, How]:
     try:
         check_times(layout, edges)
     except ValueError as fault:
-        raise ReadError(file, None, str(fault)) from None
+        raise about(ReadError(file, None, str(fault)), *parameters_of(fault)) from None
     return edges, how
 
 
@@ -217,8 +218,8 @@ def _read_edges(file: str, text: bytes, format: str, request: Request) -> Tuple[
     how = How(request.directed is not False, request.nodelist, request.bipartite)
     if format in GRAPH_FORMATS:
         if how.bipartite:
-            raise ReadError(file, None, '%s has one kind of vertices: bipartite=True is for lists '
-                            'and Matrix Market; leave it out' % format)
+            raise about(ReadError(file, None, '%s has one kind of vertices: bipartite=True is for '
+                                  'lists and Matrix Market; leave it out' % format), 'bipartite')
         edges = GRAPH_FORMATS[format].read(file, text, layout)
         return edges, how._replace(
             directed=bool(edges.directed if request.directed is None else request.directed),
@@ -227,8 +228,8 @@ def _read_edges(file: str, text: bytes, format: str, request: Request) -> Tuple[
         return graph_formats.read_table(file, text, layout), how
     if format == DICTIONARIES:
         return graph_formats.read_dictionaries(file, text, layout), how
-    delimiter = layout.delimiter if layout.delimiter is not None else PARTED.get(format)
-    edges = edge_list_reader.read(file, text, layout._replace(delimiter=delimiter))
+    sep = layout.sep if layout.sep is not None else PARTED.get(format)
+    edges = edge_lists.read(file, text, layout._replace(sep=sep))
     if edges.question and request.directed is None:
-        raise ReadError(file, None, edges.question)
+        raise about(ReadError(file, None, edges.question), 'directed')
     return edges, how

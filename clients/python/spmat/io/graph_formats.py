@@ -15,22 +15,19 @@ from typing import Any, Callable, List, NamedTuple, Optional, Tuple
 
 import numpy
 
-from ..errors import ReadError, refusal
+from ..errors import ReadError, about, parameters_of, refusal
 from ..extras import describe_missing, import_extra
 from ..limits import MOST_SIDE
-from .columns import Head, Layout, choose_columns
-from .edge_list_layout import SAMPLE, blank_comments
-from .edge_list_reader import convert_names
+from .edge_lists import (WEIGHTS, Form, Table, as_text, blank_comments, choose_columns,
+                         convert_names, describe_columns, read_edges)
 from .edge_sources import ABSENT, convert_values, edges_of_frame
-from .edges import Edges
-from .matrix_market import Kind, Values, read_quickly
+from .edges import Edges, Layout, code_names
 from .matrix_text import line_at, start_of_line
-from .values import Rounding, whole_values
 
 CALLED = {'graphml': 'GraphML', 'gexf': 'GEXF', 'gml': 'GML'}
-VALUES = ('weight', 'value')                       # attributes of edges, the first that one has
 ARCS = {'sp': b'a', 'max': b'a', 'edge': b'e', 'edges': b'e', 'col': b'e'}
-PASSED = (b'c', b'n', b'x', b'd', b'v')             # comments, and what is told of single vertices
+# lines of comments, and those that tell of single vertices
+PASSED = re.compile(rb'(?m)^[ \t]*[cnxdv](?:[ \t\r][^\n]*)?$')
 
 
 def read_graph(format: str, file: str, text: bytes, layout: Layout) -> Edges:
@@ -64,13 +61,14 @@ def _values_of(held: List[Any], layout: Layout,
                fault_of: Callable[[int, str], ReadError]) -> Tuple[Any, str, str]:
     """The values of edges by their attributes, the attribute that has them, and what was done to
     them; None and nothing where there is none. ReadError names the edge."""
-    attribute = next((name for name in VALUES if layout.values
+    attribute = next((name for name in WEIGHTS if layout.values
                       and any(name in data for data in held)), None)
     if attribute is None:
         return None, '', ''
     found, done = convert_values(
         [data.get(attribute, ABSENT) for data in held], layout,
-        lambda at, why: fault_of(at, 'the attribute %r: %s' % (attribute, why)))
+        lambda at, why: about(fault_of(at, 'the attribute %r: %s' % (attribute, why)),
+                              *parameters_of(why)))
     return found, attribute, '; ' + done if done else ''
 
 
@@ -93,24 +91,23 @@ def read_table(file: str, text: bytes, layout: Layout) -> Edges:
     except Exception as fault:  # pylint: disable=broad-exception-caught  # each engine has its own
         raise ReadError(file, None, 'no parquet file that pandas reads (%s)' % fault) from None
     names = [str(name) for name in frame.columns]
-    first = frame.head(SAMPLE)
-    rows: List[List[str]] = first.astype(str).where(first.notna(), '').values.tolist()
-    choice = choose_columns(Head(file, 0, names, rows), layout._replace(header=True))
-    ends, value = ((frame.columns[choice.ends[0]], frame.columns[choice.ends[1]]),
-                   None if choice.value is None else frame.columns[choice.value])
+    ends, value = choose_columns(names, True, layout, lambda words: ReadError(file, None, words))
     try:
-        edges = edges_of_frame(frame, ends, value, layout)
+        edges = edges_of_frame(frame, (frame.columns[ends[0]], frame.columns[ends[1]]),
+                               False if value is None else frame.columns[value], layout)
     except (TypeError, ValueError) as fault:
-        raise ReadError(file, None, str(fault)) from None
-    summary = '%s: parquet; %s' % (file, choice.describe(names).partition('; ')[2])
+        raise about(ReadError(file, None, str(fault)), *parameters_of(fault)) from None
+    summary = '%s: parquet; %s' % (
+        file, describe_columns(names, True, (*ends, value)).partition('; ')[2])
     return edges._replace(summary=summary + ('; ' + edges.summary if edges.summary else ''),
                           fault=lambda at, words: ReadError(
                               '%s, row %d' % (file, at), None, words))
 
 
-def _line_of(delimiter: Optional[str]) -> 're.Pattern[str]':
+def _line_of(sep: Optional[str]) -> 're.Pattern[str]':
     """A line with a dictionary: what parts its fields, or blanks or commas."""
-    name, part = ('([^\\s,]+)', '[\\s,]+') if delimiter is None else ('(.+?)', re.escape(delimiter))
+    part = '[\\s,]+' if sep is None else re.escape(sep)
+    name = '([^\\s,]+)' if sep is None else '([^%s]+)' % part
     return re.compile(name + part + name + part + r'(\{.*\})\s*')
 
 
@@ -122,14 +119,14 @@ def has_dictionaries(text: bytes, layout: Layout) -> bool:
     for line in blank_comments(text[:1 << 16], layout.comments)[0].split(b'\n'):
         if line.strip():
             words = line.decode('utf-8', 'replace')
-            return _line_of(layout.delimiter).fullmatch(words) is not None
+            return _line_of(layout.sep).fullmatch(words) is not None
     return False
 
 
 def read_dictionaries(file: str, text: bytes, layout: Layout) -> Edges:
     """The edges of a list as networkx writes it. ReadError names the line."""
-    plain, left_out = blank_comments(text, layout.comments)
-    form = _line_of(layout.delimiter)
+    plain, left_out = blank_comments(as_text(file, text), layout.comments)
+    form = _line_of(layout.sep)
     numbers: List[int] = []
     ends: List[Tuple[str, str]] = []
     held: List[Any] = []
@@ -145,20 +142,15 @@ def read_dictionaries(file: str, text: bytes, layout: Layout) -> Edges:
     values, _, done = _values_of(held, layout, fault_of)
     summary = "%s: networkx' edge list; source=column 0, target=column 1, %s%s" % (
         file, 'no values' if values is None else 'values=weight', done)
-    columns = convert_names([source for source, _ in ends], [target for _, target in ends],
-                            layout.nodetype, fault_of)
+    coded = code_names([source for source, _ in ends], [target for _, target in ends])
+    columns = convert_names(*coded, layout.nodetype, fault_of)
     return Edges(*columns, values, fault_of, summary, left_out)
 
 
 def _split_line(file: str, number: int, line: bytes,
                 form: 're.Pattern[str]') -> Tuple[str, str, Any]:
     """The names and the dictionary of a line."""
-    try:
-        words = line.decode('utf-8')
-    except UnicodeDecodeError:
-        raise ReadError(file, number,
-                        'no UTF-8: convert it, as iconv -f latin1 -t utf-8 does') from None
-    parts = form.fullmatch(words)
+    parts = form.fullmatch(line.decode('utf-8'))
     try:
         data = ast.literal_eval(parts.group(3)) if parts else None
     except (ValueError, SyntaxError, RecursionError, MemoryError):     # of deep nests, too
@@ -195,13 +187,43 @@ def is_dimacs(text: bytes) -> bool:
 
 def read_dimacs(file: str, text: bytes, layout: Layout) -> Edges:
     """The edges of a graph of DIMACS. ReadError names the line."""
+    text = as_text(file, text)
     problem = problem_of(file, text)
-    wanted = Values(layout.values, layout.scale, Rounding(layout.scale))
-    edges = _read_quickly(file, text, problem, wanted) or _read_slowly(file, text, problem, wanted)
+    body = text[start_of_line(text, problem.number + 1):]
+    table = Table(file, text, PASSED.sub(b'', body), problem.number + 1,
+                  Form(None, 4 if problem.directed else 3, (1, 2),
+                       3 if problem.directed and layout.values else None))
+    plain = Layout(scale=layout.scale, comments=None, missing=None)
+    try:
+        edges = read_edges(table, plain)
+    except ReadError as fault:
+        raise _find_fault(table, problem) or fault from None
+    if len(re.findall(rb'(?m)^[ \t]*%s[ \t]' % ARCS[problem.kind], table.body)) != len(
+            edges.sources) or not all(_are_vertices(end, problem) for end in edges[:2]):
+        raise _find_fault(table, problem) or AssertionError('a line was wrong, and none is')
     if len(edges.sources) != problem.edges:
-        raise _fault(file, text, problem.number, '%d edges stand there, and this line says %d'
-                     % (len(edges.sources), problem.edges))
+        raise ReadError(file, problem.number, '%d edges stand there, and this line says %d' % (
+            len(edges.sources), problem.edges), line_at(text, problem.number))
     return edges._replace(nodes=range(1, problem.vertices + 1), directed=problem.directed)
+
+
+def _are_vertices(ends: Any, problem: Problem) -> bool:
+    """Whether names are whole numbers of vertices."""
+    return isinstance(ends, numpy.ndarray) and not (
+        len(ends) and not 1 <= ends.min() <= ends.max() <= problem.vertices)
+
+
+def _find_fault(table: Table, problem: Problem) -> Optional[ReadError]:
+    """The error of the first line that is no edge between vertices."""
+    letter = ARCS[problem.kind].decode()
+    for at, (_, (first, *fields)) in enumerate(table.rows()):
+        if first != letter or len(fields) != table.form.width - 1:
+            return table.fault(at, 'an edge of this kind is `%s FROM TO%s`' % (
+                letter, ' VALUE' if problem.directed else ''), True)
+        for word in fields[:2]:
+            if not (word.isdigit() and 1 <= int(word) <= problem.vertices and word[0] != '0'):
+                return table.fault(at, 'a vertex is 1 to %d, not %s' % (problem.vertices, word))
+    return None
 
 
 def problem_of(file: str, text: bytes) -> Problem:
@@ -211,64 +233,14 @@ def problem_of(file: str, text: bytes) -> Problem:
         if words and words[0] == 'p':
             if (len(words) != 4 or words[1] not in ARCS
                 or not (words[2].isdigit() and words[3].isdigit())):
-                raise _fault(file, text, number,
-                             'a line `p` says the kind (%s), the vertices and the edges'
-                             % ', '.join(sorted(ARCS)))
+                raise ReadError(file, number,
+                                'a line `p` says the kind (%s), the vertices and the edges'
+                                % ', '.join(sorted(ARCS)), line_at(text, number))
             if int(words[2]) > MOST_SIDE:
                 raise refusal('M4', detail='%s vertices (line %d of %s)' % (words[2], number, file))
             return Problem(words[1], int(words[2]), int(words[3]), number)
         if words and words[0] != 'c':
-            raise _fault(file, text, number,
-                         'no graph of DIMACS: a line `p KIND VERTICES EDGES` comes first')
+            raise ReadError(file, number,
+                            'no graph of DIMACS: a line `p KIND VERTICES EDGES` comes first',
+                            line_at(text, number))
     raise ReadError(file, None, 'no graph of DIMACS: it has no line `p KIND VERTICES EDGES`')
-
-
-def _read_quickly(file: str, text: bytes, problem: Problem, wanted: Values) -> Optional[Edges]:
-    """All lines at once, as those of Matrix Market, where nothing but edges stands behind the line
-    `p`."""
-    body = text[start_of_line(text, problem.number + 1):].rstrip() + b'\n'
-    plain, lines = re.subn(rb'(?m)^%s[ \t]+' % ARCS[problem.kind], b'', body)
-    kind = Kind(False, 'real' if problem.directed else 'pattern', 'general', wanted)
-    found = (read_quickly(kind, plain, lines, problem.vertices, problem.vertices)
-             if lines == body.count(b'\n') else None)
-    if found is None:
-        return None
-    return Edges(found.rows + 1, found.columns + 1, None if kind.is_bare else found.values,
-                 lambda at, words: _fault(file, text, problem.number + 1 + at, words),
-                 '' if kind.is_bare else str(wanted.rounding))
-
-
-def _read_slowly(file: str, text: bytes, problem: Problem, wanted: Values) -> Edges:
-    """Line by line, so that whatever is wrong is named."""
-    letter = ARCS[problem.kind]
-    numbers: List[int] = []
-    ends: Tuple[List[int], List[int]] = ([], [])
-    fields: List[str] = []
-    for number, line in enumerate(text.split(b'\n'), 1):
-        words = line.split()
-        if number <= problem.number or not words or words[0] in PASSED:
-            continue
-        if words[0] != letter or len(words) != (4 if problem.directed else 3):
-            raise _fault(file, text, number, 'an edge of this kind is `%s FROM TO%s`' % (
-                letter.decode(), ' VALUE' if problem.directed else ''))
-        for end, word in zip(ends, words[1:3]):
-            if not word.isdigit() or not 1 <= int(word) <= problem.vertices:
-                raise _fault(file, text, number, 'a vertex is 1 to %d, not %s' % (
-                    problem.vertices, word.decode('utf-8', 'replace')))
-            end.append(int(word))
-        numbers.append(number)
-        fields.append(words[-1].decode('utf-8', 'replace'))
-
-    def fault(at: int, words: str) -> ReadError:
-        return _fault(file, text, numbers[at], words)
-    weights: Any = None
-    rounding = Rounding(wanted.scale)
-    if problem.directed and wanted.read:
-        weights = whole_values(fields, fault, rounding)
-    sources, targets = (numpy.array(end, numpy.int64) for end in ends)
-    return Edges(sources, targets, weights, fault, '' if weights is None else str(rounding))
-
-
-def _fault(file: str, text: bytes, number: int, words: str) -> ReadError:
-    """The error of a line."""
-    return ReadError(file, number, words, line_at(text, number))

@@ -14,10 +14,10 @@ from typing import Any, Callable, Collection, Dict, Iterator, List, NamedTuple, 
 
 import numpy
 
-from ..errors import Refused, refusal
+from ..errors import Refused, about, refusal
 from ..limits import MOST_SIDE
 from ..metadata import BY_POSITIONS, Metadata
-from ..units import as_unit
+from ..scale import as_unit
 from . import files, matrix_text
 from .coo import DUP_OP, LEAST
 from .matrix_text import Triples, line_at
@@ -118,9 +118,8 @@ def kind_of(text: bytes, values: Values = Values()) -> Kind:
         raise line.refused('M2',
                            'values are whole numbers: real, integer or pattern (of coordinate)')
     if values.read and (symmetry == 'hermitian' or field == 'complex'):
-        raise line.refused('M2',
-                           'values are whole numbers, and these are complex: values=False reads '
-                           'none')
+        raise about(line.refused('M2', 'values are whole numbers, and these are complex: '
+                                 'values=False reads none'), 'values')
     if (field, symmetry) == ('pattern', 'skew-symmetric'):
         raise line.refused('M2', 'a pattern has no signs')
     if not values.read and symmetry != 'general':
@@ -238,7 +237,8 @@ def find_repeated(file: Any, wanted: Optional[Collection[Tuple[int,
         if wanted is None or at in wanted or at[::-1] in wanted:
             at = at if reader.kind.symmetry == 'general' else (max(at), min(at))
             if at in seen:
-                return line.refused('M8', 'it was first given in line %d; %s' % (seen[at], DUP_OP))
+                return about(line.refused('M8', 'it was first given in line %d; %s'
+                                          % (seen[at], DUP_OP)), 'dup_op')
             seen[at] = line.number
     return None
 

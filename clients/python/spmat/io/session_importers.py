@@ -4,14 +4,14 @@ from __future__ import annotations
 import io
 from typing import TYPE_CHECKING, Any, Dict, Optional, Tuple, Union, cast
 
-from .. import limits, overflow, units
+from .. import limits, scale as scales
 from ..backends.server import ServerBackend
-from ..errors import Refused, TextRefused, refusal
+from ..errors import Refused, TextRefused, about, refusal
 from ..matrix import Matrix
 from ..metadata import BY_POSITIONS, NOTHING, as_constant
 from ..operands import alias
 from . import coo, matrix_market, matrix_text
-from .columns import Layout
+from .edges import Layout
 from .files import name_of
 from .formats import Request
 from .importers import DupOp, Sources
@@ -29,11 +29,11 @@ LONG = 1 << 20                                     # longer ones are not kept
 class SessionSources(Sources[Matrix]):
     """What makes matrices of one session, of texts and of triples."""
 
-    _backend: ServerBackend
+    backend: ServerBackend
     _ones: Dict[int, Matrix]
 
     def from_text(self, text: Union[bytes, str], name: Optional[str] = None) -> Matrix:
-        """Make a matrix of a Matrix Market text that the server reads as it is.
+        r"""Make a matrix of a Matrix Market text that the server reads as it is.
 
         Parameters
         ----------
@@ -51,14 +51,27 @@ class SessionSources(Sources[Matrix]):
         Raises
         ------
         TextRefused
-            Where the text breaks a rule (M1 to M12); it names the line.
+            If the text breaks a rule (M1 to M12); it names the line.
         TooLarge
-            Where rows, columns or entries are more than 16,777,216 (M4), or in a symmetric text the
+            If rows, columns or entries are more than 16,777,216 (M4), or in a symmetric text the
             entries more than 8,388,608.
+
+        See Also
+        --------
+        mmread : From a file.
+        Matrix.to_text : The other way.
 
         Notes
         -----
         No job.
+
+        Examples
+        --------
+        >>> import spmat
+        >>> s = spmat.Session()
+        >>> text = "%%MatrixMarket matrix coordinate integer general\n1 2 1\n1 2 7\n"
+        >>> s.from_text(text).to_triples()
+        [(0, 1, 7)]
         """
         made = self._from_text(text, name)
         made.notes = BY_POSITIONS
@@ -67,7 +80,7 @@ class SessionSources(Sources[Matrix]):
     def _from_text(self, text: Union[bytes, str], name: Optional[str] = None) -> Matrix:
         text = text.encode() if isinstance(text, str) else bytes(text)
         kind, handle = self.backend.matrix_type or Matrix, self.backend.put_text(text, name)
-        return cast(Matrix, kind(cast('Session', self), handle, name))
+        return kind(cast('Session', self), handle, name)
 
     def _from(self, triples: Triples, dup_op: DupOp = None, name: Optional[str] = None) -> Matrix:
         return self._of_triples(self._folded(triples, dup_op), False, name)
@@ -106,7 +119,7 @@ class SessionSources(Sources[Matrix]):
             The most bytes that a packed file may have once it is unpacked; 268,435,456 unless
             given.
         dup_op : operator, optional
-            Folds the values of a position that repeats.
+            Combines the values of a repeated position.
         name : str, optional
             A name for the matrix.
 
@@ -118,20 +131,33 @@ class SessionSources(Sources[Matrix]):
         Raises
         ------
         ValueError
-            Where the file is no such text, or a value isn't whole; it names the file and the line.
+            If the file is no such text, or a value isn't whole; it names the file and the line.
         TextRefused
-            Where the text breaks a rule of the server's, such as that a position repeats (M8) and
+            If the text breaks a rule of the server's, such as that a position repeats (M8) and
             no `dup_op` folds it. It is a ValueError.
         TooLarge
-            Where rows, columns or entries are more than the server takes (M4). It is a ValueError.
+            If rows, columns or entries are more than the server takes (M4). It is a ValueError.
+
+        See Also
+        --------
+        read_graph : A file of any format.
+        Matrix.mmwrite : Writes it.
 
         Notes
         -----
         With `dup_op` 1 job and 1 run, where any position repeats; else no job. LAGraph:
         `LAGraph_MMRead`. In python-graphblas `io.mmread`. `read_graph` reads other formats too.
+
+        Examples
+        --------
+        >>> import spmat
+        >>> s = spmat.Session()
+        >>> s.full(2, 2, 7).mmwrite("a.mtx")
+        >>> s.mmread("a.mtx").to_triples()
+        [(0, 0, 7), (0, 1, 7), (1, 0, 7), (1, 1, 7)]
         """
         request = Request('mtx', Layout(values=values, scale=scale))
-        units.of_read(scale, dup_op)
+        scales.of_read(scale, dup_op)
         return self._market(name_of(source), matrix_market.load(source, max_bytes), request, dup_op,
                             name)
 
@@ -149,9 +175,9 @@ class SessionSources(Sources[Matrix]):
                 found = matrix_market.find_repeated(io.BytesIO(text))
                 raise (found or refused).of_file(file) from None
             said = '' if text.split()[:1] == [b'%%MatrixMarket'] else matrix_market.NO_MARKET
-            raise refused.hinting('M8', coo.DUP_OP).of_file(file,
-                                                            said if refused.rule == 'M1'
-                                                            else '') from None
+            told = refused.hinting('M8', coo.DUP_OP).of_file(file,
+                                                             said if refused.rule == 'M1' else '')
+            raise about(told, *(('dup_op',) if refused.rule == 'M8' else ())) from None
         except Refused as refused:
             raise refused.of_file(file) from None
         made.notes = kind.notes if dup_op is None else kind.notes._replace(weighted=True)
@@ -166,11 +192,10 @@ class SessionSources(Sources[Matrix]):
             made = self.from_text(text, name)      # which refuses a first line of any other form
             return made, matrix_market.kind_of(text)
         triples, symmetry = matrix_market.parse(text, values)
-        unit = units.of_read(values.scale, dup_op)
-        folded = overflow.folded(self._folded, triples, dup_op, unit)
+        unit = scales.of_read(values.scale, dup_op)
+        folded = self._folded(triples, dup_op)
         made = self.from_text(matrix_text.write(matrix_market.mirrored(folded, symmetry)), name)
         made.notes = made.notes._replace(unit=unit)
-        overflow.note(made, folded.values)
         return made, matrix_market.kind_of(text, values)
 
     def full(self, nrows: int, ncols: int, value: int = 1, *, name: Optional[str] = None) -> Matrix:
@@ -193,13 +218,25 @@ class SessionSources(Sources[Matrix]):
         Raises
         ------
         TooLarge
-            Where a size, or the number of entries, is more than 16,777,216 (M4).
+            If a size, or the number of entries, is more than 16,777,216 (M4).
         ValueError
-            Where a size is below 0, or the value isn't a whole number of 64 bits.
+            If a size is below 0, or the value isn't a whole number of 64 bits.
+
+        See Also
+        --------
+        identity : On the diagonal alone.
+        ones : One row.
 
         Notes
         -----
         No job. GraphBLAS: `assign` of a number to all places.
+
+        Examples
+        --------
+        >>> import spmat
+        >>> s = spmat.Session()
+        >>> s.full(2, 2, 7).to_triples()
+        [(0, 0, 7), (0, 1, 7), (1, 0, 7), (1, 1, 7)]
         """
         nrows, ncols = coo.side(nrows, 0, 'nrows'), coo.side(ncols, 0, 'ncols')
         if nrows * ncols > limits.MOST_SIDE:
@@ -226,13 +263,25 @@ class SessionSources(Sources[Matrix]):
         Raises
         ------
         TooLarge
-            Where n is more than 16,777,216 (M4).
+            If n is more than 16,777,216 (M4).
         ValueError
-            Where n is below 0, or the value isn't a whole number of 64 bits.
+            If n is below 0, or the value isn't a whole number of 64 bits.
+
+        See Also
+        --------
+        full : One value everywhere.
+        Matrix.diag : A column on the diagonal.
 
         Notes
         -----
         No job. GraphBLAS: `Matrix_diag` of a column with one value.
+
+        Examples
+        --------
+        >>> import spmat
+        >>> s = spmat.Session()
+        >>> s.identity(3).to_triples()
+        [(0, 0, 1), (1, 1, 1), (2, 2, 1)]
         """
         at = coo.indices(coo.side(n, 0, 'size'))
         return as_constant(self._from(coo.checked(at, at, value, n, n), name=name))
@@ -253,20 +302,31 @@ class SessionSources(Sources[Matrix]):
         Raises
         ------
         TooLarge
-            Where there are more than 16,777,216 columns (M4).
+            If there are more than 16,777,216 columns (M4).
         ValueError
-            Where the number is below 0.
+            If the number is below 0.
+
+        See Also
+        --------
+        full : Any size and value.
 
         Notes
         -----
         No job. The session keeps the rows of the last 4 lengths, but for those longer than
         1,048,576, and gives another matrix of them each time.
+
+        Examples
+        --------
+        >>> import spmat
+        >>> s = spmat.Session()
+        >>> s.ones(3).to_triples()
+        [(0, 0, 1), (0, 1, 1), (0, 2, 1)]
         """
-        with self._backend.lock():
+        with self.backend.lock():
             ncols = coo.side(ncols, 0, 'ncols')
             row = self._ones.pop(ncols, None)
             row = self.full(1, ncols) if row is None else row
-            if ncols <= LONG and row.handle.backend is self._backend:
+            if ncols <= LONG and row.handle.backend is self.backend:
                 self._ones[ncols] = row
             while len(self._ones) > KEPT_ONES:
                 del self._ones[next(iter(self._ones))]

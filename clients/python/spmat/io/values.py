@@ -10,12 +10,13 @@ import functools
 import numbers
 import operator
 import re
-from typing import Any, Callable, Optional, Sequence, Tuple
+from typing import Any, Callable, Dict, Optional, Sequence, Tuple
 
 import numpy
 
+from ..errors import about
 from .arrays import is_gap
-from .coo import LEAST, MOST, shown, whole, word
+from .coo import LEAST, MOST, shown, whole, without_truth, word
 
 # Floats below it are the whole numbers that were written, or none: pandas reads the last bits of
 # long decimals wrong, so that 7358111619511751.0 ends in 0.
@@ -39,7 +40,12 @@ SKIPS = 'missing="skip" leaves the %s out'
 
 # in nanoseconds
 UNITS = {'D': 86400 * 10 ** 9, 's': 10 ** 9, 'ms': 10 ** 6, 'us': 10 ** 3, 'ns': 1}
-LONG_UNITS = dict(UNITS, h=3600 * 10 ** 9, m=60 * 10 ** 9)      # that numpy has besides
+# that numpy has besides
+LONG_UNITS = dict(UNITS, W=7 * UNITS['D'], h=3600 * 10 ** 9, m=60 * 10 ** 9)
+YEAR = 31_556_952 * 10 ** 9
+YEAR_3000 = 32_503_680_000 * 10 ** 9               # since 1970
+FAR = ('%s is in the year %d as a count of %s since 1970: date_format="%%Y%%m%%d" reads 20240531 '
+       'as a date, unit="ms" takes milliseconds, and without unit=, G.unit = %r takes it as it is')
 EPOCH = datetime.datetime(1970, 1, 1, tzinfo=datetime.timezone.utc)
 ISO = re.compile(r'\s*(\d{4})-(\d\d)-(\d\d)(?:[T '
                  r']+(\d\d):(\d\d)(?::(\d\d)(?:[.,](\d{1,9}))?)?)?\s*(Z|[+-]\d\d:?\d\d)?\s*', re.I)
@@ -76,8 +82,8 @@ def check_scale(scale: Optional[float]) -> Optional[decimal.Decimal]:
     except (decimal.InvalidOperation, ValueError):
         found = decimal.Decimal(0)
     if not found.is_finite() or found <= 0:
-        raise ValueError('a scale is a number above 0, such as 1000 for thousandths, not %s'
-                         % shown(scale))
+        raise about(ValueError('a scale is a number above 0, such as 1000 for thousandths, not %s'
+                               % shown(scale)), 'scale')
     return found
 
 
@@ -121,9 +127,9 @@ def whole_values(fields: Sequence[str], wrong: Callable[[int, str], Exception],
 def _read_decimal(field: str, wrong: Wrong) -> decimal.Decimal:
     """A field as a number, also with the exponents of Fortran."""
     if is_missing(field):
-        raise wrong(
+        raise about(wrong(
             'the value is missing (%r): fill it in or leave the line out; values=False reads no '
-            'values' % field)
+            'values' % field), 'values')
     try:
         if '_' in field:
             raise ValueError
@@ -131,9 +137,10 @@ def _read_decimal(field: str, wrong: Wrong) -> decimal.Decimal:
     except (ValueError, decimal.InvalidOperation):
         # a number but for commas, blanks, and signs of money or of shares
         is_dressed = re.fullmatch(r'[-+]?\W{0,2}\d[\d., _\']*\W{0,2}', field.strip()) is not None
-        raise wrong('expected a number as the value, got %r: %s' % (
+        raise about(wrong('expected a number as the value, got %r: %s' % (
             field, 'write it as 1500.25, without thousands separators or currency signs'
-            if is_dressed else 'values=False reads none')) from None
+            if is_dressed else 'values=False reads none')),
+                    *(() if is_dressed else ('values',))) from None
 
 
 def whole_of(exact: decimal.Decimal, field: str, scale: Optional[decimal.Decimal], wrong: Wrong,
@@ -148,7 +155,7 @@ def whole_of(exact: decimal.Decimal, field: str, scale: Optional[decimal.Decimal
             rounded = scaled_number.to_integral_value(decimal.ROUND_HALF_EVEN)
             apart = abs(scaled_number - rounded)
         if scale is None and apart:
-            raise wrong('%s is %s: %s' % (field, NOT_WHOLE, SCALE))
+            raise about(wrong('%s is %s: %s' % (field, NOT_WHOLE, SCALE)), 'scale', 'values')
         is_out = not LEAST <= rounded <= MOST
     if is_out:
         raise wrong('%s%s is beyond 64 bits: values lie in -2^63 to 2^63 - 1' % (
@@ -182,7 +189,7 @@ def whole_numbers(values: Any, rounding: Rounding, wrong: Callable[[int, Excepti
         found = scaled_array(values, rounding)
     elif exact is None:
         with contextlib.suppress(TypeError, OverflowError):     # which are named below
-            found = numpy.array(list(map(operator.index, values)), numpy.int64)
+            found = numpy.array(list(map(operator.index, without_truth(values))), numpy.int64)
     if found is not None:
         return found
     whole_ones = []
@@ -248,8 +255,8 @@ class Clock:
 
     def __init__(self, unit: str, date_format: Optional[str] = None) -> None:
         if unit not in UNITS:
-            raise ValueError('a unit of times is %s, not %s'
-                             % (', '.join(map('"%s"'.__mod__, UNITS)), shown(unit)))
+            raise about(ValueError('a unit of times is %s, not %s' % (
+                ', '.join(map('"%s"'.__mod__, UNITS)), shown(unit))), 'unit')
         self.unit, self._format, self._size = unit, date_format, UNITS[unit]
         self.count = self.cut = 0
 
@@ -261,7 +268,10 @@ class Clock:
         """Times as an array of whole numbers; what is a number is one of this unit. The error of
         `wrong` where one is neither, or beyond 64 bits."""
         found = []
+        zones: Dict[bool, int] = {}                # the first time with a zone, and without
         for at, value in enumerate(values):
+            if self._format is not None and isinstance(value, (int, numpy.integer)):
+                value = str(value)                 # as 20240531 is written
             try:
                 exact = nanoseconds(value, self._format)
                 number = (exact // self._size if exact is not None
@@ -270,14 +280,32 @@ class Clock:
                 how = ('date_format=%r' % self._format if self._format
                        else 'as 2024-05-31 or 2024-05-31T10:15:00Z, or date_format= says how, '
                        'as "%d.%m.%Y"')
-                raise wrong(at, 'expected a time, got %r: write it %s' % (value, how)) from None
-            self.cut += exact is not None and exact % self._size != 0
+                raise about(wrong(at, 'expected a time, got %r: write it %s' % (value, how)),
+                            'date_format') from None
+            if exact is None and number * self._size > YEAR_3000:
+                raise about(wrong(at, FAR % (value, 1970 + number * self._size // YEAR, self.unit,
+                                             self.unit)), 'date_format', 'unit')
+            if exact is not None:
+                zones.setdefault(_has_zone(value, self._format), at)
+                self.cut += exact % self._size != 0
             if not LEAST <= number <= MOST:
-                raise wrong(at, '%s is beyond 64 bits in %s: unit="us" has room'
-                            % (value, self.unit))
+                raise about(wrong(at, '%s is beyond 64 bits in %s: unit="us" has room'
+                                  % (value, self.unit)), 'unit')
             found.append(number)
+        if len(zones) > 1:
+            raise wrong(max(zones.values()), 'some times have a time zone, and this one and others '
+                        'differ: either all have one, or none')
         self.count += len(found)
         return numpy.array(found, numpy.int64)
+
+
+def _has_zone(value: Any, date_format: Optional[str]) -> bool:
+    """Whether a time says its zone."""
+    if isinstance(value, str):
+        written = (ISO.fullmatch(value) if date_format is None
+                   else datetime.datetime.strptime(value.strip(), date_format).tzinfo)
+        return bool(written.group(8)) if isinstance(written, re.Match) else written is not None
+    return getattr(value, 'tzinfo', None) is not None
 
 
 def is_time(value: Any, date_format: Optional[str] = None) -> bool:

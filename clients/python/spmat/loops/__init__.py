@@ -45,10 +45,16 @@ def loop(step: Callable[..., Mapping[str, Any]], state: Mapping[str, Any],
     Raises
     ------
     NotTraced
-        Where the step asks for entries: it is a TypeError.
+        If the step asks for entries: it is a TypeError.
     NotAlike
-        Where it makes matrices itself in each round, or asks for something else where it is called
+        If it makes matrices itself in each round, or asks for something else where it is called
         again for a round, behind an end: it is a ValueError.
+
+    See Also
+    --------
+    fixpoint : One matrix, until nothing changes.
+    empty : An end of a loop.
+    steady : Another end.
 
     Notes
     -----
@@ -63,5 +69,21 @@ def loop(step: Callable[..., Mapping[str, Any]], state: Mapping[str, Any],
     a round of decimals whose results may pass 64 bits: its step is called again, with matrices that
     have entries, and warns or raises as without a loop. A refusal is raised as without a loop, with
     `.round`; the state is that before this round. Ctrl-C leaves the loop as it is: `run` goes on.
-    Threads take turns between trips."""
+    Threads take turns between trips.
+
+    Examples
+    --------
+    >>> import spmat
+    >>> s = spmat.Session()
+    >>> G = s.from_edgelist([(0, 1), (1, 2), (2, 3)])
+    >>> start = s.from_triples([(0, 0, 1)], 1, 4)
+    >>> def step(state, k):
+    ...     new = state.front.mxm(G, "any_pair").without(state.seen.S)
+    ...     return {"front": new, "seen": state.seen.ewise_add(new, "any")}
+    ...
+    >>> search = spmat.loop(step, {"front": start, "seen": start})
+    >>> met = search.run(until=spmat.empty("front"))
+    >>> search.number, search.state.seen.to_list()
+    (4, [1, 1, 1, 1])
+    """
     return Loop(step, state, show)

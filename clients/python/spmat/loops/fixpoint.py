@@ -4,7 +4,6 @@ from __future__ import annotations
 from typing import Callable, Dict, Optional
 
 from ..algorithms.utils import Progress, iterate, tell
-from ..backends.placeholders import current_price
 from ..errors import NotSettled
 from ..io.coo import whole
 from ..matrix import Matrix
@@ -19,8 +18,7 @@ NOT_SETTLED = (
 
 def fixpoint(matrix: Matrix, step: Callable[[Matrix], Matrix], most: Optional[int] = None,
              progress: Progress = None) -> Matrix:
-    """`step(matrix)`, `step(step(matrix))` and so on, until two that follow are the same, which is
-    the answer.
+    """Repeat a step until the matrix no longer changes.
 
         lengths = spmat.fixpoint(start, lambda d: d.ewise_add(d.mxm(W, 'min_plus'), 'min'))
 
@@ -41,23 +39,33 @@ def fixpoint(matrix: Matrix, step: Callable[[Matrix], Matrix], most: Optional[in
     Returns
     -------
     Matrix
-        What `step` leaves as it is.
+        The matrix that `step` no longer changes.
 
     Raises
     ------
     NotSettled
-        Where it still changes after so many rounds: it is a RuntimeError.
+        If it still changes after `most` rounds. It is a RuntimeError.
+
+    See Also
+    --------
+    loop : Rounds with several matrices, at the server.
+    Matrix.power : A known number of products.
 
     Notes
     -----
     Runs: those of the step, and 3 a round, of which 2 where the number of entries stays as it was.
-    GraphBLAS: the loop around `GrB_mxm` that ends where nothing changes."""
+    GraphBLAS: the loop around `GrB_mxm` that ends where nothing changes.
+
+    Examples
+    --------
+    >>> import spmat
+    >>> s = spmat.Session()
+    >>> W = s.from_triples([(0, 1, 2), (1, 2, 3)], 3, 3)
+    >>> start = s.from_triples([(0, 0, 0)], 1, 3)
+    >>> spmat.fixpoint(start, lambda d: d.ewise_add(d.mxm(W, "min_plus"), "min")).to_list()
+    [0, 2, 5]
+    """
     limit = max(matrix.shape) + 1 if most is None else whole(most, 'number of rounds')
-    price = current_price()
-    if price is not None:
-        state = price.repeat(lambda _, now: {'now': _compared(step, now['now'])['now']},
-                             {'now': matrix}, limit, min(1, limit))
-        return state['now']  # type: ignore[no-any-return]
     made, number = matrix, 0
     loop = _traced(matrix, step)
     try:

@@ -15,6 +15,7 @@ from typing import (TYPE_CHECKING, Any, Dict, FrozenSet, List, NamedTuple, Optio
 
 import numpy
 
+from ..backends.estimate import stop_estimate
 from ..backends.names import ServerHandle
 from ..backends.protocol import Handle
 from ..backends.trace import Given, Traced, TracedJob, Value
@@ -309,6 +310,8 @@ class Push:
         """The row that the product is: places, and values where they are wanted. None where the
         server refuses the job, whatever for."""
         session = self.session
+        if session.backend.queue.limits:           # which hold for jobs that are queued
+            return None
         text = matrix_text.write(entries, ones=True)
         batch = CommandBatch(b'matrix %s %d\n%s\n%s' % (self._row, len(text), text, self._rest), 5)
         backend = session.backend
@@ -330,6 +333,7 @@ class Push:
 def flush(session: 'Session') -> None:
     """Sends and runs what waits in a session, so that no other run takes it for its own."""
     queue = session.backend.queue
+    stop_estimate()
     session.backend.poison()
     if not queue.is_idle:
         session.run()

@@ -11,7 +11,7 @@ import inspect
 from typing import (TYPE_CHECKING, Any, Callable, Dict, List, Mapping, NamedTuple, Optional,
                     Sequence, Tuple)
 
-from .. import overflow, oversized_jobs
+from .. import oversized_jobs
 from ..backends.protocol import Handle, Job
 from ..backends.trace import (Jobs, Made, NotAlike, NotTraced, TraceBackend, TraceHandle, Traced,
                               TracedJob, Value)
@@ -44,12 +44,6 @@ class State(Dict[str, Any]):
 
 
 Step = Callable[[State, int], Mapping[str, Any]]
-Spans = Dict[str, Optional[overflow.Span]]
-
-
-def spans_of(matrices: Mapping[str, Any]) -> Spans:
-    """What values matrices can have, by name; None where that isn't known."""
-    return {name: matrix.kept.get(overflow.KEY) for name, matrix in matrices.items()}
 
 
 def check_state(state: Mapping[str, Any]) -> State:
@@ -72,15 +66,12 @@ def check_state(state: Mapping[str, Any]) -> State:
 class RoundJobs(NamedTuple):
     """A round: what it asks for, the numbers of those jobs that take one, in order, the results
     that are matrices from outside, and what is known beside of what it begins with, and of its
-    results: notes, and what values these can have. `may_wrap` says that some may be beyond 64 bits
-    of their unit."""
+    results."""
     traced: Traced
     numbers: Tuple[int, ...]
     outside: Dict[str, Matrix]
     given: Dict[str, Metadata]
     notes: Dict[str, Metadata]
-    spans: Spans
-    may_wrap: bool
 
 
 def of_two(step: Callable[..., Mapping[str, Any]]) -> Step:
@@ -132,7 +123,6 @@ class TracedRounds:
         self.shapes = {name: matrix.shape for name, matrix in state.items()}
         # behind the last round that was asked for
         self._known = {name: matrix.notes for name, matrix in state.items()}
-        self._spans = spans_of(state)
         self._jobs, self._ones = Jobs(), {}        # type: Jobs, Dict[int, Matrix]
         self._ahead: Dict[int, RoundJobs] = {}         # rounds that aren't made
         # what was asked for rounds that the step is called again for
@@ -147,9 +137,7 @@ class TracedRounds:
         self.ask(2)
         if isinstance(self._fault, (NotTraced, NotAlike)):
             raise self._fault
-        # sums of decimals grow from round to round
-        is_whole = all(notes.unit == 1 for notes in self.first.notes.values())
-        if alike and is_whole:
+        if alike:
             self._alike = self._find_alike()
 
     def ask(self, number: int) -> Optional[RoundJobs]:
@@ -172,7 +160,7 @@ class TracedRounds:
         steps, is_sure = 0, True
         while len(found) < most:
             asked = self.ask(first + len(found))
-            if asked is None or asked.may_wrap:
+            if asked is None:
                 break
             steps, is_sure = steps + asked.traced.steps, is_sure and asked.traced.is_sure
             if max(1, steps) > left or (len(found) >= MOST_UNSURE and not is_sure):
@@ -203,22 +191,10 @@ class TracedRounds:
             self._known, self._fault = known, None
         elif first.given != known:
             self._before, self._ahead, self._next, self._known = self._ahead, {}, number + 1, known
-            self._fault, self._spans = None, dict.fromkeys(self._spans)
+            self._fault = None
         elif self._begun and self._alike is None:
             self._compare(number + 1, first, self._trace(number + 1, known))
         self._begun = True
-
-    def make_with_entries(self, number: int, state: State) -> Dict[str, Any]:
-        """The results of a round by matrices that have entries, as without a loop: they tell what
-        values there are. Rounds behind it are traced by these."""
-        got = results(self._step, state, number)
-        self._before.update((later, asked) for later, asked in self._ahead.items()
-                            if later > number)
-        self._ahead = {number: self._ahead[number]}
-        self._next, self._fault = number + 1, None
-        self._known = {name: got[name].notes for name in self.shapes}
-        self._spans = spans_of({name: got[name] for name in self.shapes})
-        return got
 
     # -- calling the step
 
@@ -229,7 +205,6 @@ class TracedRounds:
             self._compare(number, before, asked)
         self._ahead[number] = asked
         self._known = {name: asked.notes[name] for name in self.shapes}
-        self._spans = {name: asked.spans[name] for name in self.shapes}
         self._next = number + 1
 
     @staticmethod
@@ -243,15 +218,13 @@ class TracedRounds:
         given = State((name, backend.given(name, shape)) for name, shape in self.shapes.items())
         for name, matrix in given.items():
             matrix.notes = known[name]
-            overflow.note_span(matrix, self._spans[name])
         got = results(self._step, given, number)
         out = {name: backend.value_of(matrix.handle) for name, matrix in got.items()}
         traced = backend.finish(out)
         self._note_kind(traced, number)
         outside = {name: got[name] for name, value in out.items() if isinstance(value, Handle)}
         return RoundJobs(traced, tuple(backend.numbers), outside, dict(known),
-                         {name: matrix.notes for name, matrix in got.items()}, spans_of(got),
-                         backend.may_wrap)
+                         {name: matrix.notes for name, matrix in got.items()})
 
     def _note_kind(self, traced: Traced, number: int) -> None:
         """Looks at rounds of a kind that wasn't met before."""

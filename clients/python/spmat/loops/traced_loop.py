@@ -13,9 +13,8 @@ from __future__ import annotations
 
 import time
 from typing import (TYPE_CHECKING, Any, Callable, Dict, List, Mapping, Optional, Sequence, Set,
-                    Union, cast)
+                    Union)
 
-from ..backends.placeholders import Placeholder, current_price
 from ..errors import NotSettled, Refused
 from ..io.coo import whole
 from .round_text import Shown
@@ -25,7 +24,6 @@ from .trips import (Counts, Each, Place, Round, Trips, Until, advance_place, as_
 
 if TYPE_CHECKING:
     from ..algorithms.utils import Progress
-    from ..pricing.call_price import Price
 
 FIRST = 4                                          # rounds of the first trip
 # seconds of a trip: those that may be in vain grow to the one, others to the other
@@ -75,8 +73,7 @@ class Loop:
         self._results: Optional[Set[str]] = None   # of the step, as far as it was called
         self._trips: Optional[Trips] = None
         first = next(iter(begun.values()))
-        self._is_estimate = first.session.backend.is_estimate
-        if not self._is_estimate and all(matrix.in_one_place for matrix in begun.values()):
+        if all(matrix.in_one_place for matrix in begun.values()):
             rounds = TracedRounds(first.session, self._step, begun, self._show, alike)
             self.shown.update((name, Shown(shape)) for name, shape in rounds.shown.items())
             self._results = set(rounds.first.traced.out)
@@ -115,10 +112,6 @@ class Loop:
         -----
         Where an end was met amid a trip, the trip's rounds up to it are made again for this.
         """
-        price = current_price()
-        if price is not None:
-            self._foresee(price, 0, 0)
-            return State(price.loops[id(self)][1])
         self._catch_up()
         if self._trips is not None:
             self._trips.settle()
@@ -151,7 +144,7 @@ class Loop:
         Raises
         ------
         NotSettled
-            Where the end isn't met by then, behind which the state is there: it is a RuntimeError.
+            If the end isn't met by then, behind which the state is there: it is a RuntimeError.
 
         Notes
         -----
@@ -165,8 +158,7 @@ class Loop:
             raise NotSettled(
                 'did not converge after %d rounds: most= allows more, and advance() makes '
                 'rounds without an end; the state is that behind them' % most)
-        made: Any = self.number - begun if current_price() is None else Placeholder()
-        return cast(int, made)
+        return self.number - begun
 
     def advance(self, rounds: int = 1, each: Optional[Each] = None,
                 progress: 'Progress' = None) -> None:
@@ -201,14 +193,10 @@ class Loop:
         Returns
         -------
         bool
-            Whether the end was met. Within `spmat.price` always True.
+            Whether the end was met.
         """
-        price = current_price()
-        if price is not None:
-            self._foresee(price, most, most if end is None else min(1, most))
-            return True
         rests = end is None or self._rests(end)
-        start, goal, size = self._own_place, self.number + most, FIRST if rests else 1
+        goal, size = self.number + most, FIRST if rests else 1
         before = self._place.counts or count_entries(self._matrices())
         while self.number < goal:
             begun, first = time.monotonic(), self.number + 1
@@ -223,26 +211,11 @@ class Loop:
             self._note(first, kept)
             report(first, kept)
             if met is not None:
-                if self._is_estimate:
-                    self._make_in_vain(start, end is not None and end.rests)
                 return True
             size = self._next_size(size, rests, time.monotonic() - begun)
         return False
 
     # -- rounds
-
-    def _foresee(self, price: 'Price', most: int, least: int) -> None:
-        """Tells who asks what so many rounds would ask for, or fewer but so many at the least. The
-        loop stays where it is."""
-        number = self.number
-
-        def made(round_: int, now: State) -> State:
-            got = results(self._step, State(now), number + round_)
-            return State((name, got[name]) for name in now)
-        if id(self) not in price.loops:
-            again = number - self._place.number
-            price.loops[id(self)] = self, price.repeat(made, self._matrices(), again, again)
-        price.loops[id(self)] = self, price.repeat(made, price.loops[id(self)][1], most, least)
 
     def _rests(self, end: Until) -> bool:
         """Whether rounds behind an end cost next to nothing: the next ones work on what is empty
@@ -276,16 +249,6 @@ class Loop:
             self._end = end
         if end is not None:
             trips.stop()
-
-    def _make_in_vain(self, begun: Place, rests: bool) -> None:
-        """Makes the rounds that trips may make beside those up to an end: these again, and behind
-        it those of a trip, which is as long as all before it, or of two where these rest."""
-        ended, made = self._own_place, self.number - begun.number
-        self._own_place = begun
-        for _ in range(made + (3 * made + 2 * FIRST if rests else made)):
-            if not any(self._by_itself(None)[0].counts.values()):
-                break
-        self._own_place = ended
 
     def _by_itself(self, end: Optional[Until]) -> List[Round]:
         """One round that is made by itself, where there are no trips by the step."""
@@ -326,8 +289,6 @@ class Loop:
 
     def _catch_up(self) -> None:
         """Makes the rounds again that came before an end amid a trip."""
-        if current_price() is not None:
-            return
         end, self._end = self._end, None
         if end is not None:
             show, self._show = self._show, []
@@ -339,7 +300,7 @@ class Loop:
     def _resumed(self) -> int:
         """The number of rounds that are made, whose state is there to go on from."""
         self._catch_up()
-        if self._trips is not None and current_price() is None:
+        if self._trips is not None:
             self._trips.resume()
         return self.number
 

@@ -58,7 +58,7 @@ class Until(NamedTuple):
 
 
 def empty(name: str) -> Until:
-    """The end of a loop: a result has no entry.
+    """End a loop when a result has no entry.
 
     Parameters
     ----------
@@ -69,13 +69,26 @@ def empty(name: str) -> Until:
     -------
     Until
         What `Loop.run` takes.
+
+    See Also
+    --------
+    steady : Another end.
+    loop : A loop.
+
+    Examples
+    --------
+    >>> import spmat
+    >>> spmat.empty("front").names
+    ('front',)
     """
     return Until((name,), lambda counts, _: counts[name] == 0, True)
 
 
 def steady(name: str) -> Until:
-    """The end of a loop: a result has as many entries as in the round before. Their values may
-    still change: a loop over values returns the difference, and ends where that is `empty`.
+    """End a loop when a result has as many entries as in the round before.
+
+    Their values may still change. A loop over values returns the difference, and ends when that is
+    `empty`.
 
     Parameters
     ----------
@@ -86,6 +99,17 @@ def steady(name: str) -> Until:
     -------
     Until
         What `Loop.run` takes.
+
+    See Also
+    --------
+    empty : Another end.
+    loop : A loop.
+
+    Examples
+    --------
+    >>> import spmat
+    >>> spmat.steady("seen").names
+    ('seen',)
     """
     return Until((name,), lambda counts, before: counts[name] == before.get(name))
 
@@ -189,7 +213,7 @@ class Trips:
         be refused for want of steps; none where that can't be said of one. Raises what the step
         ends in where it is called for the next round that is made."""
         queue = self.session.backend.queue
-        left = queue.left - (AMPLE if queue.shared else 0)
+        left = 0 if queue.limits else queue.left - (AMPLE if queue.shared else 0)
         if not self.under_way:
             self.rounds.check(self.place.number + 1)
         return self.rounds.ask_some(self.next + 1, min(most, MOST_ROUNDS), left // SPARE)
@@ -299,8 +323,7 @@ class Trips:
         if asked is None:
             self.rounds.check(number)
         assert asked is not None
-        got = (self.rounds.make_with_entries(number, state) if asked.may_wrap
-               else make_round(self.session, asked, state))
+        got = make_round(self.session, asked, state)
         for matrix in got.values():
             matrix.wait()
         return got

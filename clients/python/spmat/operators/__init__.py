@@ -1,8 +1,8 @@
 """Operators: programs with a kind, as descriptions that belong to no session and can be pickled.
 
 A session uploads an operator at its first use, and each operator once, whatever object it comes in:
-two descriptions of the same kind and the same text or code are equal. The ready ones are one file
-each, `KIND/NAME.asm` beside this one, in the assembly text of docs/operators.md, by
+two descriptions of the same kind and the same text or code are equal. The built-in ones are one
+file each, `KIND/NAME.asm` beside this one, in the assembly text of docs/operators.md, by
 python-graphblas' names: `unary.abs`, `binary.plus`, `indexunary.tril`, and `semiring.min_plus` for
 any two binary names. Wherever an operator is wanted its name does as well, `A.apply("abs")`, and so
 does a function of Python: `A.apply(lambda x: x * x)`.
@@ -25,7 +25,7 @@ _SIGNS = {'==': 'valueeq', '!=': 'valuene', '<': 'valuelt', '<=': 'valuele', '>'
           '>=': 'valuege'}
 
 Op = Union[str, Operator, Callable[..., Any]]
-"""What is given for an operator: itself, the name of a ready one, or a function."""
+"""What is given for an operator: itself, the name of a built-in one, or a function."""
 
 
 @dataclass(frozen=True)
@@ -35,12 +35,13 @@ class Semiring:
     Parameters
     ----------
     add : Operator, str or callable
-        What folds terms: an operator, the name of a ready one, or a function.
+        What folds terms: an operator, the name of a built-in one, or a function.
     mul : Operator, str or callable
         What makes a term of two entries, given likewise.
 
     Examples
     --------
+    >>> import spmat
     >>> spmat.Semiring("min", "plus")
     <semiring min_plus>
     """
@@ -60,7 +61,7 @@ class Semiring:
 
 
 class Ready:
-    """The ready operators of one kind, by name: `binary.plus`, `binary['plus']`, `'plus' in
+    """The built-in operators of one kind, by name: `binary.plus`, `binary['plus']`, `'plus' in
     binary`; iterating gives the names. Called with a function it makes an operator of it."""
 
     def __init__(self, kind: str) -> None:
@@ -68,7 +69,7 @@ class Ready:
         self._known: Dict[str, Operator] = {}      # those that were asked for or registered
 
     def __repr__(self) -> str:
-        return '<ready %s operators: %s>' % (self._kind, ', '.join(self))
+        return '<built-in %s operators: %s>' % (self._kind, ', '.join(self))
 
     @overload
     def __call__(self, function: Callable[..., Any], *, name: Optional[str] = None,
@@ -133,7 +134,7 @@ class Ready:
         Parameters
         ----------
         name : str
-            Letters and digits, and no ready operator's name.
+            Letters and digits, and no built-in operator's name.
         func : callable
             The function, as when this is called with it.
 
@@ -146,7 +147,7 @@ class Ready:
         Raises
         ------
         ValueError
-            If the name can't be one, or is a ready operator's.
+            If the name can't be one, or is a built-in operator's.
         CompileError
             If the function can't be an operator.
         """
@@ -154,7 +155,7 @@ class Ready:
             raise ValueError('a name has letters and digits and begins with a letter, as "toll" '
                              '(`_` parts the names of a semiring), not %r' % name)
         if os.path.isfile(self._file(name)):
-            raise ValueError('%r is the name of a ready %s operator: take another one' % (
+            raise ValueError('%r is the name of a built-in %s operator: take another one' % (
                 name, self._kind))
         self._known[name] = registered = self(func, name=name)
         return registered
@@ -181,14 +182,14 @@ class Ready:
     def __getattr__(self, name: str) -> Operator:
         found = None if name.startswith('_') else self._find(name)
         if found is None:
-            raise AttributeError('no ready %s operator %r' % (self.__dict__.get('_kind'), name))
+            raise AttributeError('no built-in %s operator %r' % (self.__dict__.get('_kind'), name))
         return found
 
     def __contains__(self, name: object) -> bool:
         return isinstance(name, str) and self._find(name) is not None
 
     def ready(self) -> List[str]:
-        """The names of the ready operators, without those that were registered."""
+        """The names of the built-in operators, without those that were registered."""
         files = os.listdir(os.path.join(_FOLDER, self._kind))
         return sorted(file[:-4] for file in files if file.endswith('.asm'))
 
@@ -209,9 +210,9 @@ USES = {'plus_times': 'the product of linear algebra; how many paths, by their w
 
 
 class Semirings:
-    """`semiring.min_plus` is Semiring(binary.min, binary.plus): any two ready binary names, joined
-    by `_`. `semiring(add, mul)` is one of two binary operators, own ones, by name or as functions:
-    `semiring("min", lambda x, y: x + y + 1)`."""
+    """`semiring.min_plus` is Semiring(binary.min, binary.plus): any two built-in binary names,
+    joined by `_`. `semiring(add, mul)` is one of two binary operators, own ones, by name or as
+    functions: `semiring("min", lambda x, y: x + y + 1)`."""
 
     def __repr__(self) -> str:
         return '<semirings of any two binary operators, joined by _: %s, ..>' % ', '.join(USES)
@@ -249,7 +250,7 @@ class Semirings:
         try:
             return self[name]
         except KeyError:
-            raise AttributeError('no semiring %r: expected two ready binary names, joined by _' %
+            raise AttributeError('no semiring %r: expected two built-in binary names, joined by _' %
                                  name) from None
 
     def __dir__(self) -> List[str]:
@@ -264,13 +265,16 @@ READY = {'unary': unary, 'binary': binary, 'index': indexunary}
 
 
 def find(kind: str, op: Op) -> Operator:
-    """An operator that is given as itself, by the name of a ready one of this kind, or as a
-    function. TypeError for anything else, ValueError for a name that no ready one has, CompileError
-    for a function that can't be one. An operator of another kind is given back as it is."""
+    """An operator that is given as itself, by the name of a built-in one of this kind, or as a
+    function. TypeError for anything else, ValueError for a name that no built-in one has,
+    CompileError for a function that can't be one. An operator of another kind is given back as it
+    is."""
     if isinstance(op, Operator):
         return op
-    if op is sum:
-        raise ValueError('sum takes many numbers, and an operator takes two: "plus" adds them up')
+    fold = other_names.fold_of(op)
+    if fold:
+        raise ValueError('%s takes many numbers, and an operator takes two: "%s" folds them' % (
+            getattr(op, '__name__', op), fold))
     if not isinstance(op, str):
         if not callable(op):
             raise TypeError('expected an operator, its name or a function, got %r' % (op,))
@@ -282,13 +286,13 @@ def find(kind: str, op: Op) -> Operator:
         return READY[kind](op)
     name = _SIGNS.get(op, op) if kind == 'index' else op
     if name not in READY[kind]:
-        raise ValueError('no ready %s operator is called %r%s' % (kind, op, _instead(kind, op)))
+        raise ValueError('no built-in %s operator is called %r%s' % (kind, op, _instead(kind, op)))
     return READY[kind][name]
 
 
 def _instead(kind: str, name: str) -> str:
-    """What may have been meant by a name that no ready operator of a kind has: the kinds that know
-    it, or names like it."""
+    """What may have been meant by a name that no built-in operator of a kind has: the kinds that
+    know it, or names like it."""
     others = [other for other in KINDS if other != kind and name in READY[other]]
     if others:
         kinds = ' and '.join(('an ' if other == 'index' else 'a ') + other for other in others)
@@ -320,5 +324,5 @@ def find_semiring(op: Union[str, Semiring, Tuple[Op, Op]]) -> Semiring:
     except KeyError:
         wrong = next((name for name in op.split('_', 1) if name not in binary), '')
         words = _instead('binary', wrong) if '_' in op and wrong else ''
-        raise ValueError('no semiring is called %r: expected two ready binary names, joined by '
+        raise ValueError('no semiring is called %r: expected two built-in binary names, joined by '
                          '_%s' % (op, '; %r is none%s' % (wrong, words) if words else '')) from None

@@ -17,8 +17,8 @@ from .object_file import Function, Malformed, ObjectFile
 KINDS = {1: 'unary', 2: 'binary', 4: 'index'}
 CALL = 0x85                                        # the opcode
 LONGEST_UNTRUSTED = 1 << 16                        # characters
-# Names with two underscores at the front that a function of a stranger's may use: of each other one
-# nobody knows what the next clang makes of it.
+# Names with two underscores at the front that an untrusted user's function may use: of each other
+# one nobody knows what the next clang makes of it.
 UNDERSCORED = re.compile(r'__attribute(__)?|__inline(__)?|__int128|__builtin_\w+|__always_inline__')
 UNROLL = re.compile(r'\s*#\s*pragma\s+unroll\s*(\(?\s*\d+\s*\)?)?\s*')
 FORBIDDEN = re.compile(r'_*asm_*|_Pragma')
@@ -72,9 +72,9 @@ def c(source: str, name: Optional[str] = None, *, clang: Optional[str] = None,
         The compiler. By default it is what the variable SPMAT_CLANG names, or the newest clang on
         the PATH.
     untrusted : bool, default False
-        Whether a stranger wrote the source. Then it may have no directive but `#pragma unroll`, so
-        no macro and no include, and no assembly, no quotes and no backslash. So clang reads no
-        other file. It has 10 seconds of a processor, 20 in all, and 4 GiB of memory.
+        Whether an untrusted user wrote the source. Then it may have no directive but `#pragma
+        unroll`, so no macro and no include, and no assembly, no quotes and no backslash. So clang
+        reads no other file. It has 10 seconds of a processor, 20 in all, and 4 GiB of memory.
 
     Returns
     -------
@@ -90,6 +90,11 @@ def c(source: str, name: Optional[str] = None, *, clang: Optional[str] = None,
     ImportError
         If pyelftools is missing (extra `c`).
 
+    See Also
+    --------
+    asm : From assembly text.
+    unary : From a Python function.
+
     Notes
     -----
     Sums, differences and products wrap. Division by 0 and a shift of 64 or more are
@@ -98,12 +103,14 @@ def c(source: str, name: Optional[str] = None, *, clang: Optional[str] = None,
     indexed by a variable (V13), a stack byte that isn't set (V16).
 
     Without `untrusted`, compiling means that clang reads what the source includes, as you may:
-    don't compile a stranger's source so. (The code that comes out can only compute, whoever wrote
-    it.)
+    don't compile an untrusted user's source so. (The code that comes out can only compute, whoever
+    wrote it.)
 
     Examples
     --------
-    >>> spmat.c("int64_t gap(int64_t x, int64_t y) { return x > y ? x - y : 0; }")
+    >>> import spmat
+    >>> gap = "int64_t gap(int64_t x, int64_t y) { return x > y ? x - y : 0; }"
+    >>> spmat.c(gap)                                # doctest: +SKIP
     <binary operator gap>
     """
     if not isinstance(source, str):
@@ -116,7 +123,7 @@ def c(source: str, name: Optional[str] = None, *, clang: Optional[str] = None,
     return operator_of(compile_source(text, compiler, trusted=not untrusted), source, name)
 
 
-# -- C of strangers
+# -- C of untrusted users
 
 def without_tricks(source: str) -> str:
     """The source without comments. CompileError where it has what could make clang read a file: any
@@ -147,7 +154,7 @@ def without_tricks(source: str) -> str:
 
 
 def _untrusted(line: int, what: str) -> CompileError:
-    return CompileError('line %d of the C has %s, which C of strangers may not have: functions of '
+    return CompileError('line %d of the C has %s, which untrusted C may not have: functions of '
                         'whole numbers, without directives, macros, quotes, assembly and '
                         'backslashes' % (line, what))
 

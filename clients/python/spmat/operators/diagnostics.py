@@ -263,7 +263,7 @@ def code_of(op: Op, kind: Optional[str] = None) -> Listing:
     Parameters
     ----------
     op : Operator, callable or str
-        An operator, a function, or the name of a ready operator.
+        An operator, a function, or the name of a built-in operator.
     kind : {'unary', 'binary', 'index'}, optional
         Which kind of operator is meant; by default a function's number of parameters says so, and a
         name is looked for in all kinds.
@@ -279,9 +279,15 @@ def code_of(op: Op, kind: Optional[str] = None) -> Listing:
     CompileError
         If the function can't be an operator.
 
+    See Also
+    --------
+    explain : What it costs.
+    Session.dis : As the server has it.
+
     Examples
     --------
-    >>> print(spmat.code_of("plus").assembly)
+    >>> import spmat
+    >>> print(spmat.code_of("plus").assembly, end="")
     mov64 r0, r1
     add64 r0, r2
     exit
@@ -331,7 +337,7 @@ def explain(op: Op, kind: Optional[str] = None) -> Explained:
     Parameters
     ----------
     op : Operator, callable or str
-        An operator, a function, or the name of a ready operator.
+        An operator, a function, or the name of a built-in operator.
     kind : {'unary', 'binary', 'index'}, optional
         Which kind of operator is meant, as for `code_of`.
 
@@ -346,8 +352,14 @@ def explain(op: Op, kind: Optional[str] = None) -> Explained:
     CompileError
         If the function can't be an operator.
 
+    See Also
+    --------
+    code_of : The instructions.
+    price : The cost of a call.
+
     Examples
     --------
+    >>> import spmat
     >>> spmat.explain("plus").instructions
     3
     """

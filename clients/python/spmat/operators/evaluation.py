@@ -105,7 +105,7 @@ class _Calls:
             self._send(after + int(line.operands[-1]), jumps)
             self._send(after, here & ~jumps)
         else:
-            target, value = line.operands[0], self._value(line)
+            target, value = self._target(line), self._value(line)
             held = self.registers.get(target)
             self.registers[target] = (value if held is None or here.all()
                                       else numpy.where(here, value, held))
@@ -129,9 +129,22 @@ class _Calls:
             return HOLDS[name](_unsigned(a), _unsigned(b))
         return HOLDS[name[1:]](a, b)
 
+    @staticmethod
+    def _target(line: assembly.Line) -> str:
+        """Where an instruction writes: a register, or a whole word of the stack."""
+        if line.mnemonic not in ('ldx64', 'stx64'):
+            return line.operands[0]
+        target, base, offset = (line.operands if line.mnemonic == 'ldx64' else
+                                ('', *line.operands[:2]))
+        if base != 'r10' or int(offset) % 8:
+            raise KeyError(line.mnemonic)
+        return target or 'r10' + offset
+
     def _value(self, line: assembly.Line) -> Any:
         """What an instruction writes."""
         name, target = line.mnemonic[:-2], line.operands[0]
+        if name in ('ldx', 'stx'):
+            return self._word('r10' + line.operands[2] if name == 'ldx' else line.operands[2])
         if line.mnemonic == 'wide':
             return self._word(line.operands[1])
         if name == 'neg':

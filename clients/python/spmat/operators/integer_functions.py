@@ -49,13 +49,18 @@ def where(condition: Any, a: Any, b: Any) -> Any:
     -------
     int or operand
 
+    See Also
+    --------
+    ult : A comparison without sign.
+
     Notes
     -----
-    In an operator's function `where` is no branch, so it doesn't double the ways through the
+    In an operator's function `where` is no branch, so it doesn't double the paths through the
     function, as `if` does.
 
     Examples
     --------
+    >>> import spmat
     >>> spmat.where(3 > 5, 3, 5)
     5
     """
@@ -88,8 +93,14 @@ def cdiv(x: Any, y: Any) -> Any:
     -------
     int or operand
 
+    See Also
+    --------
+    cmod : Its remainder.
+    udiv : Without sign.
+
     Examples
     --------
+    >>> import spmat
     >>> spmat.cdiv(-7, 2)
     -3
     """
@@ -108,8 +119,14 @@ def cmod(x: Any, y: Any) -> Any:
     -------
     int or operand
 
+    See Also
+    --------
+    cdiv : The quotient.
+    umod : Without sign.
+
     Examples
     --------
+    >>> import spmat
     >>> spmat.cmod(-7, 2)
     -1
     """
@@ -128,8 +145,14 @@ def udiv(x: Any, y: Any) -> Any:
     -------
     int or operand
 
+    See Also
+    --------
+    umod : Its remainder.
+    cdiv : With a sign.
+
     Examples
     --------
+    >>> import spmat
     >>> spmat.udiv(-1, 2)
     9223372036854775807
     """
@@ -148,8 +171,14 @@ def umod(x: Any, y: Any) -> Any:
     -------
     int or operand
 
+    See Also
+    --------
+    udiv : The quotient.
+    cmod : With a sign.
+
     Examples
     --------
+    >>> import spmat
     >>> spmat.umod(-1, 10)
     5
     """
@@ -168,8 +197,13 @@ def ult(x: Any, y: Any) -> Any:
     -------
     int or operand
 
+    See Also
+    --------
+    where : A choice by it.
+
     Examples
     --------
+    >>> import spmat
     >>> spmat.ult(1, -1)
     1
     """
@@ -188,8 +222,13 @@ def rsh(x: Any, y: Any) -> Any:
     -------
     int or operand
 
+    See Also
+    --------
+    udiv : A division without sign.
+
     Examples
     --------
+    >>> import spmat
     >>> spmat.rsh(-1, 60)
     15
     """

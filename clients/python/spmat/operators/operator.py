@@ -209,8 +209,15 @@ def asm(kind: str, text: str, name: Optional[str] = None) -> Operator:
         If a jump names a label that isn't there, or one is there twice, with the line. Nothing else
         is looked at before the operator's first use, or `Session.check`.
 
+    See Also
+    --------
+    code : From BPF code.
+    c : From C.
+    Session.check : What the verifier says.
+
     Examples
     --------
+    >>> import spmat
     >>> spmat.asm("binary", "mov64 r0, r1\\nadd64 r0, r2\\nexit", "sum")
     <binary operator sum>
     """
@@ -239,8 +246,14 @@ def code(kind: str, data: Union[str, bytes, bytearray], name: Optional[str] = No
     ValueError
         If the text isn't hexadecimal.
 
+    See Also
+    --------
+    asm : From assembly text.
+    c : From C.
+
     Examples
     --------
+    >>> import spmat
     >>> spmat.code("unary", "bf100000000000009500000000000000", "same")
     <unary operator same>
     """

@@ -1,18 +1,18 @@
-"""Ready operators by other names: functions of numpy, and names of python-graphblas, that mean a
-ready one exactly, and what to write for those that don't.
+"""Built-in operators by other names: functions of numpy, and names of python-graphblas, that mean a
+built-in one exactly, and what to write for those that don't.
 """
 from __future__ import annotations
 
 from typing import Any, Dict, Tuple
 
-# Words for ready operators, where the meaning is the same for all words of 64 bits.
+# Words for built-in operators, where the meaning is the same for all words of 64 bits.
 ALIASES: Dict[str, Dict[str, str]] = {
     'unary': {},
     'binary': {'isgt': 'gt', 'isge': 'ge', 'islt': 'lt', 'isle': 'le', 'bitand': 'band',
                'bitor': 'bor', 'bitxor': 'bxor', 'bitxnor': 'bxnor'},
     'index': {}}
 
-# Ready operators, but for second names of others, each behind the CRC-32 of its kind and its
+# Built-in operators, but for second names of others, each behind the CRC-32 of its kind and its
 # instructions. So a function is found to be one without the files of all.
 _BY_CHECKSUM = '''
 67ec55b7 abs 6dede0d9 ainv 365f7b17 bnot 7245da94 identity 5cdfdc41 lnot 1a3cd74f minv
@@ -51,7 +51,8 @@ _SHIFT = ('"lsh" shifts left, "arsh" right, by the low 6 bits of y; lambda x, y:
 _AGGREGATE = ('A.reduce_rowwise(%r) and reduce_columnwise(%r) take it as an aggregator, other '
               'methods do not')
 
-# What to write for names that mean what no ready operator does, or that are called otherwise here.
+# What to write for names that mean what no built-in operator does, or that are called otherwise
+# here.
 INSTEAD: Dict[str, str] = {
     **dict.fromkeys(('div', 'truediv', 'rtruediv', 'true_divide', 'divide'), _DIVISION),
     'rfloordiv': 'lambda x, y: y // x',
@@ -84,9 +85,9 @@ def is_ufunc(thing: Any) -> bool:
 
 
 def ready_of(kind: str, ufunc: Any) -> Tuple[str, str]:
-    """The kind and the name of the ready operator that a function of numpy is: of a kind, or of the
-    kind of its operands where that one has none. TypeError where no ready operator has its meaning
-    for all words."""
+    """The kind and the name of the built-in operator that a function of numpy is: of a kind, or of
+    the kind of its operands where that one has none. TypeError where no built-in operator has its
+    meaning for all words."""
     own = 'unary' if ufunc.nin == 1 else 'binary'
     for wanted in (kind, own):
         name = UFUNCS[wanted].get(ufunc.__name__)
@@ -96,3 +97,17 @@ def ready_of(kind: str, ufunc: Any) -> Tuple[str, str]:
         ('', 'x') if own == 'unary' else (' and y', 'x, y'))
     raise TypeError('np.%s is no operator on whole numbers of 64 bits: %s' % (
         ufunc.__name__, INSTEAD.get(ufunc.__name__, write)))
+
+
+# functions of Python and numpy that take many numbers, by the folds of the same answer
+_FOLDS = {'sum': 'plus', 'max': 'max', 'amax': 'max', 'min': 'min', 'amin': 'min', 'mean': 'mean',
+          'average': 'mean', 'prod': 'times', 'product': 'times', 'any': 'lor', 'all': 'land',
+          'argmax': 'argmax', 'argmin': 'argmin', 'ptp': 'peak_to_peak'}
+
+
+def fold_of(function: Any) -> str:
+    """The fold that a function of many numbers stands for; nothing of other functions. `max` and
+    `min` of Python take two as well."""
+    is_known = function is sum or (
+        getattr(function, '__module__', '') == 'numpy' and not is_ufunc(function))
+    return _FOLDS.get(getattr(function, '__name__', ''), '') if is_known else ''

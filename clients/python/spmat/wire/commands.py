@@ -1,20 +1,289 @@
-"""What is sent to a server, and what it answers: a command with its whole reply, and batches of
-commands whose replies are read as one.
+"""What is sent to a server, and what it answers: the commands of the protocol, of which jobs are
+some; a command with its whole reply; and batches of commands whose replies are read as one. Source:
+docs/protocol.md.
+
+A server, or what stands between, may say anything: a reply is looked at before it is believed. Each
+has the words that the protocol gives for its command, with numbers within the limits of the
+protocol, and within what the client knows of what it asked. The first reply that has not ends the
+session, since commands and replies are out of step from then on.
 
 Bytes that came stay here until a reply is there whole. So whatever comes while one is awaited
 (Ctrl-C), the next call goes on where this one was.
 """
 from __future__ import annotations
 
-from typing import Callable, List, Mapping, NamedTuple, Optional, Union
+import enum
+import re
+from types import MappingProxyType
+from typing import (Callable, Dict, List, Mapping, NamedTuple, NoReturn, Optional, Sequence, Tuple,
+                    Union)
+
+import numpy
 
 from ..errors import ProtocolError, Refused, refusal
+from ..io import matrix_text
+from ..io.matrix_text import BANNER, LF, Triples
+from ..limits import MOST_PRICE, MOST_SIDE, MOST_SLOTS, MOST_STEPS, QUEUE
 from ..refusal_rules import OF_GATEWAY, is_placed
-from .protocol import COMMANDS, WORDS_WITH_BODY, Behind
-from .reply_checks import NOTHING, Limits, check_first_line
+
+
+class Places(enum.Enum):
+    """Where the result of a job has entries; under a mask only where the mask has some too. The
+    bounds of what a job takes follow from it."""
+    ALL = 'where all operands have one'
+    CHOSEN = 'where all operands have one, if the operator says so'
+    ANY = 'where any operand has one'
+    ROWS = 'in one column, for each row that is not empty'
+    TERMS = 'where a row of the first operand meets a column of the second'
+
+
+class Form(NamedTuple):
+    """A form of job. `operators`, `operands` and `thunk` are what stands behind OUT in its command,
+    in words; its operators are of one of these `kinds`. Its results have entries at `places`, and
+    `method` is that of matrices which queues such a job."""
+    operators: str
+    operands: str
+    kinds: Tuple[str, ...]
+    places: Places
+    method: str
+    thunk: str = ''
+
+    @property
+    def names(self) -> int:
+        """How many names behind OUT have to stand for something, but for the mask's."""
+        return len(self.operators.split()) + len(self.operands.split())
+
+    @property
+    def words(self) -> str:
+        """What stands behind the name of the form."""
+        return ' '.join(filter(None, ('OUT', self.operators, self.operands, self.thunk,
+                                      '[mask M]')))
+
+
+class Behind(enum.Enum):
+    """What comes behind the first line of an `ok` reply: as many of these as its third word
+    says."""
+    LINES = 'lines'
+    BYTES = 'bytes'
+
+
+class Syntax(NamedTuple):
+    """How a command is written behind its name, how its reply is written behind `ok`, and what the
+    reply brings. LEN is the length of a body, which comes behind the line."""
+    words: str = ''
+    reply: str = ''
+    brings: Optional[Behind] = None
+
+    @property
+    def has_body(self) -> bool:
+        """Whether a body comes behind the line."""
+        return 'LEN' in self.words.split()
+
+
+FORMS: Dict[str, Form] = {
+    'apply': Form('OP', 'A', ('unary', 'index'), Places.ALL, 'apply', '[THUNK]'),
+    'select': Form('OP', 'A', ('index',), Places.CHOSEN, 'select', 'THUNK'),
+    'union': Form('OP', 'A B', ('binary',), Places.ANY, 'ewise_add'),
+    'both': Form('OP', 'A B', ('binary',), Places.ALL, 'ewise_mult'),
+    'product': Form('ADD MUL', 'A B', ('binary',), Places.TERMS, 'mxm'),
+    'reduce': Form('OP', 'A', ('binary',), Places.ROWS, 'reduce_rowwise'),
+}
+COMMANDS: Dict[str, Syntax] = {
+    'matrix': Syntax('NAME LEN', 'matrix ROWS COLUMNS ENTRIES'),
+    'asm': Syntax('NAME KIND LEN', 'op SLOTS INSTRUCTIONS'),
+    'op': Syntax('NAME KIND LEN', 'op SLOTS INSTRUCTIONS'),
+    'dis': Syntax('NAME', 'dis LINES', Behind.LINES),
+    'types': Syntax('NAME', 'types LINES', Behind.LINES),
+    **{name: Syntax(form.words, 'queued POSITION PRICE') for name, form in FORMS.items()},
+    'run': Syntax('', 'run JOBS STEPS', Behind.LINES),
+    'show': Syntax('NAME', 'show BYTES', Behind.BYTES),
+    'budget': Syntax('', 'budget LEFT RESERVED SPENT'),
+    'quit': Syntax('', 'quit'),
+}
+WORDS_WITH_BODY = {name: len(syntax.words.split()) for name, syntax in COMMANDS.items()
+                   if syntax.has_body}
+"""The commands that have a body, with how many words stand before its length."""
+
+
+# -- whether a reply answers its command
+
+LONGEST_NUMBER = 20                                # digits: 2^64 - 1 has as many
+# bytes of a text whose entries are looked at here: whoever reads a longer one looks at them
+LOOKED_AT_WHOLE = 1 << 13
+# of a matrix text: its first line has 47 bytes, the second up to 27
+LONGEST_HEAD = 80
+# two indices, a value with its sign, two blanks and LF
+LONGEST_ENTRY = 8 + 1 + 8 + 1 + 20 + 1
+# values that have 64 bits for sure
+_ALL_ENTRIES = re.compile(rb'(?:\d{1,8} \d{1,8} -?\d{1,18}\n)*')
+_ENTRY = re.compile(rb'(\d{1,8}) (\d{1,8}) (-?\d{1,19})')
+_HEAD = re.compile(rb'%s(\d{1,8}) (\d{1,8}) (\d{1,8})\n' % re.escape(BANNER))
+BANNER_LETTERS = BANNER.translate(None, b'0123456789- \n')
+_REFUSAL = re.compile(
+    r'no (?:(?:[ASVMJ]\d{1,2}|busy|memory|thread|stuck)(?: [A-Z]?\d{1,20}){0,3}|(?:%s)(?: '
+    r'[\x20-\x7e]{0,200})?)' % '|'.join(OF_GATEWAY))
+
+Limits = Tuple[int, int]
+"""The least and the greatest that a number may be."""
+
+LIMITS: Dict[str, Limits] = {
+    'ROWS': (0, MOST_SIDE), 'COLUMNS': (0, MOST_SIDE), 'ENTRIES': (0, MOST_SIDE),
+    'SLOTS': (1, MOST_SLOTS), 'INSTRUCTIONS': (1, MOST_SLOTS),
+    'LINES': (0, MOST_SLOTS), 'POSITION': (1, QUEUE), 'PRICE': (0, MOST_PRICE), 'JOBS': (0, QUEUE),
+    'STEPS': (0, MOST_STEPS),
+    'BYTES': (0, LONGEST_HEAD + MOST_SIDE * LONGEST_ENTRY), 'LEFT': (0, MOST_STEPS),
+    'RESERVED': (0, MOST_STEPS), 'SPENT': (0, MOST_STEPS),
+}
+NOTHING: Mapping[str, Limits] = MappingProxyType({})
+
+REPLIES: Dict[str, Tuple[str, Tuple[str, ...]]] = {
+    name: (syntax.reply.split()[0], tuple(syntax.reply.split()[1:]))
+    for name, syntax in COMMANDS.items()}
+"""By command the first word behind `ok`, and the names of the numbers behind that."""
+
+
+def check_first_line(words: Sequence[str], word: str, command: str,
+                     within: Mapping[str, Limits] = NOTHING) -> Optional[List[int]]:
+    """The numbers of the first line of an `ok` reply; None of a refusal.
+
+    Parameters
+    ----------
+    words
+        The words of the line.
+    word, command
+        The first word of the command, and its line.
+    within
+        Limits of numbers of the reply by their names, where the client knows narrower ones than
+        the protocol's.
+
+    Raises
+    ------
+    ProtocolError
+        Where the line doesn't answer the command.
+    """
+    if not words or words[0] != 'ok':
+        if not _REFUSAL.fullmatch(' '.join(words)):
+            raise ProtocolError('the reply to `%.80s` is none of spmat: `%s`'
+                                % (command, visible(' '.join(words))))
+        return None
+    if word not in REPLIES:
+        # a command of a session script, which only a refusal can answer
+        raise_fault(command, 'a refusal, since there is no such command', words)
+    first, names = REPLIES[word]
+    if len(words) != 2 + len(names) or words[1] != first:
+        raise_fault(command, '`ok %s`' % COMMANDS[word].reply, words)
+    numbers = []
+    for name, number in zip(names, words[2:]):
+        least, most = within.get(name) or LIMITS[name]
+        # int() takes blanks and letters of other scripts, and texts of any length
+        if not number.isdigit() or len(number) > LONGEST_NUMBER or not least <= int(number) <= most:
+            asked = '%d to %d' % (least, most) if least != most else '%d' % least
+            raise_fault(command, '%s of %s' % (name, asked), words)
+        numbers.append(int(number))
+    return numbers
+
+
+def sizes_of_text(text: bytes) -> Mapping[str, Limits]:
+    """What the reply to `matrix` can say of a Matrix Market text that the server takes: its size
+    line, and up to twice as many entries where it is symmetric. Nothing of a text without a size
+    line."""
+    first = at = text.find(b'\n') + 1
+    while 0 < at < len(text):
+        end = text.find(b'\n', at)
+        end = len(text) if end < 0 else end
+        line = text[at:end].strip()
+        if line and not line.startswith(b'%'):
+            sizes = [int(word) for word in line.split() if word.isdigit()
+                     and len(word) < LONGEST_NUMBER]
+            if len(sizes) != 3:
+                return NOTHING
+            most = 2 * sizes[2] if b'symmetric' in text[:first].lower() else sizes[2]
+            return {'ROWS': (sizes[0], sizes[0]), 'COLUMNS': (sizes[1], sizes[1]),
+                    'ENTRIES': (sizes[2], most)}
+        at = end + 1
+    return NOTHING
+
+
+def longest_text(entries: int) -> int:
+    """The most bytes that the text of a matrix with so many entries has."""
+    return LONGEST_HEAD + entries * LONGEST_ENTRY
+
+
+def check_text(command: str, text: bytes, shape: Tuple[int, int],
+               entries: Optional[int]) -> Optional[Triples]:
+    """ProtocolError where a text isn't that of a matrix of this shape: its head, its number of
+    lines, and its characters are looked at. `entries` is how many it has, where that is known. Of a
+    short text all entries are looked at; they are given back, but for some of 19 digits."""
+    head = _HEAD.match(text)
+    if head is None:
+        raise_fault(command,
+                    'a text that begins with `%s` and three sizes' % BANNER.decode().strip(),
+                    [text[:100].decode('ascii', 'replace')])
+    rows, columns, count = map(int, head.groups())
+    if (rows, columns) != shape or (entries is not None and count != entries):
+        raise_fault(command,
+                    'a text of %d rows and %d columns%s'
+                    % (*shape, '' if entries is None else ' with %d entries' % entries),
+                    ['%d %d %d' % (rows, columns, count)])
+    lines = numpy.count_nonzero(numpy.frombuffer(text, numpy.uint8) == LF)
+    if lines != count + 2 or not text.endswith(b'\n') or text.translate(
+        None, b'0123456789- \n') != BANNER_LETTERS:
+        raise_fault(command, 'a text with %d lines of three numbers' % count,
+                    ['%d lines' % (lines - 2)])
+    if len(text) > LOOKED_AT_WHOLE:
+        return None
+    is_plain = _ALL_ENTRIES.fullmatch(text, head.end()) is not None
+    found = matrix_text.read(text) if is_plain else None
+    if found is None or not _are_ascending(found):
+        _check_entries(command, text[head.end():], shape)
+    return found
+
+
+def _check_entries(command: str, lines: bytes, shape: Tuple[int, int]) -> None:
+    """ProtocolError where an entry lies outside of a shape, doesn't follow the one before, or has a
+    value beyond 64 bits."""
+    before = (0, 0)
+    for line in lines.splitlines():
+        found = _ENTRY.fullmatch(line)
+        row, column, value = map(int, found.groups()) if found is not None else (0, 0, 0)
+        if found is None or not (1 <= row <= shape[0] and 1 <= column <= shape[1]
+                                 and before < (row, column) and -1 << 63 <= value < 1 << 63):
+            raise_fault(command,
+                        'the entries of %d rows and %d columns, in order, with values of 64 bits'
+                        % shape, [line.decode('ascii', 'replace')])
+        before = row, column
+
+
+def _are_ascending(entries: Triples) -> bool:
+    """Whether entries lie within their shape, by ascending rows and columns."""
+    rows, columns, _, nrows, ncols = entries
+    if not len(rows):
+        return True
+    inside = (rows[0] >= 0 and rows[-1] < nrows and columns.min() >= 0 and columns.max() < ncols)
+    places = rows * ncols + columns
+    return bool(inside and (places[1:] > places[:-1]).all())
+
+
+def raise_fault(command: str, expected: str, words: Sequence[str]) -> NoReturn:
+    """Raises ProtocolError of a reply that doesn't answer a command."""
+    raise ProtocolError('the reply does not answer the command `%.80s`: expected %s, got `%s`'
+                        % (command, expected, visible(' '.join(words))))
+
+
+def visible(text: str) -> str:
+    """The beginning of what came, without what a terminal would do at it."""
+    return text[:MOST_SHOWN].encode('ascii', 'backslashreplace').decode('ascii').translate(ESCAPED)
+
+
+# -- commands and their replies
 
 PIECE = 1 << 20
 LONGEST_LINE = 1 << 16
+# of each line behind the reply to `run`, `dis` or `types`
+MOST_BEHIND = 1 << 10
+# letters of a reply that an error shows, and control codes as they are shown
+MOST_SHOWN = 200
+ESCAPED = {code: '\\x%02x' % code for code in [*range(32), 127]}
 # bytes of the replies to a batch, unless it says fewer
 MOST_REPLIES = 1 << 28
 
@@ -173,7 +442,7 @@ class Incoming:
         while not end:
             if len(self._bytes) >= LONGEST_LINE:
                 raise ProtocolError('the reply is none of spmat: `%s`'
-                                    % self._bytes[:200].decode('ascii', 'replace'))
+                                    % visible(self._bytes[:MOST_SHOWN].decode('latin-1')))
             self._more()
             end = self._bytes.find(b'\n', 0, LONGEST_LINE) + 1
         return end
@@ -191,11 +460,12 @@ class Incoming:
         self._looked = max(self._looked, start)
         while self._lines_seen < count:
             end = self._bytes.find(b'\n', self._looked)
+            line = self._bytes[self._looked:end if end >= 0 else len(self._bytes)]
+            if len(line) > MOST_BEHIND or not (line.isascii() and line.decode().isprintable()):
+                raise ProtocolError('a line of a reply is none of spmat: `%s`'
+                                    % visible(line[:MOST_SHOWN].decode('latin-1')))
             if end >= 0:
                 self._looked, self._lines_seen = end + 1, self._lines_seen + 1
-            elif len(self._bytes) - self._looked >= LONGEST_LINE:
-                line = self._bytes[self._looked:self._looked + 200].decode('ascii', 'replace')
-                raise ProtocolError('a line of a reply is none of spmat: `%s`' % line)
             else:
                 self._more()
         return self._looked

@@ -17,20 +17,26 @@ from __future__ import annotations
 import collections
 import os
 import socket
+import sys
 import threading
 import weakref
-from typing import Any, Callable, Deque, Iterable, Iterator, List, Mapping, Optional, Tuple, Union
+from signal import SIGINT
+from typing import (Any, Callable, Deque, Iterable, Iterator, List, Mapping, Optional, Tuple, Type,
+                    Union)
 
-from ..errors import Closed, Refused, SpmatError
+from ..errors import Closed, Refused, SpmatError, about
 from ..io.coo import shown, whole
 from ..limits import MOST_STEPS, MOST_WORKERS
 from ..refusal_rules import OF_GATEWAY
-from .commands import PIECE, Command, CommandBatch, Incoming, Near, Reply, read_refusal
-from .protocol import WORDS_WITH_BODY
-from .reply_checks import NOTHING, Limits
-from .server_program import Program, program_words
-from .session_lock import SessionLock
-from .transport import Address, Channel, Child, Socket, Timeouts
+from .commands import (NOTHING, PIECE, WORDS_WITH_BODY, Command, CommandBatch, Incoming, Limits,
+                       Near, Reply, read_refusal)
+from .transport import Address, Channel, Child, Program, Socket, Timeouts, start_program
+
+try:
+    # the same without enums, which would take a third of what a job costs here
+    import _signal as signal  # type: ignore[import]
+except ImportError:
+    import signal
 
 ENDS = ('S5', 'S6', 'S7', 'busy', *OF_GATEWAY)
 # for a command to a server and its whole reply, where its jobs don't run
@@ -39,6 +45,7 @@ MOST_WAITING = 200                                 # commands, whose replies fit
 MOST_BYTES = 1 << 22                               # of commands that wait
 
 Progress = Callable[[str, int, int], None]
+Handler = Callable[[int, Any], Any]
 
 
 def checked_settings(steps: float, workers: float) -> Tuple[int, int]:
@@ -50,6 +57,90 @@ def checked_settings(steps: float, workers: float) -> Tuple[int, int]:
     if not 1 <= threads <= MOST_WORKERS:
         raise ValueError('workers are 1 to %d, not %s' % (MOST_WORKERS, shown(threads)))
     return many, threads
+
+
+class SessionLock:
+    """The turn of one thread, in a `with`, in which commands are made and what they do is noted. In
+    another `with` within it nothing more happens.
+
+    A session stays in step as long as each command is sent whole and each reply read whole. So what
+    Python does on SIGINT, which is to raise KeyboardInterrupt wherever it is, is put off until the
+    command stands and nothing of its reply is in hands. A second Ctrl-C is not put off. Only the
+    main thread gets signals, so only there anything is done.
+
+    What comes between a command and the note of it ends the session; Ctrl-C is put off until the
+    note is made, or the reply is awaited. Closed where the session has ended."""
+
+    def __init__(self, connection: Connection) -> None:
+        self._connection = connection
+        self._main = threading.main_thread().ident
+        self._depth = 0
+        self._before: Optional[Handler] = None
+        self._held = self._lets = False
+
+    def __enter__(self) -> None:
+        # pylint: disable-next=consider-using-with  # __exit__ releases it
+        self._connection.turn.acquire()
+        self._depth += 1
+        if self._depth > 1:
+            return
+        try:
+            if threading.get_ident() == self._main:
+                before = signal.getsignal(SIGINT)
+                if callable(before):
+                    self._before, self._held, self._lets = before, False, False
+                    signal.signal(SIGINT, self._handle_interrupt)
+            self._connection.check_open()
+        except BaseException:
+            self._leave(sys.exc_info()[0])
+            raise
+
+    def __exit__(self, kind: Optional[Type[BaseException]], *_: Any) -> None:
+        connection = self._connection
+        if self._depth > 1:
+            self._depth -= 1
+            connection.turn.release()
+            return
+        try:
+            if kind is not None and not issubclass(kind, Exception) and not connection.owes:
+                connection.end('amid its work came ' + kind.__name__, kill=True)
+        finally:
+            self._leave(kind)
+
+    def _leave(self, kind: Optional[Type[BaseException]]) -> None:
+        before = None
+        try:
+            if self._before is not None:
+                before, self._before = self._before, None
+                signal.signal(SIGINT, before)
+        finally:
+            self._depth -= 1
+            self._connection.turn.release()
+        if before is not None and self._held and kind is None:
+            self._held = False
+            before(SIGINT, None)
+
+    def await_bytes(self, wait: Callable[[], None]) -> None:
+        """Calls what waits for a reply, while nothing would be lost. What was put off comes
+        here."""
+        if self._before is None:
+            wait()
+            return
+        self._lets = True
+        try:
+            if self._held:
+                self._handle_interrupt(SIGINT, None)
+            wait()
+        finally:
+            self._lets = False
+
+    def _handle_interrupt(self, number: int, frame: Any) -> None:
+        before = self._before
+        if before is not None and (self._lets or self._held):
+            self._held = self._lets = False
+            before(number, frame)
+        else:
+            self._held = True
 
 
 # all that a session has to know to stay in step
@@ -84,8 +175,8 @@ class Connection:
                  progress: Optional[Progress] = None) -> Connection:
         """Starts `spmat run --steps STEPS --workers WORKERS`."""
         steps, workers = checked_settings(steps, workers)
-        return cls(Child(program_words(program) + ['run', '--steps', str(steps), '--workers',
-                                                   str(workers)]), progress)
+        words = ['run', '--steps', str(steps), '--workers', str(workers)]
+        return cls(start_program(program, words), progress)
 
     @classmethod
     def to_server(cls, address: Address, timeouts: Timeouts = Timeouts(SECONDS, None),
@@ -144,11 +235,6 @@ class Connection:
         self._waiting.append(command)
         self._waiting_bytes += len(command.line) + len(command.body or b'')
 
-    def _take_waiting(self) -> List[Command]:
-        """What waits to be sent, which waits no more."""
-        commands, self._waiting, self._waiting_bytes = self._waiting, [], 0
-        return commands
-
     @property
     def waiting(self) -> int:
         """How many commands wait to be sent."""
@@ -175,7 +261,7 @@ class Connection:
                 if self._pending:
                     self._read_pending()
                     self.check_open()
-                sent = self._take_waiting()
+                sent, self._waiting, self._waiting_bytes = self._waiting, [], 0
                 if last is not None:
                     sent.append(last)
                 self.commands += len(sent)
@@ -290,9 +376,9 @@ class Connection:
             raise
         except OSError as fault:
             why = channel.fault(self.incoming.received > 0)
-            raise Closed('%s (%s)' % (why, fault)) from fault
+            raise about(Closed('%s (%s)' % (why, fault)), *why.parameters) from fault
         if not piece:
-            raise Closed(channel.fault(self.incoming.received > 0))
+            raise channel.fault(self.incoming.received > 0)
         return piece
 
     def end(self, why: str, kill: bool = False, cause: Optional[BaseException] = None) -> None:
@@ -311,7 +397,7 @@ class Connection:
         """Ends the session in good order, or at once where a reply is owed; nothing where it has
         ended already."""
         with self.turn:
-            self._take_waiting()                   # which isn't sent any more
+            self._waiting, self._waiting_bytes = [], 0     # which isn't sent any more
             if self._pending:
                 self.end('it was closed while a reply was awaited', kill=True)
             if self._ended is None and os.getpid() == self._owner:

@@ -1,24 +1,32 @@
-"""The bytes of a session: a child process, or a connection to a server."""
+"""The bytes of a session: a child process, or a connection to a server; and the program that the
+first one runs: where it is found, and the command of that name of a wheel that carries it."""
 from __future__ import annotations
 
 # a channel is open as long as its session, and each is asked alike
 # pylint: disable=consider-using-with,unused-argument
 
 import os
+import platform
 import select
+import shlex
+import shutil
 import socket
 import subprocess
+import sys
 import tempfile
 import time
 import urllib.parse
-from typing import TYPE_CHECKING, NamedTuple, Optional, Sequence, Union
+from typing import TYPE_CHECKING, List, NamedTuple, Optional, Sequence, Union
 
+from ..errors import Closed, about
 from ..io.coo import real, shown, whole
 from .commands import PIECE
 
 if TYPE_CHECKING:
     import ssl
 
+Program = Union[str, Sequence[str]]
+PACKAGE = os.path.dirname(os.path.dirname(os.path.abspath(__file__)))
 SECONDS_TO_QUIT = 5.0
 TIMED_OUT = (
     'timed out: the command and its whole reply took longer than timeout= (or run_timeout=) says')
@@ -81,6 +89,9 @@ class Awaited:
     def wait(self) -> None:
         """Waits until `receive` has something. socket.timeout where that takes longer than the
         deadline says."""
+        if self._until is None:
+            self._poll.poll()
+            return
         seconds = self.seconds_left()
         if not self._poll.poll(None if seconds is None else 1000 * seconds):
             raise socket.timeout(TIMED_OUT)
@@ -144,15 +155,15 @@ class Child(Awaited):
         self.process.stdin.write(piece)
         self.process.stdin.flush()
 
-    def fault(self, answered: bool) -> str:
+    def fault(self, answered: bool) -> Closed:
         """Why there is no reply: the status, and the words on standard error."""
         try:
             status = self.process.wait(SECONDS_TO_QUIT)
         except subprocess.TimeoutExpired:
-            return 'the program closed its output'
+            return Closed('the program closed its output')
         self._said.seek(0)
         said = self._said.read().decode('utf-8', 'replace').strip()
-        return 'the program ended with status %d%s' % (status, ': ' + said if said else '')
+        return Closed('the program ended with status %d%s' % (status, ': ' + said if said else ''))
 
     def close(self, kill: bool = False) -> None:
         """Ends the process and waits for it. In a process that was forked off nothing is ended."""
@@ -211,9 +222,9 @@ class Address(NamedTuple):
                 'the token in token= or in the variable SPMAT_TOKEN; not %r' % url)
         login = 'login %s %s\n' % (parts.username, token or os.environ.get('SPMAT_TOKEN', ''))
         if len(login.split()) != 3 if parts.username else not tls:
-            raise ValueError(
+            raise about(ValueError(
                 'a gateway wants a token of the user (token=, or the variable SPMAT_TOKEN), '
-                'without blanks; or no user, and a certificate in tls=')
+                'without blanks; or no user, and a certificate in tls='), 'token', 'tls')
         return cls(parts.hostname, parts.port or GATEWAY_PORT,
                    tls or speaker.create_default_context(cafile=ca),
                    login.encode() if parts.username else b'')
@@ -228,7 +239,8 @@ class Address(NamedTuple):
         """A connection. ValueError where this is no address, OSError where nobody listens there, or
         lets nobody in."""
         if self.is_file() and self.tls is not None:
-            raise ValueError('tls= is for a host and a port, and %s is a socket file' % self.host)
+            raise about(ValueError('tls= is for a host and a port, and %s is a socket file'
+                                   % self.host), 'tls')
         if not self.is_file() and not 1 <= whole(self.port, 'port') <= 65535:
             raise ValueError('a port is 1 to 65535, not %s' % shown(self.port))
         opened: Optional[socket.socket] = None
@@ -281,18 +293,18 @@ class Socket(Awaited):
         self._socket.settimeout(self.seconds_left())
         self._socket.sendall(piece)
 
-    def fault(self, answered: bool) -> str:
+    def fault(self, answered: bool) -> Closed:
         """Why there is no reply, as far as a client can know."""
         if answered:
-            return ('the server closed the connection: it has ended, or it ended this session '
-                    '(--idle, or a limit of what stands in front)')
+            return Closed('the server closed the connection: it has ended, or it ended this '
+                          'session (--idle, or a limit of what stands in front)')
         if self._has_tls:
-            return ('TLS was refused: the other side closed the connection before a first answer. '
-                    'It wants a certificate that it knows (tls= with load_cert_chain), or has no '
-                    'place left')
-        return ('the server closed the connection before a first answer: it has no place left, '
-                'ended at its start, or what stands in front refused this client (where it speaks '
-                'TLS, give tls=)')
+            return about(Closed('TLS was refused: the other side closed the connection before a '
+                                'first answer. It wants a certificate that it knows (tls= with '
+                                'load_cert_chain), or has no place left'), 'tls')
+        return about(Closed('the server closed the connection before a first answer: it has no '
+                            'place left, ended at its start, or what stands in front refused this '
+                            'client (where it speaks TLS, give tls=)'), 'tls')
 
     def close(self, kill: bool = False) -> None:
         """Closes the connection; unless `kill`, once the server has: it gives the session's seat to
@@ -323,3 +335,61 @@ def _name_address(fault: OSError, address: Address, what: str) -> OSError:
     if isinstance(fault, socket.gaierror) and port.isdigit():
         words += '; host and port are two arguments: Session.connect(%r, %s)' % (host, port)
     return type(fault)(words) if fault.errno is None else type(fault)(fault.errno, words)
+
+
+# -- the program
+
+def carried() -> Optional[str]:
+    """The path of the program in this package, or None: a wheel for one kind of machine has one, a
+    checkout and a Debian package have none."""
+    path = os.path.join(PACKAGE, 'carried', 'spmat')
+    return path if os.access(path, os.X_OK) else None
+
+
+def _describe_plain_server() -> str:
+    """What else there is in a checkout, in words."""
+    top = os.path.dirname(os.path.dirname(os.path.dirname(PACKAGE)))
+    path = os.path.join(top, 'reference', '__main__.py')
+    return ('. For small graphs the reference implementation of this checkout does: SPMAT=' + path
+            if os.path.exists(path) else '')
+
+
+def program_words(program: Optional[Program] = None) -> List[str]:
+    """The words that start the program: those given, the variable SPMAT, the program that this
+    package carries, or `spmat` on the PATH, in this order. Words in one text are split as a shell
+    does, unless the whole text is a file. FileNotFoundError where there is none."""
+    found = program or os.environ.get('SPMAT') or carried() or shutil.which('spmat')
+    if not found:
+        raise about(FileNotFoundError(
+            'no program `spmat`: this package carries none (a wheel for Linux on x86_64 does; '
+            'this is %s on %s). Give program=, set the variable SPMAT, or put it on the PATH%s'
+            % (platform.system(), platform.machine(), _describe_plain_server())), 'program')
+    if not isinstance(found, str):
+        return [os.fspath(word) for word in found]
+    if os.path.isdir(found) and not shutil.which(found):
+        raise FileNotFoundError('expected a program, got the folder %s%s'
+                                % (found, _describe_plain_server()))
+    return [found] if os.path.exists(found) else shlex.split(found)
+
+
+def start_program(program: Optional[Program], words: Sequence[str]) -> Child:
+    """The process of a program with these words behind it. An OSError where it can't be started
+    says what names it."""
+    found = program_words(program)
+    try:
+        return Child([*found, *words])
+    except OSError as fault:
+        named = ('program=' if program else 'the variable SPMAT' if os.environ.get('SPMAT')
+                 else 'the PATH')
+        raise about(type(fault)(
+            fault.errno, '%s names the program %s, which can not be started: %s%s'
+            % (named, found[0], fault.strerror, _describe_plain_server())),
+                    *(('program',) if program else ())) from None
+
+
+def main() -> None:
+    """The command `spmat` of a wheel: becomes the program that the wheel carries."""
+    path = carried()
+    if path is None:
+        sys.exit('spmat: this package carries no program')
+    os.execv(path, ['spmat'] + sys.argv[1:])

@@ -1,6 +1,10 @@
 """Lengths from some vertices of large graphs, which are squared where their rows stay short."""
+import pytest
+
 import support
 from spmat import algorithms
+
+pytestmark = pytest.mark.slow
 
 
 class Squares(support.InSession):

@@ -5,6 +5,7 @@ import unittest
 import graphs
 import support
 import spmat
+import spmat_blocks
 from spmat import algorithms
 from spmat.algorithms import cached_properties
 
@@ -93,7 +94,7 @@ class Checks(support.InSession):
 
     def test_in_blocks(self):
         """There the transpose is used, so it is looked at."""
-        with spmat.blocks.Sessions(2) as s:
+        with spmat_blocks.Sessions(2) as s:
             G = graphs.DIRECTED[0].matrix(s)
             with self.assertRaisesRegex(ValueError, 'GT has to be the transpose'):
                 algorithms.bfs_levels(G, 0, G)
@@ -152,7 +153,7 @@ class Own(unittest.TestCase):
             W = s.from_triples([(0, 1, 3), (1, 2, 4)], 3, 3)
             self.assertEqual(W.mxm(W, spmat.semiring('min', toll)).to_dict(), {(0, 2): 9})
             self.assertEqual(spmat.semiring('min', 'plus'), spmat.semiring.min_plus)
-            with self.assertRaisesRegex(ValueError, 'no ready binary operator'):
+            with self.assertRaisesRegex(ValueError, 'no built-in binary operator'):
                 spmat.semiring('min', 'no_such')
 
     def test_fixpoint(self):

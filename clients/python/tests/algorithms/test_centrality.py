@@ -2,9 +2,13 @@
 and floats: within the error that is told."""
 import math
 
+import pytest
+
 import graphs
 import support
 from spmat import algorithms
+
+pytestmark = pytest.mark.slow
 
 
 def comes(edges, numbers):
@@ -101,7 +105,7 @@ class Centralities(graphs.OnGraphs):
         self.assertIn('error', repr(algorithms.closeness(G)))
 
     def test_blocks(self):
-        from spmat import blocks
+        import spmat_blocks as blocks
         graph = graphs.DIRECTED[0]
         with blocks.Sessions(2) as sessions:
             one, many = graph.matrix(self.s), sessions.from_triples(

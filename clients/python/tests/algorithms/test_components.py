@@ -5,8 +5,9 @@ from unittest import mock
 import numpy
 
 import graphs
-from spmat import algorithms, blocks
-from spmat.algorithms import components, spanning_forest, strong_components, traversal
+import spmat_blocks as blocks
+from spmat import algorithms
+from spmat.algorithms import components, spanning_forest, traversal
 from support import InSession, enter
 
 
@@ -59,7 +60,7 @@ class Parts(InSession):
                                                   (1 << 15, 1 << 18, 0, 16), (0, 1 << 18, 0, 16),
                                                   (0, 1 << 18, 0, 1), (0, 0, 0, 1)):
                     if most or graph.count < 40:
-                        with mock.patch.multiple(strong_components, AT_ONCE=at_once, SMALL=most,
+                        with mock.patch.multiple(components, AT_ONCE=at_once, SMALL=most,
                                                  FEW=few, PULLS=pulls):
                             G.kept.pop('transpose', None)
                             self.assertEqual(algorithms.strongly_connected_components(G).to_list(),
@@ -101,8 +102,8 @@ class Parts(InSession):
             for i, j in edges:
                 near[i].add(j)
             rows, columns = [i for i, _ in edges], [j for _, j in edges]
-            at, labels = strong_components.find_strong_components(numpy.array(rows),
-                                                                  numpy.array(columns))
+            at, labels = components.find_strong_components(numpy.array(rows),
+                                                           numpy.array(columns))
             out = list(range(30))
             for i, label in zip(at.tolist(), labels.tolist()):
                 out[i] = label

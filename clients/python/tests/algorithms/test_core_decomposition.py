@@ -1,11 +1,15 @@
 """Core numbers, by pushes, by the client and by a loop at the server: as plain Python has them."""
 from unittest import mock
 
+import pytest
+
 import graphs
 import spmat
 import support
 from spmat import algorithms
 from spmat.algorithms import core_decomposition
+
+pytestmark = pytest.mark.slow
 
 PATH = graphs.undirected('path', 90, [(i, i + 1) for i in range(89)])
 

@@ -7,6 +7,8 @@ import random
 import sys
 import unittest
 
+import pytest
+
 import graphs
 import support
 import spmat
@@ -14,6 +16,8 @@ from spmat import algorithms
 from spmat.algorithms import cached_properties
 from spmat.algorithms.registry import ALGORITHMS, Size
 from spmat.algorithms.utils import column, loops, nothing, product, settle
+
+pytestmark = pytest.mark.slow
 
 WITHOUT_CYCLES = ('topological_levels', 'longest_paths')       # what refuses a graph with a cycle
 
@@ -67,7 +71,8 @@ class Costs(unittest.TestCase):
                 self.assertLessEqual(took, one.runs(self.size(graph, told)) + checks,
                                      one.function.__name__)
             if one.runs(Size(1, 1)) == one.runs(Size(9, 9)):
-                self.assertIn('Runs: %d' % one.runs(Size(1, 1)), one.function.__doc__)
+                self.assertIn(' %d runs' % one.runs(Size(1, 1)),
+                              ' '.join(one.function.__doc__.split()))
             seen.add(one.function.__name__)
         self.assertLessEqual({'degrees', 'bfs_levels', 'k_truss', 'longest_paths'}, seen)
 
@@ -218,12 +223,12 @@ class Costs(unittest.TestCase):
         """6 a level, and 5; 8 a level, and 9, where lengths are kept; of a loop that makes 12
         rounds at least."""
         lower = graphs.directed('lower', 40, {(i, j) for i, j in graphs.DIRECTED[2].edges if i < j})
-        for function, words in ((algorithms.topological_levels, '6 a level, and 5'),
-                                (algorithms.longest_paths, '8 a level, and 9')):
+        for function, words in ((algorithms.topological_levels, '6 runs per level, and 5'),
+                                (algorithms.longest_paths, '8 runs per level, and 9')):
             told, runs = self.counted(function, lower.matrix(self.session))
             self.assertGreater(len(told), 3)
             self.assertLessEqual(runs, ALGORITHMS[function.__name__].runs(self.size(lower, told)))
-            self.assertIn('Runs: ' + words, function.__doc__)
+            self.assertIn(words, function.__doc__)
 
     def test_searches(self):
         """4 a level of a batch, 5 for the greatest distance, and 3 a batch."""

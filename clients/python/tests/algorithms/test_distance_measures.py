@@ -3,11 +3,15 @@ begins, and what rounds take."""
 import random
 from unittest import mock
 
+import pytest
+
 import graphs
 import support
 import spmat
 from spmat import algorithms
 from spmat.algorithms import all_pairs_lengths, distance_measures
+
+pytestmark = pytest.mark.slow
 
 
 class Distances(support.InSession):

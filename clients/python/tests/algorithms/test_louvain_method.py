@@ -3,10 +3,14 @@ beside networkx."""
 import random
 import unittest
 
+import pytest
+
 import graphs
 import support
 import spmat
 from spmat import algorithms
+
+pytestmark = pytest.mark.slow
 
 
 class Louvain(graphs.OnGraphs):
@@ -119,7 +123,7 @@ class Louvain(graphs.OnGraphs):
 
 class InBlocks(unittest.TestCase):
     def test_louvain(self):
-        from spmat import blocks
+        import spmat_blocks as blocks
         graph = graphs.UNDIRECTED[3]
         triples = [(i, j, x) for (i, j), x in graph.edges.items()]
         with spmat.Session() as session, blocks.Sessions(2) as sessions:

@@ -1,6 +1,10 @@
 """Closeness beside plain Python, exactly as it is rounded."""
+import pytest
+
 import graphs
 from spmat import algorithms
+
+pytestmark = pytest.mark.slow
 
 
 class Closeness(graphs.OnGraphs):

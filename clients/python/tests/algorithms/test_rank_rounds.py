@@ -1,18 +1,17 @@
-"""Rounds of PageRank: shares without a division, rounds that extrapolate, and how far ranks are
-from those that linear equations have."""
-import math
+"""Rounds of PageRank: shares without a division, and how far ranks are from those that linear
+equations have."""
 import random
-import warnings
-from unittest import mock
 
 import numpy
+import pytest
 
 import graphs
 import spmat
 import support
 from spmat import algorithms
-from spmat.algorithms import rank_rounds
-from spmat.algorithms.rank_rounds import BITS, SHARE_OF_ALL, SHARE_ROUNDING, Damping, damping_of
+from spmat.algorithms.page_rank import BITS, SHARE_OF_ALL, SHARE_ROUNDING, damping_of
+
+pytestmark = pytest.mark.slow
 
 SIDE = 14
 GRID = graphs.undirected('grid', SIDE * SIDE,
@@ -51,11 +50,6 @@ class Ranks(support.InSession):
         self.assertEqual(found.rounds, len(told))
         return len(told)
 
-    def test_a_grid_takes_few_rounds(self):
-        self.assertLessEqual(self.look(GRID), 30)
-        with mock.patch.object(rank_rounds, '_is_symmetric', return_value=False):
-            self.assertGreater(self.look(GRID), 45)
-
     def test_dampings(self):
         for damping in DAMPINGS[:-1]:
             for graph in (GRID, graphs.UNDIRECTED[3], graphs.DIRECTED[0]):
@@ -90,39 +84,16 @@ class Ranks(support.InSession):
                 self.look(graph, given=given)
                 self.look(graph, given=given, weighted=True)
 
-    def test_weights_of_both_directions(self):
-        """Where they are known to be alike, rounds extrapolate, too."""
-        W = GRID.matrix(self.s)
-        plain = algorithms.pagerank(W, weighted=True).rounds
-        algorithms.minimum_spanning_forest(W)
-        found = algorithms.pagerank(W, weighted=True)
-        self.assertLess(found.rounds, plain - 10)
-        self.assertLess(abs(found.to_dense(float) - true_ranks(GRID, .85, weighted=True)).sum(),
-                        found.error)
-
-    def test_what_is_expected_and_does_not_come(self):
-        """Rounds that extrapolate by far too much go away from the ranks. Then those before them
-        count, and plain ones follow."""
-        plain = rank_rounds.Damping.weight
-        for weight in (3.0, .9):
-            with mock.patch.object(rank_rounds.Damping, 'weight',
-                                   property(lambda self, weight=weight: weight)):
-                rounds = self.look(GRID)
-            self.assertLessEqual(rounds, 70 + 2 * rank_rounds.MOST_AHEAD, weight)
-        self.assertIs(rank_rounds.Damping.weight, plain)
-
-    def test_a_refusal_amid_rounds_that_extrapolate(self):
-        """The ranks of the last look, with how far they are from the true ones."""
+    def test_a_refusal_amid_rounds(self):
+        """The ranks of the last round, with how far they are from the true ones."""
         whole = algorithms.pagerank(GRID.matrix(self.s), tolerance=1e-10)
         with spmat.Session(program=support.program()) as session:
             before = session.budget().spent
             algorithms.pagerank(GRID.matrix(session), tolerance=1e-9)
             spent = session.budget().spent - before
         for share in (.3, .5, .7, .9):
-            with warnings.catch_warnings(), \
-                    spmat.Session(int(share * spent), program=support.program()) as session, \
+            with spmat.Session(int(share * spent), program=support.program()) as session, \
                     self.assertRaises(spmat.BudgetExceeded) as caught:
-                warnings.simplefilter('ignore', spmat.BudgetWarning)
                 algorithms.pagerank(GRID.matrix(session), tolerance=1e-9)
             partial = caught.exception.partial
             self.assertLessEqual(abs(partial.to_dense(float).ravel() - whole.to_dense(float)).sum(),
@@ -155,25 +126,8 @@ class Shares(support.InSession):
                             SHARE_ROUNDING + 1e-6 * x / out)
 
     def test_nothing_wraps(self):
-        """Flows and what is given anew stay below 2^63, were all extrapolations before a look to go
-        one way."""
+        """Flows and what is given anew stay below 2^63."""
         for damping in DAMPINGS:
             parts = damping_of(damping)
-            for extrapolates in (False, True):
-                bits = parts.bits(extrapolates)
-                flow = 1.0
-                for _ in range(rank_rounds.MOST_AHEAD if extrapolates else 0):
-                    flow = (1 + parts.weight) * (parts.value * flow + 1 - parts.value)
-                self.assertLessEqual((flow + 1 / parts.value) * 2.0 ** bits, 2.0 ** 63)
-                self.assertGreaterEqual((flow + 1 / parts.value) * 2.0 ** bits, 2.0 ** 61)
-
-    def test_the_weight_of_an_extrapolation(self):
-        """That of Chebyshev's polynomials in the long run, and the rate at which distances shrink
-        then."""
-        parts = Damping(850, 1000)
-        omega = 1.0
-        for _ in range(60):
-            omega = 1 / (1 - parts.value ** 2 * omega / 4)
-        self.assertAlmostEqual(1 + parts.weight, omega)
-        self.assertAlmostEqual(parts.rate ** 2, parts.weight)
-        self.assertTrue(math.isclose(parts.rate, .5567, abs_tol=1e-3))
+            self.assertLessEqual((1 + 1 / parts.value) * 2.0 ** parts.bits, 2.0 ** 63)
+            self.assertGreaterEqual((1 + 1 / parts.value) * 2.0 ** parts.bits, 2.0 ** 61)

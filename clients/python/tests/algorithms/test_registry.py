@@ -4,11 +4,14 @@ import inspect
 import warnings
 
 import numpy
+import pytest
 
 import spmat
 import support
 from spmat import algorithms
 from spmat.algorithms.registry import ALGORITHMS, required
+
+pytestmark = pytest.mark.slow
 
 # errors of this package's own lines, which say nothing of the call
 SLIPS = (AttributeError, KeyError, IndexError, UnboundLocalError, NameError, AssertionError,
@@ -38,7 +41,7 @@ SAYS = (
     (lambda G: algorithms.triangle_count(G, progress=3), "unexpected keyword argument 'progress'"),
     (lambda G: algorithms.bfs_levels(G, 'a', progress=3), r'progress= of bfs_levels is a function'),
     (lambda G: algorithms.pagerank(G, personalization=['a']),
-     r'personalization= of pagerank is a dict of numbers by vertex.*by_node\(\)'),
+     'personalization= of pagerank is a dict, a Series or a column of numbers by vertex, not'),
     (lambda G: algorithms.pagerank(G, damping=float('inf')),
      'damping= of pagerank is a finite number, not inf'),
     (lambda G: algorithms.closeness(G, weighted='weight'),

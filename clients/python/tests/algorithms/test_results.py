@@ -5,12 +5,16 @@ import math
 import random
 from fractions import Fraction
 
+import pytest
+
 import graphs
 import support
 import spmat
 from spmat import algorithms
 from spmat.algorithms.registry import ALGORITHMS
 from spmat.algorithms.results import BOUND, CHANGE, RESIDUAL
+
+pytestmark = pytest.mark.slow
 
 NAMES = ['Ann', ('Bob', 2), 'Cid', 'd', 7, 'Eva', 'Flo', 'Gus', 'Hal']
 # two parts, and one alone
@@ -69,7 +73,8 @@ class Shapes(support.InSession):
                 for found in (plain, named):
                     self.assertIsInstance(found, spmat.Matrix)
                     self.assertEqual(found.shape, (9, 1))
-                    self.assertEqual(found.unit != 1, name in COUNTED)
+                    self.assertEqual(found.unit != 1, name in COUNTED
+                                     or found is named and name in VERTICES)
                 self.assertIsNone(plain.nodes)
                 self.assertEqual(named.nodes, NAMES)
                 self.assertEqual(plain.to_list(), named.to_list())
@@ -132,12 +137,12 @@ class Shapes(support.InSession):
         self.assertEqual(tree.lengths.by_node(), {'Ann': 0, ('Bob', 2): 4, 'Cid': 5, 'd': 7, 7: 12})
 
     def test_what_jobs_make_of_vertices(self):
-        """Copies, parts and choices stay vertices; numbers that are made of them don't."""
+        """Copies, parts and choices stay vertices; no number is made of them but by comparison."""
         G = graph_for(self.s, '', True)
         found = algorithms.bfs_parents(G, 'Ann')
         want = {'Ann': 'Ann', ('Bob', 2): 'Ann', 'Cid': 'Ann', 'd': 'Cid', 7: 'd'}
         self.assertEqual(found.by_node(), want)
-        for same in (found.dup(), found.T, found.select('valuege', 0),
+        for same in (found.dup(), found.T, found.select('valuene', 7),
                      found.ewise_add(found, 'max'), found.apply('identity'),
                      found.dup(mask=found.S), found.update(found, mask=found.S),
                      found.ewise_mult(algorithms.degrees(G), 'first'), found.reduce_rowwise('max'),
@@ -145,10 +150,10 @@ class Shapes(support.InSession):
             self.assertEqual(same.by_node(), want)
         self.assertEqual(found[['d', 'Cid'], :].by_node(), {'d': 'Cid', 'Cid': 'Ann'})
         self.assertEqual(found.ewise_mult(found, 'second').by_node(), want)
-        for number in (found.apply('plus', right=0), found.ewise_add(found, 'plus'),
-                       found.ewise_mult(found, 'eq'), G.mxv(found, 'plus_second'),
-                       found.reduce_rowwise('plus')):
-            self.assertTrue(all(isinstance(value, int) for value in number.by_node().values()))
+        self.assertEqual(set(found.ewise_mult(found, 'eq').by_node().values()), {1})
+        for call in (lambda: found.apply('plus', right=0), lambda: found.ewise_add(found, 'plus'),
+                     lambda: G.mxv(found, 'plus_second'), lambda: found.reduce_rowwise('plus')):
+            self.assertRaises(spmat.UnitsDiffer, call)
         self.assertEqual(found.to_csv(header=False).splitlines()[:2],
                          ['Ann,Ann', '"(\'Bob\', 2)",Ann'])
         self.assertIn('Ann', found._repr_html_())
@@ -169,10 +174,10 @@ class Shapes(support.InSession):
         for name, one in ALGORITHMS.items():
             if 'weighted' in one.parameters:
                 text = ' '.join(inspect.getdoc(one.function).split())
-                self.assertRegex(text, r'weighted : bool, default False Whether [^:]*; else ', name)
+                self.assertRegex(text, r'weighted : bool, default False Whether [^:]*; otherwise ', name)
 
     def test_in_blocks(self):
-        from spmat import blocks
+        import spmat_blocks as blocks
         with blocks.Sessions(2) as sessions:
             for name in ('pagerank', 'closeness', 'katz', 'betweenness', 'louvain', 'bfs_parents',
                          'k_core', 'clustering', 'eigenvector'):

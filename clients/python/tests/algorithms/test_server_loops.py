@@ -2,10 +2,14 @@
 wherever the loop takes over."""
 from unittest import mock
 
+import pytest
+
 import graphs
 import support
 from spmat import algorithms
 from spmat.algorithms import server_loops
+
+pytestmark = pytest.mark.slow
 
 SIDE = 12
 GRID = graphs.undirected('grid', SIDE * SIDE,

@@ -4,10 +4,14 @@ import itertools
 import random
 import unittest
 
+import pytest
+
 import graphs
 from graphs import by_chance
 import spmat
 from spmat import algorithms
+
+pytestmark = pytest.mark.slow
 
 
 class Routes(graphs.OnGraphs):
@@ -155,7 +159,7 @@ class Routes(graphs.OnGraphs):
 class InBlocks(unittest.TestCase):
     def test_blocks(self):
         """The same paths in row blocks."""
-        from spmat import blocks
+        import spmat_blocks as blocks
         graph, zeros = by_chance(60, 3, [1, 2, 9], 3), by_chance(60, 3, [0, 1], 4)
         with spmat.Session() as session, blocks.Sessions(3) as sessions:
             for drawn in (graph, zeros):

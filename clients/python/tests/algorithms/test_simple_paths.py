@@ -1,9 +1,13 @@
 """The k shortest paths beside all simple paths in plain Python."""
 import itertools
 
+import pytest
+
 import graphs
 from graphs import by_chance
 from spmat import algorithms
+
+pytestmark = pytest.mark.slow
 
 
 def simple_paths(near, edges, source, target):

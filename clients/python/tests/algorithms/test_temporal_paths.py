@@ -7,7 +7,7 @@ import numpy
 
 import support
 import spmat
-from spmat import blocks
+import spmat_blocks as blocks
 
 
 def earliest(events, sources, start, stop=None):

@@ -3,6 +3,8 @@ the text of a matrix: their places and values, full and with gaps."""
 import unittest
 from unittest import mock
 
+import pytest
+
 import graphs
 import spmat
 import support
@@ -10,6 +12,8 @@ from spmat import algorithms
 from spmat.algorithms import traversal
 from spmat.algorithms.traversal import Columns, Rows
 from spmat.io import matrix_text
+
+pytestmark = pytest.mark.slow
 
 MANY = 3072
 PAIRS = [(i, j) for i in range(40) for j in range(40) if i != j and (7 * i + 3 * j) % 5 == 0]

@@ -1,10 +1,14 @@
 """Trusses, by loops that stay at the server: as plain Python has them."""
 from unittest import mock
 
+import pytest
+
 import graphs
 from spmat import algorithms
 from spmat.algorithms import triangle_counts as truss
 from spmat.loops.trips import Trips
+
+pytestmark = pytest.mark.slow
 
 
 class Trusses(graphs.OnGraphs):

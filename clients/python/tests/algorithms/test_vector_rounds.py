@@ -1,19 +1,23 @@
 """Rounds of eigenvector and Katz centrality, hubs and authorities: no sum passes a word, a share is
-rounded by less than 1, the server's numbers are those of the client, and looks are few."""
+rounded by less than 1, numbers in blocks are those of one session, and looks are few."""
 import random
 from fractions import Fraction
 from unittest import mock
 
 import numpy
+import pytest
 
 import graphs
 import support
+import spmat_blocks as blocks
 from spmat import algorithms
-from spmat.algorithms import vector_rounds
-from spmat.algorithms.eigenvector_and_hits import Grown, Mutual
-from spmat.algorithms.katz_centrality import handed
-from spmat.algorithms.vector_rounds import MOST_AHEAD, Rounds, Scale, Steps, scale_of
+from spmat.algorithms import rounds
+from spmat.algorithms.rounds import MOST_AHEAD, Rounds, Scale, scale_of
+from spmat.algorithms.vector_centralities import Grown, hand_on
+from spmat.loops import State
 from spmat.operators.evaluation import evaluate
+
+pytestmark = pytest.mark.slow
 
 SIDE = 9
 GRID = graphs.undirected('grid', SIDE * SIDE,
@@ -49,29 +53,22 @@ class Shares(support.InSession):
         server."""
         chance = random.Random(1)
         for share in ALPHAS:
-            for bits in (3, 31, 40, 41, 42, 46, 47, 58, 61):
+            for bits in (3, 31, 40, 42, 47, 58, 61):
                 bits = min(bits, 61 - int(share).bit_length())
                 sums = [0, 1, (1 << bits) - 1,
                         *(chance.getrandbits(chance.randint(1, bits)) for _ in range(30))]
-                kind = handed(share, 1 << 20, None, None, float((1 << bits) - 1))
-                got = kind.share_of(numpy.array(sums, numpy.int64)).tolist()
+                units = column(self.s, [1 << 20] * len(sums))
+                got = units.ewise_add(column(self.s, sums), hand_on(share)).to_list()
                 for x, found in zip(sums, got):
                     self.assertLess(abs(found - (1 << 20) - share * x), 1, (share, x))
                     if share.denominator <= 10 and (share * x).denominator == 1:
                         self.assertEqual(found, (1 << 20) + share * x)
-                units = column(self.s, [1 << 20] * len(sums))
-                self.assertEqual(units.ewise_add(column(self.s, sums), kind.operator).to_list(),
-                                 got, (share, bits))
 
     def test_few_steps(self):
-        """No share divides, and one of usual numbers takes 9 instructions."""
-        lengths = [self.s.backend.upload(handed(Fraction(1, 10), 1, None, None,
-                                                2.0 ** bits).operator).instructions
-                   for bits in (40, 46, 60)]
-        self.assertEqual(lengths, [9, 13, 16])
-        for bits in (40, 46, 60):
-            self.assertNotIn('div',
-                             handed(Fraction(1, 10), 1, None, None, 2.0 ** bits).operator.text)
+        """No share divides, and one takes 16 instructions."""
+        made = hand_on(Fraction(1, 10))
+        self.assertEqual(self.s.backend.upload(made).instructions, 16)
+        self.assertNotIn('div', made.text)
 
     def test_scales(self):
         """A factor is rounded down by no more than is said, never wraps, and is the same at the
@@ -99,7 +96,7 @@ class Words(support.InSession):
     """What rounds make is the same in integers without an end."""
 
     def check(self, graph, weighted):
-        """Makes rounds with each sum looked at."""
+        """Makes rounds one by one, with each sum looked at."""
         G = graph.matrix(self.s)
         into, out = numpy.zeros((graph.count, graph.count),
                                 object), numpy.zeros((graph.count, graph.count), object)
@@ -107,23 +104,24 @@ class Words(support.InSession):
             into[j, i] = out[i, j] = value if weighted else 1
         looked = []
 
-        def compare(kind, steps, numbers, real):
-            looked.append(1)
-            made, x = real(kind, steps, numbers), [int(one) for one in numbers]
-            if isinstance(kind, Grown):
-                sums = numpy.array(x, object) + into.dot(x)
-            else:
-                sums = out.dot([int(one) >> kind.shift for one in into.dot(x)])
-            self.assertLess(max(sums), 1 << 63)
-            self.assertEqual([(int(one) >> kind.scale.first) * kind.scale.times >> kind.scale.then
-                              for one in sums], made['now'].tolist())
-            return made
-        for kind, function in ((Grown, algorithms.eigenvector), (Mutual, algorithms.hits)):
-            real = kind.make
-            with mock.patch.object(Steps, 'in_session', False), \
-                    mock.patch.object(kind, 'make',
-                                      lambda kind, steps, numbers, real=real: compare(
-                                          kind, steps, numbers, real)):
+        def advance(one, kind, count):
+            read = kind.products.read
+            for _ in range(count):
+                before = one.state.now
+                made, x = kind.make(before), [int(value) for value in read(before)]
+                looked.append(1)
+                if isinstance(kind, Grown):
+                    sums = numpy.array(x, object) + into.dot(x)
+                else:
+                    sums = out.dot([int(value) >> kind.shift for value in into.dot(x)])
+                self.assertLess(max(sums), 1 << 63)
+                self.assertEqual([(int(value) >> kind.scale.first) * kind.scale.times
+                                  >> kind.scale.then for value in sums],
+                                 read(made['now']).tolist())
+                one._state = State({'came': before, **made, 'before': before})  # as a loop does
+                one.number += 1
+        for function in (algorithms.eigenvector, algorithms.hits):
+            with mock.patch.object(Rounds, 'advance', advance):
                 try:
                     function(G, rounds=200, weighted=weighted)
                 except ValueError as fault:
@@ -147,7 +145,7 @@ class Words(support.InSession):
         """A number of nearly 0 grows by any factor: one that the last round shows to hold for the
         others says nothing of it."""
         for little in (16, 17, 1 << 20):
-            room, numbers = vector_rounds.Room(20, 1 << 30), [1 << 20, little, 0]
+            room, numbers = rounds.Room(20, 1 << 30), [1 << 20, little, 0]
             room.note(numpy.array([1 << 20, 0, 0]), numpy.array(numbers), Scale(0, 16, 4))
             scale, count = room.choose(1 << 20, 8)
             for _ in range(count):
@@ -158,7 +156,7 @@ class Words(support.InSession):
     def test_numbers_that_grow(self):
         """Without what a bound says of the next rounds, sums do pass a word: this test would see
         it."""
-        with mock.patch.object(vector_rounds.Room, 'choose',
+        with mock.patch.object(rounds.Room, 'choose',
                                lambda room, most, ahead: (Scale(0, 16, 4), 8)), \
                 self.assertRaises((AssertionError, OverflowError)):
             self.check(STAR, False)
@@ -176,26 +174,22 @@ class AtTheServer(support.InSession):
         commands."""
         looks, told, real = [], [], Rounds.advance
 
-        def advance(rounds, kind, count, progress):
+        def advance(one, kind, count):
             looks.append(count)
-            real(rounds, kind, count, progress)
+            real(one, kind, count)
         before = self.s.connection.commands
         with mock.patch.object(Rounds, 'advance', advance):
             found = call(lambda word, number, of: told.append(number))
         return found, looks, told, self.s.connection.commands - before
 
-    def test_as_at_the_client(self):
-        """Numbers, rounds and errors are those of rounds that the client makes, number by
-        number."""
-        for graph in (GRID, STAR, graphs.UNDIRECTED[3], random_graph(3), random_graph(6),
-                      random_graph(2, 9)):
-            for name, call in self.CALLS.items():
-                for weighted in (False, True):
-                    G = graph.matrix(self.s)
-                    found = call(G, weighted=weighted)
-                    with mock.patch.object(Steps, 'in_session', False):
-                        other = call(G, weighted=weighted)
-                    for one, two in zip(found, other):
+    def test_in_blocks(self):
+        """Numbers, rounds and errors are those of one session."""
+        with blocks.Sessions(2) as many:
+            for graph in (GRID, STAR, random_graph(3), random_graph(2, 9)):
+                for name, call in self.CALLS.items():
+                    weighted = graph.name == 'random'
+                    for one, two in zip(call(graph.matrix(self.s), weighted=weighted),
+                                        call(graph.matrix(many), weighted=weighted)):
                         self.assertEqual((one.to_list(), one.rounds, one.error),
                                          (two.to_list(), two.rounds, two.error),
                                          (graph.name, name, weighted))
@@ -209,7 +203,7 @@ class AtTheServer(support.InSession):
             self.assertEqual(told, list(range(1, found[0].rounds + 1)), name)
             self.assertGreater(len(told), 12, name)
             self.assertLessEqual(len(looks), 5 + len(told) / MOST_AHEAD, name)
-            with mock.patch.object(vector_rounds, 'MOST_AHEAD', 1):
+            with mock.patch.object(rounds, 'MOST_AHEAD', 1):
                 more = self.counted(lambda progress, call=call, G=G: call(G, progress=progress))[3]
             self.assertLess(commands, more, name)
 

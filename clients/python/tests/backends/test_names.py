@@ -8,11 +8,16 @@ import sys
 import unittest
 from unittest import mock
 
+import pytest
+
 import support
 import spmat
-from spmat import algorithms, blocks
+import spmat_blocks as blocks
+from spmat import algorithms
 from spmat.backends import names
 from spmat.algorithms import cached_properties, utils
+
+pytestmark = pytest.mark.slow
 
 POISONED = names.POISONED
 
@@ -164,7 +169,7 @@ class Named(unittest.TestCase):
             self.assertEqual((G.nodes, G.T.nodes, G.T.T.nodes, T.nodes, T.T.nodes),
                              (['a', 'b', 'c'], ['a', 'b', 'c'], ['a', 'b', 'c'], ['x', 'y', 'z'],
                               ['x', 'y', 'z']))
-            self.assertEqual(algorithms.degrees(G.T).by_node(), {'b': 1, 'c': 1})
+            self.assertEqual(algorithms.degrees(G.T).by_node(), {'a': 0, 'b': 1, 'c': 1})
             G.nodes = ['c', 'a', 'b']
             self.assertEqual((G.T.to_edgelist(), T.to_edgelist()),
                              ([('a', 'c', 3), ('b', 'a', 4)], [('y', 'x', 3), ('z', 'y', 4)]))

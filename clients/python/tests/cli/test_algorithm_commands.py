@@ -9,7 +9,7 @@ import sys
 import time
 
 import support
-from command_line import PACKAGE, CommandLine, with_body
+from command_line import PACKAGE, CommandLine
 from processes import alive, gone
 from spmat.cli.output import Status
 
@@ -18,9 +18,6 @@ KARATE = os.path.join(support.TOP, 'docs', 'karate.mtx')
 GRAPH = (
     '%%MatrixMarket matrix coordinate pattern symmetric\n6 6 7\n2 1\n3 1\n3 2\n4 3\n5 4\n6 4\n6 '
     '5\n')
-SCRIPT = ('# degrees\n' + with_body('matrix G', GRAPH)
-          + with_body('asm plus binary', 'mov64 r0, r1\nadd64 r0, r2\nexit')
-          + '\nreduce D plus G\nrun\nshow D\nbudget\nquit\n')
 COLUMN = (
     '%%MatrixMarket matrix coordinate integer general\n6 1 6\n1 1 2\n2 1 2\n3 1 3\n4 1 3\n5 1 '
     '2\n6 1 2\n')
@@ -73,10 +70,10 @@ class Commands(CommandLine):
         for command, want in (
             (['degrees', 'people.csv'], ['Anna\t1', 'Béla\t1', 'Clara\t2', 'Dvořák, Emil\t1',
                                          'Flora\t1', 'Gustav\t1']),
-            (['bfs-levels', 'friends.tsv', '--source', 'bob'],
+            (['bfs-levels', 'friends.tsv', '--no-header', '--source', 'bob'],
              ['ann 2', 'bob 0', 'cid 1', 'dee 2']),
-            (['bfs-levels', 'friends.tsv'], ['ann 0', 'bob 1', 'cid 2', 'dee 3']),
-            (['bfs-parents', 'friends.tsv', '--source', 'cid'],
+            (['bfs-levels', 'friends.tsv', '--no-header'], ['ann 0', 'bob 1', 'cid 2', 'dee 3']),
+            (['bfs-parents', 'friends.tsv', '--no-header', '--source', 'cid'],
              ['ann cid', 'bob ann', 'cid cid', 'dee cid']),
             (['connected-components', 'edges.txt'], ['0 0', '1 0', '2 0', '3 0']),
             (['sssp', 'roads.gr', '--source', '1'], ['1 0', '2 5', '3 2', '4 6', '5 10']),
@@ -90,14 +87,15 @@ class Commands(CommandLine):
             (['sssp', 'weights.mtx', '--pattern', '--source', '2'], ['1 1', '2 0', '3 1']),
             (['transitive-closure', 'roads.gr'], ['1 2 1', '1 3 1', '1 4 1', '1 5 1', '2 4 1',
                                                   '2 5 1', '3 2 1', '3 4 1', '3 5 1', '4 5 1']),
-            (['degrees', 'clubs.csv', '--header', '--bipartite'],
+            (['degrees', 'clubs.csv', '--sep', ';', '--header', '--bipartite'],
              ['ann 2', 'bob 2', 'cid 1', 'chess 2', 'rowing 3']),
-            (['degrees', 'clubs.csv', '--header', '--one-kind'], ['ann 2', 'bob 2', 'cid 1']),
+            (['degrees', 'clubs.csv', '--sep', ';', '--header', '--one-kind'],
+             ['ann 2', 'chess 0', 'bob 2', 'rowing 0', 'cid 1']),
             (['degrees', 'people.csv', '--columns', 'to,from'],
              ['Béla\t1', 'Anna\t1', 'Clara\t1', 'Dvořák, Emil\t2', 'Flora\t1', 'Gustav\t1']),
             (['degrees', 'people.csv', '--columns', '1,0', '--no-header'],
-             ['to\t1', 'from\t0'][:1] + ['Béla\t1', 'Anna\t1', 'Clara\t1', 'Dvořák, Emil\t2',
-                                         'Flora\t1', 'Gustav\t1'])):
+             ['to\t1', 'from\t0', 'Béla\t1', 'Anna\t1', 'Clara\t1', 'Dvořák, Emil\t2',
+              'Flora\t1', 'Gustav\t1'])):
             words = [os.path.join(DATA, word) if os.path.exists(os.path.join(DATA, word)) else word
                      for word in command]
             self.assertEqual(self.printed(*words).splitlines(), want, command)
@@ -111,19 +109,18 @@ class Commands(CommandLine):
         self.assertIn('this is no Matrix Market file',
                       self.refused('degrees', 'bad.csv', '--format', 'mtx'))
         self.assertIn("no vertex eve: they are 'ann', 'bob'",
-                      self.refused('bfs-levels', os.path.join(DATA, 'friends.tsv'), '--source',
-                                   'eve', status=Status.WORDS))
+                      self.refused('bfs-levels', os.path.join(DATA, 'friends.tsv'), '--no-header',
+                                   '--source', 'eve', status=Status.WORDS))
         self.assertIn('is empty', self.refused('degrees', '-', text='\n'))
         self.assertIn('--bipartite', self.refused('degrees', '-', text=COLUMN))
         self.assertIn('line 3 of standard input: ',
                       self.refused('degrees', '-', text=GRAPH.replace('2 1\n', 'x 1\n')))
-        done = self.run_words('pagerank', 'graph.mtx', '--plot', 'x.png')
+        done = self.run_words('triangle-count', 'graph.mtx', '--plot', 'x.png')
         self.assertEqual(done.returncode, 2)
-        self.assertIn('unrecognized arguments: --plot x.png (spmat-graph pagerank --help)',
-                      done.stderr)
+        self.assertIn('No such option: --plot (spmat-graph triangle-count --help)', done.stderr)
         self.assertEqual(self.printed('triangle-count', 'graph.mtx', '--steps', '1e6', '--workers',
                                       '1'), '2\n')
-        self.assertIn("invalid whole number value: '1.5'",
+        self.assertIn("Invalid value for '--steps': '1.5' is no whole number",
                       self.run_words('degrees', 'graph.mtx', '--steps', '1.5').stderr)
 
     def test_paths(self):
@@ -182,70 +179,10 @@ class Commands(CommandLine):
 
     def test_help_has_examples(self):
         self.assertIn('spmat-graph triangle-count', self.printed('--help'))
-        for command in ('degrees', 'bfs-levels', 'k-truss', 'spy', 'types', 'script'):
+        for command in ('degrees', 'bfs-levels', 'k-truss', 'spy', 'draw'):
             told = self.printed(command, '--help')
-            self.assertTrue('example' in told or 'matrix G' in told, command)
+            self.assertIn('Example: spmat-graph %s ' % command, told)
             self.assertNotIn('progress(', told)
-
-    def test_types(self):
-        lines = self.printed('types', 'binary.min').splitlines()
-        self.assertEqual(lines[0].split(),
-                         ['slot', 'instruction'] + ['R%d' % number for number in range(11)])
-        self.assertEqual(lines[1].split(), ['0', 'mov64', 'r0,', 'r1', '-', 'n', 'n'] + ['-'] * 7
-                         + ['p0'])
-        self.write('bad.asm', 'mov64 r0, r1\nldx64 r0, r1, 0\nexit\n')
-        said = self.refused('types', 'bad.asm', '--kind', 'unary', status=Status.REFUSED)
-        self.assertIn('V14', said)
-        self.assertIn("slot 1, line 2: 'ldx64 r0, r1, 0'", said)
-        for name, says in (('bad.asm', '--kind'), ('binary.nothing', 'plus'),
-                           ('plus', 'the ready operator is binary.plus'),
-                           ('nonzero', 'unary.nonzero or index.nonzero')):
-            self.assertIn(says, self.refused('types', name, status=Status.WORDS))
-
-    def test_script(self):
-        self.write('session.txt', SCRIPT)
-        printed = self.printed('script', 'session.txt')
-        self.assertEqual(printed.splitlines()[:5],
-                         ['ok matrix 6 6 14', 'ok op 3 3', 'ok queued 1 24', 'ok run 1 24',
-                          'D 6 1 6 24'])
-        self.assertEqual(printed.splitlines()[-1], 'ok quit')
-        self.assertIn(COLUMN, printed)
-        self.assertEqual(self.printed('script', '-', text=SCRIPT), printed)
-
-    def test_script_by_a_shell(self):
-        """What --help shows: a shell takes bodies from files."""
-        self.write('plus.asm', 'mov64 r0, r1\nadd64 r0, r2\nexit\n')
-        text = self.printed('script',
-                            '--help').split('from files:\n')[1].split('\n\nA blank')[0].replace(
-                                'spmat-graph script', '"$@"')
-        done = subprocess.run(['bash', '-c', text, 'bash', sys.executable, '-m', 'spmat', 'script'],
-                              cwd=self.folder, text=True, stdout=subprocess.PIPE,
-                              env=dict(os.environ, PYTHONPATH=PACKAGE), check=True)
-        self.assertIn(COLUMN, done.stdout)
-
-    def test_script_stops_where_it_is_refused(self):
-        self.write('session.txt', SCRIPT.replace('reduce D', 'foo\nreduce D'))
-        line = 1 + SCRIPT[:SCRIPT.index('reduce D')].count('\n')
-        done = self.run_words('script', 'session.txt')
-        self.assertEqual((done.returncode, done.stdout),
-                         (Status.REFUSED, 'ok matrix 6 6 14\nok op 3 3\n'))
-        self.assertIn('line %d: `foo` is refused: S1' % line, done.stderr)
-        self.assertEqual(done.stderr.count('`foo`'), 1)
-        done = self.run_words('script', 'session.txt', '--keep-going')
-        self.assertEqual((done.returncode, done.stdout.splitlines()[-1]),
-                         (Status.REFUSED, 'ok quit'))
-
-    def test_script_faults_name_their_line(self):
-        for text, words in (('budget\nmatrix G\n',
-                             "line 2: expected the length of the body at the end, as in `matrix "
-                             ".. 62`, got 'G'"),
-                            ('matrix G < graph.mtx\n',
-                             "got 'graph.mtx'; --help shows how a shell takes bodies from files"),
-                            ('asm f unary <<END\nexit\n', "got '<<END'"),
-                            ('matrix G 99999999999999999999\n', 'expected the length'),
-                            ('\nmatrix G 99\n1 1 1\n',
-                             'line 2: expected a body of 99 bytes, and the script ends after 6')):
-            self.assertIn(words, self.refused('script', '-', text=text))
 
     @support.needs('matplotlib', 'numpy')
     def test_pictures(self):
@@ -302,13 +239,11 @@ class Commands(CommandLine):
         """They begin their line, where the bar was."""
         # enough to be sent in pieces
         self.write('long.mtx', GRAPH + ('%' + 1000 * '-' + '\n') * 1100)
-        self.write('session.txt', with_body('matrix G', self.read('long.mtx')) + 'foo\n')
-        for words, bar, first in ((['triangle-count', 'graph.mtx'], 'jobs', '2'),
-                                  (['script', 'session.txt'], 'sent', 'ok matrix 6 6 14')):
-            shown = self.shown(*words)
+        shown = self.shown('triangle-count', 'long.mtx')
+        for bar in ('jobs', 'sent'):
             self.assertIn(bar + ': ', shown)
-            self.assertRegex(shown, r'\d+%')
-            self.assertRegex(shown, '[\r\n]' + first + '\r\n', words)
+        self.assertRegex(shown, r'\d+%')
+        self.assertRegex(shown, '[\r\n]2\r\n')
         self.assertEqual(self.shown('triangle-count', 'graph.mtx', '--quiet'), '2\r\n')
 
     def test_no_progress_in_a_pipe(self):

@@ -1,7 +1,5 @@
 """What the command line offers: every algorithm, with names in its results; errors in its own
 words; TLS; completion."""
-import ast
-import glob
 import os
 import re
 import shutil
@@ -11,33 +9,19 @@ import subprocess
 import sys
 import threading
 import unittest
-import unittest.mock
 
 import support
-from command_line import PACKAGE, CommandLine
+from command_line import PACKAGE, CommandLine, flags_of
 from spmat import algorithms, errors
-from spmat.cli import parser
-from spmat.cli import output
-from spmat.cli.algorithm_commands import COMMANDS, describe
+from spmat.cli import COMPLETION, output
+from spmat.cli.algorithm_commands import COMMANDS, PICTURES, describe
 from spmat.cli.output import Status
+from spmat.io.edges import Layout
 
 # What of the module is no algorithm: types, and what the flag --undirected does.
-NO_COMMAND = {'Bounds', 'Centrality', 'Communities', 'CycleError', 'GraphMatrix', 'modularity',
+NO_COMMAND = {'Bounds', 'Centrality', 'Communities', 'CycleError', 'modularity',
               'NoPath', 'Path', 'PathTree', 'Progress', 'undirected'}
 ROADS = 'from,to,km\nann,bob,5\nbob,cid,7\ncid,ann,2\ncid,dee,4\n'
-# Where messages come from that the command line shows, and what in them looks like an argument and
-# isn't one of a call that it makes.
-MODULES = ('io/column*.py', 'io/coo.py', 'io/edge*.py',
-           'io/formats.py', 'io/graph_formats.py', 'io/importers.py',
-           'io/matrix_market.py', 'io/values.py', 'io/writers.py',
-           'wire/transport.py', 'operators/clang.py', 'operators/c.py')
-NEVER = {'source', 'target', 'edge_attr', 'index_col', 'mcpu', 'nodelist', 'nodes', 'nodetype',
-         'raw', 'right', 'left', 'run_timeout', 'sep', 'timeout', 'weight'}
-
-
-def commands():
-    """The grammar of the commands."""
-    return next(action for action in parser()._actions if action.dest == 'command')
 
 
 class Words(CommandLine):
@@ -82,17 +66,9 @@ class Words(CommandLine):
         self.write('dag.csv', 'a,b,5\nb,c,7\na,c,2\n')
         self.assertEqual(self.printed('longest-paths', 'dag.csv').splitlines(),
                          ['a 0', 'b 5', 'c 12'])
-        self.write('square.csv', 'a,b\nb,c\nc,d\nd,a\nd,e\n')
+        self.write('square.csv', 'a,b,1\nb,c,1\nc,d,1\nd,a,1\nd,e,1\n')
         self.assertEqual(self.printed('squares', 'square.csv', '--undirected').splitlines(),
-                         ['a 1', 'b 1', 'c 1', 'd 1'])
-
-    def test_the_former_word(self):
-        """`python3 -m spmat run` goes on, as it is stable."""
-        self.write('session.txt', 'budget\n')
-        done = subprocess.run([sys.executable, '-m', 'spmat', 'run', 'session.txt', '--steps', '7'],
-                              cwd=self.folder, stdout=subprocess.PIPE,
-                              env=dict(os.environ, PYTHONPATH=PACKAGE), check=False)
-        self.assertEqual((done.returncode, done.stdout), (0, b'ok budget 7 0 0\n'))
+                         ['a 1', 'b 1', 'c 1', 'd 1', 'e 0'])
 
     def test_help_speaks_no_python(self):
         for name, algorithm in COMMANDS.items():
@@ -102,47 +78,28 @@ class Words(CommandLine):
                 self.assertNotRegex(told,
                                     r'progress|check=|ValueError|\bNone\b|`GT|G\.T|as a column| $')
 
-    def test_flags_of_arguments(self):
-        """Each argument that a message names is followed by its flag, once; what only looks like
-        one isn't."""
+    def test_flags_of_parameters(self):
+        """Each parameter that an error is about is followed by its flag, once; no text is
+        searched."""
+        about = errors.about
         for fault, want in (
-            (errors.ReadError('f', 1,
-                              "columns= says which, as columns=('a', 'b'); values=False reads "
-                              "none"), ' (flags: --columns, --pattern)'),
-            (errors.ReadError('f', None, 'twice: dup_op= folds them, header=True', "'x=5'"),
+            (about(errors.ReadError('f', 1, 'what?'), 'columns', 'values', 'columns'),
+             ' (flags: --columns, --pattern)'),
+            (about(errors.ReadError('f', None, 'twice'), 'dup_op', 'header'),
              ' (flags: --dup-op, --header or --no-header)'),
-            (ValueError('where it speaks TLS, give tls='),
-             ' (flags: --tls, --cacert, --cert or --key)'),
-            (ValueError('check=False leaves this check out'), ''),
-            (ValueError("no vertex 'columns=3'"), ''),
+            (about(ValueError('no'), 'tls'), ' (flags: --tls, --cacert, --cert or --key)'),
+            (about(ValueError('no'), 'check'), ''), (ValueError('columns= of it'), ''),
             (errors.BudgetExceeded('S8', (5, 3)), ' (flags: --steps)')):
             with self.subTest(fault=fault):
                 self.assertEqual(output.describe_flags(fault), want)
 
-    def test_each_argument_has_a_flag(self):
-        known = {word for command in commands().choices.values() for action in command._actions
-                 for word in action.option_strings}
-        for name in errors.ARGUMENTS:
+    def test_each_parameter_has_a_flag(self):
+        known = flags_of(*COMMANDS)
+        for name in ('steps', 'program', 'workers', 'tls', 'format', 'directed', 'dup_op',
+                     *Layout._fields):
             flags = output.FLAGS.get(name, '--' + name.replace('_', '-'))
             with self.subTest(name=name):
                 self.assertLessEqual(set(re.findall('--[a-z-]+', flags)), known)
-
-    def test_each_argument_of_a_message_is_known(self):
-        """An argument that a message of the readers names is one that errors tell."""
-        found = {}
-        for path in sorted(path for form in MODULES
-                           for path in glob.glob(os.path.join(PACKAGE, 'spmat', form))):
-            with open(path, encoding='utf-8') as file:
-                tree = ast.parse(file.read())
-            texts = {ast.get_docstring(node, clean=False) for node in ast.walk(tree)
-                     if isinstance(node, (ast.Module, ast.ClassDef, ast.FunctionDef))}
-            for node in ast.walk(tree):
-                if isinstance(node, ast.Constant) and isinstance(node.value,
-                                                                 str) and node.value not in texts:
-                    for word in re.findall(r'(?<![\w-])([a-z_]+)=', node.value):
-                        found.setdefault(word, (os.path.basename(path), node.value))
-        self.assertEqual({word: where for word, where in found.items()
-                          if word not in NEVER.union(errors.ARGUMENTS)}, {})
 
     def test_faults_of_files_in_flags(self):
         self.write('four.csv', 'x,y,1,2\nu,v,3,4\n')
@@ -166,34 +123,37 @@ class Words(CommandLine):
         return dict(os.environ, PATH=self.folder + os.pathsep + os.environ['PATH'],
                     PYTHONPATH=PACKAGE)
 
-    @support.needs('argcomplete')
     def test_bash(self):
-        self.write('text', self.printed('completion', 'bash'))
+        """bash completes by what click prints for it."""
+        environment = self.program_on_path()
+        script = self.shell_script('bash', environment)
         for line, want in (('spmat-graph page', ['pagerank']),
                            ('spmat-graph k-', ['k-core', 'k-hop', 'k-shortest-paths', 'k-truss']),
                            ('spmat-graph degrees --conn', ['--connect']),
-                           ('spmat-graph degrees g --format d', ['dimacs']),
-                           ('spmat-graph completion ', ['bash', 'zsh'])):
+                           ('spmat-graph degrees g --format d', ['dimacs'])):
             with self.subTest(line=line):
-                script = ('source ./text; COMP_LINE=$1 COMP_POINT=${#1} COMP_TYPE=9; '
-                          'COMP_WORDBREAKS=" "; _python_argcomplete spmat-graph; printf "%s\\n" '
-                          '"${COMPREPLY[@]}"; complete -p spmat-graph')
-                done = subprocess.run(['bash', '-c', script, 'bash', line], cwd=self.folder,
+                asked = ('source ./script; COMP_WORDS=($1); COMP_CWORD=$((${#COMP_WORDS[@]} - 1)); '
+                         '_spmat_graph_completion spmat-graph; printf "%s\\n" "${COMPREPLY[@]}"; '
+                         'complete -p spmat-graph')
+                self.write('script', script)
+                done = subprocess.run(['bash', '-c', asked, 'bash', line], cwd=self.folder,
                                       stdout=subprocess.PIPE, stderr=subprocess.PIPE, text=True,
-                                      check=False, env=self.program_on_path())
+                                      check=False, env=environment)
                 *words, registered = done.stdout.splitlines()
-                self.assertEqual((sorted(word.strip() for word in words if word), done.stderr),
-                                 (want, ''))
-                self.assertIn('-o default', registered)
+                self.assertEqual((sorted(words), done.stderr), (want, ''))
+                self.assertIn('_spmat_graph_completion spmat-graph', registered)
+
+    def shell_script(self, shell, environment):
+        """What a shell sources."""
+        return subprocess.run(['spmat-graph'], cwd=self.folder, stdout=subprocess.PIPE, text=True,
+                              check=True, env={**environment, COMPLETION: shell + '_source'}).stdout
 
     @unittest.skipIf(shutil.which('zsh') is None, 'no program zsh')
-    @support.needs('argcomplete')
     def test_zsh(self):
-        """zsh reads it, and completes by it as compinit finds it: in a terminal of its own
-        (zpty)."""
-        self.write('_spmat-graph', self.printed('completion', 'zsh'))
+        """zsh sources it and completes by it, in a terminal of its own (zpty)."""
+        self.write('completion', self.shell_script('zsh', self.program_on_path()))
         script = r'''zmodload zsh/zpty; zpty z zsh -f
-            zpty -w z 'PS1=; fpath=($PWD $fpath); autoload -U compinit; compinit -u -d $PWD/dump; PS1="rea""dy>"'
+            zpty -w z 'PS1=; autoload -U compinit; compinit -u -d $PWD/dump; source ./completion; PS1="rea""dy>"'
             zpty -r z got '*ready>*'
             for line in "$@"; do zpty -w -n z "$line"$'\t'; sleep 4; zpty -w -n z $'\x15'; zpty -w z "echo do''ne"; zpty -r z got '*done*'
                 print -r -- $got; done'''
@@ -205,27 +165,21 @@ class Words(CommandLine):
         self.assertIn('spmat-graph pagerank', done.stdout)
         self.assertIn('spmat-graph degrees --both-ways', done.stdout)
 
-    def test_completion_without_argcomplete(self):
-        with unittest.mock.patch.dict(sys.modules, {'argcomplete': None}):
-            said = self.refused('completion', 'bash', status=Status.OTHER)
-        self.assertIn('completion needs argcomplete (extra cli): pip install argcomplete', said)
-
     def test_the_manual(self):
         """It names each command, and no option that isn't there."""
         with open(os.path.join(support.TOP, 'packaging', 'man', 'spmat-graph.1'),
                   encoding='utf-8') as file:
-            page = file.read().replace('\\-', '-').replace('\\~', ' ')
+            page = file.read().replace('@COMMANDS@', subprocess.run(
+                [sys.executable, os.path.join(support.TOP, 'tools', 'manual_commands')],
+                stdout=subprocess.PIPE, text=True, check=True).stdout)
+        page = page.replace('\\-', '-').replace('\\~', ' ')
         section = page.split('.SH COMMANDS')[1].split('.SH')[0]
         told = {word for line in re.findall(r'^\.B (.*)$', section, re.M)
                 for word in line.split(', ')}
-        self.assertEqual(told - {'spmat-graph', '--help'}, set(commands().choices))
+        self.assertEqual(told - {'spmat-graph', '--help'}, {*COMMANDS, *PICTURES})
         options = set(re.findall(r'--[a-z][a-z-]*', page))
-        known = {word for command in commands().choices.values() for action in command._actions
-                 for word in action.option_strings}
-        self.assertEqual(options - known - {'--version'}, set())
-        shared = {word for action in commands().choices['degrees']._actions
-                  for word in action.option_strings if word.startswith('--')}
-        self.assertEqual(shared - options, set())
+        self.assertEqual(options - flags_of(*COMMANDS, *PICTURES) - {'--version'}, set())
+        self.assertEqual(flags_of('degrees') - options - {'-h'}, set())
 
 
 class SecretRelay(support.Relay):

@@ -14,7 +14,7 @@ import time
 from unittest import mock
 
 import support
-from command_line import PACKAGE, CommandLine, with_body
+from command_line import PACKAGE, CommandLine
 from spmat import errors
 from spmat.cli import output
 from spmat.cli.output import Status
@@ -37,7 +37,7 @@ ODD = {
     'blank.csv': (b' \n\n', 'blank.csv'),
     'quote.csv': (b'a,"b\n' * 3, 'quote.csv'),
     'one.csv': (b'a\nb\n', 'one.csv'),
-    'ragged.csv': (b'a,b\nb,c,d,e\n', 'ragged.csv, line 2'),
+    'ragged.csv': (b'a,b,1\nb,c,d,e\n', 'ragged.csv, line 2'),
     'head.mtx': (b'%%MatrixMarket matrix coordinate integer general\n', 'head.mtx'),
     'short.mtx': (b'%%MatrixMarket matrix coordinate integer general\n3 3 3\n1 1 1\n', 'short.mtx'),
     'bytes.mtx': (b'%%MatrixMarket matrix coordinate integer general\n\xff\xfe\n', 'bytes.mtx'),
@@ -55,7 +55,7 @@ class Ends(CommandLine):
         self.assertEqual(done.returncode, status, done.stderr)
         said = self.faults(done)
         self.assertEqual(said.count('\n'), 1, done.stderr)
-        self.assertTrue(said.startswith('spmat-graph: ') or words[0] == 'script', done.stderr)
+        self.assertTrue(said.startswith('spmat-graph: '), done.stderr)
         self.assertIn(says, said)
 
     def test_done(self):
@@ -80,7 +80,7 @@ class Ends(CommandLine):
             self.ends(Status.OTHER, 'degrees', 'graph.mtx', '--plot', 'x.png', says='matplotlib')
 
     def test_words(self):
-        self.write('list.csv', 'ann,bob\nbob,cid\n')
+        self.write('list.csv', 'ann,bob,1\nbob,cid,1\n')
         for words in (['nothing'], [], ['degrees'], ['k-core', 'graph.mtx'],
                       ['degrees', 'graph.mtx', '--steps', '-1'],
                       ['degrees', 'graph.mtx', '--workers', '0'],
@@ -99,25 +99,23 @@ class Ends(CommandLine):
             with self.subTest(words=words):
                 self.assertEqual(self.run_words(*words).returncode, Status.WORDS)
         self.ends(Status.WORDS, 'serve', says='spmat serve')
-        self.ends(Status.WORDS, 'run', says='spmat-graph script FILE')
-        self.ends(Status.WORDS, 'page-rank', says='did you mean pagerank?')
+        self.ends(Status.WORDS, 'run', says='spmat run')
+        for word, meant in (('page-rank', 'pagerank'), ('pagerang', 'pagerank'),
+                            ('betweenness_centrality', 'betweenness'), ('ego_graph', 'k-hop'),
+                            ('dijkstra', 'sssp')):
+            self.ends(Status.WORDS, word, says='did you mean %s?' % meant)
 
     def test_files(self):
         for name, (data, says) in ODD.items():
             self.write(name, data)
             with self.subTest(name=name):
                 self.ends(Status.FILE, 'degrees', name, says=says)
-                self.assertIn(self.run_words('types', name, '--kind', 'unary').returncode,
-                              (Status.FILE, Status.REFUSED))
-                self.assertIn(self.run_words('script', name).returncode,
-                              (Status.FILE, Status.REFUSED, Status.DONE))
 
     def test_what_is_no_file(self):
         os.mkdir(os.path.join(self.folder, 'folder'))
-        for command in (['degrees'], ['script'], ['types', '--kind', 'unary']):
-            self.ends(Status.FILE, command[0], 'folder', *command[1:], says='folder: ')
-            self.ends(Status.FILE, command[0], 'nothere.csv', *command[1:],
-                      says='nothere.csv: No such file or directory')
+        self.ends(Status.FILE, 'degrees', 'folder', says='folder: ')
+        self.ends(Status.FILE, 'degrees', 'nothere.csv',
+                  says='nothere.csv: No such file or directory')
         self.ends(Status.FILE, 'degrees', '/dev/null', says='/dev/null: it is empty')
         with socket.socket(socket.AF_UNIX) as bound:
             bound.bind(os.path.join(self.folder, 'bound'))
@@ -143,48 +141,18 @@ class Ends(CommandLine):
         self.ends(Status.REFUSED, 'degrees', 'huge.mtx', says='M4')
 
     def test_graphs_of_another_kind(self):
-        self.write('way.csv', 'a,b\nb,c\n')
-        self.write('round.csv', 'a,b\nb,a\n')
+        self.write('way.csv', 'a,b,1\nb,c,1\n')
+        self.write('round.csv', 'a,b,1\nb,a,1\n')
         self.ends(Status.FILE, 'triangle-count', 'way.csv', says='--undirected')
         self.ends(Status.FILE, 'topological-levels', 'round.csv', says='cycle')
 
-    def test_refused(self):
-        self.write('bad.asm', 'mov64 r0, r1\nldx64 r0, r1, 0\nexit\n')
-        self.ends(Status.REFUSED, 'types', 'bad.asm', '--kind', 'unary', says='V14')
-        self.ends(Status.REFUSED, 'script', '-', text='foo\n', says='S1')
-        done = self.run_words('script', '-', '--keep-going', text='foo\nshow X\nquit\n')
-        self.assertEqual((done.returncode, done.stdout), (Status.REFUSED, 'ok quit\n'))
-
-    def test_names_that_stand_for_nothing(self):
-        """S4 says which of a command's names."""
-        head = with_body('matrix G', GRAPH) + with_body('asm f unary',
-                                                        'mov64 r0, r1\nexit') + 'apply H f G\n'
-        for command, says in (('show X', 'nothing is called X'),
-                              ('show H', 'H is the result of a job that waits: `run` makes it'),
-                              ('apply I g G', 'nothing is called g'),
-                              ('apply I f G mask M', 'nothing is called M'),
-                              ('product I f f G N', 'nothing is called N'),
-                              ('select I f X 5', 'nothing is called X')):
-            with self.subTest(command=command):
-                done = self.run_words('script', '-', text=head + command + '\n')
-                self.assertIn('S4', done.stderr)
-                self.assertTrue(done.stderr.rstrip().endswith(says), done.stderr)
-        self.assertEqual(self.run_words('script', '-', text=head + 'run\nshow H\n').returncode,
-                         Status.DONE)
-
     def test_budget(self):
         self.ends(Status.BUDGET, 'triangle-count', 'graph.mtx', '--steps', '3',
-                  says='none of its jobs was sent: a greater --steps gives it more\n')
+                  says='are left: a greater --steps gives it more\n')
         done = self.run_words('pagerank', '-', '--steps', '200', text=GRAPH)
         self.assertEqual(done.returncode, Status.BUDGET)
-        warning, fault = done.stderr.splitlines()
-        self.assertRegex(warning, '^spmat-graph: pagerank may take up to 561 steps, and 200 are '
-                         'left: it may be refused amid its work; a greater --steps gives it more$')
+        fault, = done.stderr.splitlines()
         self.assertRegex(fault, '^spmat-graph: S8: .* are left: a greater --steps gives it more$')
-        text = with_body('matrix G', GRAPH) + with_body('asm f unary',
-                                                        'mov64 r0, r1\nexit') + 'apply H f G\n'
-        done = self.run_words('script', '-', '--steps', '0', text=text)
-        self.assertEqual(done.returncode, Status.BUDGET)
 
     def test_too_little(self):
         """No seat, no memory, no thread."""

@@ -4,8 +4,9 @@ import io
 import os
 
 import support
-from command_line import CommandLine
+from command_line import CommandLine, flags_of
 from spmat.algorithms.registry import ALGORITHMS
+from spmat.cli.algorithm_commands import COMMANDS, NO_OPTIONS
 from spmat.cli.output import Status
 
 FILES = {'r.csv': 'A,B,3\nB,A,4\nA,B,10\n', 'r3.csv': 'A,B,1\nB,C,1\nA,C,10\n',
@@ -56,7 +57,7 @@ class Words(CommandLine):
                     'them: --weighted does')
         self.assertNotIn('use them', self.run_words(*words, '--quiet').stderr)
         self.assertNotIn('use them', self.run_words(*words, '--weighted').stderr)
-        self.prints('degrees', 'r3.csv', '--columns', '0,1,2', lines=['A 2', 'B 1'],
+        self.prints('degrees', 'r3.csv', '--columns', '0,1,2', lines=['A 2', 'B 1', 'C 0'],
                     says='degrees does not use them')
         self.assertNotIn('use them', self.run_words('degrees', 'r3.csv', '--columns', '0,1').stderr)
 
@@ -92,7 +93,7 @@ class Words(CommandLine):
                       ['--undirected', '--both-ways'], ['--columns', '0,1', '--columns', '1,0'],
                       ['--scale', '2', '--scale', '3']):
             self.refuses('degrees', 'r3.csv', *words,
-                         says=['argument' if '--undirected' not in words else '--both-ways'])
+                         says=[words[-1] if words[-1][0] == '-' else words[0]])
         self.refuses('sssp', 'r3.csv', '--source', 'A', '--source', 'B',
                      says=['--source: given twice'])
         self.assertEqual(self.run_words('betweenness', 'r3.csv', '--source', 'A', '--source',
@@ -104,7 +105,7 @@ class Words(CommandLine):
                          says=[words[0], '--connect'])
 
     def test_words_of_lists_on_other_files(self):
-        for words in (['--columns', '0,1'], ['--delimiter', ','], ['--header']):
+        for words in (['--columns', '0,1'], ['--sep', ','], ['--header']):
             self.assertIn('is for a list of edges', self.refused('degrees', 'g.mtx', *words))
 
     def test_undirected_bipartite(self):
@@ -112,14 +113,58 @@ class Words(CommandLine):
                     lines=["('row', 'A')\t2", "('row', 'B')\t1", "('column', 'B')\t1",
                            "('column', 'C')\t2"])
 
+    def test_forms_that_hide_others(self):
+        for words in (['--csv', '--json'], ['--json', '--mtx'], ['--mtx', '--csv']):
+            self.refuses('degrees', 'r3.csv', *words, says=[*words, 'not with'])
+
+    def test_a_bare_word(self):
+        """It is taken for the vertex of an option, which is named."""
+        for command, flag in ((['bfs-levels'], '--source A'), (['k-hop', '--k', '1'], '--source A'),
+                              (['shared-neighbours', '--pair', 'A', 'B'], '--pair A'),
+                              (['degrees'], '')):
+            self.refuses(*command, 'r3.csv', 'A', says=['unexpected argument: A', flag])
+
+    def test_depth(self):
+        """Of searches by edges alike."""
+        for command in ('bfs-levels', 'bfs-parents', 'k-hop'):
+            self.assertIn('--depth', self.run_words(command, '--help').stdout)
+        self.prints('bfs-levels', 'r3.csv', '--source', 'A', '--depth', '0', lines=['A 0'])
+        for flag in ('--depth', '--k'):
+            self.prints('k-hop', 'r3.csv', '--source', 'B', flag, '1', lines=['B B 0', 'B C 1'])
+        self.refuses('bfs-levels', 'r3.csv', '--depth', '-1', says=['--depth: a depth is'])
+
+    def test_several_sources(self):
+        both = ['--source', 'A', '--source', 'C']
+        self.prints('bfs-levels', 'r3.csv', *both, lines=['A 0', 'B 1', 'C 0'])
+        self.prints('k-hop', 'r3.csv', *both, '--k', '0', lines=['A A 0', 'C C 0'])
+
+    def test_what_an_algorithm_refuses(self):
+        """A value that it takes not is a wrong word, by its flag."""
+        for command, words in (('pagerank', ['--damping', '1']), ('pagerank', ['--tolerance', '0']),
+                               ('katz', ['--alpha', '0']), ('k-hop', ['--k', '-1']),
+                               ('k-truss', ['--both-ways', '--k', '1']),
+                               ('eigenvector', ['--rounds', '0']),
+                               ('label-propagation', ['--both-ways', '--rounds', '0'])):
+            self.refuses(command, 'r3.csv', *words, says=['spmat-graph: ' + words[-2]])
+
+    def test_options_of_the_signature(self):
+        """Each parameter that the shell can give is an option, told by the docstring."""
+        for name, algorithm in COMMANDS.items():
+            flags = flags_of(name)
+            for called in algorithm.parameters[1:]:
+                if called not in (*NO_OPTIONS, 'firsts', 'personalization', 'dangling'):
+                    flag = '--' + called.replace('_', '-').replace('sources', 'source')
+                    self.assertIn(flag, flags, name)
+                    self.assertGreater(len(algorithm.describe(called)), 4, (name, called))
+
     def test_what_k_means(self):
-        said = [self.run_words(name, '--help').stdout
+        said = [' '.join(self.run_words(name, '--help').stdout.split())
                 for name in ('k-core', 'k-truss', 'k-hop', 'k-shortest-paths')]
         self.assertEqual([word in text
                           for text, word in zip(said,
                                                 ('neighbours in the core', 'triangles',
-                                                 'edges away', 'how many paths'))], [True] * 4)
-        for words in ('largest part of a graph in which each has', 'Runs: ', 'LAGraph_KCore'):
+                                                 'edges away', 'How many paths'))], [True] * 4)
+        for words in ('largest part of a graph in which each has', 'Cost: ', 'LAGraph_KCore'):
             self.assertIn(words, said[0])
 
 
@@ -133,7 +178,7 @@ class Files(support.InSession):
                          ([(0, 1, 7), (1, 0, 7), (1, 2, 7), (2, 1, 7), (2, 2, 2)], False))
 
     def test_words_of_lists(self):
-        for words in ({'columns': (0, 1)}, {'delimiter': ','}, {'header': True},
+        for words in ({'columns': (0, 1)}, {'sep': ','}, {'header': True},
                       {'nodelist': ['a', 'b', 'c']}, {'unit': 's'}, {'date_format': '%d'}):
             with self.assertRaisesRegex(ValueError, '%s= is for a list of edges' % list(words)[0]):
                 self.s.read_graph(io.BytesIO(FILES['g.mtx'].encode()), **words)

@@ -1,8 +1,8 @@
 """What commands print: one result as plain lines, as CSV and as JSON."""
-import argparse
 import csv
 import io
 import json
+import types
 import unittest
 
 import command_line
@@ -16,7 +16,7 @@ ROWS = [('Anna', 'Dvořák, Emil', 3), ('a "b"', 'c', -2)]
 
 
 def printed(result, **forms):
-    options = argparse.Namespace(**dict({'json': False, 'csv': False}, **forms))
+    options = types.SimpleNamespace(**dict({'json': False, 'csv': False}, **forms))
     return ''.join(output.format_lines(options, result))
 
 
@@ -55,12 +55,6 @@ class Forms(unittest.TestCase):
                          [{'node': "('row', 1)", 'value': None}])
         self.assertEqual(printed(result, csv=True), 'node,value\n"(\'row\', 1)",\n')
 
-    def test_options(self):
-        parser = argparse.ArgumentParser()
-        output.add_form_options(parser, mtx=True)
-        self.assertEqual(vars(parser.parse_args(['--json'])),
-                         {'json': True, 'csv': False, 'mtx': False})
-
 
 class EveryCommand(command_line.CommandLine):
     """Each command has both forms, which say what its plain lines say."""
@@ -81,10 +75,10 @@ class EveryCommand(command_line.CommandLine):
         self.write('path.csv', 'from,to,w\na,b c,2\nb c,d,3\n')
 
     def test_algorithms(self):
-        words = {'k': ['--k', '2'], 'sources': ['--source', 'a'], 'pair': ['--pair', 'a', 'd'],
+        words = {'k': ['--k', '2'], 'sources': ['--source', 'a'], 'firsts': ['--pair', 'a', 'd'],
                  'target': ['--target', 'd']}
         for name, algorithm in algorithm_commands.COMMANDS.items():
-            more = [word for option in algorithm.options for word in words.get(option, [])]
+            more = [word for option in algorithm.parameters for word in words.get(option, [])]
             graph = ('path.csv' if name in ('topological-levels', 'longest-paths',
                                             'bipartite-sides') else 'graph.csv')
             fields, objects, rows, plain = self.forms(name, graph, *more, '--quiet')
@@ -109,26 +103,6 @@ class EveryCommand(command_line.CommandLine):
         self.write('truss.csv', text)
         self.assertEqual(self.printed('degrees', 'truss.csv'),
                          self.printed('degrees', 'truss.csv', '--columns', 'source,target'))
-
-    def test_types(self):
-        fields, objects, _, _ = self.forms('types', 'unary.abs')
-        self.assertEqual(fields[:3], ['slot', 'instruction', 'r0'])
-        self.assertEqual((objects[0]['slot'], objects[0]['r1'], objects[0]['r10']), (0, 'n', 'p0'))
-
-    def test_script(self):
-        script = command_line.with_body('matrix G',
-                                        self.read('graph.mtx')) + 'show G\nbudget\nshow H\n'
-        self.write('s.txt', script)
-        first = 1 + script[:script.index('show G')].count('\n')
-        done = self.run_words('script', 's.txt', '--json')
-        self.assertEqual(done.returncode, 4)
-        rows = json.loads(done.stdout)
-        self.assertEqual([(row['line'], row['reply'].split()[:2]) for row in rows],
-                         [(1, ['ok', 'matrix']), (first, ['ok', 'show']),
-                          (first + 1, ['ok', 'budget']), (first + 2, ['no', 'S4'])])
-        self.assertTrue(rows[1]['text'].startswith('%%MatrixMarket'))
-        header, *rows = csv.reader(io.StringIO(self.run_words('script', 's.txt', '--csv').stdout))
-        self.assertEqual((header, len(rows)), (['line', 'command', 'reply', 'text'], 4))
 
     @support.needs('matplotlib')
     def test_spy(self):

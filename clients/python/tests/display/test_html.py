@@ -8,7 +8,8 @@ from unittest import mock
 
 import support
 import spmat
-from spmat import blocks, operators
+import spmat_blocks as blocks
+from spmat import operators
 from spmat.display import html as shown
 
 
@@ -24,12 +25,6 @@ class Parser(html.parser.HTMLParser):
     def handle_starttag(self, tag, attributes):
         self.tags.append(tag)
         self.open.append(tag)
-
-    def handle_startendtag(self, tag, attributes):
-        """Of a path each cell of the raster that it fills."""
-        widths = [int(width) for width in re.findall(r'M\d+ \d+h(\d+)v1h-\1z',
-                                                     dict(attributes)['d'])]
-        self.tags += ['cell'] * sum(widths)
 
     def handle_endtag(self, tag):
         assert self.open.pop() == tag, tag
@@ -48,13 +43,12 @@ class Html(support.InSession):
         words, tags = self.seen(G)
         self.assertIn('Matrix  2 × 2, 2 entries, directed, named', words)
         self.assertIn('a<b', words)
-        self.assertEqual((tags.count('cell'), tags.count('td')), (2, 4))
+        self.assertEqual(tags.count('td'), 4)
         wide = self.s.from_coo([0, 99], [5, 299], [-1, 2], 100, 300)
         words, tags = self.seen(wide)
         self.assertIn('100 × 300, 2 entries', words)
-        self.assertEqual(tags.count('cell'), 2)
         self.assertIn('-1', words)
-        self.assertEqual(self.seen(self.s.from_coo([], [], [], 0, 0))[1].count('cell'), 0)
+        self.assertEqual(self.seen(self.s.from_coo([], [], [], 0, 0))[1].count('td'), 0)
 
     def test_what_waits_is_run(self):
         """It shows its values; at a prompt it says what runs it."""
@@ -65,14 +59,14 @@ class Html(support.InSession):
         self.assertEqual(self.s.runs, before)
         words, tags = self.seen(waiting)
         self.assertIn('3 × 3, 9 entries', words)
-        self.assertEqual((words.split().count('-7'), tags.count('cell'), self.s.runs),
+        self.assertEqual((words.split().count('-7'), tags.count('td'), self.s.runs),
                          (9, 9, before + 1))
 
     def test_size_in_a_notebook(self):
         """A notebook keeps every byte."""
         A = self.s.from_coo([k % 997 for k in range(4000)], [k % 991 for k in range(4000)], 1, 1000,
                             1000, dup_op='plus')
-        self.assertLess(len(A._repr_html_()), 35_000)
+        self.assertLess(len(A._repr_html_()), 10_000)
 
     def test_masks(self):
         """The corner has a mark where a result may have an entry."""
@@ -83,8 +77,7 @@ class Html(support.InSession):
             words, tags = self.seen(mask)
             self.assertIn('Mask  2 × 3, where %s %s' % (A.name, said), words)
             # a row and a column are 1
-            self.assertEqual((words.split().count('1') - 2, tags.count('cell')),
-                             (marks, 0 if mask.complement else 3), words)
+            self.assertEqual((words.split().count('1') - 2, tags.count('td')), (marks, 6), words)
 
     def test_semirings(self):
         words, tags = self.seen(spmat.semiring.min_plus)
@@ -104,82 +97,48 @@ class Html(support.InSession):
         self.assertNotIn('facts', dir(spmat.algorithms))
 
     def test_large_ones(self):
-        """Of many entries the server counts the raster; what the client counts of few is the
-        same."""
+        """Of many entries the server is asked for the corner: it is the one of few."""
         A = self.s.from_triples([(i, 7 * i % 90, i) for i in range(90)] + [(89, 3, 4)], 90, 90)
-        few = shown.few(A)
-        many = shown.many(A)
-        self.assertEqual(few, many)
-        self.assertEqual(sum(few.raster.values()), 91)
+        few = self.seen(A)
         with mock.patch.object(shown, 'FEW', 10), spmat.Session(steps=0) as poor:
-            self.assertEqual(self.seen(A)[1].count('cell'), len(few.raster))
+            self.assertEqual(self.seen(A), few)
             words, tags = self.seen(poor.full(9, 9))
             self.assertIn('81 entries', words)
             self.assertIn('S8', words)
-            self.assertNotIn('cell', tags)
+            self.assertNotIn('td', tags)
 
     def test_jobs_of_large_ones(self):
-        """Three jobs in two runs, and of the corner's entries alone a call each."""
+        """One job, and a call for each entry of the corner alone."""
         with spmat.Session() as s, mock.patch.object(shown, 'FEW', 10):
             A, before = s.full(30, 40).wait(), s.runs
             A._repr_html_()
-            self.assertEqual(s.runs - before, 2)
+            self.assertEqual(s.runs - before, 1)
             spent = s.budget().spent
             self.assertEqual(shown.first_cells(A).to_triples(),
                              [(i, j, 1) for i in range(8) for j in range(8)])
             self.assertLessEqual(s.budget().spent - spent, 3 * 64)
 
     def test_row_blocks(self):
+        """Are shown by their sizes: a notebook asks no session."""
         with blocks.Sessions(3) as s:
             G = s.from_edgelist([('a<b', 'c', 5), ('c', 'a<b', 7), ('c', 'd', 9)], directed=True)
-            G.wait()
-            words, tags = self.seen(G)
-            self.assertIn('BlockMatrix  3 × 3, 3 entries, 3 blocks, directed, named', words)
-            self.assertIn('a<b', words)
-            self.assertIn('rows entries 0 0 to 0 1 1 none 0 2 1 to 2 2 ', words)
-            self.assertEqual(tags.count('cell'), 3)
-            self.assertEqual(s.budget().spent, 0)
-            wide = s.from_triples([(i, 7 * i % 90, i) for i in range(90)] + [(89, 3, 4)], 90, 90)
-            near = self.seen(wide)[0]
-            with mock.patch.object(shown, 'FEW', 10):
-                words, tags = self.seen(wide)
-                self.assertIn('91 entries', words)
-                self.assertNotIn('cell', tags)
-                self.assertEqual(words.split('rows entries')[1], near.split('rows entries')[1])
-            self.assertEqual([told.spent > 0 for told in s.budgets().values()],
-                             [True, False, False])
-
-    def test_row_blocks_that_wait_or_fail(self):
-        with blocks.Sessions(2) as s:
-            A, go = s.full(9, 9).wait(), threading.Event()
-            s.engine._pools[0].submit(go.wait, 60)
-            B = A.apply(spmat.asm('unary', 'exit'))
-            try:
-                self.assertIn('being made', self.seen(B)[0])
-            finally:
-                go.set()
-            with self.assertRaises(spmat.OperatorRefused):
-                B.wait()
-            end = time.monotonic() + 60
-            while not all(future.done() for future in B.handle.futures) and time.monotonic() < end:
-                time.sleep(0.01)
-            self.assertIn('V11', self.seen(B)[0])
-            self.assertEqual(len(s.run()), 0)      # a failure that was told isn't told again
-
-    def test_row_blocks_on_too_few_steps(self):
-        with blocks.Sessions(2, steps=20) as s, mock.patch.object(shown, 'FEW', 10):
-            A = s.full(9, 9).wait()
-            with self.assertRaises(spmat.BudgetExceeded):
-                A.apply('ainv')
-            words, tags = self.seen(A)
-            self.assertIn('81 entries', words)
-            self.assertIn('S8', words)
-            self.assertNotIn('td', tags)
+            self.assertIsNone(G._repr_html_)
+            self.assertIn('3x3, 3 blocks', repr(G))
 
     def test_lost_ones(self):
         with spmat.Session() as s:
             A = s.full(1, 1)
         self.assertIn('the session has ended', self.seen(A)[0])
+
+    def test_digits_of_decimals(self):
+        """Decimals have six digits, and short ones as many as they have."""
+        G = self.s.from_edgelist([('a', 'b', 1), ('b', 'c', 1)])
+        words, _ = self.seen(spmat.algorithms.pagerank(G))
+        found = re.findall(r'0\.\d+', words)
+        self.assertEqual(len(found), 3)
+        self.assertEqual({len(number) for number in found}, {8})
+        words, _ = self.seen(self.s.from_edgelist([('a', 'b', 12.25)], scale=100))
+        self.assertIn('12.25', words)
 
     def test_operators_budgets_and_runs(self):
         op = spmat.asm('unary', 'mov64 r0, r1 ; <x>\nexit')
@@ -193,7 +152,9 @@ class Html(support.InSession):
         words, _ = self.seen(self.s.check(spmat.asm('binary', 'mov64 r0, r7\nexit')))
         self.assertIn('refused', words)
         self.assertIn('r7 is unset', words)
-        self.assertIn(' left, ', self.seen(self.s.budget())[0])
+        self.assertIn('without a limit, ', self.seen(self.s.budget())[0])
+        with spmat.Session(program=support.program(), steps=10) as s:
+            self.assertIn('10 left, ', self.seen(s.budget())[0])
         self.s.run()
         A = self.s.full(2, 2)
         B = A.apply('ainv', name='B')

@@ -16,7 +16,7 @@ import numpy
 
 import support
 import spmat
-from spmat import blocks
+import spmat_blocks as blocks
 
 PACKAGE = os.path.join(support.TOP, 'clients', 'python')
 EDGES = [('Ann', 'Bob', 5), ('Bob', 'Dvořák, Emil', -7), ('Dvořák, Emil', 'Ann', 2 ** 62)]
@@ -51,7 +51,7 @@ class Archives(InAFolder):
         U = self.s.from_edgelist([(0, 1), (1, 2)], directed=False)
         T = self.s.from_edgelist([((0, 1), (1, 1)), (None, 2.5)], missing=None)
         waiting, empty = G.reduce_rowwise(), self.s.from_triples([], 3, 5)
-        R = self.s.read_graph(io.BytesIO(b'from,to\n7,8\n8,9\n'))
+        R = self.s.read_graph(io.BytesIO(b'from to\n7 8\n8 9\n'))
         many = {'G': G, 'B': B, 'U': U, 'T': T, 'waiting': waiting, 'empty': empty, 'R': R}
         self.s.save(self.path, **many)
         with spmat.Session() as other:
@@ -156,7 +156,7 @@ class Archives(InAFolder):
                         ['a.csv', 'b.csv'], []):
             with zipfile.ZipFile(path, 'w', zipfile.ZIP_DEFLATED) as file:
                 for member in members:
-                    file.writestr(member, '' if member.endswith('/') else 'from,to,w\na,b,3\n')
+                    file.writestr(member, '' if member.endswith('/') else 'from to w\na b 3\n')
             if len(members) in (1, 3):
                 self.assertEqual(self.s.read_graph(path).to_edgelist(), [('a', 'b', 3)])
                 with blocks.Sessions(2) as many, open(path, 'rb') as file:
@@ -181,7 +181,7 @@ class Lists(InAFolder):
         text = G.to_csv()
         self.assertEqual(list(csv.reader(io.StringIO(text)))[:2],
                          [['source', 'target', 'weight'], ['Ann', 'Bob', '5']])
-        self.assertTrue(self.s.read_graph(io.BytesIO(text.encode())).isequal(G))
+        self.assertTrue(self.s.read_graph(io.BytesIO(text.encode()), sep=',').isequal(G))
         path = os.path.join(self.folder, 'g.csv')
         self.assertIsNone(G.to_csv(path, ('who', 'whom', 'km'), sep=';', scale=2))
         with open(path, encoding='utf-8') as file:
@@ -202,7 +202,7 @@ class Lists(InAFolder):
         self.assertIn("the name 'Dvořák, Emil'", support.said(ValueError, G.write_edgelist, path))
         self.assertFalse(os.path.exists(path))
         G.write_edgelist(path, '\t')
-        self.assertTrue(self.s.read_graph(path).isequal(G))
+        self.assertTrue(self.s.read_graph(path, sep='\t').isequal(G))
         H = self.s.from_edgelist([(1, 2, 5), (2, 3, 6)])
         H.write_edgelist(path, values=False)
         with open(path, encoding='utf-8') as file:

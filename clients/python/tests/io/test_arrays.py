@@ -6,11 +6,14 @@ import time
 from unittest import mock
 
 import numpy
+import pytest
 
 from support import InSession, needs
 import spmat
 from spmat import limits
 from spmat.io import matrix_text
+
+pytestmark = pytest.mark.slow
 
 
 class Numpy(InSession):

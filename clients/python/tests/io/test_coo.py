@@ -1,9 +1,12 @@
 """Every way in for arrays, by every kind of array: what each gives, or says."""
 import fractions
+import random
+import warnings
 
 import numpy
 
 import spmat
+import spmat_blocks as blocks
 from support import InSession, needs
 
 ROWS, COLUMNS, VALUES = [0, 2, 1], [1, 0, 1], [5, 0, -7]
@@ -136,6 +139,63 @@ CELLS = [[5, 0, 2], [0, 7, 0]]
 FULL = {(i, j): value for i, row in enumerate(CELLS) for j, value in enumerate(row)}
 
 
+class Folds(InSession):
+    def test_beyond_64_bits(self):
+        """Values of one position that would wrap are refused, in blocks as in one session, and what
+        has room is exact."""
+        most = (1 << 63) - 1
+        with blocks.Sessions(2) as many:
+            for s in (self.s, many):
+                for op, values in (('plus', (most, 1)), ('plus', (-most, -2)),
+                                   ('minus', (-most, 2)), ('times', (1 << 40, 1 << 23)),
+                                   ('times', (1 << 62,) * 300)):
+                    rows = [0] * len(values)
+                    with self.assertRaisesRegex(ValueError,
+                                                'row 0, column 1 make a number beyond 64 bits '
+                                                'by dup_op=%r' % op):
+                        s.from_coo(rows, [1] * len(values), values, dup_op=op)
+                    with self.assertRaisesRegex(ValueError, 'beyond 64 bits'):
+                        s.from_edgelist([('a', 'b', value) for value in values], dup_op=op)
+                for op, values, want in (('plus', (most, 1, -1), most), ('minus', (most, most), 0),
+                                         ('times', (1 << 40, 1 << 40, 0), 0),
+                                         ('times', (-1 << 40, 1 << 23), -most - 1),
+                                         ('max', (most, most), most)):
+                    A = s.from_coo([0] * len(values), [1] * len(values), values, dup_op=op)
+                    self.assertEqual(A.to_dict(), {(0, 1): want})
+
+    def test_in_order(self):
+        """Values that share a position are folded in their order, of arrays as of lists, by an
+        operator for which it matters."""
+        r = random.Random(15)
+        for _ in range(20):
+            many = [(r.randrange(5), r.randrange(4), r.randrange(-9, 9))
+                    for _ in range(r.randrange(30))]
+            want = {}
+            for i, j, value in many:
+                want[i, j] = want[i, j] - value if (i, j) in want else value
+            columns = [[edge[at] for edge in many] for at in range(3)]
+            self.assertEqual(self.s.from_coo(*columns, 5, 4, dup_op='minus').to_dict(), want)
+            self.assertEqual(self.s.from_coo(*(numpy.array(column, numpy.int64)
+                                               for column in columns), 5, 4,
+                                             dup_op='minus').to_dict(), want)
+
+    @needs('pandas')
+    def test_truth_values(self):
+        """Of a nullable column, and numpy's: without its warning that they won't be numbers."""
+        import pandas
+        column = pandas.Series(pandas.array([True, False], dtype='boolean'))
+        frame = pandas.DataFrame({'source': ['a', 'b'], 'target': ['b', 'c'], 'w': column})
+        with warnings.catch_warnings():
+            warnings.simplefilter('error')
+            for made in (self.s.from_pandas_edgelist(frame, edge_attr='w'),
+                         self.s.from_edgelist(frame),
+                         self.s.from_edgelist([('a', 'b', numpy.bool_(True)),
+                                               ('b', 'c', numpy.bool_(False))])):
+                self.assertEqual(made.to_edgelist(), [('a', 'b', 1), ('b', 'c', 0)])
+            self.assertEqual(self.s.from_coo([0, 1], [1, 0], column).to_dict(),
+                             {(0, 1): 1, (1, 0): 0})
+
+
 class Tables(InSession):
     """from_dense takes tables."""
 
@@ -181,6 +241,21 @@ class Tables(InSession):
                              ([[2 ** 63]], '2^63|not in')):
             with self.subTest(cells=cells), self.assertRaisesRegex(ValueError, words):
                 self.s.from_dense(cells)
+
+
+class Labels(InSession):
+    @needs('pandas')
+    def test_numbers_and_text(self):
+        """As pandas.read_csv(path, index_col=0) makes them of one list of vertices."""
+        import pandas
+        table = pandas.DataFrame([[0, 1], [1, 0]], index=[1, 2], columns=['1', '2'])
+        for one in (table, table.T):
+            with self.assertRaisesRegex(ValueError, "1 and '1' are two names"):
+                self.s.from_dense(one, missing=0)
+        table.columns = table.columns.astype(table.index.dtype)
+        self.assertEqual(self.s.from_dense(table, missing=0).nodes, [1, 2])
+        odd = pandas.DataFrame([[5, 7], [1, 2]], index=[1, 2], columns=['x', '2'])
+        self.assertEqual(self.s.from_dense(odd).column_nodes, ['x', '2'])
 
 
 class DenseArrays(InSession):
@@ -317,7 +392,7 @@ class WideNames(InSession):
         want = [(5, 9, 1), (self.WIDE[0], 5, 1), (self.WIDE[1], 5, 1)]
         text = ''.join('%d,%d\n' % tuple(pair) for pair in pairs.tolist()).encode()
         for made in (self.s.from_edgelist(pairs), self.s.from_edgelist(pairs.tolist()),
-                     self.s.read_graph(io.BytesIO(text)),
+                     self.s.read_graph(io.BytesIO(text), sep=','),
                      self.s.from_coo([0, 2, 3], [1, 0, 0],
                                      nodes=numpy.array([5, 9, *self.WIDE[:2]], 'uint64'))):
             self.assertEqual(made.to_edgelist(), want)

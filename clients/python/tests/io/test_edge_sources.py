@@ -4,8 +4,11 @@ import datetime
 import random
 import unittest
 
+import numpy
+
 from support import InSession, needs, said
 import spmat
+from spmat.io import edges
 
 
 @needs('networkx')
@@ -163,3 +166,67 @@ class Networkx(InSession):
             self.s.full(2, 2).to_networkx(nodes='abc')
 
 
+class Nodelists(InSession):
+    def test_names_that_nobody_has(self):
+        """A nodelist of which no name is known is a mistake; where some are, the others have no
+        edge."""
+        for pairs, nodelist, words in (([(1, 2), (2, 3)], ['1', '2'], "1 and '1' differ"),
+                                       ([('a', 'b')], ['A', 'B'], "from 'a' to 'b'")):
+            self.assertIn(words, said(ValueError, self.s.from_edgelist, pairs, nodelist=nodelist))
+        self.assertEqual(self.s.from_edgelist([(1, 2), (2, 3)], nodelist=[3, 7]).shape, (2, 2))
+        self.assertEqual(self.s.from_edgelist([], nodelist=['x']).nodes, ['x'])
+        self.assertEqual(self.s.from_edgelist([(1, 2)], nodelist=[]).shape, (0, 0))
+
+
+class FromPython(InSession):
+    def test_edgelists(self):
+        G = self.s.from_edgelist([('a', 'b'), ('b', 'c', 7), ('c', 'a', {'weight': 5})])
+        self.assertEqual((G.to_edgelist(), G.directed),
+                         ([('a', 'b', 1), ('b', 'c', 7), ('c', 'a', 5)], True))
+        self.assertEqual(self.s.from_edgelist([(5, 6), (6, 5)], directed=False).to_edgelist(),
+                         [(5, 6, 1), (6, 5, 1)])
+        self.assertEqual(self.s.from_edgelist([]).shape, (0, 0))
+        self.assertEqual(self.s.from_edgelist([((0, 1), (1, 1))]).nodes, [(0, 1), (1, 1)])
+        self.assertIn('edge 1', self.said(self.s.from_edgelist, [(1, 2), (1, 2, 3, 4)]))
+        self.assertIn('edge 1: the edge between 1 and 2 is there already, with edge 0',
+                      self.said(self.s.from_edgelist, [(1, 2, 3), (1, 2, 4)]))
+        self.assertIn('0.5', self.said(self.s.from_edgelist, [(1, 2, .5)]))
+        self.assertEqual(self.s.from_edgelist([(1, 2, .5)], values=False).to_edgelist(),
+                         [(1, 2, 1)])
+
+    def test_arrays(self):
+        G = self.s.from_edgelist(numpy.array([[0, 1], [1, 2], [2, 0], [2, 3]]))
+        self.assertEqual((G.shape, G.nvals, G.nodes), ((4, 4), 4, None))
+
+    @needs('pandas', 'numpy')
+    def test_pandas(self):
+        import pandas
+        frame = pandas.DataFrame({'who': ['a', 'b', 'c'], 'whom': ['b', 'c', 'a'],
+                                  'sum': [1.5, 2, 3]}, index=[10, 20, 30])
+        G = self.s.from_pandas_edgelist(frame, 'who', 'whom', 'sum', scale=2)
+        self.assertEqual(G.to_edgelist(), [('a', 'b', 1.5), ('b', 'c', 2), ('c', 'a', 3)])
+        self.assertEqual(self.s.from_pandas_edgelist(frame, 'who', 'whom', directed=False).nvals, 6)
+        self.assertIn('row 10: a value is a whole number, not 1.5',
+                      self.said(self.s.from_pandas_edgelist, frame, 'who', 'whom', 'sum'))
+        self.assertIn("no column 'source'", self.said(self.s.from_pandas_edgelist, frame,
+                                                      kind=KeyError))
+        numbers = pandas.DataFrame({'source': [3, 5], 'target': [5, 9]})
+        self.assertEqual(self.s.from_pandas_edgelist(numbers).nodes, [3, 5, 9])
+        missing = pandas.DataFrame({'source': ['a', None], 'target': ['b', 'c']})
+        self.assertIn('row 1: a name is missing', self.said(self.s.from_pandas_edgelist, missing))
+
+    def test_numbering(self):
+        """Whole numbers are numbered ascending, by a table or by sorting; others in the order in
+        which they are first seen."""
+        r = random.Random(13)
+        for span in (5, 50, 1 << 50):
+            columns = [numpy.array([r.randrange(-span, span) for _ in range(40)]) for _ in 'ab']
+            codes, ascending = edges.number_ascending(columns)
+            self.assertEqual(ascending.tolist(),
+                             sorted({*columns[0].tolist(), *columns[1].tolist()}))
+            self.assertTrue(all((ascending[code] == column).all()
+                                for code, column in zip(codes, columns)))
+        keys = [r.randrange(7) for _ in range(60)]
+        found, seen = edges.number_names([edges.Names(numpy.array(keys), list('abcdefg'))])
+        self.assertEqual(list(seen), list(dict.fromkeys('abcdefg'[key] for key in keys)))
+        self.assertEqual([seen[code] for code in found[0]], ['abcdefg'[key] for key in keys])

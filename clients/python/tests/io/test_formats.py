@@ -7,8 +7,9 @@ import tempfile
 from unittest import mock
 
 import spmat
-from spmat import blocks
-from spmat.io.columns import Layout
+import spmat_blocks as blocks
+from spmat.io.edges import Layout
+from spmat.io.files import Loaded
 from spmat.io.formats import FORMATS
 from support import InSession, has, needs
 
@@ -34,7 +35,7 @@ OTHERS = {'mtx', *GRAPHS}
 SAID = {'values': (False, set()), 'scale': (10, set()), 'directed': (False, set()),
         'bipartite': (True, GRAPHS), 'nodelist': ([1], {'mtx'}), 'max_bytes': (3, set()),
         'dup_op': ('plus', set()), 'name': ('A', set()),
-        'delimiter': (';', {*OTHERS, 'parquet'}), 'columns': ((1, 0), OTHERS),
+        'sep': (';', {*OTHERS, 'parquet'}), 'columns': ((1, 0), OTHERS),
         'header': (True, {*OTHERS, 'parquet', DICTIONARIES}),
         'comments': ('1', {*OTHERS, 'parquet'}), 'nodetype': (str, {*OTHERS, 'parquet'}),
         'missing': ('skip', {*OTHERS, DICTIONARIES}), 'unit': ('s', {'mtx', 'dimacs'}),
@@ -49,7 +50,8 @@ class EachKeyword(InSession):
         frames = mock.patch('spmat.io.graph_formats.import_extra', self.with_a_frame)
         try:
             with frames if format == 'parquet' else mock.patch.dict({}):
-                G = self.s.read_graph(io.BytesIO(TEXTS[format]), **how)
+                name = {'csv': 'x.csv', 'tsv': 'x.tsv'}.get(format, 'x')
+                G = self.s.read_graph(Loaded(name, TEXTS[format]), **how)
             return G.to_triples(), G.notes, G.name, G.nodes and list(map(type, G.nodes))
         except (spmat.ReadError, ValueError) as fault:
             return str(fault)
@@ -112,13 +114,13 @@ class MatrixMarket(InSession):
 
     def test_blocks(self):
         with tempfile.TemporaryDirectory() as folder, blocks.Sessions(2) as s, \
-                mock.patch('spmat.blocks.parallel_read.LEAST', 1):
+                mock.patch('spmat_blocks.parallel_read.LEAST', 1):
             path = os.path.join(folder, 'x.mtx')
             with open(path, 'w', encoding='ascii') as file:
                 file.write(MARKET % ('general', 2, 2))
             self.assertEqual(s.read_graph(path, bipartite=True).notes.sides, 1)
-            with self.assertRaisesRegex(spmat.ReadError, 'delimiter= is for a list'):
-                s.read_graph(path, delimiter=',')
+            with self.assertRaisesRegex(spmat.ReadError, 'sep= is for a list'):
+                s.read_graph(path, sep=',')
 
 
 class Scales(InSession):
@@ -161,7 +163,7 @@ class Lists(InSession):
         frame = pandas.DataFrame({'source': ['a'], 'target': ['b'], 'at': ['2024-05-31']})
         for read in (lambda **how: self.s.from_edgelist([('a', 'b')], **how),
                      lambda **how: self.s.from_pandas_edgelist(frame, **how),
-                     lambda **how: self.s.read_graph(io.BytesIO(b'a b\n'), **how),
+                     lambda **how: self.s.read_graph(io.BytesIO(b'1 2\n'), **how),
                      lambda **how: self.s.read_graph(io.BytesIO(b'a b {}\n'), **how)):
             self.assertEqual(read().notes.unit, 1)
             with self.assertRaisesRegex(ValueError, 'unit=\'s\' says .* no edge has one'):
@@ -170,12 +172,12 @@ class Lists(InSession):
 
     def test_dictionaries(self):
         text = b"New York;1;{'weight': 5}\n"
-        G = self.s.read_graph(io.BytesIO(text), delimiter=';')
+        G = self.s.read_graph(io.BytesIO(text), sep=';')
         self.assertEqual(G.to_edgelist(), [('New York', '1', 5)])
         self.assertEqual(self.s.read_graph(io.BytesIO(TEXTS[DICTIONARIES]), nodetype=str).nodes,
                          ['1', '2'])
         with self.assertRaisesRegex(spmat.ReadError, 'nodetype=int'):
-            self.s.read_graph(io.BytesIO(text), delimiter=';', nodetype=int)
+            self.s.read_graph(io.BytesIO(text), sep=';', nodetype=int)
 
     def test_a_folder(self):
         """Its files are read as each by itself is."""
@@ -193,9 +195,9 @@ class Lists(InSession):
                 written(text)
                 with self.assertRaisesRegex(spmat.ReadError, 'lists of edges or parquet'):
                     s.read_graph(folder)
-            written(b'Source,Target,Type\na,b,Undirected\n')
+            written(b'Source,Target,Type,Weight\na,b,Undirected,1\n')
             with self.assertRaisesRegex(spmat.ReadError, 'directed=False'):
                 s.read_graph(folder)
-            with mock.patch('spmat.blocks.parallel_read.LEAST', 1), \
+            with mock.patch('spmat_blocks.parallel_read.LEAST', 1), \
                     self.assertRaisesRegex(spmat.ReadError, 'directed=False'):
                 s.read_graph(os.path.join(folder, 'part.csv'))

@@ -1,5 +1,5 @@
-"""Files of strangers: each is a graph or is refused, in little time and memory, and nothing else of
-the machine is touched."""
+"""Files of untrusted users: each is a graph or is refused, in little time and memory, and nothing
+else of the machine is touched."""
 import bz2
 import gzip
 import io
@@ -127,9 +127,9 @@ class Packed(support.InSession):
             for read in (self.s.read_graph, self.s.read_edgelist):
                 with self.assertRaisesRegex(spmat.ReadError,
                                             'more than 6,005 bytes.*max_bytes= says'):
-                    read(io.BytesIO(pack(text)), max_bytes=6005, dup_op='plus')
-                self.assertEqual(read(io.BytesIO(pack(text)), max_bytes=6006, dup_op='plus').nvals,
-                                 2)
+                    read(io.BytesIO(pack(text)), max_bytes=6005, dup_op='plus', sep=',')
+                self.assertEqual(read(io.BytesIO(pack(text)), max_bytes=6006, dup_op='plus',
+                                      sep=',').nvals, 2)
         with self.assertRaisesRegex(spmat.ReadError, 'more than 60 bytes'):
             self.s.mmread(io.BytesIO(MARKET + b'1 1 1\n1 1 100000\n'), max_bytes=60)
         for wrong, kind in ((0, ValueError), ('7', TypeError), (1.5, TypeError), (True, TypeError)):
@@ -166,22 +166,25 @@ class Wide(support.InSession):
             columns = ','.join('c%d' % at for at in range(count))
             row = ','.join(['1'] * (count + 2))
             begun = time.monotonic()
-            for heads, said in (('source,target', 'says which have the two names and the value'),
-                                ('left_x,right_x', 'several columns may have'),
+            for heads, said in (('source,target', 'say which has the value, or values=False'),
+                                ('left_x,right_x', 'say which have the names'),
                                 ('p,q', 'columns=')):
                 with self.assertRaisesRegex(spmat.ReadError, said) as refusal:
-                    self.s.read_graph(io.BytesIO(('%s,%s\n%s\n' % (heads, columns, row)).encode()))
+                    self.s.read_graph(io.BytesIO(('%s,%s\n%s\n' % (heads, columns, row)).encode()),
+                                      sep=',')
                 self.assertLess(len(str(refusal.exception)), 1000)
             text = 'source,target,%s\n%s\n' % (columns, row)
-            self.assertEqual(self.s.read_graph(io.BytesIO(text.encode()), columns=(0, 1)).nvals, 1)
+            self.assertEqual(self.s.read_graph(io.BytesIO(text.encode()), columns=(0, 1),
+                                               sep=',').nvals, 1)
             self.assertLess(time.monotonic() - begun, 40)
 
     def test_known_words(self):
         """Thousands of columns that may each be an end are not held against each other."""
         head = ','.join('from_x%d,to_x%d' % (at, at) for at in range(5000))
         begun = time.monotonic()
-        with self.assertRaisesRegex(spmat.ReadError, '10000 columns: columns='):
-            self.s.read_graph(io.BytesIO((head + '\n' + ','.join('1' * 10000)).encode()))
+        with self.assertRaisesRegex(spmat.ReadError, '10000 columns: say which'):
+            self.s.read_graph(io.BytesIO((head + '\n' + ','.join('1' * 10000)).encode()),
+                              sep=',')
         self.assertLess(time.monotonic() - begun, 10)
 
 

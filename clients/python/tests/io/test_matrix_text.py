@@ -6,7 +6,7 @@ from unittest import mock
 import numpy
 
 import spmat
-from spmat import blocks
+import spmat_blocks as blocks
 from spmat.io import matrix_text
 from support import InSession
 

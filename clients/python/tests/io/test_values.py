@@ -10,7 +10,7 @@ import numpy
 import command_line
 import support
 import spmat
-from spmat import blocks
+import spmat_blocks as blocks
 from spmat.io import values
 
 UTC = datetime.timezone.utc
@@ -23,7 +23,8 @@ class Times(support.InSession):
         return self.s.from_edgelist([('a', 'b', value)], **how).to_edgelist()[0][2]
 
     def read(self, text, **how):
-        return self.s.read_graph(io.BytesIO(text.encode()), **how)
+        return self.s.read_graph(io.BytesIO(text.encode()),
+                                 **{'sep': ',' if ',' in text else ' ', **how})
 
     def test_units(self):
         for unit, want in (('D', 19724), ('s', SECONDS), ('ms', SECONDS * 1000 + 678),
@@ -70,36 +71,68 @@ class Times(support.InSession):
         self.assertIn('unit="s" takes them', self.said(self.value, '2024-01-02', date_format='%Y'))
         self.assertIn('one of both', self.said(self.value, '2024-01-02', unit='s', scale=10))
 
+    def test_text_that_is_no_time(self):
+        """Of a file: it isn't understood, and date_format= is the remedy."""
+        for text in ('2024-02-30', '2024-5-3', '01/02/2024'):
+            said = self.said(self.read, 'from,to,t\na,b,%s\n' % text, unit='D',
+                             kind=spmat.ReadError)
+            self.assertIn('line 2: expected a time, got %r' % text, said)
+            self.assertIn('date_format=', said)
+
+    def test_numbers_far_beyond(self):
+        """A date that was written as a number, and milliseconds for seconds, are asked."""
+        for unit, value, year in (('D', 20240531, 57386), ('s', 1717150500000, 56384)):
+            for given in (value, str(value), numpy.int64(value)):
+                self.assertIn('%d is in the year %d as a count of %s' % (value, year, unit),
+                              self.said(self.value, given, unit=unit))
+            said = self.said(self.read, 'from,to,t\na,b,%d\n' % value, unit=unit)
+            self.assertIn('line 2: %d is in the year' % value, said)
+            self.assertIn('date_format="%Y%m%d"', said)
+        for value in (20240531, '20240531'):
+            self.assertEqual(self.value(value, unit='D', date_format='%Y%m%d'), 19874)
+        self.assertEqual(self.value(datetime.date(9999, 12, 31), unit='D'), 2932896)
+        self.assertEqual(self.value(376199, unit='D'), 376199)       # the last day of 2999
+
+    def test_times_with_a_zone_and_without(self):
+        for one, other in (('2024-05-31T10:00Z', '2024-05-31T10:00'),
+                           (ONE, ONE.replace(tzinfo=UTC)), ('2024-05-31', '2024-05-31T10:00+0200')):
+            for first, second in ((one, other), (other, one)):
+                self.assertIn('edge 1: some times have a time zone',
+                              self.said(self.s.from_edgelist,
+                                        [('a', 'b', first), ('b', 'c', second)], unit='s'))
+        self.assertIn('line 3: some times have a time zone', self.said(
+            self.read, 'from,to,t\na,b,2024-05-31T10:00Z\nb,c,2024-05-31T10:00\n', unit='s'))
+        self.assertEqual(self.s.from_edgelist([('a', 'b', 5), ('b', 'c', ONE.replace(tzinfo=UTC))],
+                                              unit='s').nvals, 2)
+
     def test_without_a_unit(self):
         """The error says what takes times."""
         for value in (ONE, ONE.date(), '2024-01-02'):
             self.assertIn('edge 0: a value is a whole number, not %r: unit="s" takes times'
                           % (value,), self.said(self.value, value, kind=TypeError))
-        said = self.said(self.read, 'from,to,when\na,b,2024-01-02\n', kind=spmat.ReadError)
-        self.assertIn(
-            'the column of values, when, has times: unit="s" takes times as seconds since '
-            '1970-01-01, values=False reads none', said)
+        self.assertIn('line 2: expected a number as the value, got \'2024-01-02\': unit="s" takes '
+                      'times as seconds since 1970-01-01',
+                      self.said(self.read, 'from,to,when\na,b,2024-01-02\n', kind=spmat.ReadError))
         self.assertIn('line 2: expected a number as the value, got \'2024-01-02\': unit="s"',
                       self.said(self.read, 'a,b,3\nb,c,2024-01-02\n', kind=spmat.ReadError))
 
     def test_files(self):
-        G = self.read('from,to,amount,date\na,b,3,2024-01-02\nb,c,4,2024-01-02T12:00\n', unit='D')
+        G = self.read('from,to,amount,date\na,b,3,2024-01-02\nb,c,4,2024-01-02T12:00\n', unit='D',
+                      columns=('from', 'to', 'date'))
         self.assertEqual((G.to_edgelist(), G.notes.source),
                          ([('a', 'b', 19724), ('b', 'c', 19724)], 'the text: header: yes; '
                           'source=from, target=to, values=date; '
                           'values in D since 1970-01-01, 1 of 2 '
                           'cut down to a whole one'))
-        self.assertEqual(self.read('a b 2024-01-02\nb c 1970-01-02\n', unit='s').to_edgelist(),
+        self.assertEqual(self.read('a b 2024-01-02\nb c 1970-01-02\n', unit='s', header=False).to_edgelist(),
                          [('a', 'b', 1704153600), ('b', 'c', 86400)])
         self.assertEqual(self.read('from,to,timestamp\n1,2,881250949\n', unit='s').to_edgelist(),
                          [(1, 2, 881250949)])
-        self.assertEqual(self.read('from,to,x,y\n1,2,5,02/01/24\n', unit='D',
+        self.assertEqual(self.read('from,to,x,y\n1,2,5,02/01/24\n', unit='D', columns=(0, 1, 3), header=True,
                                    date_format='%d/%m/%y').to_edgelist(), [(1, 2, 19724)])
-        self.assertEqual(self.read('a,b,2024-01-02\nb,c,\n', unit='D', missing='skip').nvals, 1)
+        self.assertEqual(self.read('a,b,2024-01-02\nb,c,\n', unit='D', missing='skip', header=False).nvals, 1)
         text = 'from,to,start,end_at\na,b,2024-01-01,2024-01-02\n'
-        self.assertIn(
-            "2 columns have times: columns=('from', 'to', 'start') or columns=('from', 'to', "
-            "'end_at')", self.said(self.read, text, unit='D'))
+        self.assertIn('say which has the value', self.said(self.read, text, unit='D'))
         self.assertEqual(self.read(text, unit='D', columns=('from', 'to', 'end_at')).to_edgelist(),
                          [('a', 'b', 19724)])
         self.assertIn("line 3: expected a time, got 'soon'",
@@ -107,8 +140,8 @@ class Times(support.InSession):
         self.assertIn("the value is missing",
                       self.said(self.read, 'from,to,when\na,b,2024-01-02\nb,c,\n', unit='D'))
         with blocks.Sessions(2) as many:
-            path = io.BytesIO(b'a,b,2024-01-02\nb,c,2024-01-03\n')
-            self.assertEqual(many.read_graph(path, unit='D').to_edgelist(),
+            path = io.BytesIO(b'a b 2024-01-02\nb c 2024-01-03\n')
+            self.assertEqual(many.read_graph(path, unit='D', header=False).to_edgelist(),
                              [('a', 'b', 19724), ('b', 'c', 19725)])
             self.assertEqual(many.from_edgelist([('a', 'b', ONE)], unit='s').to_edgelist(),
                              [('a', 'b', SECONDS)])

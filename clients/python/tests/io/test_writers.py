@@ -1,18 +1,27 @@
 """What is written is read back the same, whatever the names of the vertices are: every writer with
 every reader, in a session, in blocks, in the shell."""
+import contextlib
+import decimal
+import enum
 import io
 import os
 import random
 import tempfile
 import unittest
+import uuid
 import warnings
 from unittest import mock
+
+import numpy
+import pytest
 
 import command_line
 import support
 import spmat
-from spmat import blocks
-from spmat.blocks import parallel_read
+import spmat_blocks as blocks
+from spmat_blocks import parallel_read
+
+pytestmark = pytest.mark.slow
 
 SPECIAL = ['#1 fan', '#', '%', '%20x', '%%MatrixMarket matrix', 'a,b', 'a;b', 'a|b', 'a\tb', 'a b',
            ' a', 'a ', '\ta', 'a\t', '"', '"a"', 'a"b', '""', "it's", '007', '1e3', '1.5', '-0',
@@ -23,6 +32,10 @@ SPECIAL = ['#1 fan', '#', '%', '%20x', '%%MatrixMarket matrix', 'a,b', 'a;b', 'a
            '0x1', '\x7f', 'p sp 3 4', '#,#', "('a', 1)"]
 PIECES = list('ab01 ,;|\t"#%\'.-_') + ['é', '\u00a0', 'nan', '//']
 REFUSED = ['', 'a\nb', 'a\rb', '\n', 'a\0b', '\ud800']
+
+
+class Colour(enum.Enum):
+    RED = 1
 
 
 def names_of(chance):
@@ -64,10 +77,10 @@ class ReadBack(unittest.TestCase):
         self.path = os.path.join(self.folder, 'graph')
         self.asked = self.warned = self.refused = self.equal = 0
 
-    def check(self, edges, write, asks=False, refuses=False, **how):
+    def check(self, edges, write, asks=False, refuses=False, sep=',', **how):
         """Writes the graph of edges into `self.path` and reads it, in a session and in blocks. The
-        edges are the same, or the writer refuses the names, or warns that they come back as text or
-        as numbers, or the reader asks whether there is a header."""
+        edges are the same, or the writer refuses the names, or warns that they come back as text,
+        as numbers or as missing, or the reader asks whether there is a header."""
         G = self.one.from_edgelist(edges)
         with warnings.catch_warnings(record=True) as said:
             warnings.simplefilter('always')
@@ -79,9 +92,12 @@ class ReadBack(unittest.TestCase):
                 self.refused += 1
                 return
         self.warned += len(said)
-        want = same(as_text(edges) if said else edges)
+        words = ' '.join(str(one.message) for one in said)
+        more = {'sep': sep, **({'missing': None} if 'missing=None' in words else {})}
+        if 'as text' in words or 'nodetype=str' in words:
+            edges, more['nodetype'] = as_text(edges), str
+        want = same(edges)
         for s in (self.one, self.many):
-            more = {'nodetype': str} if said else {}
             try:
                 got = s.read_graph(self.path, **more, **how)
             except spmat.ReadError as fault:
@@ -102,19 +118,19 @@ class ReadBack(unittest.TestCase):
     def test_csv(self):
         """With its header: never refused, never asked about."""
         for number, sep in enumerate(',;\t|'):
-            self.random(number, 25, lambda G: G.to_csv(self.path, sep=sep))
+            self.random(number, 25, lambda G: G.to_csv(self.path, sep=sep), sep=sep)
         self.assertEqual((self.refused, self.asked), (0, 0))
 
     def test_vertices_without_edges(self):
         """A list doesn't name them: it is said how many these are, and what to do."""
         G = self.one.from_edgelist([('a', 'b', 1)], nodelist=['a', 'b', 'c', 'd'])
         rows = self.one.from_coo([0], [1], nrows=2, ncols=2, nodes=(['a', 'b'], ['x', 'y']))
-        for write in (G.to_csv, G.write_edgelist):
+        for write, sep in ((G.to_csv, ','), (G.write_edgelist, ' ')):
             with self.assertWarnsRegex(UserWarning,
                                        "2 vertices have no edge.*nodelist=G.nodes") as said:
                 write(self.path)
             self.assertEqual(said.filename, __file__)
-            back = self.one.read_graph(self.path, nodelist=G.nodes)
+            back = self.one.read_graph(self.path, nodelist=G.nodes, sep=sep)
             self.assertTrue(back.isequal(G) and back.nodes == G.nodes)
         with self.assertWarnsRegex(UserWarning, '2 vertices have no edge'):
             rows.to_csv(self.path)
@@ -140,20 +156,20 @@ class ReadBack(unittest.TestCase):
     def test_without_a_header(self):
         for number, sep in enumerate(',\t'):
             self.random(10 + number, 25, lambda G: G.to_csv(self.path, sep=sep, header=False),
-                        asks=True, refuses=True)
+                        asks=True, refuses=True, sep=sep)
         self.assertLess(self.refused, 15)
 
     def test_edge_lists(self):
-        for number, delimiter in enumerate(' ,\t;'):
-            self.random(20 + number, 20, lambda G: G.write_edgelist(self.path, delimiter),
-                        asks=True, refuses=True)
+        for number, sep in enumerate(' ,\t;'):
+            self.random(20 + number, 20, lambda G: G.write_edgelist(self.path, sep),
+                        asks=True, refuses=True, sep=sep)
         self.assertGreater(self.refused, 10)                  # by blanks
 
     def test_edge_lists_without_values(self):
-        for number, delimiter in enumerate(' ,'):
+        for number, sep in enumerate(' ,'):
             self.random(30 + number, 25,
-                        lambda G: G.write_edgelist(self.path, delimiter, values=False),
-                        values=False, asks=True, refuses=True)
+                        lambda G: G.write_edgelist(self.path, sep, values=False),
+                        values=False, asks=True, refuses=True, sep=sep)
 
     def test_each_special_name(self):
         for name in SPECIAL:
@@ -162,7 +178,8 @@ class ReadBack(unittest.TestCase):
                 self.check(edges, lambda G: G.to_csv(self.path))
                 self.check(edges, lambda G: G.write_edgelist(self.path, ','), asks=True,
                            refuses=True)
-                self.check(edges, lambda G: G.write_edgelist(self.path), asks=True, refuses=True)
+                self.check(edges, lambda G: G.write_edgelist(self.path), asks=True, refuses=True,
+                           sep=' ')
 
     def test_refused(self):
         """Before anything is written, also of a column."""
@@ -187,30 +204,40 @@ class ReadBack(unittest.TestCase):
         for edges, words in (([('1', '2', 3)], "text such as '1', which is read as numbers"),
                              ([(('row', 1), 'b', 3)], "('row', 1)"),
                              ([(1, 'b', 3)], 'read as text'),
-                             ([(1.5, 2.5, 3)], '1.5'), ([(True, 5, 3)], 'True')):
+                             ([(1.5, 2.5, 3)], '1.5'), ([(True, 5, 3)], 'True'),
+                             ([(numpy.int64(1), 'b', 3)], 'save() keeps them'),
+                             ([(decimal.Decimal('1.5'), 'b', 3)], 'no file keeps them'),
+                             ([(b'a', uuid.UUID(int=5), 3)], 'no file keeps them'),
+                             ([(Colour.RED, 'b', 3)], 'no file keeps them'),
+                             ([('a', 'b', 1), ('b', 'nan', 2)], 'missing=None')):
             G = self.one.from_edgelist(edges)
             with self.assertWarns(UserWarning) as said:
                 text = G.to_csv()
             self.assertIn(words, str(said.warning))
             self.assertEqual(said.filename, __file__)
-            self.assertEqual(self.one.read_graph(io.BytesIO(text.encode()),
+            self.assertEqual(self.one.read_graph(io.BytesIO(text.encode()), sep=',', missing=None,
                                                  nodetype=str).to_edgelist(), as_text(edges))
+            if 'save() keeps' in str(said.warning) or 'no file' in str(said.warning):
+                with contextlib.nullcontext() if 'save()' in str(said.warning) else \
+                        self.assertRaisesRegex(TypeError, "can't be saved"):
+                    self.one.save(self.path, G=G)
         with warnings.catch_warnings():
             warnings.simplefilter('error')
             self.one.from_edgelist([('a', '1', 3)]).to_csv()
             self.one.from_edgelist([(1, 2, 3)]).to_csv()
+            self.one.from_edgelist([(numpy.int32(1), numpy.int32(2), 3)]).to_csv()
             self.one.from_triples([(0, 1, 3)], 2, 2).to_csv()
 
     def test_types_of_names(self):
-        text = b'1,2,3\n2,3,4\n'
+        text = b'1 2 3\n2 3 4\n'
         for s in (self.one, self.many):
             self.assertEqual(s.read_graph(io.BytesIO(text), nodetype=str).nodes, ['1', '2', '3'])
             self.assertEqual(s.read_graph(io.BytesIO(text), nodetype=int).nodes, [1, 2, 3])
             with self.assertRaisesRegex(spmat.ReadError,
                                         'line 2: a name is no whole number, and nodetype=int'):
-                s.read_edgelist(io.BytesIO(b'1,2\n3,x\n'), nodetype=int)
+                s.read_edgelist(io.BytesIO(b'1 2\n3 x\n'), nodetype=int)
             with self.assertRaisesRegex(ValueError, 'nodetype is str or int'):
-                s.read_edgelist(io.BytesIO(b'1,2\n'), nodetype=float)
+                s.read_edgelist(io.BytesIO(b'1 2\n'), nodetype=float)
 
     def test_one_vertex(self):
         """A graph of one vertex is no column, and neither is one of two kinds with one vertex of a
@@ -225,10 +252,8 @@ class ReadBack(unittest.TestCase):
             self.assertEqual(B.reduce_rowwise().to_csv(), 'node,value\na,3\nb,4\n')
             self.assertEqual(G.select('offdiag').to_csv(), 'source,target,weight\n')
         text = spmat.algorithms.degrees(self.one.from_edgelist([('a', 'b', 3)])).to_csv()
-        with self.assertRaisesRegex(spmat.ReadError,
-                                    "this is a column of values, and an edge has two names: "
-                                    "columns=\\('node', 'value'\\)"):
-            self.one.read_graph(io.BytesIO(text.encode()))
+        with self.assertRaisesRegex(spmat.ReadError, "columns=\\('node', 'value'\\)"):
+            self.one.read_graph(io.BytesIO(text.encode()), sep=',')
 
     @support.needs('pandas', 'numpy')
     def test_pandas(self):
@@ -272,9 +297,11 @@ class Shell(command_line.CommandLine):
                 with warnings.catch_warnings():
                     warnings.simplefilter('ignore')
                     s.from_edgelist(edges).to_csv(os.path.join(self.folder, 'g.csv'))
-                self.write('h.csv', self.printed('k-truss', 'g.csv', '--k', '2', '--csv'))
-                got = s.read_graph(os.path.join(self.folder, 'h.csv')).to_edgelist()
+                self.write('h.csv', self.printed('k-truss', 'g.csv', '--k', '2', '--csv', '--missing',
+                                                'keep'))
+                got = s.read_graph(os.path.join(self.folder, 'h.csv'), missing=None).to_edgelist()
                 self.assertEqual(same(got),
                                  same(s.read_graph(os.path.join(self.folder, 'g.csv'),
-                                                   values=False).to_edgelist()), edges)
+                                                   values=False, missing=None).to_edgelist()),
+                                 edges)
                 self.assertEqual(same(as_text(got)), same(as_text(edges)))

@@ -1,9 +1,13 @@
 """A step that is made until it changes nothing, and how many rounds that may take."""
 import unittest
 
+import pytest
+
 import spmat
 import support  # pylint: disable=unused-import  # it names the program
-from spmat import blocks
+import spmat_blocks as blocks
+
+pytestmark = pytest.mark.slow
 
 
 class Fixpoints(unittest.TestCase):

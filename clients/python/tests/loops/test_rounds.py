@@ -4,10 +4,15 @@ import itertools
 import os
 import unittest
 
+import pytest
+
 import support  # pylint: disable=unused-import  # which finds the program
 import spmat
-from spmat import algorithms, blocks
+import spmat_blocks as blocks
+from spmat import algorithms
 from spmat.loops import NotAlike, NotTraced
+
+pytestmark = pytest.mark.slow
 
 OPS = ('plus', 'times', 'max', 'bxor')
 WEIGHTS = [7, 3, 3, 9, 1, 4, 11, 2, 5, 5, 8, 13, 6, 2, 17, 3, 1, 9, 4, 10, 12, 3, 5, 8]

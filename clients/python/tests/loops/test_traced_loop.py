@@ -8,11 +8,15 @@ import threading
 import unittest
 from unittest import mock
 
+import pytest
+
 import graphs
 import spmat
 import support
 from loop_steps import PATH, by_hand, lengths, search, search_step, texts
-from spmat import blocks
+import spmat_blocks as blocks
+
+pytestmark = pytest.mark.slow
 
 NAME = re.compile('_[0-9]+')                        # of the client, for a matrix
 
@@ -377,7 +381,7 @@ class Refusals(unittest.TestCase):
                     refused += 1
                     self.assertEqual((fault.rule, fault.round), ('memory', loop.number + 1))
                 except spmat.Closed:
-                    self.skipTest('the plain server ends where it has no memory left')
+                    self.skipTest('the reference implementation ends where it has no memory left')
                 step, state = begin(other)
                 want = by_hand(step, state, loop.number)[0]
                 for name, matrix in loop.state.items():

@@ -1,4 +1,4 @@
-"""C of strangers: each trick by which clang would read a file leaks without the guard, and is
+"""C of untrusted users: each trick by which clang would read a file leaks without the guard, and is
 refused with it."""
 import os
 import subprocess
@@ -129,7 +129,7 @@ class Guarded(unittest.TestCase):
                     with mock.patch.object(from_c, 'compile_source',
                                            side_effect=AssertionError('clang is asked')):
                         with self.assertRaisesRegex(spmat.CompileError,
-                                                    'which C of strangers may not have') as got:
+                                                    'which untrusted C may not have') as got:
                             spmat.c(source, clang=compiler.path, untrusted=True)
                     self.assertNotIn(str(SECRET), str(got.exception))
 
@@ -137,7 +137,7 @@ class Guarded(unittest.TestCase):
         for name, source in REFUSED.items():
             with self.subTest(name), \
                     self.assertRaisesRegex(spmat.CompileError,
-                                           r'line \d+ of the C has .*strangers'):
+                                           r'line \d+ of the C has .*untrusted'):
                 spmat.c(source.replace('@SECRET@', self.path), untrusted=True)
 
     def test_what_is_fine(self):

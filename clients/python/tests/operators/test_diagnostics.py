@@ -3,12 +3,16 @@ mended, what one was written as, and what it costs."""
 import random
 import unittest
 
+import pytest
+
 import operator_functions as functions
 import support
 import spmat
 from reference_code import code_of
 from spmat.operators import dataflow
 from spmat.operators.c import FromC
+
+pytestmark = pytest.mark.slow
 
 LEFT_UNSET = '''; r6 is set on one way alone
 mov64 r3, r1
@@ -80,8 +84,8 @@ class Registers(Case):
         self.assertEqual(self.s.check(spmat.code('unary', 'ff00000000000000')).rows, [])
 
     def test_all_that_is_known(self):
-        """The client reckons the same as the verifier, of text and of code: for ready operators and
-        for random ones."""
+        """The client reckons the same as the verifier, of text and of code: for built-in operators
+        and for random ones."""
         r = random.Random(3)
         ops = [ready[name] for ready in (spmat.unary, spmat.binary, spmat.indexunary)
                for name in ready]

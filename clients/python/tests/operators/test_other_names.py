@@ -1,5 +1,5 @@
 """Operators by the names of other libraries: functions of numpy, and names of python-graphblas,
-mean a ready one exactly or say what to write."""
+mean a built-in one exactly or say what to write."""
 import numpy
 
 from support import InSession

@@ -1,4 +1,4 @@
-"""Each ready operator, through the program, beside what Python says of it; and the table of
+"""Each built-in operator, through the program, beside what Python says of it; and the table of
 docs/operators.md beside the files."""
 import collections
 import os
@@ -18,7 +18,7 @@ from spmat.operators import other_names
 
 FOLDER = os.path.join(os.path.dirname(os.path.abspath(spmat.__file__)), 'operators')
 READY = {'unary': spmat.unary, 'binary': spmat.binary, 'index': spmat.indexunary}
-# ready operators that another ready one does the same as, by its own name
+# built-in operators that another one does the same as, by its own name
 SECOND_NAMES = ('any', 'iseq', 'isne', 'oneb')
 
 
@@ -54,7 +54,7 @@ class ReadyOperators(support.InSession):
             self.assertEqual(READY[kind].ready(), sorted(meanings))
             self.assertEqual(sorted(READY[kind]), sorted(meanings))
         with open(os.path.join(support.TOP, 'docs', 'operators.md'), encoding='utf-8') as page:
-            self.assertIn('%d operators are [ready]' % sum(map(len, MEANINGS.values())),
+            self.assertIn('%d operators are [built in]' % sum(map(len, MEANINGS.values())),
                           page.read())
 
     def test_unary(self):
@@ -111,7 +111,7 @@ class ReadyOperators(support.InSession):
 def tables():
     """Kind, name, meaning and instructions of each row of the tables of docs/operators.md."""
     with open(os.path.join(support.TOP, 'docs', 'operators.md'), encoding='utf-8') as file:
-        section = file.read().split('\n## Ready operators\n')[1].split('\n## ')[0]
+        section = file.read().split('\n## Built-in operators\n')[1].split('\n## ')[0]
     kind = None
     for line in section.split('\n'):
         head = re.match(r'\| `(unary|binary|index)` \|', line)
@@ -134,7 +134,7 @@ class Table(unittest.TestCase):
 
 
 class Texts(unittest.TestCase):
-    """A function is found to be a ready operator by its instructions."""
+    """A function is found to be a built-in operator by its instructions."""
 
     def test_each_has_a_text_of_its_own(self):
         """Second names aside, so that a text is one operator; and it is found by its checksum."""
@@ -157,7 +157,8 @@ class Texts(unittest.TestCase):
         self.assertEqual(spmat.binary(lambda x, y: y + 3 * x).name, None)
 
     def test_which_files_are_read(self):
-        """None for a function that is no ready operator, and that of the ready one for another."""
+        """None for a function that is no built-in operator, and that of the built-in one for
+        another."""
         program = ('import builtins, spmat\nopened = []\nreal = open\n'
                    'def counting(name, *more, **words):\n'
                    '    opened.append(str(name)); return real(name, *more, **words)\n'

@@ -229,3 +229,33 @@ class Slow(unittest.TestCase):
             with self.assertRaisesRegex(spmat.ProtocolError, 'BYTES'):
                 s.from_text(text).to_text()
             self.assertIsNotNone(s.connection.ended)
+
+
+class Shown(unittest.TestCase):
+    """What came is bounded, and is shown without what a terminal would do at it."""
+
+    def said_of(self, command, reply, call):
+        """What the error says of a reply to a command."""
+        def answer(words, body):
+            return {'asm': b'ok op 3 3\n', command: reply}.get(words[0],
+                                                               support.plausible(words, body))
+        with support.Scripted(answer) as server:
+            with self.assertRaises(spmat.ProtocolError) as said:
+                call(spmat.Session.connect('127.0.0.1', server.port, timeout=5))
+            return str(said.exception)
+
+    def test_lines_of_any_length(self):
+        said = self.said_of('dis', b'ok dis 2\n' + b'a' * 1100 + b'\nexit\n',
+                            lambda s: s.dis(spmat.unary.abs))
+        self.assertIn('a line of a reply is none of spmat: `aaa', said)
+
+    def test_escape_codes(self):
+        for command, reply, call in (
+            ('budget', b'ok \x1b[31mbudget 1 2 3\n', lambda s: s.budget()),
+            ('budget', b'no \x1b]0;title\x07\xff\n', lambda s: s.budget()),
+            ('budget', b'\x1b[2J' * (1 << 14), lambda s: s.budget()),
+            ('dis', b'ok dis 1\n\x1b[31mexit\n', lambda s: s.dis(spmat.unary.abs)),
+            ('types', b'ok types 1\n0 \x1b[31m\n', lambda s: s.types(spmat.unary.abs))):
+            said = self.said_of(command, reply, call)
+            self.assertTrue(said.isprintable(), said)
+            self.assertIn('\\x', said)

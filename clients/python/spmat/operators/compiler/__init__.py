@@ -18,14 +18,17 @@ import textwrap
 import zlib
 from typing import Any, Callable, Optional, Tuple
 
+import numpy
+
 from ...errors import CompileError
 from .. import Operator, READY
+from ..assembly import wrap
+from ..evaluation import evaluate
 from ..integer_functions import Operand, whole
 from ..other_names import READY_BY_CHECKSUM
-from .cache import code_of
+from .cache import text_of
 from .compile_function import NAMES, find_positional, name_of
 from .exploration import call
-from .registers import Instruction, Machine
 
 
 class FromFunction(Operator):
@@ -33,19 +36,19 @@ class FromFunction(Operator):
     operator does, and in another operator's function it is a part of that one. A pickle has the
     operator alone."""
     function: Callable[..., Any]
-    instructions: Tuple[Instruction, ...]
 
     # as a dataclass it would take 0.5 ms more to import
-    def __init__(self, kind: str, text: str, name: Optional[str], function: Callable[..., Any],
-                 instructions: Tuple[Instruction, ...]) -> None:
+    def __init__(self, kind: str, text: str, name: Optional[str],
+                 function: Callable[..., Any]) -> None:
         super().__init__(kind, text=text, name=name)
-        vars(self).update(function=function, instructions=instructions)
+        vars(self).update(function=function)
 
     def __call__(self, *operands: Any) -> Any:
         numbers = [None if isinstance(each, Operand) else whole(each) for each in operands]
         if None in numbers or len(numbers) != len(NAMES[self.kind]):
             return call(self.function, operands)
-        return Machine(self.instructions).call([number or 0 for number in numbers])
+        words = [numpy.array([wrap(number or 0)]) for number in numbers]
+        return int(evaluate(self, *words)[0])
 
     def origin(self) -> Tuple[str, str]:
         source = source_of(self.function)
@@ -66,17 +69,17 @@ def operator_of(kind: str, function: Callable[..., Any], name: Optional[str] = N
         return function
     if not callable(function):
         raise TypeError('expected a function, got %r' % (function,))
-    made = code_of(kind, function, name, check)
+    text = text_of(kind, function, name, check)
     called = name or (None if name_of(function) == '<lambda>' else name_of(function))
-    text, ready = made.text, _find_ready(kind, made.text)
+    ready = _find_ready(kind, text)
     if ready is not None:                          # what is known of it is known of this one, too
         text, called = ready.body.decode(), called or ready.name
-    return FromFunction(kind, text, called, function, made.instructions)
+    return FromFunction(kind, text, called, function)
 
 
 @functools.lru_cache(maxsize=1024)
 def _find_ready(kind: str, text: str) -> Optional[Operator]:
-    """The ready operator of a kind that has these instructions; None where none has."""
+    """The built-in operator of a kind that has these instructions; None where none has."""
     name = READY_BY_CHECKSUM.get('%08x' % zlib.crc32(('%s\n%s' % (kind, text)).encode()))
     found = READY[kind][name] if name is not None else None
     return found if found is not None and found.bare_text == text else None

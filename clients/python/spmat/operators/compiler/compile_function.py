@@ -3,24 +3,24 @@ on registers, and text. Before its first use the code is compared with the funct
 """
 from __future__ import annotations
 
-import collections
-import contextlib
 import functools
 import inspect
 import random
-import re
 import types
 import warnings
-from typing import Any, Callable, Dict, Iterator, List, NamedTuple, Optional, Sequence, Set, Tuple
+from typing import Any, Callable, List, Optional, Sequence, Set, Tuple
+
+import numpy
 
 from ...errors import CompileError
-from ..assembly import MEANINGS, wrap
+from ..assembly import wrap
+from ..evaluation import evaluate
 from ..integer_functions import whole
+from ..operator import Operator
 from .emission import Emission
-from .exploration import (Exploration, Impure, Line, Path, Ranges, call, describe_line, explore,
-                          is_users)
-from .expressions import Graph, LEAST, MOST, Node, below
-from .registers import Instruction, Machine, Reg, allocate, ins, resolve, size_of, text_of, tidy
+from .exploration import (Exploration, Impure, Line, Path, call, describe_line, explore, is_users)
+from .expressions import LEAST, MOST, Node, below
+from .registers import Reg, allocate, ins, resolve, size_of, text_of, tidy
 from .symbolic_words import Word, node_of
 
 NAMES = {'unary': ('x',), 'binary': ('x', 'y'), 'index': ('x', 'row', 'column', 'thunk')}
@@ -38,18 +38,12 @@ DIFFERENT = ('of %s it gives %d, and as an operator %d: it is not the same at ea
 RAISES = 'it raises %s: %s%s; an operator has a value for all operands'
 NO_RESULT = 'it returns None: end each way with `return`'
 MOST_SHIFT = 30                                    # by which a shift is a product with a number
-WORD, MOST_GROUPS = 64, 4                          # bits; groups of those that come together
-MOST_NAMED = 8                                     # numbers of the function's that are compared
+CALLS = 32                                         # by which code is compared with its function
+MOST_NAMED = 6                                     # numbers of the function's that are compared
 MOST_SIDE = 1 << 24                                # of rows and columns
-EDGES = (0, 1, -1, 2, 3, -3, 5, 7, 10, 11, 63, 64, 100, -100, 1 << 31, -1 << 31, 1 << 40, MOST,
-         LEAST)
+EDGES = (0, 1, -1, MOST, LEAST, 2, 64, 63, -3, 7, 10, 100, -100, 1 << 31, -1 << 31, 1 << 40, 5, 3,
+         -40, 30, 1 << 62, 12, 255, -8, 1000, 77, -7, 8, 19, -1 << 40, 4, -2)
 Function = Callable[..., Any]
-
-
-class Compiled(NamedTuple):
-    """The code of a function: its instructions, and their text."""
-    text: str
-    instructions: Tuple[Instruction, ...]
 
 
 def name_of(function: Function) -> str:
@@ -60,32 +54,28 @@ def name_of(function: Function) -> str:
 
 
 def compile_function(kind: str, function: Function, name: Optional[str] = None,
-                     check: bool = True) -> Compiled:
-    """The code of a function as an operator of a kind. CompileError says what can't be one, where,
-    and what to write instead. Where something has a meaning that hardly was meant, as a division
-    by a word that is known to be 0, a RuntimeWarning names the line."""
+                     check: bool = True) -> str:
+    """The assembly text of a function as an operator of a kind. CompileError says what can't be
+    one, where, and what to write instead. Where something has a meaning that hardly was meant, as a
+    division by a word that is known to be 0, a RuntimeWarning names the line."""
     called = name or name_of(function)
     try:
         names = parameters(kind, function)
         operands = [*names, *NAMES[kind][len(names):]]
-        run = functools.partial(_take_way, function, len(names))
-        root, tree, shared = explore(operands, run)
-        compiled = _write_shortest(root, tree, shared)
-        if shared.pruned:                          # else ways may have more in common
-            with contextlib.suppress(CompileError):
-                compiled = min(compiled, _write_shortest(*explore(operands, run, by_range=False)),
-                               key=lambda code: len(code.instructions))
+        shared = Exploration(operands)
+        root = explore(shared, functools.partial(_take_way, function, len(names)))
+        text = _write_code(root)
         if check:
-            _compare(kind, function, names, Machine(compiled.instructions),
-                     _find_numbers(function, root))
+            _compare(kind, function, names, text,
+                     {n.number for n in below(root) if n.op == 'const'})
     except (CompileError, Impure) as fault:
         place = getattr(fault, 'place', None) or _find_definition(function)
         raise CompileError('`%s`%s: %s' % (called, ' (%s)' % place if place else '',
                                            IMPURE if isinstance(fault, Impure) else fault)
                            ) from fault.__cause__
-    for (_, line), text in shared.warnings.items():
-        _warn_of_line('`%s`: %s' % (called, text), line)
-    return compiled
+    for (_, line), warning in shared.warnings.items():
+        _warn_of_line('`%s`: %s' % (called, warning), line)
+    return text
 
 
 def _warn_of_line(text: str, line: Optional[Line]) -> None:
@@ -96,14 +86,8 @@ def _warn_of_line(text: str, line: Optional[Line]) -> None:
         warnings.warn_explicit(text, RuntimeWarning, *line)
 
 
-def _write_shortest(root: Node, tree: Node, shared: Exploration) -> Compiled:
-    """The shortest code of what was explored."""
-    return min(map(_write_code, [root, *other_forms(shared.graph, tree)]),
-               key=lambda code: len(code.instructions))
-
-
-def _write_code(root: Node) -> Compiled:
-    """The code of an expression."""
+def _write_code(root: Node) -> str:
+    """The assembly text of an expression."""
     emission = Emission(root)
     code = resolve(tidy(allocate(emission.out, emission.words)))
     if len(code) == 3 and code[1][0] == 'lsh64':   # the server runs a product as a compiled loop
@@ -113,68 +97,7 @@ def _write_code(root: Node) -> Compiled:
     slots = sum(map(size_of, code))
     if slots > MOST_SLOTS:
         raise CompileError(TOO_LONG % (len(code), slots, MOST_SLOTS))
-    return Compiled(text_of(code), tuple(code))
-
-
-# -- choices between numbers, in forms that may be shorter than a search by jumps
-
-def other_forms(graph: Graph, tree: Node) -> List[Node]:
-    """Other forms of a tree of choices, if these are between numbers alone."""
-    arms = [tree]
-    for n in arms:                                 # which grow on the way
-        arms += [arm for arm in n.args[1:] if n.op == 'select' and arm not in arms]
-    if any(n.op not in ('const', 'select') for n in arms) or len(arms) <= 3:
-        return []
-    forms = _pack_answers(graph, tree), _choose_by_bits(graph, sorted(arms, key=lambda n: n.at))
-    return [form for form in forms if form is not None]
-
-
-def _pack_answers(graph: Graph, tree: Node) -> Optional[Node]:
-    """A look-up by one word of few values, `(3, 1, 4, 1)[x % 4]`, as a shift of one number that
-    holds all answers; None where another word is asked too, or the answers don't fit."""
-    word = tree.args[0].args[0]
-    low, high = Ranges().of(word)
-    if low != 0 or high >= WORD:
-        return None
-    answers: List[int] = []
-    for value in range(high + 1):
-        n = tree
-        while n.op == 'select':
-            a, b = n.args[0].args
-            if a is not word or b.op != 'const':
-                return None
-            n = n.args[1 if MEANINGS[n.args[0].op](value, b.number) else 2]
-        answers.append(n.number)
-    least = min(0, *answers)                       # answers below 0 are counted from the least
-    width = (max(answers) - least).bit_length()
-    if width * len(answers) > WORD:
-        return None
-    packed = sum(answer - least << width * value for value, answer in enumerate(answers))
-    shifted = graph.make('rsh', graph.const(packed), graph.make('mul', word, graph.const(width)))
-    answer = graph.make('and', shifted, graph.const((1 << width) - 1))
-    return graph.make('add', answer, graph.const(least))
-
-
-def _choose_by_bits(graph: Graph, arms: List[Node]) -> Optional[Node]:
-    """Answers that are sums of bits, as the states of an automaton are: the bits that come together
-    in all answers, group after group. A choice is behind its arms."""
-    numbers = [n.number for n in arms if n.op == 'const']
-    groups: Dict[Tuple[int, ...], int] = collections.defaultdict(int)
-    for at in range(WORD - 1):
-        groups[tuple(number >> at & 1 for number in numbers)] |= 1 << at
-    groups.pop((0,) * len(numbers), None)
-    if min(numbers) < 0 or not 1 < len(groups) <= MOST_GROUPS:
-        return None
-    made = graph.const(0)
-    for bits in groups.values():
-        more = (graph.const(made.number | bits) if made.op == 'const' else
-                graph.node('or', made, graph.const(bits)))
-        found: Dict[Node, Node] = {}
-        for n in arms:
-            found[n] = ((more if n.number & bits else made) if n.op == 'const' else
-                        graph.select(n.args[0], found[n.args[1]], found[n.args[2]]))
-        made = found[arms[-1]]
-    return made
+    return text_of(code)
 
 
 # -- parameters
@@ -273,7 +196,7 @@ def _find_definition(function: Function) -> str:
 
 # -- the comparison
 
-def _compare(kind: str, function: Function, names: Sequence[str], machine: Machine,
+def _compare(kind: str, function: Function, names: Sequence[str], text: str,
              numbers: Set[int]) -> None:
     """Compares the values of a function with those of its code. CompileError where they differ.
 
@@ -281,23 +204,22 @@ def _compare(kind: str, function: Function, names: Sequence[str], machine: Machi
     where nothing wrapped with plain ints. The second finds what a function asks that only a number
     answers. Calls are on edges, on random words, and on `numbers` and those beside them. It is no
     proof."""
-    count, used = len(NAMES[kind]), len(names)
-    run = functools.partial(_take_way, function, used)
-    for operands in _make_samples(count, numbers):
-        result = machine.call(operands)
-        expected: List[Optional[int]] = []
+    samples = _make_samples(len(NAMES[kind]), numbers)
+    results = evaluate(Operator(kind, text=text), *numpy.array(samples, numpy.int64).T)
+    run = functools.partial(_take_way, function, len(names))
+    for sample, result in zip(samples, results.tolist()):
+        operands = sample[:len(names)]
+        shared = Exploration(names, operands)
         try:
-            root, _, shared = explore(names, run, operands[:used])
-            expected.append(root.number)
+            expected: List[Optional[int]] = [explore(shared, run).number]
         except CompileError:                       # it fails where an operator has an answer
             continue
         # a number beyond 64 bits has another value in Python, and may be too large to make
         if not shared.graph.wrapped:
-            expected.append(_call_plainly(function, operands[:used]))
+            expected.append(_call_plainly(function, operands))
         for value in expected:
             if value is not None and result != wrap(value):
-                raise CompileError(DIFFERENT % (', '.join(map(str, operands[:used])), value,
-                                                result))
+                raise CompileError(DIFFERENT % (', '.join(map(str, operands)), value, result))
 
 
 def _call_plainly(function: Function, operands: Sequence[int]) -> Optional[int]:
@@ -309,34 +231,18 @@ def _call_plainly(function: Function, operands: Sequence[int]) -> Optional[int]:
         return None
 
 
-def _make_samples(count: int, numbers: Set[int]) -> Iterator[List[int]]:
-    """Operands of calls, of which one is an edge, a number that the function names, or one beside
-    it; the same each time."""
+def _make_samples(count: int, numbers: Set[int]) -> List[List[int]]:
+    """Operands of calls, of which one is a number of the expression, one beside it, or an edge; the
+    same each time."""
     dice = random.Random(count)
     named = sorted(numbers.difference(EDGES), key=abs)[:MOST_NAMED]
-    for number in (*EDGES, *(near for each in named for near in (each - 1, each, each + 1))):
-        for at in range(count):
-            operands = [dice.choice(EDGES) if dice.random() < 0.4 else dice.randrange(-40, 40)
-                        for _ in range(count)]
-            operands[at] = wrap(number)
-            if count == 4:
-                operands[1:3] = [each % MOST_SIDE for each in operands[1:3]]
-            yield operands
-
-
-def _find_numbers(function: Function, root: Node) -> Set[int]:
-    """The numbers that a function's code and its expression name, also as text, in tuples, and in
-    the code inside it."""
-    found = {n.number for n in below(root) if n.op == 'const'}
-    wait: List[Any] = [_find_code(function)]
-    while wait:
-        each = wait.pop()
-        if isinstance(each, types.CodeType):
-            wait += each.co_consts
-        elif isinstance(each, (tuple, frozenset)):
-            wait += each
-        elif isinstance(each, str):
-            found.update(map(int, re.findall('[0-9]{1,18}', each)))
-        elif isinstance(each, int) and LEAST <= each <= MOST:
-            found.add(int(each))
-    return found
+    wanted = [*(near for each in named for near in (each, each - 1, each + 1)), *EDGES]
+    samples = []
+    for at, number in enumerate(wanted[:CALLS]):
+        operands = [dice.choice(wanted) if dice.random() < 0.4 else dice.randrange(-40, 40)
+                    for _ in range(count)]
+        operands[at % count] = number
+        operands[1:3] = [each % MOST_SIDE for each in operands[1:3]] if count == 4 else (
+            operands[1:3])
+        samples.append([wrap(each) for each in operands])
+    return samples

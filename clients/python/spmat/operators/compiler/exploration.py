@@ -13,8 +13,7 @@ import inspect
 import linecache
 import os
 from types import CodeType, FrameType
-from typing import (Any, Callable, Dict, Iterator, List, NamedTuple, Optional, Sequence, Set,
-                    Tuple)
+from typing import Any, Callable, Dict, Iterator, List, Optional, Sequence, Set, Tuple
 
 from ...errors import CompileError
 from ..assembly import MEANINGS, OPERATIONS, WORDS
@@ -145,12 +144,11 @@ def _of_bits(op: str, one: Range, other: Range) -> Sequence[int]:
 
 class Exploration:
     """What all ways through a function share. `operands` are numbers where these are known.
-    `by_range` says whether ranges answer questions, `pruned` whether they did. `uncaught` has the
-    points, of all ways, at which the function doesn't catch an error of Python's."""
+    `uncaught` has the points, of all ways, at which the function doesn't catch an error of
+    Python's."""
 
-    def __init__(self, names: Sequence[str], operands: Optional[Sequence[int]] = None,
-                 by_range: bool = True) -> None:
-        self.graph, self.names, self.by_range, self.pruned = Graph(), names, by_range, False
+    def __init__(self, names: Sequence[str], operands: Optional[Sequence[int]] = None) -> None:
+        self.graph, self.names = Graph(), names
         self.operands = ([self.graph.node('arg', number=at) for at in range(len(names))]
                          if operands is None else list(map(self.graph.const, operands)))
         self.uncaught: Set[Point] = set()
@@ -208,11 +206,6 @@ class Path:
         """Whether a condition holds, where this way knows it."""
         if c in self.facts:
             return self.facts[c]
-        answer = self._truth_by_ranges(c) if self.shared.by_range else None
-        self.shared.pruned |= answer is not None
-        return answer
-
-    def _truth_by_ranges(self, c: Node) -> Optional[bool]:
         (low, high), (other_low, other_high) = map(self.ranges.of, c.args)
         if c.op == 'slt' or c.op == 'ult' and min(low, other_low) >= 0:
             return True if high < other_low else False if low >= other_high else None
@@ -302,38 +295,25 @@ class Path:
 
 # -- all ways
 
-class Explored(NamedTuple):
-    """All ways through a function as one expression: `root`, in which what they have in common is
-    merged, and `tree`, a choice for each question."""
-    root: Node
-    tree: Node
-    shared: Exploration
-
-
-def explore(names: Sequence[str], run: Callable[[Path], Optional[Node]],
-            operands: Optional[Sequence[int]] = None, by_range: bool = True) -> Explored:
-    """All ways through a function as one expression. `run` takes one, and gives None for one that
-    is to be run again."""
-    shared = Exploration(names, operands, by_range)
-    graph = shared.graph
+def explore(shared: Exploration, run: Callable[[Path], Optional[Node]]) -> Node:
+    """All ways through a function as one expression, in which what they have in common is merged.
+    `run` takes one way, and gives None for one that is to be run again."""
     plan: Answers = []
-    done: List[Tuple[Node, Node]] = []             # the arms of planned questions that are explored
+    done: List[Node] = []                          # the arms of planned questions that are explored
     ways = 0
     while True:
         path = Path(shared, plan)
-        found = run(path)
-        if found is None:
+        root = run(path)
+        if root is None:
             continue
-        root = tree = found
         ways, taken = ways + 1, path.taken
         if len(taken) < len(plan):
             raise Impure
         if ways > MOST_WAYS:
             raise CompileError(TOO_MANY_WAYS % (MOST_WAYS, path.most_asked()))
         while taken and not taken[-1][1]:
-            asked, (yes, other) = taken.pop()[0], done.pop()
-            root, tree = graph.choice((asked, True), yes, root), graph.select(asked, other, tree)
+            root = shared.graph.choice((taken.pop()[0], True), done.pop(), root)
         if not taken:
-            return Explored(root, tree, shared)
-        done.append((root, tree))
+            return root
+        done.append(root)
         plan = taken[:-1] + [(taken[-1][0], False)]

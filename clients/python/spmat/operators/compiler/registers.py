@@ -11,11 +11,9 @@ the stack, which are loaded before they are read, and stored when they are writt
 from __future__ import annotations
 
 import collections
-import operator
-from typing import Any, Callable, Dict, List, Optional, Sequence, Set, Tuple, Union
+from typing import Dict, List, Optional, Set, Tuple, Union
 
 from ...errors import CompileError
-from ..assembly import OPERATIONS, WORDS, wrap
 
 REGISTERS, PLACES = 10, 64                         # and of 8 bytes on the stack
 LOADED = 2                                         # words of the stack in one instruction
@@ -267,54 +265,3 @@ def size_of(each: Instruction) -> int:
 def text_of(code: Code) -> str:
     """Assembly text of instructions without labels."""
     return ''.join((each[0] + ' ' + ', '.join(map(str, each[1]))).strip() + '\n' for each in code)
-
-
-# -- the machine
-
-HOLDS: Dict[str, Callable[..., Any]] = {
-    'jeq64': operator.eq, 'jne64': operator.ne, 'jset64': lambda a, b: a & b != 0,
-    'jslt64': operator.lt, 'jsle64': operator.le, 'jsgt64': operator.gt, 'jsge64': operator.ge,
-    'jlt64': lambda a, b: a % WORDS < b % WORDS, 'jle64': lambda a, b: a % WORDS <= b % WORDS,
-    'jgt64': lambda a, b: a % WORDS > b % WORDS, 'jge64': lambda a, b: a % WORDS >= b % WORDS,
-    'ja': lambda: True}
-ACTS = {op + '64': each.value for op, each in OPERATIONS.items()}
-
-
-class Machine:
-    """Instructions that are called, as the server does (RFC 9669, sections 4 and 5, as functions
-    need it). Jumps in them count slots."""
-
-    def __init__(self, code: Sequence[Instruction]) -> None:
-        self._slots: Dict[int, Instruction] = {}
-        slot = 0
-        for each in code:
-            self._slots[slot] = each
-            slot += size_of(each)
-
-    def call(self, operands: Sequence[int]) -> int:
-        """The value of a call of signed words."""
-        registers = [0, *operands, *[0] * 9]
-        stack: Dict[int, int] = {}
-        slot = 0
-        while True:
-            name, given = self._slots[slot]
-            slot += size_of((name, given))
-            if name == 'exit':
-                return registers[0]
-            values: List[Any] = [registers[each] if isinstance(each, Reg) else each
-                                 for each in given]
-            if name[0] == 'j':
-                slot += values[-1] if HOLDS[name](*values[:-1]) else 0
-            elif name == 'stx64':
-                stack[values[1]] = values[2]
-            else:
-                registers[int(given[0])] = _compute_result(name, values, stack)
-
-
-def _compute_result(name: str, values: List[Any], stack: Dict[int, int]) -> int:
-    """What an instruction leaves in its register."""
-    if name == 'wide':
-        return int(values[1])
-    if name == 'ldx64':
-        return stack[values[2]]
-    return wrap(-values[0] if name == 'neg64' else ACTS[name](values[0], values[1]))

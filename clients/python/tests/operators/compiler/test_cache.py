@@ -148,6 +148,47 @@ class Changes(support.InSession):
         one = types.SimpleNamespace(toll=5, function=attributed)
         self.follows(lambda x: x + one.toll, lambda: setattr(one, 'toll', 100))
 
+    def test_functions_that_are_called(self):
+        names = {'first': lambda y: y + 5, 'other': lambda y: y + 100}
+        called = names['first']
+
+        def change():
+            nonlocal called
+            called = names['other']
+        self.follows(lambda x: called(x), change)
+
+        def toll(y, more=5):
+            return y + more
+        self.follows(lambda x: toll(x), lambda: setattr(toll, '__defaults__', (100,)))
+
+        def rate(y):
+            return y + 5
+        self.follows(lambda x: rate(x), lambda: setattr(
+            rate, '__code__', (lambda y: y + 100).__code__))
+
+    def test_three_calls_of_two_functions(self):
+        """Which of them is called where."""
+        first, other = (lambda y: y), (lambda y: 96 * y)
+        used = [first, other, first]
+        self.follows(lambda x: used[0](x) + used[2](x) + 4 * x + 0 * used[1](x),
+                     lambda: used.__setitem__(2, other))
+
+    def test_names_of_modules(self):
+        """A name that a module has no more, and another one of the same value."""
+        module = types.ModuleType('outer')
+        module.low = 5
+
+        def change():
+            del module.low
+            module.high = 5
+        self.follows(lambda x: x + (module.low if hasattr(module, 'low') else module.high * 20),
+                     change)
+
+    def test_globals_of_a_function(self):
+        self.addCleanup(globals().__setitem__, 'TOLL', 5)
+        self.follows(lambda x: x + helper.__globals__['TOLL'],
+                     lambda: globals().__setitem__('TOLL', 100))
+
     def test_builtins(self):
         builtins.spmat_toll = 5
         self.addCleanup(delattr, builtins, 'spmat_toll')
@@ -155,9 +196,12 @@ class Changes(support.InSession):
         self.follows(lambda x: x + spmat_toll, lambda: setattr(builtins, 'spmat_toll', 100))
 
     def test_what_stays_is_compiled_once(self):
-        pure = functools.partial(lambda y, x: max(x, y) + Settings.toll + Level.LOW * 0, 5)
-        for function, times in ((lambda x: x + Settings.toll + abs(x), 1),
-                                (lambda x: max(x, 3) % 7, 1), (pure, 3)):
+        table, twice, _ = [5, 6, 7], lambda y: 2 * y, support.spmat.where     # which is loaded now
+        by_class = functools.partial(lambda y, x: max(x, y) + Settings.toll + Level.LOW * 0, 5)
+        for function, times in ((lambda x: sum(x > n for n in range(4)) + abs(x), 1),
+                                (lambda x: table[x % 3] + twice(x) * TOLL, 1),
+                                (lambda x: support.spmat.where(x > 3, x, 3) % 7, 1),
+                                (by_class, 3)):
             with mock.patch.object(cache, 'compile_function', wraps=cache.compile_function) as made:
                 for _ in range(3):
                     self.A.apply(function)

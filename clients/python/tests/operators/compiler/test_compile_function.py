@@ -94,7 +94,7 @@ class Values(unittest.TestCase):
 
 
 class Ready(unittest.TestCase):
-    """All ready operators that Python can spell, written so."""
+    """All built-in operators that Python can spell, written so."""
     MORE = {('unary', 'sgn'): 1,
             **{('binary', name): 1 for name in ('floordiv', 'lxor', 'lxnor', 'absdiff')}}
 
@@ -237,8 +237,8 @@ class Taken(support.InSession):
         self.assertTrue(self.s.check(spmat.binary(toll)).accepted)
 
     def test_what_is_known_of_a_graph_stays(self):
-        """A function that becomes a ready operator is known as that one: a product of an undirected
-        graph by it is undirected."""
+        """A function that becomes a built-in operator is known as that one: a product of an
+        undirected graph by it is undirected."""
         def product(x, y):
             return x * y
         G = self.s.from_edgelist([(0, 1), (1, 2)], directed=False)
@@ -265,7 +265,7 @@ class Taken(support.InSession):
 
 class InBlocks(unittest.TestCase):
     def test_the_operator_travels(self):
-        from spmat.blocks import Sessions
+        from spmat_blocks import Sessions
         with Sessions(2) as sessions:
             W = sessions.from_triples([(0, 1, 12), (1, 2, 4), (2, 0, 7)], 3, 3)
             self.assertEqual(W.apply(lambda x: x * x).to_triples(),
@@ -311,10 +311,10 @@ class Objects(unittest.TestCase):
         """Once for each function and kind, in whatever thread; and it is forgotten with the
         function."""
         function = lambda x, y=5: x + 2 * y
-        first = cache.code_of('unary', function)
-        self.assertIs(cache.code_of('unary', function), first)
-        self.assertNotEqual(cache.code_of('binary', function).text, first.text)
-        self.assertIs(cache.code_of('unary', function), first)
+        first = cache.text_of('unary', function)
+        self.assertIs(cache.text_of('unary', function), first)
+        self.assertNotEqual(cache.text_of('binary', function), first)
+        self.assertIs(cache.text_of('unary', function), first)
         gone = weakref.ref(function)
         del function
         gc.collect()
@@ -347,7 +347,7 @@ class Objects(unittest.TestCase):
                               'tollway' in list(spmat.binary)), (18, True, True))
             self.assertEqual(spmat.semiring.min_tollway.mul, spmat.binary.tollway)
             self.assertEqual(spmat.unary.register_anonymous(lambda x: x + 3, 'three').name, 'three')
-            for name, words in (('min', "'min' is the name of a ready binary operator"),
+            for name, words in (('min', "'min' is the name of a built-in binary operator"),
                                 ('a_b', 'letters and digits'), ('1a', 'letters')):
                 with self.assertRaisesRegex(ValueError, words):
                     spmat.binary.register_new(name, min)
