@@ -4,7 +4,7 @@ clients/python/tests.
 
     cases/      sessions as bytes, by subject
     program/    tests of a program: cases, sizes, memory, texts, code, opcodes, and `spmat serve`
-    fuzz/       random and altered sessions, compared with the plain server
+    fuzz/       random and altered sessions, compared with the reference implementation
     networkx/   networkx' own tests with the client as its backend, and its functions on random
                 graphs
     client      the client's types and style

@@ -25,26 +25,35 @@ import time
 sys.path[0] = os.path.dirname(os.path.dirname(os.path.dirname(os.path.realpath(__file__))))
 
 # pylint: disable-next=wrong-import-position
-from tests.lib.paths import CLIENT, CLIENT_TESTS  # noqa: E402
+from tests.lib.paths import BLOCKS, CLIENT, CLIENT_TESTS  # noqa: E402
 from tools import numpy_python  # noqa: E402  # pylint: disable=wrong-import-position
 
 numpy_python.use()
-sys.path[:0] = [CLIENT, CLIENT_TESTS]
-os.environ['PYTHONPATH'] = os.pathsep.join(sys.path[:2])       # also for Dask's workers
+sys.path[:0] = [CLIENT, CLIENT_TESTS, BLOCKS]
+os.environ['PYTHONPATH'] = os.pathsep.join(sys.path[:3])       # also for Dask's workers
 
 import alike  # noqa: E402  # pylint: disable=wrong-import-position
 import spmat  # noqa: E402  # pylint: disable=wrong-import-position
-from spmat import blocks  # noqa: E402  # pylint: disable=wrong-import-position
-from spmat.blocks import worker_store  # noqa: E402  # pylint: disable=wrong-import-position
+import spmat_blocks as blocks  # noqa: E402  # pylint: disable=wrong-import-position
+from spmat_blocks import worker_store  # noqa: E402  # pylint: disable=wrong-import-position
 
 
 WORKERS = 3
 
 
-def program_of(settings):
-    """The process of the program in a worker."""
-    store = worker_store._stores.get(settings.token)
-    return None if store is None else store.session.connection.process
+def programs_here(settings):
+    """The processes of the programs of this process."""
+    return [store.session.connection.process for (token, _), store
+            in list(worker_store._stores.items()) if token == settings.token]
+
+
+def programs_of(session):
+    """The processes of the programs of all workers."""
+    engine = session.engine
+    if isinstance(engine, blocks.Threads):
+        return programs_here(session.settings)
+    found = engine.client.run(programs_here, session.settings, on_error='ignore').values()
+    return [process for many in found if isinstance(many, list) for process in many]
 
 
 # what weather may have said of a call
@@ -132,7 +141,7 @@ class Comparison:
         load."""
         if isinstance(engine, blocks.Threads):
             return
-        cluster, client = engine._client.cluster, engine._client
+        cluster, client = engine.client.cluster, engine.client
         lost = WORKERS - len(client.scheduler_info()['workers'])
         if lost > 0:
             with contextlib.suppress(Exception):
@@ -145,27 +154,17 @@ class Comparison:
 
     def programs(self):
         """The programs of the first of the blocks that are compared."""
-        session = next(iter(self.many.values()))
-        if isinstance(session.engine, blocks.Threads):
-            return [store.session.connection.process
-                    for (token, _), store in list(session.engine._stores.items())
-                    if token == session.settings.token]
-        found = session.engine._client.run(program_of, session.settings, on_error='ignore')
-        return [process for process in found.values() if isinstance(process, int)]
+        return programs_of(next(iter(self.many.values())))
 
     def kill(self, chance, session):
         """Kills a program, or a worker of Dask."""
-        engine = session.engine
-        if isinstance(engine, blocks.Threads):
-            processes = [store.session.connection.process
-                         for store in list(engine._stores.values())]
-        else:
-            function, args = chance.choice(((os.getpid, ()), (program_of, (session.settings,))))
-            processes = [process
-                         for process in engine._client.run(function, *args,
-                                                           on_error='ignore').values()
+        client, processes = getattr(session.engine, 'client', None), []
+        if client is not None and chance.random() < .5:
+            processes = [process for process in client.run(os.getpid, on_error='ignore').values()
                          if isinstance(process, int)]
-            engine._client.wait_for_workers(1, timeout=60)
+        processes = processes or programs_of(session)
+        if client is not None:
+            client.wait_for_workers(1, timeout=60)
         with contextlib.suppress(ProcessLookupError):
             if processes:
                 os.kill(chance.choice(processes), signal.SIGKILL)
@@ -177,7 +176,7 @@ def settings(weather, chance):
     if weather == 'budget':
         return {'steps': chance.choice((30_000, 90_000))}
     return ({'program': ['sh', '-c', 'ulimit -v 7000; exec "$0" "$@"',
-                         spmat.wire.server_program.program_words(None)[0]]}
+                         spmat.wire.transport.program_words(None)[0]]}
             if weather == 'memory' else {})
 
 
@@ -220,11 +219,9 @@ def main():
         while time.monotonic() < comparison.end:
             comparison.round(seed)
             seed += 1
-        print('blocks: seeds %d to %d, compared %s, killed %d, made again %d, longest %.1f s, '
-              'differences %d' % (
-                  options.seed, seed - 1, dict(comparison.counts), comparison.killed,
-                  sum(session.again for session in comparison.many.values()), comparison.longest,
-                  sum(comparison.differ.values())), flush=True)
+        print('blocks: seeds %d to %d, compared %s, killed %d, longest %.1f s, differences %d' % (
+            options.seed, seed - 1, dict(comparison.counts), comparison.killed, comparison.longest,
+            sum(comparison.differ.values())), flush=True)
         sys.stdout.flush()
         os._exit(1 if comparison.differ else 0)
 

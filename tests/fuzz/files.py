@@ -1,9 +1,8 @@
 #!/usr/bin/env python3
 """files SECONDS [--seed N] [--program PATH] [--case K]
-
-Reads files that strangers may have written: of each format, altered byte by byte, cut, nested,
-packed, with headers of many columns, long lines and huge numbers. Each ends as a graph or as a
-refusal that names the file (ReadError, TextRefused, TooLarge), within little memory and time;
+ Reads files that untrusted users may have written: of each format, altered byte by byte, cut,
+nested, packed, with headers of many columns, long lines and huge numbers. Each ends as a graph or
+as a refusal that names the file (ReadError, TextRefused, TooLarge), within little memory and time;
 another exception, a hang or a crash is a fault. File k of a seed is always the same; --case reads
 it alone.
 """

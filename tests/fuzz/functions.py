@@ -1,11 +1,10 @@
 #!/usr/bin/env python3
 """functions SECONDS [--seed N] [--program PATH]
-
-Makes operators from random Python functions, and compares their values with Python's on the same
+ Makes operators from random Python functions, and compares their values with Python's on the same
 words: on the plain machine of reference, and with --program also in that program
-(crates/spmat/out/spmat, or reference/__main__.py for the plain server). Function k of a seed is
-always the same. It stops at the first difference, and prints the function, its assembly and the
-operands.
+(crates/spmat/out/spmat, or reference/__main__.py for the reference implementation). Function k of a
+seed is always the same. It stops at the first difference, and prints the function, its assembly and
+the operands.
 """
 import argparse
 import faulthandler

@@ -1,5 +1,5 @@
-"""Files that strangers may have written: a file of each format, and what makes a hostile one of it.
-File k of a seed is always the same."""
+"""Files that untrusted users may have written: a file of each format, and what makes a hostile one
+of it. File k of a seed is always the same."""
 import bz2
 import gzip
 import io
@@ -159,7 +159,7 @@ def words_for(rng: random.Random) -> Dict[str, Any]:
                          'directed': (False, True), 'bipartite': (True, False),
                          'comments': ('#', None, ('#', '//')), 'missing': ('skip', None),
                          'nodetype': (str, int), 'dup_op': ('plus', 'min'),
-                         'delimiter': (',', ' ', '\t', '|'), 'unit': ('s', 'D')}.items():
+                         'sep': (',', ' ', '\t', '|'), 'unit': ('s', 'D')}.items():
         if rng.random() < .12:
             given[key] = rng.choice(choices)
     if 'unit' in given:
@@ -177,7 +177,10 @@ def plain(rng: random.Random) -> Case:
     make = rng.choice(READERS)
     given = words_for(rng) if make is edge_list and rng.random() < .4 else {}
     given.update({'dup_op': 'min'} if rng.random() < .7 else {})
-    return Case(make.__name__, make(rng), read_as(**given))
+    data = make(rng)
+    if make is edge_list and rng.random() < .8:
+        given.setdefault('sep', next((sep for sep in ',;\t|' if sep.encode() in data), ' '))
+    return Case(make.__name__, data, read_as(**given))
 
 
 def flipped(rng: random.Random) -> Case:

@@ -1,5 +1,5 @@
 """The limits of the protocol and of the machine, each once. docs/protocol.md and docs/bpf.md state
-them; the plain server has its own."""
+them; the reference implementation has its own."""
 
 MEGABYTE = 1 << 20
 

@@ -30,8 +30,8 @@ def pytest_configure(config):
         scipy.sparse.sparray = scipy.sparse._arrays._sparray
     if not os.environ.get('NETWORKX_TEST_BACKEND'):
         return
-    from spmat.networkx.backend import backend
-    from spmat.networkx.backend_info import SERVED
+    from spmat_networkx.backend import backend
+    from spmat_networkx.backend_info import SERVED
     for name in SERVED:
         setattr(backend, name, _counted(name, getattr(backend, name)))
     backend.can_run = _watched(backend)

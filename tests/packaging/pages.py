@@ -9,7 +9,7 @@ from typing import Dict, Iterator, List, NamedTuple
 
 from tests.lib.paths import TOP
 
-PAGES = ('README.md', 'docs/server.md', 'docs/service.md')
+PAGES = ('README.md', 'docs/server.md', 'docs/service.md', 'docs/write_a_client.md')
 INTRODUCED = re.compile(r'\[(packaging/[^\]]+)\]\((?:\.\./)?\1\):$')
 INDENT = '    '
 

@@ -1,15 +1,18 @@
 """The documents lead to each file of packaging/ that users take: they print the short ones word for
 word, and link to the others."""
 import glob
+import gzip
 import os
 import re
+import subprocess
+import tempfile
 import unittest
 from typing import List, Set
 
 from tests.lib.paths import TOP
 from tests.packaging.pages import PAGES, blocks, is_file, text_of
 
-PRINTED = ('gateway/spmat-gateway.toml', 'ssh/*', 'stunnel/session.py')
+PRINTED = ('clients/client.mjs', 'gateway/spmat-gateway.toml', 'ssh/*', 'stunnel/session.py')
 LINKED = ('ssh/*', 'stunnel/*', 'systemd/*.service', 'systemd/*.socket', 'spmat-health',
           'gateway/*.toml', 'gateway/*.yml', 'Containerfile', 'compose.yaml')
 UNITS = ('systemd/*.service', 'systemd/*.socket')
@@ -52,6 +55,15 @@ class Pages(unittest.TestCase):
         self.assertGreater(len(named), 9)
         self.assertEqual(named - set().union(*(settings(text_of(file)) for file in files_of(UNITS)))
                          - OTHER_SETTINGS, set())
+
+    def test_the_payments_of_the_tutorial(self) -> None:
+        """The file is what the tool makes."""
+        with tempfile.TemporaryDirectory() as folder:
+            made = os.path.join(folder, 'payments.csv.gz')
+            subprocess.run([os.path.join(TOP, 'tools', 'payments'), made], check=True)
+            with gzip.open(made) as one, gzip.open(os.path.join(TOP, 'docs',
+                                                                'payments.csv.gz')) as other:
+                self.assertEqual(one.read(), other.read())
 
 
 if __name__ == '__main__':

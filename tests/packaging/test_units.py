@@ -6,9 +6,11 @@ import shlex
 import signal
 import socket
 import subprocess
+import sys
 import threading
-from typing import Dict, List, Set, Tuple
+from typing import Any, Dict, List, Sequence, Set, Tuple
 
+from tests.lib.paths import TOP
 from tests.lib.patience import FOR_A_REPLY
 from tests.lib.ports import free_port
 from tests.packaging.pages import snippet, text_of
@@ -16,10 +18,17 @@ from tests.packaging.rooms import (FIRST_SESSION, LAST_REPLIES, Room, converse, 
                                    lines_of, needs, program, settings_of, until)
 import spmat
 
+sys.path.insert(0, os.path.join(TOP, 'gateway'))
+from spmat_gateway.config import ALONE, SESSION    # pylint: disable=wrong-import-position
+
 SERVICES = ('spmat.service', 'spmat@.service')
-GATEWAY = 'spmat-gateway.service'
-UNITS = SERVICES + ('spmat.socket', GATEWAY)
-MOST_EXPOSED = 20                                  # of 100, as systemd-analyze counts
+GATEWAY, ENGINE = 'spmat-gateway.service', 'spmat-engine@.service'
+UNITS = SERVICES + ('spmat.socket', GATEWAY, ENGINE, 'spmat-engine.socket', 'spmat-engines.slice')
+# of 100, as systemd-analyze counts
+MOST_EXPOSED = {'spmat.service': 12, 'spmat@.service': 5, GATEWAY: 15, ENGINE: 5}
+STARTER = os.path.join(TOP, 'gateway', 'spmat_gateway', 'starter.py')
+# Calls of Python, for which it has a way without them.
+HARMLESS = {'epoll_create1', 'fadvise64', 'getcwd', 'set_mempolicy', 'sysinfo'}
 # Calls of what starts the program, before systemd's filter stands.
 BEFORE = {'execve'}
 
@@ -45,7 +54,9 @@ class Units(Room):
         super().setUp()
         for name in UNITS:
             changes = ({'/usr/bin/spmat': program()} if name in SERVICES
-                       else {'/usr/bin/spmat-gateway': program()} if name == GATEWAY else {})
+                       else {'/usr/bin/spmat-gateway': program()} if name == GATEWAY
+                       else {'/usr/lib/python3/dist-packages/spmat_gateway/starter.py': STARTER}
+                       if name == ENGINE else {})
             self.write(name, snippet('systemd/' + name, changes), 0o644)
 
     @needs('systemd-analyze')
@@ -69,9 +80,9 @@ class Units(Room):
 
     @needs('systemd-analyze')
     def test_exposure(self) -> None:
-        for name in (*SERVICES, GATEWAY):
+        for name, most in MOST_EXPOSED.items():
             said = subprocess.run(['systemd-analyze', 'security', '--offline=yes', '--no-pager',
-                                   '--threshold=%d' % MOST_EXPOSED, self.file(name)],
+                                   '--threshold=%d' % most, self.file(name)],
                                   stdout=subprocess.PIPE, text=True, timeout=FOR_A_REPLY,
                                   check=False)
             self.assertEqual(said.returncode, 0, said.stdout[-300:])
@@ -220,6 +231,72 @@ class Calls(Room):
         with silent:
             self.assertEqual(child.wait(FOR_A_REPLY), 0)
         self.assertEqual(self.calls('spmat.service'), set())
+
+
+def group_of_calls(name: str) -> Set[str]:
+    """The calls of one of systemd's groups, as `@system-service`."""
+    said = subprocess.run([str(found('systemd-analyze')), 'syscall-filter', name],
+                          stdout=subprocess.PIPE, text=True, timeout=FOR_A_REPLY, check=True)
+    calls: Set[str] = set()
+    for word in re.findall(r'^    ([@\w-]+)$', said.stdout, re.M):
+        calls |= group_of_calls(word) if word.startswith('@') else {word}
+    return calls
+
+
+def allowed_calls(service: str) -> Set[str]:
+    """The calls that a unit's filter allows. Its lines apply in order."""
+    calls: Set[str] = set()
+    for line in settings_of(text_of('packaging/systemd/' + service))['SystemCallFilter']:
+        for word in line.lstrip('~').split():
+            named = group_of_calls(word) if word.startswith('@') else {word}
+            calls = calls - named if line.startswith('~') else calls | named
+    return calls
+
+
+@needs('strace', 'setpriv', 'prlimit', 'systemd-analyze')
+class Starts(Room):
+    """What starts a session calls nothing that the unit in which it runs forbids."""
+
+    def words(self, command: Sequence[str]) -> List[str]:
+        values = {'memory': '2000000000', 'processor': '100', 'steps': '1000', 'workers': '1',
+                  'idle': '100'}
+        words = [word.format(**values) for word in command]
+        place = words.index('spmat')
+        # a program with run-time checks has calls of its own
+        return words[:place] + (['true'] if is_checked() else [program()] + words[place + 1:])
+
+    def calls(self, words: List[str], **settings: Any) -> Set[str]:
+        """What commands call until they end."""
+        said = subprocess.run([str(found('strace')), '-f', '-qq', '-o', self.file('trace'), *words],
+                              stdout=subprocess.DEVNULL, timeout=FOR_A_REPLY, check=False,
+                              **settings)
+        self.assertEqual(said.returncode, 0)
+        with open(self.file('trace'), encoding='utf-8') as file:
+            called = set(re.findall(r'^\d+ +([a-z]\w*)\(', file.read(), re.M))
+        self.assertLess({'execve', 'prlimit64'}, called)
+        return called
+
+    def test_beside_the_gateway(self) -> None:
+        with open(self.write('first', FIRST_SESSION.decode()), encoding='utf-8') as first:
+            called = self.calls(self.words(ALONE), stdin=first)
+        self.assertEqual(called - allowed_calls(GATEWAY), set())
+
+    def test_a_unit(self) -> None:
+        ours, theirs = socket.socketpair(socket.AF_UNIX, socket.SOCK_SEQPACKET)
+        pipes = [os.pipe() for _ in range(3)]
+        os.write(pipes[0][1], FIRST_SESSION)
+        os.close(pipes[0][1])
+        streams = [pipes[0][0], pipes[1][1], pipes[2][1]]
+        with ours, theirs:
+            words = '\0'.join(['60.0', 'env', 'LANG=C.UTF-8', *self.words(SESSION)])
+            socket.send_fds(ours, [words.encode()], streams)
+            called = self.calls(['/usr/bin/python3', '-IS', STARTER], stdin=theirs)
+            self.assertTrue(ours.recv(99).startswith(b'started '))
+            self.assertTrue(ours.recv(99).startswith(b'ended 0 '))
+        for descriptor in (*streams, pipes[1][0], pipes[2][0]):
+            os.close(descriptor)
+        self.assertEqual(called - allowed_calls(ENGINE) - HARMLESS, set())
+        self.assertFalse({'socket', 'kill', 'ptrace', 'tkill', 'tgkill'} & allowed_calls(ENGINE))
 
 
 @needs('systemd-socket-activate')

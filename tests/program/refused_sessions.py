@@ -61,8 +61,8 @@ def operator_of(cost: int) -> bytes:
 
 
 class Given(NamedTuple):
-    """A session, its workers and steps, and whether the plain server also answers it with each
-    command left out that is refused."""
+    """A session, its workers and steps, and whether the reference implementation also answers it
+    with each command left out that is refused."""
 
     name: str
     commands: List[bytes]

@@ -22,8 +22,11 @@ from tools.releasing import look, tree
 
 # the Debian packages too, and every Python of this machine
 WHOLE = False
+# what each distribution wants of others, as METADATA has it
+NEEDED = {'spmat': r'(?:numpy ?\(?>=1\.22|click ?\(?>=8\.1)', 'spmat_blocks': r'numpy ?\(?>=1\.22',
+          'spmat_networkx': r'networkx ?\(?>=3\.2', 'spmat_gateway': r'aiohttp ?\(?>=3\.8'}
 FIRST_SESSION = re.compile(
-    r'A first session in Python:\n\n((?:    .*\n)+)\nprints\n\n((?:    .*\n)+)')
+    r'\n\n((?:    import spmat\n)(?:    .*\n|\n(?=    ))+)\nprints\n\n((?:    .*\n)+)')
 
 
 def sum_of(data: bytes) -> str:
@@ -31,13 +34,13 @@ def sum_of(data: bytes) -> str:
 
 
 def pythons() -> List[str]:
-    """The Pythons of this machine that the client can use, which have numpy; one alone unless all
-    are asked for."""
+    """The Pythons of this machine that the client can use, which have numpy and click; one alone
+    unless all are asked for."""
     found = [sys.executable, '/usr/bin/python3']
     if WHOLE:
         found = sorted(glob.glob(os.path.expanduser('~/.pyenv/versions/*/bin/python3'))) + [
             '/usr/bin/python3']
-    asked = 'import sys, venv, numpy; sys.exit(sys.version_info < (3, 9))'
+    asked = 'import sys, venv, click, numpy; sys.exit(sys.version_info < (3, 9))'
     return [python for python in found if os.path.exists(python)
             and subprocess.run([python, '-c', asked], stderr=subprocess.DEVNULL,
                                check=False).returncode == 0]
@@ -207,8 +210,7 @@ class Made(unittest.TestCase):
                     self.assertEqual(held.getinfo(carried).external_attr >> 16 & 0o777, 0o755)
                 about = held.read(next(entry for entry in held.namelist()
                                        if entry.endswith('/METADATA'))).decode()
-                needed = ('aiohttp ?\\(?>=3\\.8' if name.startswith('spmat_gateway')
-                          else 'numpy ?\\(?>=1\\.22')
+                needed = NEEDED[name.split('-')[0]]
                 self.assertRegex(about, r'(?m)^Requires-Dist: %s\)?$' % needed)
                 self.assertRegex(about, r'(?m)^(Home-page|Project-URL: Homepage,|Project-URL: '
                                  r'homepage,) ?:? ?%s$' % re.escape(look.homepage()))
@@ -219,10 +221,10 @@ class Made(unittest.TestCase):
 
     def test_a_fresh_environment(self) -> None:
         """`pip install` of the wheel, and then the README's first session, with nothing else but
-        numpy."""
+        numpy and click."""
         self.wants('wheels')
         usable = pythons()
-        self.assertTrue(usable, 'no Python here has numpy and venv')
+        self.assertTrue(usable, 'no Python here has numpy, click and venv')
         for python in usable if WHOLE else usable[:1]:
             with self.subTest(python=python), \
                     tempfile.TemporaryDirectory(prefix='spmat-venv-') as room:
@@ -241,8 +243,23 @@ class Made(unittest.TestCase):
                                        'import spmat; print(spmat.__version__)']), file.read())
         karate = os.path.join(TOP, 'docs', 'karate.mtx')
         self.assertEqual(self.ran(room, ['env/bin/spmat-graph', 'triangle-count', karate]), '45\n')
+        self.use_others(room)
         self.assertEqual(self.ran(room, ['env/bin/spmat', 'run', '--steps', '5', '--workers', '1'],
                                   'budget\n'), 'ok budget 5 0 0\n')
+
+    def use_others(self, room: str) -> None:
+        """Installs the distributions that are built on the client, and looks up what they tell."""
+        self.ran(room, ['env/bin/pip', 'install', '-q', '--no-index', '--no-deps',
+                        '--disable-pip-version-check', '--find-links', self.folder,
+                        'spmat-blocks', 'spmat-networkx'])
+        asked = ('import importlib.metadata as m; d = m.distribution("spmat-networkx"); '
+                 'print(sorted({point.group for point in d.entry_points}), '
+                 'd.version == m.version("spmat"))')
+        self.assertEqual(self.ran(room, ['env/bin/python', '-c', asked]),
+                         "['networkx.backend_info', 'networkx.backends'] True\n")
+        asked = ('import spmat; from spmat import blocks; s = blocks.Sessions(2); '
+                 'print(s.identity(3).nvals, blocks.__name__); s.close()')
+        self.assertEqual(self.ran(room, ['env/bin/python', '-c', asked]), '3 spmat_blocks\n')
 
     def ran(self, room: str, words: List[str], given: str = '') -> str:
         """What a command prints in an environment with nothing in it; it says nothing on standard
@@ -257,8 +274,9 @@ class Made(unittest.TestCase):
         self.wants('debian')
         names = [name for name in self.made[0] if name.endswith('.deb')]
         self.assertEqual([re.sub(r'_[\d.]+_', '_', name) for name in names],
-                         ['python3-spmat_all.deb', 'spmat-doc_all.deb', 'spmat-gateway_all.deb',
-                          'spmat_amd64.deb'])
+                         ['python3-spmat-blocks_all.deb', 'python3-spmat-networkx_all.deb',
+                          'python3-spmat_all.deb',
+                          'spmat-doc_all.deb', 'spmat-gateway_all.deb', 'spmat_amd64.deb'])
         with tempfile.TemporaryDirectory(prefix='spmat-deb-') as room:
             for name in names:
                 subprocess.run(['dpkg-deb', '-x', os.path.join(self.folder, name), room],
@@ -286,6 +304,10 @@ class Made(unittest.TestCase):
                          'usr/lib/sysusers.d/spmat-gateway.conf',
                          'usr/share/man/man7/spmat-service.7.gz'):
                 self.assertTrue(os.path.exists(os.path.join(room, path)), path)
+            (told,) = glob.glob(os.path.join(
+                room, 'usr/lib/python3/dist-packages/spmat_networkx-*.dist-info'))
+            with open(os.path.join(told, 'entry_points.txt'), encoding='ascii') as file:
+                self.assertIn('spmat = spmat_networkx.backend:backend', file.read())
             units = {os.path.basename(path)
                      for path in glob.glob(os.path.join(room, '*/systemd/system/*')) +
                      glob.glob(os.path.join(room, 'usr/lib/systemd/system/*'))}

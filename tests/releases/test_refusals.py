@@ -2,7 +2,10 @@
 import json
 import os
 import re
+import shutil
+import subprocess
 import tempfile
+import unittest
 import zipfile
 
 from tests.lib.paths import TOP
@@ -60,6 +63,36 @@ class Refusals(InCopy):
         if 'lowdown' not in made.stdout:
             self.assertEqual(made.returncode, 0, made.stdout)
         self.assertEqual(self.copy.release('--check').returncode, 0)
+
+    def test_keys(self) -> None:
+        """A key in the repository could be committed, and one that isn't there signs nothing."""
+        self.copy.write('out/key', 'secret')
+        for key, said in ((self.copy.path('out/key'), 'lies in the repository'),
+                          ('/nonexistent/key', 'there is no key /nonexistent/key')):
+            made = self.copy.release('--only', 'bill', '--key', key, '--to',
+                                     self.copy.path('out/made'))
+            self.assertEqual(made.returncode, 1, made.stdout)
+            self.assertIn(said, made.stdout)
+            self.assertFalse(os.path.exists(self.copy.path('out/made')))
+
+    @unittest.skipIf(shutil.which('minisign') is None, 'no minisign')
+    def test_signature(self) -> None:
+        """SHA256SUMS is signed, and a changed one isn't what was signed."""
+        folder = self.folder()
+        public, secret = (os.path.join(folder, name) for name in ('public', 'secret'))
+        subprocess.run(['minisign', '-G', '-W', '-p', public, '-s', secret], check=True,
+                       stdout=subprocess.DEVNULL)
+        made = self.copy.release('--only', 'wheels', '--key', secret, '--to',
+                                 self.copy.path('out/made'))
+        if 'no Python here' in made.stdout:
+            self.skipTest('no Python here makes wheels')
+        self.assertEqual(made.returncode, 0, made.stdout)
+        sums = self.copy.path('out/made/SHA256SUMS')
+        verify = ['minisign', '-V', '-q', '-p', public, '-m', sums]
+        self.assertEqual(subprocess.run(verify, check=False).returncode, 0)
+        with open(sums, 'a', encoding='ascii') as file:
+            file.write('0  more\n')
+        self.assertNotEqual(subprocess.run(verify, check=False).returncode, 0)
 
     def test_untested(self) -> None:
         """Without a gate, of changed files, the version tells so; what stands against every release

@@ -13,7 +13,7 @@ import subprocess
 import sys
 import tempfile
 from typing import List, NamedTuple, Optional
-from tests.lib.paths import CLIENT, TOP
+from tests.lib.paths import PYTHON_PATH, TOP
 from tests.lib.patience import FOR_A_SESSION
 from tests.lib.runs import Wrong, difference
 
@@ -88,7 +88,7 @@ def check_page(page: str, program: str) -> None:
             os.symlink(os.path.join(TOP, name), os.path.join(folder, name))
         environment = {**os.environ, 'SPMAT': program,
                        'PYTHONPATH': os.pathsep.join(filter(None,
-                                                            [CLIENT,
+                                                            [PYTHON_PATH,
                                                              os.environ.get('PYTHONPATH')]))}
         for block in blocks:
             words = block.words()

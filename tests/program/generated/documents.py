@@ -199,11 +199,11 @@ def code_rules(program):
 
 
 def verifier_rules(program):
-    """Each smallest program is refused, and what was mended is accepted."""
+    """Each smallest program is refused, and the fixed one is accepted."""
     for row in tables('Rule | What is wrong', BPF)[0]:
         expect_reply(program, assembly_command('a', text_of(quoted(row['The smallest program']))),
                      quoted(row['Reply'])[0])
-        mended = quoted(row['Mended'])
+        mended = quoted(row['Fixed'])
         expect_reply(program, assembly_command('a', text_of(mended)),
                      'ok op %d %d' % (len(mended), len(mended)))
 
@@ -221,7 +221,8 @@ def worked_operators(program):
 DOCUMENT_CASES = {
     'examples': page_case('docs/examples.md'),
     'scaling': page_case('docs/scaling.md'),
-    'client-readme': page_case('clients/python/README.md'),
+    'start': page_case('docs/start.md'),
+    'python': page_case('docs/python.md'),
     'protocol-example': protocol_example,
     'protocol-operators': protocol_operators,
     'protocol-client': protocol_client,

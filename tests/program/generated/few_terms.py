@@ -1,6 +1,7 @@
 """Products of rows of few entries, whose terms are few beside the columns: several terms at a
 column, in the order of A's row, by operators of which any other order shows; under masks; and batch
-after batch, of matrices with more and fewer columns. Replies are those of the plain server."""
+after batch, of matrices with more and fewer columns. Replies are those of the reference
+implementation."""
 import random
 from typing import Callable, Dict, List, Tuple
 

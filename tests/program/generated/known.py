@@ -1,6 +1,6 @@
 """Jobs of each form with operators that the program recognises by their code, and with operators
 that are nearly such: another register, another order, another width, one more instruction, a jump
-over two. Values and steps are those of the plain server in Python (reference)."""
+over two. Values and steps are those of the reference implementation in Python (reference)."""
 import subprocess
 import sys
 from typing import Callable, Dict, Iterator

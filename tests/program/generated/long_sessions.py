@@ -3,7 +3,7 @@ tests/cases.
 
 Some were worked by hand against the specification. They are checked by the digests of their bytes,
 so that what is made is what was worked. The others are products by columns, whose replies are those
-of the plain server in Python (reference).
+of the reference implementation in Python (reference).
 """
 import functools
 import hashlib
@@ -162,7 +162,7 @@ WORKED: Dict[str, Tuple[str, Callable[[], LongSession]]] = {
 }
 
 
-# -- products by a column, with replies by the plain server
+# -- products by a column, with replies by the reference implementation
 
 OPERATORS = (('plus', 'binary', RESULT_IS_OPERAND + instruction(0x0f, 0, 2) + EXIT),
              ('mul', 'binary', TIMES),

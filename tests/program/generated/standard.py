@@ -162,21 +162,22 @@ def log_of_a_session(program: str) -> None:
     expect('status and replies', (plain.returncode, plain.stdout, b''),
            (done.returncode, done.stdout, plain.stderr))
     lines = done.stderr.decode().splitlines()
-    expect('events', ['server-start', 'start', 'refused', 'session', 'server-end'],
+    expect('events', ['server-start', 'start', 'runs', 'refused', 'session', 'server-end'],
            [fields_of(line)['event'] for line in lines])
     expect_fields(lines[0], address='stdin', steps=100, workers=1, sessions=1, idle='none',
                   session_steps='none')
-    expect_fields(lines[1], client='stdin', untold=0)
-    expect_fields(lines[2], client='stdin', rule='S1')
-    expect_fields(lines[3], client='stdin', end='quit', commands=8, jobs=3, steps=3, refused=1,
+    expect_fields(lines[1], id=1, client='stdin', untold=0)
+    expect_fields(lines[2], id=1, client='stdin', steps=3)
+    expect_fields(lines[3], id=1, client='stdin', rule='S1')
+    expect_fields(lines[4], id=1, client='stdin', end='quit', commands=8, jobs=3, steps=3, refused=1,
                   **{'in': len(data), 'out': len(done.stdout)})
-    expect_fields(lines[4], address='stdin', end='sessions', sessions=1, refused=1, steps=3,
+    expect_fields(lines[5], address='stdin', end='sessions', sessions=1, refused=1, steps=3,
                   left=97)
 
 
 def log_of_each_batch(program: str) -> None:
-    """With `--log-every 1` it also tells how it stands: each second, and before the reply of each
-    batch. One that is killed has told what it had spent; `--idle` is told as the end."""
+    """It tells how it stands before the reply of each batch, and with `--log-every 1` each second.
+    One that is killed has told what it had spent; `--idle` is told as the end."""
     words = [program] + run_words(1000) + ['--log-every', '1', '--log-format', 'json']
     data = matrix_command('A',
                           matrix_text(1, 1, [(1, 1, 41)])) + assembly_command(

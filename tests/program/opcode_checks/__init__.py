@@ -13,7 +13,6 @@
     stacks.py       loads and stores of each size at each place of the stack
     folds.py        folds of short and long rows
     sizes.py        code and text as long as they may be
-
-What is written down stands in its module. The other values are those of the plain server's machine
-(reference).
+ What is written down stands in its module. The other values are those of the reference
+implementation's machine (reference).
 """

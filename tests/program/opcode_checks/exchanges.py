@@ -20,7 +20,7 @@ class Exchange(NamedTuple):
 
 class Session(NamedTuple):
     """Exchanges one after the other. The expected replies are `literal` where they are written
-    down, and then the plain server is held to them too."""
+    down, and then the reference implementation is held to them too."""
 
     topic: str
     exchanges: List[Exchange]

@@ -149,7 +149,7 @@ def longest() -> Exchange:
 
 
 def outcome(text: bytes) -> bytes:
-    """What the plain server replies to `asm` and then `dis`."""
+    """What the reference implementation replies to `asm` and then `dis`."""
     try:
         operator = verify(assemble(text), 'unary')
     except Refusal as refusal:

@@ -44,7 +44,8 @@ def uploaded(slots: Sequence[str]) -> bytes:
 
 
 class Machine:
-    """The plain server's machine on one program. What was called before is remembered."""
+    """The reference implementation's machine on one program. What was called before is
+    remembered."""
 
     def __init__(self, slots: Sequence[str]) -> None:
         self.program: Program = decode(bytes.fromhex(''.join(slots)))

@@ -182,5 +182,5 @@ def verifier_faults() -> Iterator[Exchange]:
 
 def sessions() -> List[Session]:
     if set(BY_OPCODE) != set(KNOWN) or OUTSIDE_PROFILE != LEFT_OUT:
-        raise ValueError('the plain server has another table of opcodes')
+        raise ValueError('the reference implementation has another table of opcodes')
     return [Session('refused code', [*code_faults(), *opcodes(), *verifier_faults()], literal=True)]

@@ -1,7 +1,7 @@
 """What a log says of its server, how many lines each kind of event may have in a second, and how
 sessions that run stand."""
 import os
-import re
+import signal
 import subprocess
 import time
 from typing import Callable, Dict, List
@@ -11,14 +11,11 @@ from tests.lib.patience import CHECKED, FOR_A_REPLY
 from tests.lib.ports import free_port
 from tests.lib.runs import Wrong, expect
 from tests.program.server.hostile import LITTLE_ROOM, full_house
-from tests.program.server.logs import (REFUSED, SERVER, START, TIME, Entry, Logging, entries_of,
+from tests.program.server.logs import (REFUSED, RUNS, SERVER, START, Entry, Logging, entries_of,
                                        port_of, quick_sessions, untold_in, version)
 from tests.program.server.server import BUSY, Client, serve_words, until
 from tests.program.server.sessions import LONG_SECONDS, PRODUCT, UPLOADED, UPLOADS
 
-RUNS = re.compile(TIME
-                  + r'runs client=127\.0\.0\.1:(\d+) seconds=\d+\.\d{3} state=(\w+) jobs=(\d+) '
-                  r'reserved=(\d+) steps=(\d+) in=(\d+) out=(\d+)')
 # how many lines of a kind a second may have
 MANY, FEW = 100, 10
 
@@ -94,14 +91,17 @@ def many_turned_away(program: str) -> None:
 
 
 def many_sessions(program: str) -> None:
-    """Of sessions that start, and of those that end, a hundred a second have lines; the others are
-    counted, with their steps."""
+    """Of sessions that start, of batches, and of sessions that end, a hundred a second have lines;
+    the others are counted, with their steps."""
     many = 600
+    data = (matrix_command('A', matrix_text(1, 1, [(1, 1, 41)]))
+            + assembly_command('f', b'mov64 r0, r1\nexit\n', 'unary')
+            + b'apply B f A\nrun\nquit\n')
     with Logging(program, sessions=many) as server:
         began = time.monotonic()
         for _ in range(many):
             with server.client() as client:
-                client.send(b'quit\n')
+                client.send(data)
                 client.rest()
         seconds = time.monotonic() - began
         last = last_of(server)
@@ -109,9 +109,13 @@ def many_sessions(program: str) -> None:
         ends = [line for line in server.lines if ' end=quit ' in line]
         few(starts, MANY, seconds)
         few(ends, MANY, seconds)
+        few([line for line in server.lines if RUNS.fullmatch(line)], MANY, seconds)
         expect('all sessions', str(many), last['sessions'])
         expect('all that are counted', 2 * many,
                len(starts) + len(ends) + sum(map(untold_in, server.lines)))
+        told = sum(entry.steps + entry.untold_steps for entry in entries_of(server.lines))
+        expect('all steps', (2 * many, str(2 * many)),
+               (told + int(last['untold_steps']), last['steps']))
         if seconds < 4 and len(starts) == many:
             raise Wrong('%d starts have lines in %.1f seconds' % (many, seconds))
 
@@ -171,7 +175,8 @@ def told_every_second(program: str) -> None:
               ('waiting', '1', '12', '0', str(received), str(sent)),
               ('reading', '1', '12', '0', str(received + 22), str(sent))]
     for name, numbers in zip(names, wanted):
-        last = [groups[1:] for groups in told if groups[0] == name][1:]
+        # the line of a batch comes while its session runs
+        last = [groups[2:] for groups in told if groups[1] == name and groups[2] != 'running'][1:]
         expect('what is told of a session', {numbers}, set(last))
         expect('whether it is told each second', True, 1 <= len(last) <= 4)
 
@@ -187,7 +192,7 @@ def told_while_it_runs(program: str) -> None:
         def is_told(client: Client, *words: str) -> None:
             start = (str(client.socket.getsockname()[1]),) + words
             until('%r is told' % (start,),
-                  lambda: any(told and told.groups()[:len(start)] == start
+                  lambda: any(told and told.groups()[1:1 + len(start)] == start
                               for told in map(RUNS.fullmatch, list(server.lines))), 4 * FOR_A_REPLY)
         for client in (one, other):
             client.reply(matrix_command('A', text))
@@ -203,7 +208,8 @@ def told_while_it_runs(program: str) -> None:
 
 def comes_again_from_its_port(program: str) -> None:
     """A client resets its connection while its batch runs, and connects again from the same port.
-    The server then has two sessions of one address; the line of each has its own numbers."""
+    The server then has two sessions of one address. Each has a number of its own, and its line has
+    what it took."""
     rows, slots = 1 << 14, 4096
     jobs = 16
     if os.environ.get(CHECKED):
@@ -233,6 +239,38 @@ def comes_again_from_its_port(program: str) -> None:
     expect('the line of the new session', (9, received, len(UPLOADS) + 3),
            (ends[True].steps, ends[True].received, ends[True].commands))
     expect('the steps of the old session', price, ends[False].steps)
+    starts = [int(told.group(1)) for told in map(START.fullmatch, server.lines)
+              if told and int(told.group(2)) == port]
+    expect('the numbers of both, in the order of their starts', starts,
+           [ends[False].number, ends[True].number])
+    expect('how many numbers they have', 2, len(set(starts)))
+
+
+def told_before_a_signal(program: str) -> None:
+    """A server that SIGTERM ends has told what each session had spent by the reply to its last
+    batch."""
+    with Logging(program) as server, server.client() as one, server.client() as other:
+        for client, batches in ((one, 3), (other, 2)):
+            for command in UPLOADS:
+                client.reply(command)
+            for _ in range(batches):
+                client.expect(PRODUCT, b'ok queued 1 12\n')
+                client.expect(b'run\n', b'ok run 1 9\nC 1 1 1 9\n')
+        client.expect(PRODUCT, b'ok queued 1 12\n')
+        until('the line of the last batch', lambda: len(batches_of(server, other)) == 2)
+        server.child.terminate()
+        expect('status', -signal.SIGTERM, server.child.wait(60))
+        server.reader.join(60)
+        expect('the steps after each batch', (['9', '18', '27'], ['9', '18']),
+               (batches_of(server, one), batches_of(server, other)))
+        expect('lines of ends', [], entries_of(server.lines))
+
+
+def batches_of(server: Logging, client: Client) -> List[str]:
+    """The steps that the log tells of a client's session, after each of its batches."""
+    port = str(client.socket.getsockname()[1])
+    return [told.group(6) for told in map(RUNS.fullmatch, list(server.lines))
+            if told and told.group(2) == port]
 
 
 def ends_of(server: Logging, port: int) -> List[Entry]:
@@ -248,4 +286,5 @@ LIMIT_CASES: Dict[str, Callable[[str], None]] = {
     'log-every-second': told_every_second,
     'log-of-a-batch': told_while_it_runs,
     'log-of-one-address-twice': comes_again_from_its_port,
+    'log-before-a-signal': told_before_a_signal,
 }

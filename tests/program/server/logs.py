@@ -22,20 +22,24 @@ from tests.program.server.server import BUSY, Client, Server, serve_words, until
 from tests.program.server.sessions import PRODUCT, UPLOADED, UPLOADS
 
 TIME = r'spmat: time=\d{4}-\d\d-\d\dT\d\d:\d\d:\d\d\.\d{3}Z '
-LINE = re.compile(TIME + r'session client=127\.0\.0\.1:(\d+) end=([a-z-]+|refused-S\d) '
+LINE = re.compile(TIME + r'session id=(\d+|none) client=127\.0\.0\.1:(\d+) '
+                  r'end=([a-z-]+|refused-S\d) '
                   r'seconds=(\d+\.\d{3}) in=(\d+) out=(\d+) commands=(\d+) jobs=\d+ '
                   r'steps=(\d+) refused=(\d+) untold=(\d+) untold_steps=(\d+)')
-START = re.compile(TIME + r'start client=127\.0\.0\.1:(\d+) untold=(\d+)')
-REFUSED = re.compile(TIME + r'refused client=127\.0\.0\.1:(\d+) rule=([AJMSV]\d+|memory|thread)(?: '
-                     r'price=(\d+) left=(\d+))? untold=(\d+)')
+START = re.compile(TIME + r'start id=(\d+) client=127\.0\.0\.1:(\d+) untold=(\d+)')
+REFUSED = re.compile(TIME + r'refused id=\d+ client=127\.0\.0\.1:(\d+) '
+                     r'rule=([AJMSV]\d+|memory|thread)(?: price=(\d+) left=(\d+))? untold=(\d+)')
+RUNS = re.compile(TIME + r'runs id=(\d+) client=127\.0\.0\.1:(\d+) seconds=\d+\.\d{3} state=(\w+) '
+                  r'jobs=(\d+) reserved=(\d+) steps=(\d+) in=(\d+) out=(\d+)')
 SERVER = re.compile(TIME + r'server-(start|end) address=127\.0\.0\.1:(\d+)((?: [a-z_]+=\S+)+)')
-DROPPED = re.compile(r'spmat: (\d+) lines of the log were dropped')
 # how many lines wait for standard error at most
 QUEUE = 1024
 
 
 class Entry(NamedTuple):
-    """What a line tells: who, how it ended, and how much there was of it."""
+    """What a line tells: who, how it ended, and how much there was of it. `number` is that of the
+    session, None for a client that was turned away."""
+    number: Optional[int]
     port: int
     end: str
     seconds: float
@@ -53,14 +57,15 @@ def entry_of(line: str) -> Entry:
     told = LINE.fullmatch(line)
     if not told:
         raise Wrong('no line of the log: %.200r' % line)
-    port, end, seconds, *numbers = told.groups()
-    return Entry(int(port), end, float(seconds), *map(int, numbers))
+    number, port, end, seconds, *numbers = told.groups()
+    return Entry(None if number == 'none' else int(number), int(port), end, float(seconds),
+                 *map(int, numbers))
 
 
 def entries_of(lines: List[str]) -> List[Entry]:
     """What the log tells of ends, in order."""
     return [entry_of(line) for line in lines
-            if not any(form.fullmatch(line) for form in (START, REFUSED, SERVER))]
+            if not any(form.fullmatch(line) for form in (START, REFUSED, RUNS, SERVER))]
 
 
 class Logging(Server):
@@ -101,7 +106,7 @@ def expect_entry(server: Logging, client: Client, end: str, received: int, sent:
                  steps: int = 0, refused: int = 0) -> None:
     entry = server.entry(client)
     expect('the line of the log', (end, received, sent, commands, steps, refused),
-           tuple(entry[1:2] + entry[3:8]))
+           tuple(entry[2:3] + entry[4:9]))
 
 
 def each_end_has_its_line(program: str) -> None:
@@ -248,8 +253,8 @@ def port_of(child: 'subprocess.Popen[bytes]') -> int:
 
 def nobody_reads_the_log(program: str) -> None:
     """Where nobody takes the lines, each session is served all the same. Those that fit no more are
-    counted: once they are read, lines, dropped ones and those beyond a second's hundred of a kind
-    are two for each session. At 80 a second most have lines."""
+    counted, as are those beyond a second's hundred of a kind: once they are read, the lines and
+    what they count are two for each session. At 80 a second most would have lines."""
     sessions = QUEUE // 2 + 200
     reads, writes = os.pipe()
     fcntl.fcntl(writes, fcntl.F_SETPIPE_SZ, 4096)
@@ -263,14 +268,13 @@ def nobody_reads_the_log(program: str) -> None:
     finally:
         child.kill()
         child.stdout.close()
-    dropped = [int(told.group(1)) for told in map(DROPPED.fullmatch, lines) if told]
-    kept = [line for line in lines if not DROPPED.fullmatch(line) and not SERVER.fullmatch(line)]
+    kept = [line for line in lines if not SERVER.fullmatch(line)]
     expect('whether each is a line', True,
            all(START.fullmatch(line) or entry_of(line) for line in kept))
-    expect('lines, dropped ones and untold ones', 2 * sessions,
-           len(kept) + sum(dropped) + sum(map(untold_in, lines)))
-    if not dropped or len(kept) < QUEUE:
-        raise Wrong('%d lines, %r dropped' % (len(kept), dropped))
+    untold = sum(map(untold_in, lines))
+    expect('lines and untold ones', 2 * sessions, len(kept) + untold)
+    if not untold or len(kept) < QUEUE:
+        raise Wrong('%d lines, %d untold' % (len(kept), untold))
 
 
 def log_that_is_closed(program: str) -> None:
@@ -306,7 +310,7 @@ def starts_and_refusals(program: str) -> None:
     with Logging(program, steps=12) as server, server.client() as client:
         port = client.socket.getsockname()[1]
         until('the start',
-              lambda: any(told and int(told.group(1)) == port
+              lambda: any(told and int(told.group(2)) == port
                           for told in map(START.fullmatch, list(server.lines))))
         for command, reply in zip(UPLOADS, UPLOADED):
             client.expect(command, reply)
@@ -377,6 +381,8 @@ def log_in_json(program: str) -> None:
         expect('time', True,
                bool(re.fullmatch(r'\d{4}-\d\d-\d\dT\d\d:\d\d:\d\d\.\d{3}Z', told.pop('time'))))
         expect('client', name, told.pop('client'))
+        expect('the number of the session', None if told['event'].startswith('server-') else 1,
+               told.pop('id', None))
     seconds = objects[3].pop('seconds')
     expect('whether a session has seconds', True, isinstance(seconds, float) and 0 <= seconds < 60)
     received = sum(map(len, UPLOADS)) + 2 * len(PRODUCT) + 5

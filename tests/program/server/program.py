@@ -202,7 +202,9 @@ def idle_ends_a_silent_session(program: str) -> None:
             for client in silent:
                 expect('the end', b'', client.rest())
                 client.close()
-            until('seats given back', lambda: server.threads() == server.at_rest[0] + 1)
+            # a client that asks isn't silent, so its own session goes on
+            until('seats given back', lambda: other.budget() == [12, 0, 0]
+                  and server.threads() == server.at_rest[0] + 1)
             other.expect(b'quit\n', b'ok quit\n')
         server.look_at_rest()
 
