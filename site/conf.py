@@ -3,7 +3,8 @@ numpydoc, in light and dark, with nothing from elsewhere."""
 import os
 import sys
 
-sys.path[:0] = [os.environ['SPMAT_TOP'], os.path.join(os.environ['SPMAT_TOP'], 'clients', 'python')]
+sys.path[:0] = [os.environ['SPMAT_TOP'], *(os.path.join(os.environ['SPMAT_TOP'], 'clients', name)
+                                           for name in ('python', 'blocks'))]
 
 from tools.siting import docstrings                # noqa: E402 (found by the line above)
 
@@ -16,7 +17,8 @@ extensions = ['myst_parser', 'sphinx.ext.autodoc', 'sphinx.ext.viewcode', 'numpy
 source_suffix = {'.md': 'markdown', '.rst': 'restructuredtext'}
 exclude_patterns = ['_build', 'extra']
 highlight_language = 'none'
-pygments_style, pygments_dark_style = 'friendly', 'monokai'
+# colours of code that have the contrast of WCAG's AA on their grounds
+pygments_style, pygments_dark_style = 'xcode', 'github-dark'
 
 # the headings' anchors are those of the pages in the repository
 myst_heading_anchors = 4

@@ -7,7 +7,7 @@ use`.
 import glob
 import os
 import re
-from typing import Iterator, List, NamedTuple, Set
+from typing import Iterator, List, NamedTuple, Set, Tuple
 
 from paths import CRATES
 
@@ -69,9 +69,9 @@ class Crate:
         """Whether other crates see a type or trait: one of another crate they do."""
         return name in self.exported or name not in self.own
 
-    def contracts(self, path: str) -> Iterator[str]:
-        """The signature and clauses of each function of a file that other crates can call, without
-        the clauses' own names."""
+    def calls(self, path: str) -> Iterator[Tuple[str, str]]:
+        """The functions of a file that other crates can call: for a method with its type or trait,
+        as `TYPE::FUNCTION`; each with its text from its signature on."""
         text = read(path)
         blocks = blocks_of(text)
         for head in FUNCTION.finditer(text):
@@ -84,7 +84,14 @@ class Crate:
                 seen = (head.group(2) == 'pub '
                         and (path in self.open or head.group(3) in self.exported))
             if seen:
-                yield LABEL.sub(r'\1 ', clauses_of(text[head.start():]))
+                holder = block.of_type or block.of_trait
+                yield (holder + '::' if holder else '') + head.group(3), text[head.start():]
+
+    def contracts(self, path: str) -> Iterator[str]:
+        """The signature and clauses of each function of a file that other crates can call, without
+        the clauses' own names."""
+        for _, text in self.calls(path):
+            yield LABEL.sub(r'\1 ', clauses_of(text))
 
     def views(self, path: str) -> Iterator[str]:
         """The ghost members and fields of a file's types and traits, but for invariants, that
@@ -166,6 +173,17 @@ def promises_of(crate: str, name: str) -> Set[str]:
             if item.group(1) == name:
                 found.update(FACT.findall(text[item.start():text.index('\n}', item.start())]))
     return found
+
+
+def is_public(crate: str, name: str) -> bool:
+    """Whether other crates can call a function of a crate, `TYPE::FUNCTION` for a method, or see a
+    type. Of a program nobody calls any."""
+    known = Crate(crate)
+    if known.is_program:
+        return False
+    called = {each for path in known.files for each, _ in known.calls(path)}
+    return (name in called or name in known.exported
+            or '::' not in name and any(each.endswith('::' + name) for each in called))
 
 
 def all_crates() -> List[Crate]:

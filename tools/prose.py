@@ -1,9 +1,10 @@
-"""Counts the words and the sentences of pages: headings, tables, blocks of code and pictures are
-left out, and code between backticks is a word."""
+"""Counts the words and the sentences of pages: headings, tables, blocks of code, pictures and
+comments are left out, and code between backticks is a word. So is a list of such names."""
 import re
-from typing import List, NamedTuple
+from typing import Iterator, List, NamedTuple, Tuple
 
 ABBREVIATIONS = re.compile(r'\b(e\.g|i\.e|etc|vs|St|No)\.')
+NAMES = re.compile(r'Code(?:(?:,| and| or|, and|, or) Code)+')
 END_OF_SENTENCE = re.compile(r'(?<=[.!?])["\')*_]*\s+(?=["\'(*_`\[]*[A-Z0-9`])|(?<=:)\s*\n')
 
 
@@ -20,7 +21,7 @@ class Prose(NamedTuple):
 
 def paragraphs(text: str) -> List[str]:
     """The paragraphs and the items of lists of a page, each on one line."""
-    text = re.sub(r'^```.*?^```', '\n', text, flags=re.M | re.S)
+    text = re.sub(r'^```.*?^```|<!--.*?-->', '\n', text, flags=re.M | re.S)
     found: List[str] = []
     is_open = False
     for line in text.split('\n'):
@@ -35,14 +36,20 @@ def paragraphs(text: str) -> List[str]:
     return found
 
 
-def prose_of(text: str) -> Prose:
-    """Counts a page."""
-    lengths = []
+def sentences(text: str) -> Iterator[Tuple[str, int]]:
+    """The sentences of a page, each with how many words it has."""
     for paragraph in paragraphs(text):
-        plain = re.sub(r'!?\[([^\]]*)\]\([^)]*\)', r'\1', re.sub(r'`[^`]*`', 'code', paragraph))
+        # code and a page's name may begin a sentence
+        plain = re.sub(r'`[^`]*`', 'Code', re.sub(r'\[[\w./-]+\.md\]', '[Page]', paragraph))
+        plain = NAMES.sub('Code', re.sub(r'!?\[([^\]]*)\]\([^)]*\)', r'\1', plain))
         plain = ABBREVIATIONS.sub(lambda found: found.group(0).replace('.', ''), plain)
         for sentence in END_OF_SENTENCE.split(plain):
             words = len(re.findall(r"[A-Za-z0-9][\w'’.,^/-]*", sentence))
             if words:
-                lengths.append(words)
+                yield sentence, words
+
+
+def prose_of(text: str) -> Prose:
+    """Counts a page."""
+    lengths = [words for _, words in sentences(text)]
     return Prose(sum(lengths), lengths)

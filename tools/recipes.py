@@ -12,7 +12,7 @@ SAMPLES = {
     # (a type of bpf_verify is called Types as well)
     'A command': r"\bTypes (?:\{ |: \()?(?:name|words)\b|[.:]Types\b|, "
     r"Types\b|'types'|b'types\b|\btypes_text\b",
-    'A ready operator': r'\babsdiff\b',
+    'A built-in operator': r'\babsdiff\b',
     'An algorithm': r'\bk_core\b',
     'A file format': r'\bread_dimacs\b',
     'A rule of refusal': r'\bSymmetricNotSquare\b|\bM12\b',
@@ -22,8 +22,8 @@ FOLDERS = ['bench', 'clients', 'crates', 'docs', 'reference', 'tests']
 PASSED_OVER = re.compile(
     r'(^|/)(out|mutants|must-fail|__pycache__|[.][^/]*)/|^tests/cases/|^bench/\w+\.txt$'
     r'|\.(svg|png|mtx|hex|pyc)$|README\.md$|^docs/(DECISIONS|performance|examples|scaling)\.md$')
-# ready operators are named by algorithms and by one another, opcodes by the operators of tests
-USES = {'A ready operator': re.compile(r'^clients/python/spmat/(algorithms|networkx)/|^bench/'),
+# built-in operators are named by algorithms and by one another, opcodes by the operators of tests
+USES = {'A built-in operator': re.compile(r'^clients/(python/spmat/algorithms|networkx)/|^bench/'),
         'An opcode': re.compile(
             r'\.asm$|^bench/|^clients/python/spmat/algorithms/|^crates/(form|job)_tests/'),
         'A form of job': re.compile(r'^bench/'), 'A command': re.compile(r'^bench/|^tests/gateway')}

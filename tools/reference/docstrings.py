@@ -2,14 +2,14 @@
 returns, cost, elsewhere, raises.
 
 The client's docstrings are prose, or have numpydoc's sections. A sentence of prose belongs to a
-section by how it begins: "Runs:" and "Steps:" to the cost, "networkx:" to the names elsewhere,
+section by how it begins: "Cost:" to the cost, "networkx:" to the names elsewhere,
 "Raises .." or the name of an exception to what is raised. Blocks that are indented stay code.
 """
 import inspect
 import re
 from typing import Any, Callable, Dict, List, NamedTuple, Optional, Tuple
 
-COST = re.compile(r'(Runs|Steps|Costs|Rounds|Limits):|(No|\d+) (runs?|jobs?|steps?)\b|(It|They) '
+COST = re.compile(r'(Cost|Runs|Steps|Costs|Rounds|Limits):|(No|\d+) (runs?|jobs?|steps?)\b|(It|They) '
                   r'(costs?|takes?) |Costs? (are|as) |.*\bso are (the )?costs\b')
 MORE_COST = re.compile(r'\b(runs?|steps?|jobs?|round trips?|batch(es)?)\b')
 ELSEWHERE = re.compile(r'(GraphBLAS|LAGraph|networkx|igraph):|In (the '
@@ -41,6 +41,7 @@ def sections_of(thing: Any) -> Dict[str, str]:
                 found[name].append(' '.join(sentences))
     joined = {name: ('\n\n' if name == 'text' else ' ').join(parts)
               for name, parts in found.items()}
+    joined['cost'] = joined['cost'].replace('Cost: ', '')
     joined['raises'] = re.sub(r'(^|(?<=\. ))Raises ', '', joined['raises'])
     return joined
 
@@ -73,6 +74,8 @@ BODIES: Dict[str, Callable[[str], str]] = {
     'Returns': lambda body: '\n\n'.join('Returns: %s' % said for _, said in entries_of(body)),
     'Raises': lambda body: '\n\n'.join('Raises %s %s' % (name, said[:1].lower() + said[1:])
                                        for name, said in entries_of(body)),
+    'See Also': lambda body: 'See also %s.' % ', '.join(
+        '`%s`' % name for name in re.findall(r'^([\w.]+) :', body, re.M)),
     'Examples': lambda body: re.sub(r'^(?=.)', '    ', body, flags=re.M)}
 
 

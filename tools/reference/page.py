@@ -4,13 +4,14 @@ import re
 import sys
 from typing import Any, Callable, Dict, Iterator, List, Sequence
 
-from tools.paths import CLIENT
+from tools.paths import BLOCKS, CLIENT
 from tools.reference import docstrings, subjects
 
-sys.path.insert(0, CLIENT)
+sys.path[:0] = [CLIENT, BLOCKS]
 
 import spmat                                       # noqa: E402 (found by the line above)
-from spmat import algorithms, blocks, draw, errors  # noqa: E402
+import spmat_blocks as blocks  # noqa: E402
+from spmat import algorithms, draw, errors, extending, limits  # noqa: E402
 
 HEAD = """# Reference of the Python client, spmat %s
 
@@ -21,9 +22,9 @@ describes operators. In the headings `s` is a session and `A` a matrix.
 Each entry says what it does, then its arguments, what it returns, its cost (runs are round trips
 that compute; steps are what the budget pays), the name elsewhere, and what it raises. A section is
 left out where there is nothing to say. """
-READY = ('Ready operators are `spmat.unary`, `spmat.binary` and `spmat.indexunary`; '
+READY = ('Built-in operators are `spmat.unary`, `spmat.binary` and `spmat.indexunary`; '
          '`spmat.semiring.min_plus` joins any two binary names. '
-         '[operators.md](operators.md#ready-operators) lists them.')
+         '[operators.md](operators.md#built-in-operators) lists them.')
 
 
 def entry(heading: str, thing: Any, function: Callable[..., Any] = lambda: None, *,
@@ -125,9 +126,23 @@ def page() -> str:
                 map(lambda name: function(draw, name, 'draw.'), subjects.PICTURES)),
         chapter('Row blocks over several sessions', inspect.getdoc(blocks) or '',
                 map(lambda name: function(blocks, name, 'blocks.'), subjects.BLOCKS)),
-        chapter('Exceptions', inspect.getdoc(errors) or '', iter(()))]
+        chapter('Exceptions', inspect.getdoc(errors) or '', iter(())),
+        chapter('Limits', inspect.getdoc(limits) or '', iter(())),
+        chapter('Distributions that are built on spmat', inspect.getdoc(extending) or '',
+                iter((extending_names(),)))]
     parts.insert(1, contents('\n'.join(parts)))
     return re.sub(r'\n{3,}', '\n\n', '\n\n'.join(parts)).rstrip() + '\n'
+
+
+def extending_names() -> str:
+    """The names of `spmat.extending`, each with the first sentence that its docstring says."""
+    lines = []
+    for name in extending.__all__:
+        thing = getattr(extending, name)
+        said = (inspect.getdoc(thing) or '') if callable(thing) else ''
+        sentence = re.split(r'(?<=[.])\s', ' '.join(said.split('\n\n')[0].split()))[0]
+        lines.append('- `%s`%s' % (name, ': ' + sentence if sentence else ', a constant'))
+    return '\n'.join(lines)
 
 
 def contents(text: str) -> str:

@@ -40,15 +40,18 @@ OPERATORS = (
             ('where', 'udiv', 'umod', 'cdiv', 'cmod', 'rsh', 'ult')),
     Subject('See operators and prices', ('explain', 'code_of', 'price')),
     Subject('Loops and graphs', ('fixpoint', 'loop', 'steady', 'empty', 'bipartite', 'concat')),)
+# The modules that users import, and all that distributions built on spmat import of it.
+MODULES = ('spmat', 'spmat.algorithms', 'spmat.draw', 'spmat.errors', 'spmat.extending',
+           'spmat.limits')
 # The modules of spmat.algorithms under their subjects: an algorithm is shown where its module is.
 ALGORITHM_MODULES = {
     'Degrees, triangles, undirected graphs': ('triangle_counts',),
     'Searches and shortest paths': ('bfs', 'single_source_paths', 'shortest_path_trees',
-                                    'simple_paths', 'all_pairs_lengths', 'distance_measures'),
-    'Components, orders and trees': ('components', 'strong_components', 'independent_set',
-                                     'topological_order', 'spanning_forest'),
-    'Centrality': ('page_rank', 'path_centralities', 'eigenvector_and_hits', 'katz_centrality'),
-    'Communities and dense parts': ('communities', 'louvain_method', 'core_decomposition'),
+                                    'all_pairs_lengths', 'distance_measures'),
+    'Components, orders and trees': ('components', 'independent_set', 'topological_order',
+                                     'spanning_forest'),
+    'Centrality': ('page_rank', 'path_centralities', 'vector_centralities'),
+    'Communities and dense parts': ('communities', 'core_decomposition'),
     'Similarity': ('neighbour_similarity',),
 }
 PICTURES = ('spy', 'degree_histogram', 'graph', 'levels', 'route')

@@ -51,9 +51,15 @@ def of_part(part: parts.Part) -> Dict[str, Any]:
 
 
 def of_own() -> List[Dict[str, Any]]:
-    """The libraries of the toolchain's own that the program names."""
-    return [{'type': 'library', 'bom-ref': name, 'name': name, 'description': 'of the toolchain'}
-            for name in parts.named() if name in parts.OWN]
+    """The libraries of the toolchain's own that the program names, without a licence as they have
+    none, and what its standard library has of others."""
+    return [{'type': 'library', 'bom-ref': name, 'name': name, 'description': 'of the toolchain, '
+             'which says nothing of its licence'}
+            for name in dict.fromkeys((*parts.STANDARD, *parts.named()))
+            if name in (*parts.OWN, *parts.STANDARD)] + [
+                {'type': 'library', 'bom-ref': name, 'name': name,
+                 'licenses': [{'expression': licence}], 'description': 'in core: ' + original}
+                for name, original, licence in parts.INSIDE.values()]
 
 
 def of_c() -> List[Dict[str, Any]]:
@@ -71,10 +77,11 @@ def of_c() -> List[Dict[str, Any]]:
 def dependencies(components: List[Dict[str, Any]]) -> List[Dict[str, Any]]:
     """What each component stands on."""
     graph = parts.graph()
-    below = {name: sorted(graph.get(name, []) + parts.BELOW.get(name, []))
+    inside = {'core': [name for name, _, _ in parts.INSIDE.values()]}
+    below = {name: sorted(graph.get(name, []) + parts.BELOW.get(name, []) + inside.get(name, []))
              for name in (part['bom-ref'] for part in components)}
     links = [{'ref': name, 'dependsOn': names} for name, names in sorted(below.items())]
-    whole = ['spmat', 'glibc'] + [part['bom-ref'] for part in components
+    whole = ['spmat', 'glibc', *parts.STANDARD] + [part['bom-ref'] for part in components
                                   if part['bom-ref'].endswith('.a')]
     return [{'ref': 'release', 'dependsOn': sorted(whole)}] + links
 

@@ -15,12 +15,12 @@ PACKAGING = 'packaging/debian/'
 # The manual pages of section 7: a document each, and what it is about.
 PAGES = {
     'protocol': 'commands, replies and refusals of a session of spmat',
-    'operators': 'operators of spmat from Python functions and from C, and ready ones',
+    'operators': 'operators of spmat from Python functions and from C, and built-in ones',
     'bpf': 'the instructions and the assembly text of operators, and what the verifier of spmat '
     'wants',
     'server': 'how to run a server of spmat for others',
     'limits': 'what a session of spmat takes, and how to bound it',
-    'service': 'how to run a service of spmat for strangers',
+    'service': 'how to run a service of spmat for untrusted users',
 }
 # The first session of the program, and what it prints.
 FIRST_SESSION = ('crates/spmat/stdin', 'crates/spmat/stdout')
@@ -63,9 +63,10 @@ def manual(name: str) -> str:
     date = email.utils.formatdate(tree.commit_time(), usegmt=True).split()
     date_told = ' '.join(date[1:4])
     if name in BY_HAND:
-        return tree.text_of('packaging/man/%s.1' % name).replace('@VERSION@',
-                                                                 tree.version()).replace(
-                                                                     '@DATE@', date_told)
+        page = tree.text_of('packaging/man/%s.1' % name)
+        if '@COMMANDS@' in page:
+            page = page.replace('@COMMANDS@\n', tree.printed('tools/manual_commands'))
+        return page.replace('@VERSION@', tree.version()).replace('@DATE@', date_told)
     # Without --parse-no-super 2^64 becomes 264.
     made = subprocess.run(['lowdown', '-s', '--parse-no-super', '-Tman', '-m',
                            'title=spmat-' + name, '-m', 'section=7', '-m', 'date=' + date_told,
@@ -102,7 +103,7 @@ def changes() -> str:
 
 def goes_in(name: str) -> bool:
     """Whether packages are made of a file, or tried with it."""
-    return (tree.is_client(name) or tree.is_gateway(name)
+    return (any(one.has(name) for one in tree.DISTRIBUTIONS)
             or name.startswith(('docs/', 'packaging/')) or os.path.dirname(name) == ''
             or name in FIRST_SESSION)
 

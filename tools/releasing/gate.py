@@ -22,7 +22,7 @@ UNKNOWN = 'none'
 # A run that lacks one of these is none of the gate.
 STEPS = ('documents', 'definitions', 'release --check', 'a fresh clone', 'rt ci', 'refused memory',
          'little memory', 'cases', 'served', 'instructions', 'odd texts', 'altered code', 'opcodes',
-         'fuzzer', 'client', 'networkx', 'snippets', 'release')
+         'fuzzer', 'client', 'spmat-blocks', 'spmat-networkx', 'networkx', 'snippets', 'release')
 MOST_SECONDS = 20 * 60                             # of a step that has no other limit
 LINES_OF_A_FAULT = 20                              # that are repeated behind what other steps said
 

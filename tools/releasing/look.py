@@ -9,19 +9,19 @@ from tools.releasing import gate, parts, tree
 
 # Where the version stands beside VERSION, as nothing reads it there: each with a form for it.
 PROGRAMS = 'crates/command_line/src/version.rt'
-# a copy: the gate's prover refuses a tree with links
-CLIENT = 'clients/python/spmat/VERSION'
-GATEWAY = 'gateway/spmat_gateway/VERSION'
+# copies: the gate's prover refuses a tree with links
+COPIES = tuple(one.version_file for one in tree.DISTRIBUTIONS)
 PLACES = {'CHANGELOG.md': r'^## (\d[^ \n]*)', PROGRAMS: r'^pub const VERSION: &str = "(.+)";$',
-          CLIENT: r'^(.+)$', GATEWAY: r'^(.+)$'}
+          **dict.fromkeys(COPIES, r'^(.+)$')}
 # Names of files of a release, in the documents.
 RELEASED = r'\bspmat[_-](\d+(?:\.\d+)+)[_-]'
 DOCUMENTS = ('README.md', 'docs/server.md', 'clients/python/README.md')
 # Where the homepage stands: whoever publishes puts theirs into each.
 HOMEPAGES = {'packaging/debian/control': r'^Homepage: (\S+)$',
-             'clients/python/pyproject.toml': r'^Homepage = "(\S+)"$',
-             'gateway/pyproject.toml': r'^Homepage = "(\S+)"$',
-             'README.md': r'<(https://\S+)>'}
+             **{one.folder + 'pyproject.toml': r'^Homepage = "(\S+)"$'
+                for one in tree.DISTRIBUTIONS},
+             'README.md': r'<(https://\S+)>',
+             'clients/python/README.md': r'\((https://[^/)]+/)'}
 # Where the toolchain that proves is named.
 PROVED = ('README.md', 'CHANGELOG.md', 'docs/proved.md')
 
@@ -49,7 +49,7 @@ def version_faults() -> List[str]:
         out.append('VERSION is three numbers with points between them, not %r' % version)
     if 'CHANGELOG.md' not in places():
         out.append('CHANGELOG.md has no heading with a version')
-    out.extend('%s has no version' % path for path in (CLIENT, GATEWAY) if path not in places())
+    out.extend('%s has no version' % path for path in COPIES if path not in places())
     return out
 
 

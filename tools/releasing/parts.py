@@ -32,6 +32,15 @@ PARTS = [
 # Libraries of the toolchain's own, beside core and std: they are no ports, and have no licence
 # file.
 OWN = ('atomic_table', 'libc', 'os')
+STANDARD = ('core', 'std')
+# What these have of others, as the first lines of their files say: the file below the toolchain's
+# libraries, or a folder, what the part is, and its licence.
+INSIDE = {
+    'core/src/dec2flt/mod.rt': ('fast-float2', 'fast-float2 0.2.4', EITHER),
+    'core/src/char': ('Unicode', 'data of Unicode', 'Unicode-3.0'),
+    'core/src/str/two_way.rt': ('memchr', 'memchr 2.8.3', 'Unlicense OR MIT'),
+}
+LICENSED = re.compile(rb'\b[Ll]icen[cs]e|\bUnlicense\b|[Cc]opyright')
 # Crates without code, which state laws and examples.
 LAWS = ('session_laws', 'worked_rows')
 # What a library of the toolchain stands on, beside its standard library, and crates.txt doesn't
@@ -75,6 +84,23 @@ def faults() -> List[str]:
         if path and os.path.exists(path) and quoted(path) not in notices:
             out.append('%s doesn\'t have the notice of %s as the toolchain has it'
                        % (NOTICES, part.name))
+    out += ['%s has no heading for %s' % (NOTICES, name) for name, _, _ in INSIDE.values()
+            if not re.search(r'^#+ .*\b%s\b' % name, notices, re.M)]
+    return out + (unlisted(os.path.join(kit, 'rattle')) if kit else [])
+
+
+def unlisted(libraries: str) -> List[str]:
+    """Files of the toolchain's own libraries that speak of a licence and that INSIDE lacks."""
+    out = []
+    for library in (*STANDARD, *OWN):
+        for folder, _, names in os.walk(os.path.join(libraries, library)):
+            for name in sorted(names):
+                path = os.path.relpath(os.path.join(folder, name), libraries)
+                if not any(path == known or path.startswith(known + '/') for known in INSIDE):
+                    if LICENSED.search(tree.bytes_of(os.path.join(folder, name))):
+                        out.append("the toolchain's %s speaks of a licence: expected it in INSIDE "
+                                   'of tools/releasing/parts.py, and its notice in %s'
+                                   % (path, NOTICES))
     return out
 
 

@@ -10,15 +10,34 @@ from typing import List, NamedTuple, Optional
 
 from tools.paths import TOP
 
-CLIENT = 'clients/python/'
-GATEWAY = 'gateway/'
-# What of it isn't installed: tests, and what makes a checkout look installed.
-LEFT_OUT = tuple(CLIENT + folder for folder in ('tests/', 'benchmarks/', 'spmat.dist-info/'))
+
+class Distribution(NamedTuple):
+    """What pip installs under one name: its folder, which has pyproject.toml, and its package."""
+    folder: str
+    package: str
+
+    @property
+    def version_file(self) -> str:
+        """The file that tells its version."""
+        return '%s%s/VERSION' % (self.folder, self.package)
+
+    def has(self, name: str) -> bool:
+        """Whether a file belongs to what is installed: tests don't, nor what makes a checkout look
+        installed."""
+        left_out = ('tests/', 'benchmarks/', self.package + '.dist-info/')
+        return name.startswith(self.folder) and not name.startswith(
+            tuple(self.folder + part for part in left_out))
+
+
+CLIENT = Distribution('clients/python/', 'spmat')
+DISTRIBUTIONS = (CLIENT, Distribution('clients/blocks/', 'spmat_blocks'),
+                 Distribution('clients/networkx/', 'spmat_networkx'),
+                 Distribution('gateway/', 'spmat_gateway'))
 # made for releases and packages; the repository has none
 REFERENCE = 'docs/api.md'
 PROGRAM = os.path.join('crates', 'spmat', 'out', 'spmat')
 # The files that carry the version into what is made.
-VERSIONS = ('VERSION', CLIENT + 'spmat/VERSION', GATEWAY + 'spmat_gateway/VERSION')
+VERSIONS = ('VERSION', *(one.version_file for one in DISTRIBUTIONS))
 # What is added to the version, by `mark_untested`.
 MARKS: List[str] = []
 
@@ -105,16 +124,6 @@ def files() -> List[str]:
     return sorted(told('git', 'ls-files', '-z').strip('\0').split('\0'))
 
 
-def is_client(name: str) -> bool:
-    """Whether a file belongs to what is installed of the Python client."""
-    return name.startswith(CLIENT) and not name.startswith(LEFT_OUT)
-
-
-def is_gateway(name: str) -> bool:
-    """Whether a file belongs to what is installed of the gateway."""
-    return name.startswith(GATEWAY) and not name.startswith(GATEWAY + 'tests/')
-
-
 def toolchain() -> Optional[Toolchain]:
     """The toolchain of this machine, None where it has none."""
     if shutil.which('rt') is None:
@@ -129,8 +138,13 @@ def kit_folder() -> Optional[str]:
     return os.path.dirname(os.path.dirname(os.path.realpath(found))) if found else None
 
 
+def printed(script: str) -> str:
+    """What one of the repository's scripts prints."""
+    environment = dict(os.environ, PYTHONDONTWRITEBYTECODE='1')
+    return subprocess.run([sys.executable, path_of(script)], cwd=TOP, env=environment,
+                          stdout=subprocess.PIPE, check=True, text=True, encoding='utf-8').stdout
+
+
 def reference() -> str:
     """The reference of the Python client, as tools/api_page makes it from the docstrings."""
-    environment = dict(os.environ, PYTHONDONTWRITEBYTECODE='1')
-    return subprocess.run([sys.executable, path_of('tools/api_page')], cwd=TOP, env=environment,
-                          stdout=subprocess.PIPE, check=True, text=True, encoding='utf-8').stdout
+    return printed('tools/api_page')

@@ -1,5 +1,5 @@
-"""The wheels of the Python client, one for every machine, and one for Linux on x86_64 that carries
-the program; and that of the gateway.
+"""The wheels: of the Python client one for every machine, and one for Linux on x86_64 that carries
+the program; of each other distribution one.
 
 setuptools makes the first; the second is the same with the program and the command `spmat` added.
 Both are packed here, so that their bytes depend on their files alone, and not on the folder, the
@@ -14,7 +14,7 @@ import subprocess
 import sys
 import tempfile
 import zipfile
-from typing import Callable, Dict, NamedTuple
+from typing import Dict, NamedTuple
 
 from tools.releasing import tree
 
@@ -22,9 +22,8 @@ from tools.releasing import tree
 PLATFORM = 'manylinux_2_34_x86_64'
 # of entry_points.txt, as setuptools writes it
 SECTION = b'[console_scripts]\n'
-COMMAND = b'spmat = spmat.wire.server_program:main\n'
+COMMAND = b'spmat = spmat.wire.transport:main\n'
 ANY = 'py3-none-any'
-GATEWAY = 'spmat_gateway'
 TIME = (1980, 1, 1, 0, 0, 0)
 
 
@@ -50,14 +49,14 @@ def builder() -> str:
         'python3-wheel)')
 
 
-def made_by_setuptools(folder: str, belongs: Callable[[str], bool]) -> Dict[str, Entry]:
-    """The files of a folder's wheel for every machine, as setuptools makes it of the commit's
+def made_by_setuptools(one: tree.Distribution) -> Dict[str, Entry]:
+    """The files of a distribution's wheel for every machine, as setuptools makes it of the commit's
     files, but for its list of them."""
     with tempfile.TemporaryDirectory(prefix='spmat-wheel-') as room:
         stage = os.path.join(room, 'source')
         for name in tree.files():
-            if belongs(name):
-                tree.copy(name, os.path.join(stage, name[len(folder):]))
+            if one.has(name):
+                tree.copy(name, os.path.join(stage, name[len(one.folder):]))
         subprocess.run([builder(), '-m', 'pip', 'wheel', '--quiet', '--no-index', '--no-deps',
                         '--no-build-isolation', '--no-cache-dir', '-w', room, stage], check=True)
         (path,) = (os.path.join(room, name) for name in os.listdir(room) if name.endswith('.whl'))
@@ -119,10 +118,12 @@ def packed(files: Dict[str, Entry], package: str = 'spmat') -> bytes:
 
 def make(to: str, program: str) -> None:
     """Writes the wheels into a folder. NoSetuptools where no Python here can."""
-    pure = with_notices(made_by_setuptools(tree.CLIENT, tree.is_client))
-    gateway = with_notices(made_by_setuptools(tree.GATEWAY, tree.is_gateway), GATEWAY)
-    for package, kind, files in (('spmat', ANY, pure),
-                                 ('spmat', 'py3-none-' + PLATFORM, with_program(pure, program)),
-                                 (GATEWAY, ANY, gateway)):
-        with open(os.path.join(to, '%s-%s-%s.whl' % (package, tree.version(), kind)), 'wb') as file:
-            file.write(packed(files, package))
+    for one in tree.DISTRIBUTIONS:
+        files = with_notices(made_by_setuptools(one), one.package)
+        wheels = {ANY: files}
+        if one == tree.CLIENT:
+            wheels['py3-none-' + PLATFORM] = with_program(files, program)
+        for kind, held in wheels.items():
+            name = '%s-%s-%s.whl' % (one.package, tree.version(), kind)
+            with open(os.path.join(to, name), 'wb') as file:
+                file.write(packed(held, one.package))

@@ -5,7 +5,7 @@ import shutil
 import subprocess
 import sys
 import tempfile
-from typing import List
+from typing import Dict, List
 
 from tools.paths import TOP
 from tools.siting import gallery, pages, reference
@@ -19,14 +19,10 @@ IMPORTED_STYLE = '@import url(/javascript/normalize.css/normalize.css);'
 IMPORTED_SCRIPT = 'import Gumshoe from "./gumshoe-patched.js";'
 PROGRAMS = (os.path.join(TOP, 'crates', 'spmat', 'out', 'spmat'),
             os.path.join(TOP, 'reference', '__main__.py'))
-SECTIONS = (('To use spmat', ('docs/examples', 'clients/python/README', 'docs/files',
-                              'docs/operators', 'docs/networkx', 'docs/loops', 'docs/scaling',
-                              'docs/performance', 'gallery', 'reference/index')),
-            ('To run a server', ('docs/server', 'docs/limits', 'docs/log', 'SECURITY')),
-            ('To write a client', ('docs/protocol', 'docs/bpf')),
-            ('To doubt it, or to change it', ('docs/theorem', 'docs/proved', 'docs/architecture',
-                                              'CONTRIBUTING', 'docs/DECISIONS', 'CHANGELOG',
-                                              'docs/README', 'THIRD-PARTY')))
+# pages that only the site has
+CRATES = 'crates.md'
+MADE = {'How-to': ('gallery',), 'Reference': ('reference/index',)}
+GROUP, LISTED = re.compile(r'^## (.*)$', re.M), re.compile(r'^- \[[^\]]*\]\(([^)]+\.md)\)', re.M)
 
 
 def lay_out(folder: str) -> None:
@@ -41,16 +37,36 @@ def lay_out(folder: str) -> None:
     for name, text in reference.texts().items():
         site.write(name, text)
     with open(os.path.join(folder, 'index.md'), 'a', encoding='utf-8') as file:
-        file.write(contents(site.pages))
+        file.write(contents())
+    site.write(CRATES, crates_page(site.pages))
 
 
-def contents(names: List[str]) -> str:
-    """The lists of pages that the side of the site shows."""
-    listed = [page for _, section in SECTIONS for page in section]
-    others = sorted(page[:-3] for page in names if page[:-3] not in listed and page != 'README.md')
-    sections = [*SECTIONS, ('Crates and other pages', others)]
-    return ''.join('\n```{toctree}\n:caption: %s\n:hidden:\n%s\n\n%s\n```\n' % (
-        title, ':maxdepth: 1', '\n'.join(section)) for title, section in sections)
+def groups() -> Dict[str, List[str]]:
+    """The pages of each group, in the order of the list of pages."""
+    parts = GROUP.split(read(os.path.join(TOP, pages.CONTENTS)))[1:]
+    folder = os.path.dirname(pages.CONTENTS)
+    found = {title: [os.path.normpath(os.path.join(folder, path))[:-len('.md')]
+                     for path in LISTED.findall(text)]
+             for title, text in zip(parts[::2], parts[1::2])}
+    return {title: [*listed, *MADE.get(title, ())] for title, listed in found.items()}
+
+
+def contents() -> str:
+    """The lists of pages that the side of the site shows; the crates stand on a page of their
+    own."""
+    listed = groups()
+    listed[list(listed)[-1]].append(CRATES[:-len('.md')])
+    return ''.join('\n```{toctree}\n:caption: %s\n:hidden:\n:maxdepth: 1\n\n%s\n```\n' % (
+        title, '\n'.join(name for name in names if name != 'README'))
+                   for title, names in listed.items())
+
+
+def crates_page(names: List[str]) -> str:
+    """The page of all crates, which leads to the README of each."""
+    crates = sorted(name[:-len('.md')] for name in names if name.startswith('crates/'))
+    return ('---\nnosearch: true\n---\n\n# Crates\n\nEach crate has a page: what it promises, what '
+            'is proved, what is only tested, and how to change it.\n\n```{toctree}\n:maxdepth: 1\n\n'
+            '%s\n```\n' % '\n'.join(crates))
 
 
 def build(folder: str) -> None:

@@ -52,6 +52,8 @@ def page() -> str:
 
     def shown(found: 're.Match[str]') -> str:
         names = PICTURE.findall(found.group(0))
-        return found.group(0) + ''.join('\n![%s](gallery/%s)\n'
-                                        % (name[:-4].replace('_', ' '), name) for name in names)
+        # the heading above says what the picture shows
+        title = re.findall(r'^## (.*)$', text[:found.start()], re.M)[-1:]
+        return found.group(0) + ''.join('\n![%s](gallery/%s)\n' % (''.join(title), name)
+                                        for name in names)
     return re.sub(r'(?:^    .*\n|^\n(?=    ))+', shown, text, flags=re.M)

@@ -8,7 +8,12 @@ from typing import Callable, Dict, List, Tuple
 
 from tools.paths import TOP
 
-PATTERNS = ('*.md', 'docs/*.md', 'clients/python/README.md', 'crates/*/README.md')
+PATTERNS = ('*.md', 'docs/*.md', 'clients/*/README.md', 'gateway/README.md', 'bench/README.md',
+            'crates/*/README.md')
+CONTENTS = 'docs/README.md'
+# pages for those who change spmat, which would crowd what others search for
+NOT_SEARCHED = ('crates/', 'CHANGELOG.md', 'docs/DECISIONS.md', 'THIRD-PARTY.md', 'docs/README.md')
+MOST_LETTERS = 160                                 # of what a search engine shows of a page
 LINK = re.compile(r'(!?)\[((?:[^\]\[]|\[[^\]]*\])*)\]\(([^)\s]+)\)')
 BLOCK = re.compile(r'(?:^|(?<=\n\n))((?:    [^\n]*\n|\n(?=    ))+)')
 FENCED = re.compile(r'^(```|~~~).*?^\1', re.M | re.S)
@@ -36,6 +41,30 @@ def staged_name(page: str) -> str:
     return 'index.md' if page == 'README.md' else page
 
 
+def description(text: str) -> str:
+    """What a search engine shows of a page: its first sentences."""
+    first = next((part for part in re.split(r'\n\s*\n', text)
+                  if re.match(r'[A-Z*`]', part)), '')
+    plain = re.sub(r'!?\[([^\]]*)\]\([^)]*\)', r'\1', ' '.join(first.split()))
+    plain = re.sub(r'[*`"\\]', '', plain)
+    if len(plain) <= MOST_LETTERS:
+        return plain
+    cut = plain[:MOST_LETTERS]
+    sentence = cut.rfind('. ')
+    return cut[:sentence + 1] if sentence > 40 else cut.rsplit(' ', 1)[0] + ' ..'
+
+
+def head(page: str, text: str) -> str:
+    """What stands above a page for Sphinx: its description, and whether the search leaves it
+    out."""
+    told = description(text)
+    lines = ['myst:', '  html_meta:', '    "description lang=en": "%s"' % told] if told else []
+    lines += ['nosearch: true'] if page.startswith(NOT_SEARCHED) else []
+    # the list of pages is what the side of the site shows
+    lines += ['orphan: true'] if page == CONTENTS else []
+    return '\n'.join(['---', *lines, '---', '', '']) if lines else ''
+
+
 class Site:
     """The folder that Sphinx reads. `copied` are the repository's files that pages link to, by
     their names."""
@@ -56,7 +85,8 @@ class Site:
         for page in self.pages:
             with open(os.path.join(TOP, page), encoding='utf-8') as file:
                 text = file.read()
-            self.write(staged_name(page), in_languages(self.relinked(page, text)))
+            self.write(staged_name(page), head(page, text) + in_languages(self.relinked(page,
+                                                                                        text)))
 
     def relinked(self, page: str, text: str) -> str:
         """A page whose links lead to where the site has what they mean. Links in code stay."""

@@ -1,12 +1,20 @@
 """The reference of the Python client as pages of the site: each public name under its subject, from
 its docstring."""
 import inspect
+import re
 from typing import Any, Dict, Iterable, List, Sequence
 
 from tools.reference import page, subjects
-from tools.reference.page import algorithms, blocks, draw, errors, spmat
+from tools.reference.page import algorithms, blocks, draw, errors, extending_names, spmat
+from tools.siting.pages import in_languages
 
-FOLDER = 'reference'
+FOLDER, BUILT_INS, ALGORITHMS = 'reference', 'built-in-operators', 'algorithms'
+BUILT_IN = """Each of these is an attribute, `spmat.binary.plus`. Wherever an operator is wanted, its name will
+do: `A.ewise_add(B, "plus")`. `spmat.select` has the index operators that `select` takes, and the signs
+`==`, `!=`, `<`, `<=`, `>` and `>=`. An operator of your own is a function of Python, `A.apply(lambda x: x * x)`,
+or a text of assembly, `spmat.asm`: [Write operators](../docs/operators.md)."""
+SEMIRINGS = """`spmat.semiring.min_plus`, or `"min_plus"`, joins any two binary names: the first adds, the second
+multiplies. A custom semiring of your own functions is `spmat.Semiring("plus", lambda x, y: max(x, y))`."""
 
 
 def heading(words: str, line: str) -> List[str]:
@@ -57,6 +65,34 @@ def exceptions() -> List[str]:
             ''] + functions('spmat', names, spmat)
 
 
+def built_in(kind: str) -> List[str]:
+    """A table of the built-in operators of a kind: what each gives, and the most steps of a
+    call."""
+    found = getattr(spmat, kind)
+    lines = ['', '| `spmat.%s` | What it gives | Steps a call, at most |' % kind, '|---|---|---|']
+    for name in found:
+        text = found[name].text
+        code = [line for line in text.splitlines() if line and not line.startswith(';')]
+        lines.append('| `%s` | %s | %d |' % (name, text.splitlines()[0].lstrip('; '), len(code)))
+    return lines
+
+
+def operators_page() -> str:
+    """The built-in operators, and what else may be given for one."""
+    lines = ['# Built-in operators', '', BUILT_IN]
+    for kind in ('unary', 'binary', 'indexunary'):
+        lines += ['', '## `spmat.%s`' % kind, *built_in(kind)]
+    return '\n'.join([*lines, '', '## A semiring', '', SEMIRINGS, ''])
+
+
+def algorithms_page() -> str:
+    """All algorithms in one table, behind what the examples of the reference begin with."""
+    text = in_languages(inspect.getdoc(algorithms) or '')
+    linked = re.sub(r'^\| `(\w+)(\(.*?\))`', r'| {py:func}`\1\2 <spmat.algorithms.\1>`', text,
+                    flags=re.M)
+    return '# All algorithms in one table\n\n%s\n' % linked
+
+
 def pages() -> Dict[str, List[str]]:
     """The pages by their names, in order: each its title, and its lines."""
     session, matrix = page.public(spmat.Session), page.public(spmat.Matrix)
@@ -68,12 +104,19 @@ def pages() -> Dict[str, List[str]]:
                                  subjects.with_others(subjects.MATRIX, matrix)),
                      *heading('Masks', '-'), *directive('autoclass', 'spmat.Mask')],
         'operators': ['Operators and loops',
-                      page.READY.replace('[operators.md](operators.md#ready-operators)',
+                      page.READY.replace('[operators.md](operators.md#built-in-operators)',
                                          ':doc:`/docs/operators`'), '',
                       *by_subject('spmat',
                                   subjects.with_others(subjects.OPERATORS, page.operators()),
                                   spmat), *heading('A loop', '-'),
-                      *directive('autoclass', 'spmat.Loop', 'members')],
+                      *directive('autoclass', 'spmat.Loop', 'members'),
+                      *heading('What an operator and a semiring are', '-'),
+                      *directive('autoclass', 'spmat.Operator', 'members'),
+                      *directive('autoclass', 'spmat.Semiring')],
+        'results': ['Vectors, budgets, results of jobs',
+                    *(line for name in ('Vector', 'Budget', 'JobResult')
+                      for line in directive('autoclass', 'spmat.' + name))],
+        BUILT_INS: [], ALGORITHMS: [],
     }
     for subject in subjects.algorithms_by_subject(page.algorithm_modules()):
         name = 'algorithms-' + '-'.join(subject.title.lower().replace(',', '').split())
@@ -81,9 +124,13 @@ def pages() -> Dict[str, List[str]]:
                        *functions('spmat.algorithms', subject.names, algorithms)]
     found['draw'] = ['Pictures', '.. automodule:: spmat.draw', '   :no-members:', '',
                      *functions('spmat.draw', pictures(), draw)]
-    found['blocks'] = ['Row blocks', '.. automodule:: spmat.blocks', '   :no-members:', '',
-                       *functions('spmat.blocks', subjects.BLOCKS, blocks)]
+    found['blocks'] = ['Row blocks', '.. automodule:: spmat_blocks', '   :no-members:', '',
+                       *functions('spmat_blocks', subjects.BLOCKS, blocks)]
     found['errors'] = ['Exceptions', *exceptions()]
+    found['limits'] = ['Limits', '.. automodule:: spmat.limits', '   :no-members:', '']
+    found['extending'] = ['Distributions that are built on spmat',
+                          '.. automodule:: spmat.extending', '   :no-members:', '',
+                          *extending_names().replace('`', '``').split('\n'), '']
     return found
 
 
@@ -102,6 +149,10 @@ def texts() -> Dict[str, str]:
               *('   ' + name for name in found), '']
     out = {FOLDER + '/index.rst': '\n'.join(listed)}
     for name, lines in found.items():
-        out['%s/%s.rst' % (FOLDER, name)] = '\n'.join([*heading(lines[0], '='), *lines[1:]]) + '\n'
+        if lines:
+            out['%s/%s.rst' % (FOLDER, name)] = '\n'.join([*heading(lines[0], '='),
+                                                           *lines[1:]]) + '\n'
+    out['%s/%s.md' % (FOLDER, BUILT_INS)] = operators_page()
+    out['%s/%s.md' % (FOLDER, ALGORITHMS)] = algorithms_page()
     assert errors is not None
     return out
