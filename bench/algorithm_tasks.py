@@ -1,8 +1,8 @@
 """What is timed of whole algorithms: each algorithm of the client, in a call from a graph that is
 loaded to an answer in numpy.
 
-An algorithm without a task here fails a test of the client, `test_bench`, as does one whose answer
-differs from a peer's.
+An algorithm without a task here has one that is made of its signature and its decorator. One whose
+answer differs from a peer's fails a test of the client, `test_bench`.
 """
 from __future__ import annotations
 
@@ -12,6 +12,7 @@ import numpy
 
 from algorithm_graphs import Asked
 from spmat import algorithms
+from spmat.algorithms.registry import ALGORITHMS, Wanted, required
 
 # powers of two by which graphs have fewer vertices where each pair of them counts
 SMALLER = 4
@@ -202,4 +203,28 @@ RANKS = (
     Task('katz', lambda g: shares(algorithms.katz(g.G, ALPHA, GT=g.back, tolerance=KATZ).values),
          near, EACH), Task('hits', lambda g: shares(algorithms.hits(g.G, g.back)[0].values), near,
                            MIXED),)
-TASKS = SEARCHES + PARTS + COUNTS + RANKS
+BY_HAND = SEARCHES + PARTS + COUNTS + RANKS
+
+
+def made_task(name: str) -> Task:
+    """The task of an algorithm by its name: a call with what it has to be given, and the transpose
+    where it takes one, on the graphs that its decorator wants."""
+    algorithm = ALGORITHMS[name]
+
+    def call(g: Ours) -> Any:
+        asked = {'source': g.asked.source, 'sources': g.asked.some, 'target': g.asked.target,
+                 'firsts': g.asked.firsts, 'seconds': g.asked.seconds, 'k': HOPS, 'GT': g.back}
+        given = {parameter: asked[parameter] for parameter in algorithm.parameters[1:]
+                 if parameter == 'GT' or parameter in required(algorithm.function)}
+        found = getattr(algorithms, name)(g.W if algorithm.values else g.G, **given)
+        return column(found) if getattr(found, 'shape', ())[1:] == (1,) else found
+    return Task(name, call, free, EACH if algorithm.wanted is Wanted.ANY else EVEN, SMALLER)
+
+
+def algorithm_of(task: Task) -> str:
+    """The algorithm that a task is named after: `k_hop` of "k_hop of one"."""
+    return task.name.replace(',', ' ').split()[0]
+
+
+TASKS = BY_HAND + tuple(made_task(name) for name in sorted(
+    {*ALGORITHMS} - set(map(algorithm_of, BY_HAND))))

@@ -30,8 +30,8 @@ GRAPHS = ('rmat:1000000', 'rmat:4000000', 'grid:500')
 SIDES = ('one:1', 'one:4', 'threads:1', 'threads:2', 'threads:4', 'dask:1', 'dask:2', 'dask:4',
          'scipy:1')
 PARTS = ('load', 'degrees', 'mxv', 'bfs', 'components', 'pagerank', 'triangles', 'sssp')
-CLIENT = os.path.normpath(os.path.join(os.path.dirname(os.path.abspath(__file__)), '..', 'clients',
-                                       'python'))
+CLIENTS = os.path.normpath(os.path.join(os.path.dirname(os.path.abspath(__file__)), '..', 'clients'))
+CLIENT, BLOCKS = (os.path.join(CLIENTS, name) for name in ('python', 'blocks'))
 
 
 def rmat(entries, seed=1):
@@ -183,7 +183,7 @@ def of_scipy(held):
 def sessions_of(kind, many):
     """One session, or several."""
     import spmat
-    from spmat import blocks
+    import spmat_blocks as blocks
     if kind == 'one':
         with spmat.Session(workers=many) as session:
             yield session
@@ -263,10 +263,11 @@ def main():
             lines += [json.loads(line) for line in file if line.startswith('{')]
     for name in () if options.table else options.graphs:
         for side in options.sides:
+            path = os.pathsep.join((options.client, BLOCKS))
             words = [sys.executable, '-W', 'ignore', os.path.abspath(__file__), '--inner',
                      '--graphs', name, '--sides', side, '--rounds', str(options.rounds), '--parts',
                      *options.parts]
-            done = subprocess.run(words, env=dict(os.environ, PYTHONPATH=options.client),
+            done = subprocess.run(words, env=dict(os.environ, PYTHONPATH=path),
                                   stdout=subprocess.PIPE, text=True, check=False)
             print(done.stdout, end='', flush=True)
             lines += [json.loads(line) for line in done.stdout.splitlines() if line.startswith('{')]

@@ -152,7 +152,7 @@ def arguments(name, middle, far, count):
 def functions(graphs):
     """What is timed: each function that is served, with a kind of graph and arguments; some with
     directed graphs, too."""
-    from spmat.networkx.backend_info import SERVED
+    from spmat_networkx.backend_info import SERVED
     middle = max(range(3), key=lambda node: sum(node in pair for pair in graphs.pairs[:1000]))
     found = []
     for name in sorted(SERVED):
@@ -179,7 +179,7 @@ class Clock:
     @staticmethod
     def of_processors():
         """Seconds that processors spent on this process and on the program of its session."""
-        from spmat.networkx import process_session
+        from spmat_networkx import process_session
         spent = time.process_time()
         for held in list(process_session._open.values()):
             for place in glob.glob('/proc/%d/task/*/schedstat'
@@ -212,7 +212,7 @@ def seconds(work, limit, before=lambda: None):
                 break
         return best, answer
     except OutOfTime:
-        from spmat.networkx import process_session
+        from spmat_networkx import process_session
         process_session.close()                            # whose jobs were cut short
         return None, None
     finally:
@@ -255,7 +255,7 @@ class Table:
     """The times of one size."""
 
     def __init__(self, edges, limit, whole):
-        from spmat.networkx.backend import backend
+        from spmat_networkx.backend import backend
         self.backend, self.limit, self.end = backend, limit, time.perf_counter() + whole
         self.graphs, self.held, self.wrong, self.edges, self.cells = Graphs(
             edges), {}, [], edges, {}
@@ -283,12 +283,12 @@ class Table:
             print('| numpy: array(list(G.edges())) | %s |' % told(took, limit))
         except ImportError:
             print('numpy is not there')
-        from spmat.networkx.spmat_graph import SpmatGraph
+        from spmat_networkx.spmat_graph import SpmatGraph
         took, _ = seconds(lambda: SpmatGraph(graph), limit)
         print('| the backend: positions | %s |' % told(took, limit))
         took, _ = seconds(lambda: SpmatGraph(graph).A, limit)
         print('| and the matrix on the server | %s |' % told(took, limit))
-        from spmat.networkx.process_session import session
+        from spmat_networkx.process_session import session
         for weight in (None, 'weight'):
             took, _ = seconds(lambda: session().from_networkx(graph, weight=weight), limit)
             print('| Session.from_networkx, weight=%r | %s |' % (weight, told(took, limit)),

@@ -1,22 +1,39 @@
 #!/usr/bin/env python3
-"""ratios.py            writes the tables of ratios into docs/performance.md and bench/README.md
+"""ratios.py            writes the tables of figures into docs/performance.md and other pages
 ratios.py --check    sees that the pages have them as the raw figures are
 
 bench/peers.txt has the milliseconds of `bench/run peers`, bench/algorithms.txt the seconds of
-`bench/run algorithms`, bench/algorithms_large.txt those on graphs of a million edges, and
-bench/networkx.txt those of bench/networkx.py. The pages show ratios, which say more than seconds of
+`bench/run algorithms`, bench/algorithms_large.txt those on graphs of a million edges,
+bench/networkx.txt those of bench/networkx.py, bench/speed.txt the steps of a second, and
+bench/machine.txt what all of it stands on. The pages show ratios, which say more than seconds of
 some machine: each table stands between the comments `<!-- bench/ratios NAME -->` and `<!-- end
 -->`.
 """
 import os
 import re
 import sys
-from typing import Callable, Dict, List, NamedTuple, Optional
+from typing import Callable, Dict, List, NamedTuple, Optional, Tuple
 
 BENCH = os.path.dirname(os.path.abspath(__file__))
 TOP = os.path.dirname(BENCH)
 PAGE = os.path.join(TOP, 'docs', 'performance.md')
 MEASUREMENTS = os.path.join(BENCH, 'README.md')
+LIMITS, FAQ, SERVICE = (os.path.join(TOP, 'docs', name)
+                        for name in ('limits.md', 'faq.md', 'service.md'))
+UNKNOWN = """The machine and the versions of these figures weren't noted, and the client has changed since.
+`bench/performance` measures them anew, and writes this paragraph and the tables."""
+FAR = 10.0                                         # times as long as the best library
+# how many times as long as the best library a call was to take at most, by graphs
+TARGETS: Dict[str, Dict[str, float]] = {
+    'bfs_levels': {'kron': 2, 'urand': 2, 'road': 1},
+    'sssp': {'kron': 1, 'urand': 0.7, 'road': 1},
+    'triangle_count': {'kron': 1, 'urand': 1},
+    'pagerank': {'kron': 1, 'urand': 0.5, 'road': 1},
+    'connected_components': {'kron': 1, 'urand': 1.2, 'road': 2},
+    'minimum_spanning_forest': {'kron': 1.5, 'urand': 1.5, 'road': 2},
+    'core_numbers': {'kron': 0.8, 'urand': 0.5, 'road': 1},
+    'strongly_connected_components': {'directed': 3},
+}
 # whole algorithms; what is measured on a dag alone stands with directed
 GRAPHS = ('kron', 'urand', 'road', 'directed')
 # the size that the page shows of networkx' functions
@@ -148,18 +165,114 @@ def shown(ratio: float) -> str:
             if ratio >= 0.01 else '%.3f' % ratio)
 
 
-def large(raw: str) -> str:
+def by_graph(raw: str, smallest: bool = False) -> str:
     """The time of a call, how many times as long as the best peer it took, and that peer, of each
-    algorithm on each graph."""
+    algorithm on each graph; of several sizes the least where that is asked."""
+    rows = rows_of(raw)[1:]
+    sizes: Dict[str, int] = {}
+    for one in map(measured, rows):
+        sizes[one.task] = min(one.vertices, sizes.get(one.task, one.vertices))
     cells: Dict[str, Dict[str, str]] = {}
-    for row in rows_of(raw)[1:]:
-        graph, best = row[0].partition(':')[0], measured(row)
-        cells.setdefault(row[1], {})[graph] = '%s, %s %s' % (duration(float(row[3])),
-                                                             shown(float(best.ratio)), best.best)
-    lines = ['| `%s` | %s |' % (name, ' | '.join(found.get(graph, '') for graph in GRAPHS))
+    for row in rows:
+        one = measured(row)
+        if smallest and one.vertices > 2 * sizes[one.task]:
+            continue
+        peer = ', %s %s' % (shown(float(one.ratio)), one.best) if one.best else ''
+        graph = 'directed' if one.graph == 'dag' else one.graph
+        cells.setdefault(one.task, {}).setdefault(graph, duration(float(row[3])) + peer)
+    lines = ['| `%s`%s | %s |' % (*named(name), ' | '.join(found.get(graph, '')
+                                                           for graph in GRAPHS))
              for name, found in cells.items()]
     return '\n'.join(['| algorithm | %s |' % ' | '.join(GRAPHS), '|---' * (len(GRAPHS) + 1) + '|',
                       *lines])
+
+
+def named(task: str) -> Tuple[str, str]:
+    """The name of a task's algorithm, and what is said behind it."""
+    name = re.match(r'\w*', task)
+    return (name.group(0), task[name.end():]) if name else (task, '')
+
+
+def slow(*raws: str) -> str:
+    """The algorithms that took at least FAR times as long as the best peer on some graph, with the
+    greatest ratio."""
+    worst: Dict[str, Measured] = {}
+    for one in (measured(row) for raw in raws for row in rows_of(raw)[1:]):
+        if one.best and (one.task not in worst or float(one.ratio) > float(worst[one.task].ratio)):
+            worst[one.task] = one
+    far = sorted((one for one in worst.values() if float(one.ratio) >= FAR),
+                 key=lambda one: -float(one.ratio))
+    lines = ['| `%s`%s | %s | %s, %s vertices | %s |'
+             % (*named(one.task), shown(float(one.ratio)), one.graph, format(one.vertices, ','),
+                one.best) for one in far]
+    return '\n'.join(['| algorithm | times as long | on | as |', '|---|---|---|---|', *lines])
+
+
+# -- the machine, and the steps of a second
+
+def machine() -> str:
+    """What the figures stand on, as a table."""
+    if not os.path.exists(os.path.join(BENCH, 'machine.txt')):
+        return UNKNOWN
+    rows = [line.split(': ', 1) for line in text_of('machine.txt').splitlines()]
+    return '\n'.join(['| What | These figures |', '|---|---|',
+                      *('| %s | %s |' % (name, told) for name, told in rows)])
+
+
+def step_range() -> Tuple[int, int]:
+    """The least and the most million steps that a worker makes in a second, in two digits."""
+    found = [float(row[2]) for row in rows_of(text_of('speed.txt'))[1:]]
+    low, high = (float('%.2g' % number) for number in (min(found), max(found)))
+    return int(low), int(high)
+
+
+def steps_a_second() -> str:
+    return 'A worker makes %d to %d million steps per second.' % step_range()
+
+
+def whole_queue() -> str:
+    """How long a full queue of the longest jobs takes."""
+    low, high = step_range()
+    queue = 64 * 2 ** 32 / 1e6
+    return ('At %d to %d million steps per second, one worker needs %.0f to %.0f minutes for such '
+            'a queue.' % (low, high, queue / high / 60, queue / low / 60))
+
+
+def a_million() -> str:
+    """How long a million steps take."""
+    low, high = step_range()
+    return 'A million steps take a worker %.2g to %.2g milliseconds.' % (1e3 / high, 1e3 / low)
+
+
+def a_day() -> str:
+    """How long the steps of the largest account take."""
+    low, high = step_range()
+    return '10^12 steps are %.0f to %.0f minutes of one processor.' % (1e6 / high / 60,
+                                                                       1e6 / low / 60)
+
+
+def targets(raw: str) -> str:
+    """Each target with what was measured, those that were missed marked."""
+    found = {(one.task, one.graph): one for one in map(measured, rows_of(raw)[1:]) if one.best}
+    lines = []
+    for task, wanted in TARGETS.items():
+        cells = []
+        for graph in GRAPHS:
+            one = found.get((task, graph))
+            cells.append('' if graph not in wanted or one is None else '%g: %s%s' % (
+                wanted[graph], shown(float(one.ratio)),
+                '' if float(one.ratio) <= wanted[graph] else ', missed'))
+        lines.append('| `%s` | %s |' % (task, ' | '.join(cells)))
+    return '\n'.join(['| algorithm, target: measured | %s |' % ' | '.join(GRAPHS),
+                      '|---' * (len(GRAPHS) + 1) + '|', *lines])
+
+
+def summary(raw: str) -> str:
+    """How many times as long as the best peers the algorithms take, in a sentence."""
+    found = sorted(float(one.ratio) for one in map(measured, rows_of(raw)[1:]) if one.best)
+    return ('On the graphs of a million edges below, a call took %s to %s times as long as the '
+            'fastest library. Half of\nthe calls took at most %s times as long.'
+            % (shown(found[0]), shown(found[-1]), shown(found[(len(found) - 1) // 2])))
 
 
 def duration(seconds: float) -> str:
@@ -169,10 +282,16 @@ def duration(seconds: float) -> str:
 
 
 PAGES: Dict[str, Dict[str, Callable[[], str]]] = {
-    PAGE: {'large': lambda: large(text_of('algorithms_large.txt'))},
+    PAGE: {'machine': machine, 'summary': lambda: summary(text_of('algorithms_large.txt')),
+           'large': lambda: by_graph(text_of('algorithms_large.txt')),
+           'small': lambda: by_graph(text_of('algorithms.txt'), smallest=True),
+           'slow': lambda: slow(text_of('algorithms.txt'), text_of('algorithms_large.txt')),
+           'steps': steps_a_second, 'speed': lambda: text_of('speed.txt').strip()},
+    LIMITS: {'queue': whole_queue}, FAQ: {'million': a_million}, SERVICE: {'day': a_day},
     MEASUREMENTS: {'peers': lambda: peers(text_of('peers.txt')),
                    'networkx': lambda: networkx(text_of('networkx.txt')),
-                   'algorithms': lambda: algorithms(text_of('algorithms.txt'))}}
+                   'algorithms': lambda: algorithms(text_of('algorithms.txt')),
+                   'targets': lambda: targets(text_of('algorithms_large.txt'))}}
 
 
 def with_tables(path: str) -> str:

@@ -1,5 +1,5 @@
-"""A plain server of spmat's protocol, and the protocol's second description: docs/protocol.md and
-docs/bpf.md as a program.
+"""A reference implementation of spmat's protocol, and the protocol's second description:
+docs/protocol.md and docs/bpf.md as a program.
 
 It is written to be read, and knows nothing of the product's code. Each module is one page of the
 two documents:

@@ -72,6 +72,11 @@ pub fn serve_beside<
     let purse = &purse;
     let server = move || -> Result<(), ListenFault>
         requires { IsPassOf purse.now pass }
-    { serve_listener(rt, rt.alloc(), listener, purse, pass, 2, sessions) };
+    {
+        match serve_listener(rt, rt.alloc(), listener, purse, pass, 2, sessions) {
+            Ok(_) => Ok(()),
+            Err(fault) => Err(fault),
+        }
+    };
     Ok(join(rt, server, client))
 }
