@@ -22,7 +22,10 @@ def heading(words: str, line: str) -> List[str]:
 
 
 def directive(name: str, of: str, *options: str) -> List[str]:
-    return ['.. %s:: %s' % (name, of), *('   :%s:' % option for option in options), '']
+    """The lines of a directive, whose options may have values: `members`, `members: price, left`."""
+    told = (option.partition(': ') for option in options)
+    return ['.. %s:: %s' % (name, of),
+            *(('   :%s: %s' % (option, value)).rstrip() for option, _, value in told), '']
 
 
 def member(kind: Any, of: str, name: str) -> List[str]:
@@ -44,10 +47,20 @@ def class_page(kind: Any, of: str, found: Sequence[subjects.Subject]) -> List[st
 def functions(module: str, names: Iterable[str], where: Any) -> List[str]:
     lines: List[str] = []
     for name in names:
-        is_class = inspect.isclass(getattr(where, name))
+        kind = getattr(where, name)
+        is_class = inspect.isclass(kind)
         lines += directive('autoclass' if is_class else 'autofunction', '%s.%s' % (module, name),
-                           *(['members'] if is_class else []))
+                           *([members(kind)] if is_class else []))
     return lines
+
+
+def members(kind: type) -> str:
+    """The option by which Sphinx lists the members of a class. Of an exception these are what it
+    tells: its methods are for the client that raises it."""
+    if not issubclass(kind, BaseException):
+        return 'members'
+    told = [name for name, member in vars(kind).items() if isinstance(member, property)]
+    return 'members: ' + ', '.join(told) if told else 'no-members'
 
 
 def by_subject(module: str, found: Sequence[subjects.Subject], where: Any) -> List[str]:

@@ -2,6 +2,8 @@
 
     SpmatError
         Closed               the session has ended; open another one
+            ProtocolError        what the server sent isn't a reply to the command
+        CompileError         a function can't be an operator: why, and on which line
         ReadError            a file, or a line of it, isn't what was to be read; a ValueError
             HeaderUnclear        the first line of a list names its columns, or is an edge: say
                                  header=True or header=False
@@ -12,8 +14,8 @@
         NotMade              this matrix was the result of a run that was refused; its cause says
                              why. Also called ResultLost
         Refused              the server answered `no ..`, or would have
-            OperatorRefused      mend the operator (rules A1 to A6, V1 to V16, S9)
-            TextRefused          mend the matrix text (M1 to M12)
+            OperatorRefused      fix the operator (rules A1 to A6, V1 to V16, S9)
+            TextRefused          fix the matrix text (M1 to M12)
             TooLarge             cut the work into parts (M4, S7, J7, J8)
             DimensionMismatch    shapes don't fit (J5, J9)
             DomainMismatch       the operator is of another kind than expected (J4)
@@ -105,7 +107,7 @@ class Refused(SpmatError):
         Returns
         -------
         str
-            The rule and its sentence, where it was broken, and what mends it.
+            The rule and its sentence, where it was broken, and how to fix it.
         """
         text = '%s: %s' % (self.rule, self.said or self.sentence)
         if self.rule in ('memory', 'thread') and self.numbers:
@@ -117,7 +119,7 @@ class Refused(SpmatError):
             text += ": '%s'" % self.line if self.line else ''
         text += ' (in `%s`)' % self.command if self.command and not self.file else ''
         more = [self.detail] if self.detail else []
-        more += ['to mend it: ' + MENDS[self.rule]] if self.rule in MENDS else []
+        more += ['to fix it: ' + MENDS[self.rule]] if self.rule in MENDS else []
         return '; '.join([text] + more)
 
     def _replace(self: AnyRefused, **changes: Any) -> AnyRefused:
@@ -181,14 +183,14 @@ class OperatorRefused(Refused):
     """An operator breaks a rule.
 
     The rules are those of assembly text (A1 to A6), of code (V1 to V6, S9) and of the verifier (V7
-    to V16). Mend the operator at the line or slot `at`, where `line` stands. `Session.check` finds
+    to V16). Fix the operator at the line or slot `at`, where `line` stands. `Session.check` finds
     it out before a job does."""
 
 
 class TextRefused(Refused, ValueError):
     """A matrix text breaks a rule (M1 to M12 but M4).
 
-    Mend the text at the line `at`. It is a ValueError, too."""
+    Fix the text at the line `at`. It is a ValueError, too."""
 
 
 class TooLarge(Refused, ValueError):

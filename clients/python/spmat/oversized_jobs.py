@@ -67,7 +67,7 @@ def in_parts(first: Matrix, job: Callable[[Matrix], Matrix], start: int = 0,
              end: Optional[int] = None) -> Matrix:
     """What a job gives, which makes each row of its result of the same row of `first`, that has
     entries from row `start` on up to `end`. Where that is too large, it is made by halves of the
-    rows, joined by a union; TooLarge where one row is too dear, or the whole result has more
+    rows, joined by a union; TooLarge where one row is too expensive, or the whole result has more
     entries than a matrix may have.
 
     Halves are joined at once: each part has 8 bytes for every row of the whole, and so no more

@@ -297,7 +297,7 @@ def _meanings(kind: str) -> Dict[Operator, str]:
 
 
 def meaning_of(op: Operator) -> Optional[str]:
-    """What a ready operator does with scales; None of the caller's own, and of those on bits."""
+    """What a built-in operator does with scales; None of the caller's own, and of those on bits."""
     return _meanings(op.kind).get(op)
 
 
@@ -421,7 +421,7 @@ def tells_apart(op: Operator) -> bool:
 
 def of_vertex(op: Operator) -> int:
     """The scale of an operator's answer for a vertex, which is a number: an operator of the
-    caller's own gets places. UnitsDiffer for ready ones that look at values."""
+    caller's own gets places. UnitsDiffer for built-in ones that look at values."""
     if (meaning_of(op) == PLACE or op in _named('unary', 'one zero')
             or op in _named('binary', 'pair oneb zero')):
         return 1

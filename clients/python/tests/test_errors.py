@@ -125,7 +125,7 @@ class Words(unittest.TestCase):
             self.assertEqual(str(fault),
                              "V14: expected a place in the stack, found a number, slot 2, line "
                              "2: 'ldx64 r0, r1, 0' "
-                             '(in `asm f unary`); to mend it: load and store through R10, or a '
+                             '(in `asm f unary`); to fix it: load and store through R10, or a '
                              'copy of it')
 
     def test_texts(self):

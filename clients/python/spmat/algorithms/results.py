@@ -167,7 +167,7 @@ def unless_empty(column: Matrix) -> Optional[Matrix]:
 
 @contextlib.contextmanager
 def keep_partial(find: Callable[[], Any]) -> Iterator[None]:
-    """Where a job is refused for want of steps, the refusal has what was found by then as its
+    """Where a job is refused for lack of steps, the refusal has what was found by then as its
     `partial`. It is made of what the client has, or of matrices that are there: neither takes a
     step."""
     try:

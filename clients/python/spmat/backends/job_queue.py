@@ -102,7 +102,7 @@ class Queue:
         return not self.waiting and not self.running
 
     def add(self, job: ServerHandle, line: str, most: Most) -> bool:
-        """Hands a job in. One that can be refused by nothing but want of memory isn't sent at once.
+        """Hands a job in. One that can be refused by nothing but lack of memory isn't sent at once.
         Whether what waits was sent then: it was much, or its results could hold so much memory that
         they are better looked at."""
         is_sure = (most.steps <= MOST_PRICE and most.terms <= MOST_SIDE

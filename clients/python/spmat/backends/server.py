@@ -231,7 +231,7 @@ class ServerBackend(Backend):
         that is too small while jobs wait: then what they don't take comes back, and the job is sent
         once more.
 
-        A job that can be refused by nothing but want of memory, as what is known of its operands'
+        A job that can be refused by nothing but lack of memory, as what is known of its operands'
         entries tells, is sent with the next command that needs an answer, and so is the run before
         it; any other at once. A job of a call that is priced is only foreseen."""
         estimate = estimate_here() if ESTIMATES else None

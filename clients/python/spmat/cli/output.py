@@ -209,7 +209,7 @@ def format_lines(options: SimpleNamespace, result: Result) -> Iterable[str]:
 
 
 def _format_plain(result: Result) -> Iterator[str]:
-    """A line a row, its fields parted by blanks, or by tabs where a name has blanks."""
+    """A line a row, its fields separated by blanks, or by tabs where a name has blanks."""
     rows = [[_format_cell(cell) for cell in row] for row in result.rows]
     between = TABS if any(len(cell.split()) != 1 for row in rows for cell in row) else BLANKS
     return (between.join(row) + '\n' for row in rows)

@@ -34,7 +34,7 @@ def csv_line(cells: Iterable[str], sep: str = ',') -> str:
 
 def write_lines(ends: Sequence[Sequence[Any]], values: Sequence[Sequence[Any]], sep: str,
                  fields: Optional[Sequence[str]]) -> Iterator[str]:
-    """Lines of names and values whose fields are parted by `sep`, with a header where there are
+    """Lines of names and values whose fields are separated by `sep`, with a header where there are
     fields. ValueError, before the first line, for names that no such list has."""
     if len(sep) != 1:
         raise ValueError('a separator is one character, not %r' % (sep,))
@@ -48,7 +48,7 @@ def write_lines(ends: Sequence[Sequence[Any]], values: Sequence[Sequence[Any]], 
 
 
 def _check_names(texts: Dict[Any, str], sep: str) -> None:
-    """ValueError for names that no list parted so has."""
+    """ValueError for names that no list separated so has."""
     by_text: Dict[str, Any] = {}
     for name, text in texts.items():
         if by_text.setdefault(text, name) is not name:

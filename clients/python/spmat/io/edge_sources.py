@@ -86,7 +86,7 @@ def _join(*words: str) -> str:
 
 
 def describe_absent(count: int, of: int, what: str = 'value') -> str:
-    """How many edges count as 1 for want of a value, in words; nothing of none."""
+    """How many edges count as 1 for lack of a value, in words; nothing of none."""
     return '%d of %d edges have no %s and count as 1' % (count, of, what) if count else ''
 
 

@@ -269,7 +269,7 @@ def _read_chunks(text: bytes, wanted: Sequence[int], per_line: int, form: _Form,
 
 
 def count_even_lines(body: bytes, width: int, delimiter: Optional[str] = None) -> Optional[int]:
-    """The number of lines that aren't blank, where each of these has so many fields, parted by
+    """The number of lines that aren't blank, where each of these has so many fields, separated by
     blanks or by a byte; else None."""
     start = count = 0
     while start < len(body):

@@ -210,7 +210,7 @@ class Trips:
 
     def choose_rounds(self, most: int) -> List[RoundJobs]:
         """The next rounds, at most so many, that may go in one trip now, so that nothing in it can
-        be refused for want of steps; none where that can't be said of one. Raises what the step
+        be refused for lack of steps; none where that can't be said of one. Raises what the step
         ends in where it is called for the next round that is made."""
         queue = self.session.backend.queue
         left = 0 if queue.limits else queue.left - (AMPLE if queue.shared else 0)

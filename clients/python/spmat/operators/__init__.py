@@ -17,7 +17,7 @@ from typing import Any, Callable, Dict, Iterator, List, Optional, Tuple, Union, 
 from . import other_names
 from .operator import KINDS, Operator, asm, code
 
-__all__ = ['KINDS', 'Op', 'Operator', 'READY', 'Ready', 'Semiring', 'Semirings', 'asm', 'binary',
+__all__ = ['KINDS', 'Op', 'Operator', 'BuiltIns', 'READY', 'Semiring', 'Semirings', 'asm', 'binary',
            'code', 'find', 'find_semiring', 'indexunary', 'select', 'semiring', 'unary']
 
 _FOLDER = os.path.dirname(os.path.abspath(__file__))
@@ -60,7 +60,7 @@ class Semiring:
         return html.semiring(self)
 
 
-class Ready:
+class BuiltIns:
     """The built-in operators of one kind, by name: `binary.plus`, `binary['plus']`, `'plus' in
     binary`; iterating gives the names. Called with a function it makes an operator of it."""
 
@@ -258,7 +258,7 @@ class Semirings:
         return sorted({*super().__dir__(), *pairs})
 
 
-unary, binary, indexunary = Ready('unary'), Ready('binary'), Ready('index')
+unary, binary, indexunary = BuiltIns('unary'), BuiltIns('binary'), BuiltIns('index')
 semiring = Semirings()
 select = indexunary
 READY = {'unary': unary, 'binary': binary, 'index': indexunary}

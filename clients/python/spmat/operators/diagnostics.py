@@ -182,7 +182,7 @@ def suggest_repair(text: str, rule: str, at: int) -> str:
         mend += ' or '.join(_find_similar_mnemonics(mnemonic)) or 'mov64, add32'
     elif rule == 'A3':
         mend += '`%s`%s' % (assembly.form_of(mnemonic), _describe_odd_operand(operands))
-    return mend and 'to mend it: ' + mend
+    return mend and 'to fix it: ' + mend
 
 
 def _find_similar_mnemonics(mnemonic: str) -> List[str]:
