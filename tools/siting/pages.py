@@ -127,7 +127,8 @@ class Site:
         """A link to the copy of a file of the repository, or to the list of a folder's files."""
         if name not in self.copied:
             path = os.path.join(TOP, name)
-            to = 'source/%s.txt' % name
+            # a notebook keeps its ending, by which a browser hands it on
+            to = 'source/%s' % name if name.endswith('.ipynb') else 'source/%s.txt' % name
             if os.path.isdir(path):
                 self.write('extra/' + to, ''.join(one + '\n' for one in tracked(name + '/**')))
             else:

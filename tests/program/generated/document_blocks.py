@@ -86,7 +86,7 @@ def check_page(page: str, program: str) -> None:
         os.symlink(program, os.path.join(folder, 'crates', 'spmat', 'out', 'spmat'))
         for name in ('clients', 'docs'):
             os.symlink(os.path.join(TOP, name), os.path.join(folder, name))
-        environment = {**os.environ, 'SPMAT': program,
+        environment = {**os.environ, 'SPMAT': program, 'TMPDIR': folder,
                        'PYTHONPATH': os.pathsep.join(filter(None,
                                                             [PYTHON_PATH,
                                                              os.environ.get('PYTHONPATH')]))}

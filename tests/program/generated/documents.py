@@ -218,10 +218,21 @@ def worked_operators(program):
                     reply.encode() + text_of(lines))
 
 
+def notebook(program):
+    """The notebook's cells give what it shows."""
+    done = subprocess.run([os.path.join(TOP, 'tools', 'notebook'), '--check'],
+                          env={**os.environ, 'SPMAT': os.path.abspath(program)},
+                          stdout=subprocess.PIPE, stderr=subprocess.STDOUT, text=True,
+                          timeout=FOR_A_SESSION)
+    if done.returncode:
+        raise Wrong(done.stdout)
+
+
 DOCUMENT_CASES = {
     'examples': page_case('docs/examples.md'),
     'scaling': page_case('docs/scaling.md'),
     'start': page_case('docs/start.md'),
+    'notebook': notebook,
     'python': page_case('docs/python.md'),
     'protocol-example': protocol_example,
     'protocol-operators': protocol_operators,
