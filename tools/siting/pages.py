@@ -16,9 +16,12 @@ NOT_SEARCHED = ('crates/', 'CHANGELOG.md', 'docs/DECISIONS.md', 'THIRD-PARTY.md'
 MOST_LETTERS = 160                                 # of what a search engine shows of a page
 LINK = re.compile(r'(!?)\[((?:[^\]\[]|\[[^\]]*\])*)\]\(([^)\s]+)\)')
 BLOCK = re.compile(r'(?:^|(?<=\n\n))((?:    [^\n]*\n|\n(?=    ))+)')
-FENCED = re.compile(r'^(```|~~~).*?^\1', re.M | re.S)
+# what a link is called in the repository that leads to a page
+FILE_NAME = re.compile(r'`?(?:docs/)?\w+\.md`?')
+# the words by which readers search for what stands below, in a comment of the page
+INDEXED = re.compile(r'^<!-- index: (.*) -->$', re.M)
 PYTHON = re.compile(r'(import |from \w+ import|with |def |@|for |print\(|[A-Za-z_, ]+ = '
-                    r'.*[(.]|spmat\.|nx\.|s\.|G\.|A\.)')
+                    r'.*[(.]|spmat\.(?!\w+: )|nx\.|s\.|G\.|A\.)')
 SHELL = re.compile(
     r'(\$ |[A-Z_]+=\S+ |export |tools/|tests/|bench/|spmat |spmat-|python3? |pip |apt|sudo |ssh '
     r'|exec |cd |rt |printf|socat|systemctl|openssl|curl|cat |for \w+ in|clang|git '
@@ -85,8 +88,8 @@ class Site:
         for page in self.pages:
             with open(os.path.join(TOP, page), encoding='utf-8') as file:
                 text = file.read()
-            self.write(staged_name(page), head(page, text) + in_languages(self.relinked(page,
-                                                                                        text)))
+            laid = in_languages(self.relinked(page, text))
+            self.write(staged_name(page), head(page, text) + indexed(laid))
 
     def relinked(self, page: str, text: str) -> str:
         """A page whose links lead to where the site has what they mean. Links in code stay."""
@@ -95,12 +98,24 @@ class Site:
             where = self.target(page, target, bool(mark))
             if not where:
                 return words
+            if FILE_NAME.fullmatch(words):
+                # a reader of the site sees no files
+                words = self.title(page, target) or words
             if '/source/' in where:
                 # by a bare address MyST would look for a page
                 return '<a href="%s">%s</a>' % (where,
                                                 re.sub('`([^`]+)`', r'<code>\1</code>', words))
             return '%s[%s](%s)' % (mark, words, where)
         return outside_code(text, lambda part: LINK.sub(link, part))
+
+    def title(self, page: str, target: str) -> str:
+        """The title of the page that a link of a page leads to, without what is said behind a
+        colon; nothing where it leads to no page."""
+        path = os.path.normpath(os.path.join(os.path.dirname(page), target.partition('#')[0]))
+        if path not in self.pages:
+            return ''
+        with open(os.path.join(TOP, path), encoding='utf-8') as file:
+            return file.readline().lstrip('# ').strip().partition(':')[0]
 
     def target(self, page: str, target: str, is_picture: bool) -> str:
         """Where a link of a page leads in the site; nowhere in a tree that lacks the file, as a
@@ -144,6 +159,12 @@ def outside_code(text: str, change: Callable[[str], str]) -> str:
                      text, flags=re.M)
     return ''.join(part if at % 2 and not part.startswith('[') else change(part)
                    for at, part in enumerate(parts))
+
+
+def indexed(text: str) -> str:
+    """A page whose words for searchers are entries of the site's index, which its search finds
+    before any word of a text."""
+    return INDEXED.sub(r'```{index} \1\n```\n', text)
 
 
 def in_languages(text: str) -> str:

@@ -133,7 +133,8 @@ def pages() -> Dict[str, List[str]]:
     }
     for subject in subjects.algorithms_by_subject(page.algorithm_modules()):
         name = 'algorithms-' + '-'.join(subject.title.lower().replace(',', '').split())
-        found[name] = ['Algorithms: ' + subject.title[:1].lower() + subject.title[1:],
+        title = subject.title[:1].lower() + subject.title[1:]
+        found[name] = ['Algorithms: ' + title, '.. index:: ' + title.replace(' and ', ', '), '',
                        *functions('spmat.algorithms', subject.names, algorithms)]
     found['draw'] = ['Pictures', '.. automodule:: spmat.draw', '   :no-members:', '',
                      *functions('spmat.draw', pictures(), draw)]
