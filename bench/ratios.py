@@ -18,10 +18,11 @@ BENCH = os.path.dirname(os.path.abspath(__file__))
 TOP = os.path.dirname(BENCH)
 PAGE = os.path.join(TOP, 'docs', 'performance.md')
 MEASUREMENTS = os.path.join(BENCH, 'README.md')
-LIMITS, FAQ, SERVICE = (os.path.join(TOP, 'docs', name)
-                        for name in ('limits.md', 'faq.md', 'service.md'))
-UNKNOWN = """The machine and the versions of these figures weren't noted, and the client has changed since.
-`bench/performance` measures them anew, and writes this paragraph and the tables."""
+LIMITS, FAQ, SERVICE, COMPARISON = (os.path.join(TOP, 'docs', name) for name in (
+    'limits.md', 'faq.md', 'service.md', 'comparison.md'))
+UNKNOWN = """The figures of graphs of 4,096 and 16,384 vertices are of 2026-11-28 (commit 3cc2d2c8), those of a million edges
+of 2026-11-29 (commit 5628e646). Four processors, which nobody noted the kind of, and Debian 12's libraries made them, SuiteSparse:GraphBLAS 7.4
+among them. The client has changed since. `bench/performance` measures all anew, and writes this paragraph and the tables."""
 FAR = 10.0                                         # times as long as the best library
 # how many times as long as the best library a call was to take at most, by graphs
 TARGETS: Dict[str, Dict[str, float]] = {
@@ -34,6 +35,10 @@ TARGETS: Dict[str, Dict[str, float]] = {
     'core_numbers': {'kron': 0.8, 'urand': 0.5, 'road': 1},
     'strongly_connected_components': {'directed': 3},
 }
+# what the comparison shows: algorithms, and libraries by their names in the figures
+THREE = {'bfs_levels': 'levels of a search', 'pagerank': 'PageRank', 'triangle_count': 'triangles'}
+COMPARED = {'graphblas': 'SuiteSparse:GraphBLAS', 'igraph': 'igraph', 'scipy': 'scipy',
+            'networkx': 'networkx'}
 # whole algorithms; what is measured on a dag alone stands with directed
 GRAPHS = ('kron', 'urand', 'road', 'directed')
 # the size that the page shows of networkx' functions
@@ -208,6 +213,34 @@ def slow(*raws: str) -> str:
     return '\n'.join(['| algorithm | times as long | on | as |', '|---|---|---|---|', *lines])
 
 
+def three(raw: str) -> str:
+    """The times of three algorithms by spmat and by each library, on the largest skewed graph on
+    which all were measured."""
+    rows = [row for row in rows_of(raw)[1:] if row[1] in THREE and measured(row).graph == 'kron'
+            and 'networkx' in row[5]]
+    largest = max(measured(row).vertices for row in rows)
+    rows = [row for row in rows if measured(row).vertices == largest]
+    lines = []
+    for row in rows:
+        found = dict(peer.rsplit(' ', 1) for peer in row[5].split(', '))
+        cells = [duration(float(found[name])) if name in found else '' for name in COMPARED]
+        lines.append('| %s | %s |' % (THREE[row[1]], ' | '.join([duration(float(row[3])), *cells])))
+    entries = rows[0][0].split(', ')[1].split()[0]
+    return '\n'.join(['| `kron`, %s vertices, %s edges | spmat | %s |'
+                      % (format(largest, ','), format(int(entries) // 2, ','),
+                         ' | '.join(COMPARED.values())),
+                      '|---' * (len(COMPARED) + 2) + '|', *lines, '', noted()])
+
+
+def noted() -> str:
+    """On which machine and when the figures were taken, in a sentence."""
+    if not os.path.exists(os.path.join(BENCH, 'machine.txt')):
+        return ('Measured on 2026-11-28, on a processor that wasn\'t noted, by the client as it was '
+                'then.')
+    told = dict(line.split(': ', 1) for line in text_of('machine.txt').splitlines())
+    return 'Measured on %s: %s.' % (told['date'], told['processor'])
+
+
 # -- the machine, and the steps of a second
 
 def machine() -> str:
@@ -287,6 +320,7 @@ PAGES: Dict[str, Dict[str, Callable[[], str]]] = {
            'small': lambda: by_graph(text_of('algorithms.txt'), smallest=True),
            'slow': lambda: slow(text_of('algorithms.txt'), text_of('algorithms_large.txt')),
            'steps': steps_a_second, 'speed': lambda: text_of('speed.txt').strip()},
+    COMPARISON: {'three': lambda: three(text_of('algorithms.txt'))},
     LIMITS: {'queue': whole_queue}, FAQ: {'million': a_million}, SERVICE: {'day': a_day},
     MEASUREMENTS: {'peers': lambda: peers(text_of('peers.txt')),
                    'networkx': lambda: networkx(text_of('networkx.txt')),
