@@ -1,4 +1,5 @@
 """Builds the site: lays out what Sphinx reads, runs it, and mends the theme that Debian has."""
+import glob
 import os
 import re
 import shutil
@@ -19,6 +20,11 @@ IMPORTED_STYLE = '@import url(/javascript/normalize.css/normalize.css);'
 IMPORTED_SCRIPT = 'import Gumshoe from "./gumshoe-patched.js";'
 PROGRAMS = (os.path.join(TOP, 'crates', 'spmat', 'out', 'spmat'),
             os.path.join(TOP, 'reference', '__main__.py'))
+# What the theme's pages lack for whoever hears them: a way past the list of pages, and the level of
+# that list's headings.
+HEARD = (('<body>', '<body>\n<a class="skip" href="#content">Skip to content</a>'),
+         ('<article role="main">', '<article role="main" id="content">'),
+         ('<p class="caption" role="heading">', '<p class="caption" role="heading" aria-level="2">'))
 # pages that only the site has
 CRATES = 'crates.md'
 MADE = {'How-to': ('gallery',), 'Reference': ('reference/index',)}
@@ -109,5 +115,11 @@ def mend_theme(folder: str) -> None:
                 % dark.group(1))
     inline(os.path.join(static, 'scripts', 'furo.js'), IMPORTED_SCRIPT,
            os.path.join(static, 'scripts', 'gumshoe-patched.js'))
+    for page in glob.glob(os.path.join(folder, '**', '*.html'), recursive=True):
+        text = read(page)
+        for line, other in HEARD:
+            text = text.replace(line, other)
+        with open(page, 'w', encoding='utf-8') as file:
+            file.write(text)
 
 
