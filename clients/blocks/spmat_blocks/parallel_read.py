@@ -261,8 +261,9 @@ def _read_parts(parts: _Parts, read: Callable[..., Any], args: List[List[Any]], 
     left_out = functools.reduce(LeftOut.plus, (part.left_out for part in found), LeftOut())
     rows = axis_of(first)
     notes = Metadata(None, None, directed, weighted or op is not None,
-                     left_out.added_to(found[0].summary), unit, sides=int(bipartite))
-    made.notes = notes.with_axes(rows, rows if last is first else axis_of(last))
+                     left_out.added_to(found[0].summary), unit)
+    notes = notes.with_axes(rows, rows if last is first else axis_of(last))
+    made.notes = notes.with_two_kinds() if bipartite else notes
     return made
 
 

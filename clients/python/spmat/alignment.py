@@ -2,14 +2,14 @@
 from __future__ import annotations
 
 import itertools
-from typing import Any, List, NamedTuple, Sequence, Tuple, TypeVar, cast
+from typing import Any, Dict, List, NamedTuple, Sequence, Set, Tuple, TypeVar, cast
 
 import numpy
 
 from .errors import NamesDiffer, refusal
 from .limits import MOST_SIDE
 from .matrix import Matrix
-from .metadata import (COLUMNS, POSITIONS, ROWS, Axis, Nodes, VertexUnit, check_names,
+from .metadata import (COLUMNS, ONE_KIND, POSITIONS, ROWS, Axis, Nodes, VertexUnit, check_names,
                        vertices_of)
 from .operands import alias
 
@@ -83,9 +83,11 @@ def align(*matrices: M, how: str = 'outer') -> Tuple[M, ...]:
                             % (matrix,))
     targets = [[_target_of(matrix, axis) for axis in (ROWS, COLUMNS)] for matrix in matrices]
     for sides in _groups(matrices):
-        target = _common([targets[number][axis] for number, axis in sides], how)
-        for number, axis in sides:
-            targets[number][axis] = target
+        old = [targets[number][axis] for number, axis in sides]
+        new, mixes = _common(old, how), _mixes_kinds(old)
+        for (number, axis), before in zip(sides, old):
+            kind = 0 if mixes else before.axis.kind
+            targets[number][axis] = new._replace(axis=new.axis._replace(kind=kind))
     made: List[M] = []
     for matrix, (rows, columns) in zip(matrices, targets):
         made.append(_moved(matrix, rows, columns, made))
@@ -109,7 +111,8 @@ def _renumbered(matrix: M, old: Nodes, new: Nodes) -> M:
     places = numpy.fromiter(map(new.places.__getitem__, old), numpy.int64, len(old))
     rows, columns, values = matrix.entries()
     made = cast(M, matrix.session.from_coo(rows, columns, places[values], *matrix.shape))
-    made.notes = matrix.notes._replace(unit=VertexUnit(new), source='')
+    unit: Any = matrix.unit
+    made.notes = matrix.notes._replace(unit=VertexUnit(new, unit.kind), source='')
     return made
 
 
@@ -172,6 +175,20 @@ def _common(sides: Sequence[_Target], how: str) -> _Target:
         raise refusal('M4', detail='%d vertices' % len(found))
     same = next((names for names in lists if names == found), None)
     return _Target(Axis(Nodes(found) if same is None else same), len(found))
+
+
+def _mixes_kinds(sides: Sequence[_Target]) -> bool:
+    """Whether both kinds of vertices of one matrix are among the sides. NamesDiffer where one of
+    each kind have the same name."""
+    known: Dict[int, Set[Any]] = {}
+    for axis, count in sides:
+        known.setdefault(axis.kind, set()).update(axis.listed(count) if axis.kind else ())
+    mixed = [kind for kind in known if kind > 0 and -kind in known]
+    for kind in mixed:
+        for name in known[kind] & known[-kind]:
+            raise NamesDiffer('align gets vertices of two kinds, and one of each is called %r; %s'
+                              % (name, ONE_KIND))
+    return bool(mixed)
 
 
 def _join_names(lists: Sequence[Sequence[Any]], how: str) -> List[Any]:

@@ -102,8 +102,9 @@ class NamesDiffer(SpmatError, ValueError):
     """Two matrices that a job would combine have different names for their rows or columns.
 
     By position the values of different vertices would meet. `spmat.align` brings matrices to the
-    same names, and `nodelist=` reads one with the names of another. It is a ValueError, too. In
-    pandas such tables are aligned; python-graphblas knows no names."""
+    same names, and `nodelist=` reads one with the names of another. Rows and columns of a matrix
+    that was read with `bipartite=True` differ also where their names are equal. It is a ValueError,
+    too. In pandas such tables are aligned; python-graphblas knows no names."""
 
 
 class NotMade(SpmatError):

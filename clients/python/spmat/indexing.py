@@ -227,7 +227,8 @@ def _of_column(matrix: 'Matrix', mask: Any, axis: int) -> List[int]:
     inside = not mask.complement
     side = 0 if values.ncols == 1 else 1
     own, whole = values.notes.axis(side), matrix.notes.axis(axis)
-    if own.has_names and whole.has_names and not own.agrees(whole):
+    are_named = own.has_names and whole.has_names and not own.is_other_kind(whole)
+    if are_named and not own.agrees(whole):
         known, names = Nodes(own.listed(length)).places, whole.listed(matrix.shape[axis])
         unknown = next((name for name in names if name not in known), None)
         if unknown is not None:

@@ -30,7 +30,7 @@ from .limits import MOST_SIDE
 from .mask import Mask, as_mask, structure
 from .matrix_base import MatrixBase
 from .metadata import (BY_POSITIONS, COLUMNS, ELEMENTWISE, NOTHING, ROWS, TRUTHS, Axis, Metadata,
-                       Nodes, Unnamed, VertexUnit, abbreviate_names, along, axes_of, check_one_kind,
+                       Nodes, Unnamed, VertexUnit, abbreviate_names, along, check_one_kind,
                        even, given_axis, hint_of, joined, list_of_names, of_copy, place_of,
                        suggest_names, vertices_of)
 from .operands import alias, common_session, not_a_matrix
@@ -406,9 +406,8 @@ class Matrix(Signs, metaclass=MatrixType):
 
     @nodes.setter
     def nodes(self, names: Optional[Iterable[Any]]) -> None:
-        self.notes = self.notes.with_axes(*axes_of(names if names is None
-                                                   or isinstance(names, Nodes)
-                                                   else list_of_names(names), self.shape))
+        self.notes = self.notes.with_nodes(names if names is None or isinstance(names, Nodes)
+                                           else list_of_names(names), self.shape)
 
     @property
     def row_nodes(self) -> Optional[Sequence[Any]]:
@@ -438,7 +437,8 @@ class Matrix(Signs, metaclass=MatrixType):
 
     @row_nodes.setter
     def row_nodes(self, names: Optional[Iterable[Any]]) -> None:
-        self.notes = self.notes.with_axes(given_axis(names, self.nrows), self.notes.axis(COLUMNS))
+        axis = given_axis(names, self.nrows)._replace(kind=self.notes.row_kind)
+        self.notes = self.notes.with_axes(axis, self.notes.axis(COLUMNS))
 
     @property
     def column_nodes(self) -> Optional[Sequence[Any]]:
@@ -468,7 +468,8 @@ class Matrix(Signs, metaclass=MatrixType):
 
     @column_nodes.setter
     def column_nodes(self, names: Optional[Iterable[Any]]) -> None:
-        self.notes = self.notes.with_axes(self.notes.axis(ROWS), given_axis(names, self.ncols))
+        axis = given_axis(names, self.ncols)._replace(kind=self.notes.column_kind)
+        self.notes = self.notes.with_axes(self.notes.axis(ROWS), axis)
 
     @property
     def directed(self) -> Optional[bool]:
@@ -1368,12 +1369,15 @@ class Matrix(Signs, metaclass=MatrixType):
         if where is not None and where.matrix.shape != matrix.shape:
             raise refusal('J9', detail='the matrix is %dx%d, the mask %dx%d'
                           % (*matrix.shape, *where.matrix.shape))
-        if rows is None and columns is None and isinstance(what, Matrix):
-            return cast(Self, matrix.update(what, accum, where, replace, name=name))
         part = [updates.choose_once(matrix, index, axis)
                 for axis, index in enumerate((rows, columns))]
+        is_whole = all(one.places is None for one in part)
         if isinstance(what, Matrix):
             fitting = updates.fit_part(what, part, matrix.shape)
+            if accum is None and not (is_whole and (where is None or replace)):
+                scales.common('assign', matrix.unit, what.unit)
+            if is_whole:
+                return cast(Self, matrix.update(fitting, accum, where, replace, name=name))
             given = updates.spread_part(matrix, fitting, part)
         else:
             stored = scales.to_stored(what, matrix.unit, 'value ')
@@ -1383,7 +1387,7 @@ class Matrix(Signs, metaclass=MatrixType):
         last = name if where is None else None
         if accum is not None:
             whole = matrix.ewise_add(given, accum, name=last)
-        elif all(one.places is None for one in part):
+        elif is_whole:
             whole = given
         else:
             rest = matrix.without(updates.keep_part(matrix, part).S)
@@ -1451,7 +1455,7 @@ class Matrix(Signs, metaclass=MatrixType):
         >>> A.update(B).to_triples()
         [(0, 1, 30), (0, 2, 40)]
         """
-        self._check_shape('union', other, self.shape)
+        self._check_shape('update', other, self.shape)
         where = as_mask(mask)
         if where is not None:
             common_session(self.session, where.matrix.session)
@@ -2084,7 +2088,7 @@ class Matrix(Signs, metaclass=MatrixType):
                             submatrices.resize_axis(self, axis, size, nodes is None))
         made = made.dup(name=name) if made is self or name is not None else made
         if nodes is not None:
-            made.notes = made.notes.with_axes(*axes_of(nodes, shape))
+            made.notes = made.notes.with_nodes(nodes, shape)
         submatrices.note_directed(self, made, shape[ROWS] == shape[COLUMNS])
         return cast(Self, made)
 
@@ -2209,9 +2213,11 @@ class Matrix(Signs, metaclass=MatrixType):
         columns = numpy.repeat(j, each) * other.ncols + numpy.tile(l, times)
         sides = [self.session.from_coo(rows, columns, many, *shape)
                  for many in (numpy.repeat(x, each), numpy.tile(y, times))]
-        axes = [_pair_names(self, other, axis) for axis in (ROWS, COLUMNS)]
+        notes = NOTHING.with_axes(*(_pair_names(self, other, axis) for axis in BOTH))
+        if any(of.notes.axis(ROWS).is_other_kind(of.notes.axis(COLUMNS)) for of in (self, other)):
+            notes = notes.with_two_kinds()
         for made, of in zip(sides, (self, other)):
-            made.notes = NOTHING._replace(unit=of.unit, directed=even(of.notes)).with_axes(*axes)
+            made.notes = notes._replace(unit=of.unit, directed=even(of.notes))
         return cast(Self, sides[0].ewise_mult(sides[1], op, name=name))
 
     # -- jobs
@@ -3466,9 +3472,9 @@ def multiply_positions(first: Any, second: Any, op: Any, mask: Any, name: Option
     of_second, index, shift = POSITIONAL[mul]
     ring = (add, 'second' if of_second else 'first')
     own = second if of_second else first
-    axis = ROWS if index == 'rowindex' else COLUMNS
-    places, names = own.apply(index, right=shift), own.notes.names(axis)
-    is_vertex = names is not None and not names.are_counted and not shift
-    places.notes = places.notes._replace(unit=VertexUnit(names) if is_vertex else 1)
+    axis = own.notes.axis(ROWS if index == 'rowindex' else COLUMNS)
+    places = own.apply(index, right=shift)
+    is_vertex = axis.names is not None and not axis.names.are_counted and not shift
+    places.notes = places.notes._replace(unit=VertexUnit(axis.names, axis.kind) if is_vertex else 1)
     left, right = (first, places) if of_second else (places, second)
     return left.mxm(right, ring, mask=mask, name=name, **options)

@@ -129,18 +129,18 @@ class VertexUnit(int):
     is 1; it equals the unit of the same names alone."""
 
     names: Nodes
+    kind: int                                      # of these vertices, as `Axis` has it
 
-    def __new__(cls, names: Nodes) -> 'VertexUnit':
+    def __new__(cls, names: Nodes, kind: int = 0) -> 'VertexUnit':
         made = super().__new__(cls, 1)
-        made.names = names
+        made.names, made.kind = names, kind
         return made
 
     def __reduce__(self) -> Tuple[Any, ...]:
-        return VertexUnit, (self.names,)
+        return VertexUnit, (self.names, self.kind)
 
     def __eq__(self, other: object) -> bool:
-        return isinstance(other, VertexUnit) and (self.names is other.names
-                                                  or self.names.equals(other.names))
+        return isinstance(other, VertexUnit) and self.axis.agrees(other.axis)
 
     def __ne__(self, other: object) -> bool:
         return not self == other
@@ -152,6 +152,11 @@ class VertexUnit(int):
         return 'vertices'
 
     __repr__ = __str__
+
+    @property
+    def axis(self) -> 'Axis':
+        """What the vertices are called."""
+        return Axis(self.names, kind=self.kind)
 
 
 def place_of(names: Nodes, node: Any) -> Optional[int]:
@@ -198,14 +203,22 @@ class Axis(NamedTuple):
     of them what else."""
     names: Optional[Nodes] = None
     unnamed: Unnamed = Unnamed.ANYTHING
+    # where a matrix was read with vertices of two kinds: k of its rows, and -k of its columns
+    kind: int = 0
 
     @property
     def has_names(self) -> bool:
         """Whether these are vertices that whoever read them calls by a name or a number."""
         return self.names is not None or self.unnamed is Unnamed.NUMBERS
 
+    def is_other_kind(self, other: 'Axis') -> bool:
+        """Whether these are rows and columns that were read as vertices of two kinds."""
+        return self.kind != 0 and self.kind == -other.kind
+
     def agrees(self, other: 'Axis') -> bool:
         """Whether both can mean the same vertices."""
+        if self.is_other_kind(other):
+            return False
         if self.names is None or other.names is None:
             names, else_ = (self.names, other) if other.names is None else (other.names, self)
             return names is None or else_.unnamed <= Unnamed.ALIKE or names.are_counted
@@ -214,8 +227,11 @@ class Axis(NamedTuple):
     def with_other(self, other: 'Axis') -> 'Axis':
         """What both are called that agree."""
         if self.names is None and other.names is None:
-            return self if self.unnamed >= other.unnamed else other
-        return other if self.names is None else self
+            found = self if self.unnamed >= other.unnamed else other
+        else:
+            found = other if self.names is None else self
+        kind = self.kind or other.kind
+        return found if found.kind == kind else found._replace(kind=kind)
 
     def part(self, places: Sequence[int]) -> 'Axis':
         """What some of the rows, or columns, are called, in this order: nothing where one stands
@@ -225,10 +241,11 @@ class Axis(NamedTuple):
         if len(set(places)) < len(places):
             return Axis(None, Unnamed.POSITIONS)
         if self.names is None:
-            return Axis(Nodes(places, True)) if len(places) == 1 else axis_of(Nodes(places))
+            found = Axis(Nodes(places, True)) if len(places) == 1 else axis_of(Nodes(places))
+            return found._replace(kind=self.kind)
         is_all = len(places) == len(self.names) and list(places) == list(range(len(places)))
-        return self if is_all else Axis(Nodes((self.names[place] for place in places),
-                                              len(places) == 1))
+        return self if is_all else self._replace(names=Nodes(
+            (self.names[place] for place in places), len(places) == 1))
 
     def listed(self, count: int) -> Sequence[Any]:
         """The names of so many rows, or columns: a list, or where they have none the numbers."""
@@ -332,8 +349,9 @@ class Metadata(NamedTuple):
     unit: int = 1
     unnamed_rows: Unnamed = Unnamed.ANYTHING
     unnamed_columns: Unnamed = Unnamed.ANYTHING
-    # 1 where rows and columns are two kinds of vertices, -1 of its transpose
-    sides: int = 0
+    # which of two kinds of vertices they are, as `Axis` has it
+    row_kind: int = 0
+    column_kind: int = 0
 
     @property
     def value_names(self) -> Optional[Nodes]:
@@ -353,13 +371,36 @@ class Metadata(NamedTuple):
 
     def axis(self, axis: int) -> Axis:
         """What the rows are called, with an axis of 1 the columns."""
-        return (Axis(self.columns, self.unnamed_columns) if axis
-                else Axis(self.rows, self.unnamed_rows))
+        return (Axis(self.columns, self.unnamed_columns, self.column_kind) if axis
+                else Axis(self.rows, self.unnamed_rows, self.row_kind))
 
     def with_axes(self, rows: Axis, columns: Axis) -> 'Metadata':
         """The same of a matrix whose rows and columns are called so."""
         return self._replace(rows=rows.names, columns=columns.names, unnamed_rows=rows.unnamed,
-                             unnamed_columns=columns.unnamed)
+                             unnamed_columns=columns.unnamed, row_kind=rows.kind,
+                             column_kind=columns.kind)
+
+    def with_nodes(self, nodes: Any, shape: Tuple[int, int]) -> 'Metadata':
+        """The same of a matrix whose vertices a caller calls otherwise. A pair of lists names rows
+        and columns of the kinds that they are, one list those of one kind."""
+        rows, columns = axes_of(nodes, shape)
+        if _pair(nodes) is not None:
+            rows = rows._replace(kind=self.row_kind)
+            columns = columns._replace(kind=self.column_kind)
+        return self.with_axes(rows, columns)
+
+    def with_two_kinds(self) -> 'Metadata':
+        """The same of a matrix whose rows and columns are vertices of two kinds."""
+        kind = new_kind()
+        return self._replace(row_kind=kind, column_kind=-kind)
+
+
+_KINDS = itertools.count(1)
+
+
+def new_kind() -> int:
+    """A number that no other two kinds of vertices have."""
+    return next(_KINDS)
 
 
 NOTHING = Metadata()
@@ -385,6 +426,8 @@ def as_constant(matrix: N) -> N:
 SHOWN_NAMES = 3                                    # of two lists that differ
 ALIGN = (
     'spmat.align(A, B) brings both to the same names, and nodelist=A.nodes reads B with those of A')
+ONE_KIND = ('where they are one kind, read the matrix without bipartite=True, or set B.nodes = '
+            'B.row_nodes before')
 GATHER = 'B[A.column_nodes, :] has the rows of the second in the order of the columns of the first'
 POSITIONS = (
     'what was made by positions has no names: v.nodes = G.nodes says that it has those of G, as '
@@ -402,9 +445,9 @@ TRANSPOSE: Pairs = ((ROWS, COLUMNS, 'the rows of the graph and the columns of it
 VERTICES: Pairs = ((ROWS, ROWS, 'the vertices of the graph and the rows of the column'),)
 
 
-def joined(first: Metadata, second: Metadata, pairs: Pairs) -> List[Axis]:
+def joined(first: Metadata, second: Metadata, pairs: Pairs, remedy: str = '') -> List[Axis]:
     """What each pair of rows or columns of two matrices is called that have to mean the same
-    vertices. NamesDiffer where two can't.
+    vertices. NamesDiffer where two can't, with a remedy where the caller has one.
 
     Rows that were cut from a graph, each alone, go together though their names differ, and so do
     columns: what is made of them has no name there."""
@@ -416,9 +459,17 @@ def joined(first: Metadata, second: Metadata, pairs: Pairs) -> List[Axis]:
         elif _are_cut(a, b) and not (_is_vertex(first) and _is_vertex(second)):
             out.append(Axis())
         else:
-            raise NamesDiffer('%s have different names: %s; %s' % (
-                words, describe_differences(a, b), _remedy(first, second, (a, b), pairs)))
+            raise names_differ(words, a, b, remedy or _remedy(first, second, (a, b), pairs))
     return out
+
+
+def names_differ(words: str, a: Axis, b: Axis, remedy: str) -> NamesDiffer:
+    """The error for two rows, columns or values that can't mean the same vertices."""
+    if a.is_other_kind(b) and a._replace(kind=0).agrees(b):
+        return NamesDiffer('%s are vertices of two kinds, though they have the same names; %s'
+                           % (words, ONE_KIND))
+    return NamesDiffer('%s have different names: %s; %s'
+                       % (words, describe_differences(a, b), remedy))
 
 
 def _remedy(first: Metadata, second: Metadata, axes: Axes, pairs: Pairs) -> str:
@@ -438,7 +489,8 @@ def describe_differences(a: Axis, b: Axis) -> str:
              for axis in (a, b)]
     found = ('%d: %s and %s' % (at, words[0] % (one,), words[1] % (other,))
              for at, (one, other) in enumerate(both) if one is not other and one != other)
-    return ', '.join(itertools.islice(found, SHOWN_NAMES))
+    return (', '.join(itertools.islice(found, SHOWN_NAMES))
+            or '%d and %d names' % tuple(len(axis.names or ()) for axis in (a, b)))
 
 
 def hint_of(first: Metadata, second: Metadata) -> str:
@@ -451,7 +503,7 @@ def hint_of(first: Metadata, second: Metadata) -> str:
 def _are_cut(a: Axis, b: Axis) -> bool:
     """Whether each is one row, or one column, that was cut from a graph, or made by positions."""
     lists = [axis.names for axis in (a, b) if axis.names is not None]
-    return all(names.is_cut for names in lists)
+    return bool(lists) and all(names.is_cut for names in lists)
 
 
 def along(shape: Tuple[int, int], notes: Metadata) -> int:
@@ -486,7 +538,8 @@ TWO_KINDS = ('a graph has one kind of vertices, and rows and columns of this mat
 def check_one_kind(graph: Metadata) -> None:
     """ValueError where the rows and the columns of a square matrix are vertices of two kinds."""
     rows, columns = graph.axis(ROWS), graph.axis(COLUMNS)
-    if graph.sides or (rows.has_names and columns.has_names and not rows.agrees(columns)):
+    if rows.is_other_kind(columns) or (rows.has_names and columns.has_names
+                                       and not rows.agrees(columns)):
         raise ValueError(TWO_KINDS)
 
 
@@ -494,14 +547,14 @@ def of_vertices(first: Metadata, graph: Metadata) -> Metadata:
     """What is known of a column, of which nothing is known but that it says something of each
     vertex of a graph."""
     axis = vertices_of(graph)
-    return first if axis is None else first._replace(rows=axis.names, unnamed_rows=axis.unnamed)
+    return first if axis is None else first.with_axes(axis, first.axis(COLUMNS))
 
 
 def vertices_of(graph: Metadata) -> Optional[Axis]:
     """What the vertices of a square matrix are called: its rows and its columns; None where these
     differ."""
     rows, columns = graph.axis(ROWS), graph.axis(COLUMNS)
-    return rows.with_other(columns) if rows.agrees(columns) and not graph.sides else None
+    return rows.with_other(columns) if rows.agrees(columns) else None
 
 
 def suggest_names(node: Any, names: Sequence[Any]) -> str:

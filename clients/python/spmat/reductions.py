@@ -103,9 +103,10 @@ def aggregate(matrix: Any, op: str, axis: int, mask: Any, name: Optional[str]) -
         return fold_axis(matrix, OPERATORS[op], axis, where, name)
     if op in FOLDS:
         made = fold_axis(FOLDS[op].of(matrix, axis), FOLDS[op].op, axis, where, name)
-        names = matrix.notes.names(axis)
-        if op in INDEXES and names is not None:    # a place is shown by the name that stands there
-            made.notes = made.notes._replace(unit=VertexUnit(names))
+        along = matrix.notes.axis(axis)
+        if op in INDEXES and along.names is not None:
+            # a place is shown by the name that stands there
+            made.notes = made.notes._replace(unit=VertexUnit(along.names, along.kind))
         return made
     if op == 'peak_to_peak':
         return fold_axis(matrix, 'max', axis).ewise_mult(fold_axis(matrix, 'min', axis), 'minus',
@@ -116,7 +117,7 @@ def aggregate(matrix: Any, op: str, axis: int, mask: Any, name: Optional[str]) -
 def _check_numbers(matrix: Any) -> None:
     """UnitsDiffer where values are vertices, which have no mean."""
     if isinstance(matrix.unit, VertexUnit):
-        scales.refuse_vertices('a mean of vertices')
+        scales.refuse_vertices('vertices have no mean')
 
 
 def _means(matrix: Any, axis: int, where: Optional[Mask], name: Optional[str]) -> Any:

@@ -137,10 +137,7 @@ def _with_names(form: str, first: Metadata, second: Optional[Metadata]) -> Metad
     columns = inner if alike[1] else second.axis(COLUMNS)
     if not all(alike):
         rows, columns = rows.alone(), columns.alone()
-    # the product of a bipartite matrix and the transpose of one has one kind of vertices
-    sides = 0 if first.sides == -second.sides else first.sides or second.sides
-    return Metadata(rows.names, columns.names, unnamed_rows=rows.unnamed,
-                 unnamed_columns=columns.unnamed, sides=sides)
+    return NOTHING.with_axes(rows, columns)
 
 
 def _unit_of(rule: Rule, operators: Sequence[Operator], first: int, second: int) -> int:
@@ -169,8 +166,7 @@ def _elementwise(first: Metadata, second: Metadata, pairs: Pairs) -> Metadata:
         return first
     if first is NOTHING:
         return second._replace(weighted=None)
-    return first.with_axes(*joined(first, second, pairs))._replace(sides=first.sides
-                                                                   or second.sides)
+    return first.with_axes(*joined(first, second, pairs))
 
 
 # -- the forms of one operand, which keep entries where they are
@@ -252,8 +248,7 @@ def on_diagonal(first: Metadata, along: int) -> Metadata:
 
 def of_transpose(first: Metadata) -> Metadata:
     """What is known of the transpose."""
-    return first.with_axes(first.axis(COLUMNS),
-                           first.axis(ROWS))._replace(source='', sides=-first.sides)
+    return first.with_axes(first.axis(COLUMNS), first.axis(ROWS))._replace(source='')
 
 
 def check_mask(where: Mask, shape: Tuple[int, int], notes: Metadata) -> None:

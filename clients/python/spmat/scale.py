@@ -21,12 +21,11 @@ from typing import Any, Callable, Dict, FrozenSet, NoReturn, Optional, Tuple, Un
 
 import numpy
 
-from .errors import NamesDiffer, UnitsDiffer, about, warn_user
+from .errors import UnitsDiffer, about, warn_user
 from .io.coo import LEAST, MOST, shown
 from .io.matrix_text import is_array
 from .io.values import LONG_UNITS, UNITS, nanoseconds
-from .metadata import (Axis, VertexUnit, abbreviate_names, describe_differences, place_of,
-                       suggest_names)
+from .metadata import VertexUnit, abbreviate_names, names_differ, place_of, suggest_names
 from .operands import alias
 from .operators import Op, READY, Operator, find
 
@@ -314,10 +313,8 @@ def common(what: Union[Operator, str], first: int, second: int) -> int:
     """The scale of values that meet. UnitsDiffer where they have two, NamesDiffer where they are
     vertices of two lists; plain numbers go with times."""
     if isinstance(first, VertexUnit) and isinstance(second, VertexUnit) and first != second:
-        raise NamesDiffer('%s of values that are vertices of different lists: %s; '
-                          'spmat.align(A, B) gives both one list' % (
-                              name_of(what), describe_differences(Axis(first.names),
-                                                                  Axis(second.names))))
+        raise names_differ('the vertices that %s gets as values' % name_of(what), first.axis,
+                           second.axis, 'spmat.align(A, B) gives both one list')
     if first == second or (second == 1 and isinstance(first, TimeUnit)):
         return first
     if first == 1 and isinstance(second, TimeUnit):
@@ -392,7 +389,7 @@ def of_read(scale: Any, dup_op: Optional[Op], times: Optional[str] = None) -> in
 def refuse(op: Union[Operator, str], first: int, second: int) -> NoReturn:
     """Raises UnitsDiffer of the operands of an operator, or of what else brings values together."""
     if isinstance(first, VertexUnit) or isinstance(second, VertexUnit):
-        refuse_vertices('%s of vertices and numbers' % name_of(op))
+        refuse_vertices('%s of vertices and numbers has values of two kinds' % name_of(op))
     wanted: Any = math.lcm(first, second)
     if isinstance(first, TimeUnit) and isinstance(second, TimeUnit):
         wanted = min(first, second, key=lambda unit: unit.size)
@@ -426,7 +423,7 @@ def of_vertex(op: Operator) -> int:
             or op in _named('binary', 'pair oneb zero')):
         return 1
     if meaning_of(op) is not None or op.name in READY[op.kind]:
-        refuse_vertices('"%s" of vertices' % name_of(op))
+        refuse_vertices('"%s" of vertices is no vertex, nor a number' % name_of(op))
     warn_user('values are vertices, and an operator of your own gets their places, from 0, and not '
               'their names: B = A.dup(); B.unit = 1 says that these are meant', UserWarning)
     return 1
@@ -434,9 +431,9 @@ def of_vertex(op: Operator) -> int:
 
 def refuse_vertices(what: str) -> NoReturn:
     """Raises UnitsDiffer where vertices would be reckoned with."""
-    raise UnitsDiffer('%s is no vertex, nor a number: values are compared by "eq" and "ne", with a '
-                      "vertex' name beside them; B = A.dup(); B.unit = 1 has the places of the "
-                      'vertices as numbers' % what)
+    raise UnitsDiffer('%s: values that are vertices are compared by "eq" and "ne", with a vertex\' '
+                      'name beside them; B = A.dup(); B.unit = 1 has the places of the vertices as '
+                      'numbers' % what)
 
 
 # -- another scale
@@ -445,7 +442,7 @@ def rescaled(matrix: Any, unit: Any, exact: bool) -> Any:
     """A matrix with the same numbers in another scale; see `Matrix.rescale`."""
     before, wanted = matrix.unit, as_unit(unit)
     if isinstance(before, VertexUnit):
-        refuse_vertices('another unit of vertices')
+        refuse_vertices('vertices have no other unit')
     factor = Fraction(wanted, before)
     if isinstance(wanted, TimeUnit):
         if not isinstance(before, TimeUnit):

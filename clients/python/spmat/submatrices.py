@@ -6,6 +6,7 @@ that P names, A Q the columns. All that keeps entries at the server is made of s
 """
 from __future__ import annotations
 
+import functools
 import itertools
 from collections import Counter
 from typing import TYPE_CHECKING, Any, List, Optional, Sequence, Tuple, Union
@@ -135,6 +136,9 @@ def concat(tiles: Sequence[Sequence[Any]], *, name: Optional[str] = None) -> 'Ma
     widths = [_find_common_size(column, 1, at) for at, column in enumerate(zip(*tiles))]
     axes = [_join_axes(bands, sizes, axis)
             for axis, (bands, sizes) in enumerate(((tiles, heights), (list(zip(*tiles)), widths)))]
+    # what joins them below is no operator of the caller's, so it isn't to be told of
+    functools.reduce(functools.partial(scales.common, 'concat'),
+                     [tile.unit for tile in itertools.chain(*tiles) if tile is not None])
     placed = [_place_tile(tile, (sum(heights[:i]), sum(widths[:j])), (sum(heights), sum(widths)))
               for i, row in enumerate(tiles) for j, tile in enumerate(row) if tile is not None]
     made = placed[0]
@@ -169,7 +173,8 @@ def _join_axes(bands: Sequence[Sequence[Any]], sizes: Sequence[int], axis: int) 
     nameless = next((at for at, (one, _) in enumerate(filled_bands) if not one.has_names), None)
     counts = Counter(itertools.chain.from_iterable(lists))
     if nameless is None and len(counts) == sum(map(len, lists)):
-        return axis_of(Nodes(counts))
+        kinds = {one.kind for one, _ in filled_bands}
+        return axis_of(Nodes(counts))._replace(kind=kinds.pop() if len(kinds) == 1 else 0)
     if any(one.names is not None for one, _ in filled_bands):
         what = WHAT[axis]
         why = ('those of some tiles have none' if nameless is not None else

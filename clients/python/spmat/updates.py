@@ -45,8 +45,10 @@ def spread_part(matrix: 'Matrix', what: 'Matrix', part: Sequence[Chosen]) -> 'Ma
         if places is not None:
             own = whole.part(places) if what.notes.axis(axis).has_names else Axis()
             joined(what.notes, NOTHING.with_axes(own, own),
-                   ((axis, axis, 'the %ss of what is assigned, and the %ss that are set'
-                     % (WHAT[axis], WHAT[axis])),))
+                   ((axis, axis, 'the %ss of what is assigned, and the %ss that are set,'
+                     % (WHAT[axis], WHAT[axis])),),
+                   'B = what.dup(); B.%s_nodes = None takes the names off what is assigned'
+                   % WHAT[axis])
             what = move(what, axis, range(len(places)), places, matrix.shape[axis], whole, own)
     return what
 

@@ -77,6 +77,12 @@ def said(kind, call, *given, **named):
     return str(caught.exception)
 
 
+def known_of(matrix):
+    """What is known of a matrix, but for the numbers of its kinds of vertices, which are new with
+    each that is read."""
+    return matrix.notes._replace(row_kind=0, column_kind=0)
+
+
 class InSession(unittest.TestCase):
     """Tests that share a session: `s`, or `session` where a test has several things of one
     letter."""

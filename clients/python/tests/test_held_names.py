@@ -393,6 +393,38 @@ class Refusals(support.InSession):
         self.assertIn('the rows that are set', words)
         self.assertNotIn('first', words)
 
+    def test_the_call_that_was_written(self):
+        """What joins tiles, or parts, is no operator that the caller wrote."""
+        s = self.session
+        cents, tenths = (s.from_edgelist([('a', 'b', 0.5), ('b', 'a', 1.5)], scale=scale)
+                         for scale in (100, 10))
+        p = al.bfs_parents(s.from_edgelist([('a', 'b')], directed=False), 'a')
+        q = al.bfs_parents(s.from_edgelist([('x', 'b')], directed=False), 'x')
+        q.nodes = p.nodes
+        for name, call in (('concat', lambda: spmat.concat([[cents, tenths]])),
+                           ('concat', lambda: spmat.concat([[p, q]])),
+                           ('concat', lambda: spmat.concat([[p], [tenths[:, 'a']]])),
+                           ('assign', lambda: cents.assign(tenths[['a'], :], ['a'])),
+                           ('assign', lambda: cents.assign(tenths[:, ['a']], None, ['a'])),
+                           ('assign', lambda: cents.assign(tenths, mask=tenths.S)),
+                           ('assign', lambda: cents.assign(tenths[['a'], :], ['a'], mask=cents.S)),
+                           ('assign', lambda: p.assign(q[['a'], :], ['a'])),
+                           ('assign', lambda: p.assign(tenths[['a'], 'a'], ['a'])),
+                           ('update', lambda: cents.update(tenths, mask=tenths.S)),
+                           ('update', lambda: p.update(q, mask=q.S)),
+                           ('plus', lambda: cents.assign(tenths, accum='plus'))):
+            with warnings.catch_warnings():
+                warnings.simplefilter('ignore')
+                words = support.said((spmat.UnitsDiffer, spmat.NamesDiffer), call)
+            self.assertIn(name, words)
+            self.assertNotIn('first', words)
+        three = s.full(3, 3)
+        self.assertIn('2x2 places are set', support.said(ValueError, cents.assign, three))
+        self.assertIn('in `update`', support.said(spmat.SpmatError, cents.update, three))
+        self.assertEqual(cents.assign(tenths).to_edgelist(), tenths.to_edgelist())
+        self.assertEqual(spmat.concat([[cents, tenths.rescale(100)]]).to_edgelist(raw=True)[1][2],
+                         50)
+
     def test_truth_values_are_no_vertices(self):
         G = self.session.from_edgelist([(1, 2), (2, 3)])
         for call in (lambda: G.index(True), lambda: al.bfs_levels(G, True), lambda: G[True, 2],

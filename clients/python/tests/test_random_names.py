@@ -1,14 +1,17 @@
-"""Random expressions on columns whose values are vertices, and on matrices of one row or one column,
-beside a model in plain Python that knows names alone. Often names are the numbers 1 to n.
+"""Random expressions on columns whose values are vertices, on matrices of one row or one column, and
+on two kinds of vertices with equal names, beside a model in plain Python that knows names alone.
+Often names are the numbers 1 to n.
 
 `SPMAT_SECONDS=600 python3 -m pytest tests/test_random_names.py` goes on for as long."""
 import os
 import random
+import tempfile
 import time
 import warnings
 
 import support
 import spmat
+from spmat import algorithms
 
 SECONDS = float(os.environ.get('SPMAT_SECONDS', '4'))
 NAMES = ([1, 2, 3, 4], [4, 2, 1, 3], list('abcd'), ['b', 1, 2, 'c'], [0, 1, 2, 3])
@@ -168,11 +171,137 @@ class Walk:
         a = self.session.from_edgelist([(name, 'p', x) for name, x in A.items()], bipartite=True)
         return lambda: a.reduce_columnwise('plus').by_node(), {'p': sum(A.values())}
 
+    def do_assign_part(self):
+        """Some rows are set to those of another column, and lose what it hasn't."""
+        (v, m), (w, n) = self.one, self.two
+        rows = self.chance.sample(self.names, 2)
+        return (lambda: v.assign(w[rows, :], rows).by_node(),
+                {at: (n if at in rows else m).values[at] for at in self.names
+                 if at in (n if at in rows else m).values})
+
+    def do_mask(self):
+        (v, m), (w, n) = self.one, self.two
+        inside = {at: x for at, x in m.values.items() if at in n.values}
+        outside = {at: x for at, x in m.values.items() if at not in n.values}
+        return self.chance.choice([
+            (lambda: v.dup(mask=w.S).by_node(), inside),
+            (lambda: v.dup(mask=~w.S).by_node(), outside),
+            (lambda: v.without(w.S).by_node(), outside),
+            (lambda: v[w.S, :].by_node(), inside),
+            (lambda: v.update(w, mask=w.S).by_node(), {**m.values, **n.values}),
+            (lambda: v.update(w, mask=~v.S).by_node(), {**n.values, **m.values})])
+
+    def do_tiles(self):
+        """What is split, or cut, and put together again."""
+        (v, m), some = self.one, self.chance.randrange(1, len(self.names))
+        first, last = self.names[:some], self.names[some:]
+        return self.chance.choice([
+            (lambda: spmat.concat([[v[first, :]], [v[last, :]]]).by_node(), m.values),
+            (lambda: spmat.concat(v.split([some, len(last)])).by_node(), m.values),
+            (lambda: spmat.concat([[v[last, :]], [v[first, :]]]).by_node(), m.values)])
+
+    def do_align(self):
+        """A column with other vertices, and values from another list."""
+        (v, m), (w, n) = self.one, self.other
+        kept = self.chance.sample(self.names, 3)
+
+        def call():
+            one, two = spmat.align(v, w[kept, :], how=how)
+            return one.by_node(), two.by_node(), one.ewise_mult(two, 'eq').by_node()
+        how = self.chance.choice(('outer', 'inner'))
+        theirs = {at: x for at, x in n.values.items() if at in kept}
+        return call, ({at: x for at, x in m.values.items() if how == 'outer' or at in kept}, theirs,
+                      {at: int(x == theirs[at]) for at, x in m.values.items() if at in theirs})
+
+    def do_save(self):
+        (v, m), chance = self.one, self.chance
+
+        def call():
+            with tempfile.TemporaryDirectory() as folder:
+                path = os.path.join(folder, 'x.spmat')
+                v.session.save(path, v=v, w=self.two[0])
+                found = v.session.load(path)
+            return found['v'].by_node(), found['v'].ewise_mult(self.two[0], 'eq').by_node()
+        if chance.random() < .7:                   # it takes longer than others
+            return self.do_same()
+        return call, (m.values, self.do_same()[1])
+
+    def graph(self, share, **how):
+        """A graph between the names, beside its edges."""
+        edges = {(u, v): self.chance.randrange(9) for u in self.names for v in self.names
+                 if self.chance.random() < share}
+        return self.session.from_edgelist([(*at, x) for at, x in edges.items()],
+                                          nodelist=self.names, **how), edges
+
+    def do_product(self):
+        """The least vertex among those of the neighbours, and the first vertex between two."""
+        (v, m), (G, edges) = self.one, self.graph(.5)
+        ends = {u: [m.values[w] for w in self.names if (u, w) in edges and w in m.values]
+                for u in self.names}
+        between = {(u, w): next((x for x in self.names if (u, x) in edges and (x, w) in edges),
+                                None) for u in self.names for w in self.names}
+        return self.chance.choice([
+            (lambda: G.mxv(v, 'min_second').by_node(),
+             {u: min(some, key=m.rank) for u, some in ends.items() if some}),
+            (lambda: {(u, w): x for u, w, x in G.mxm(G, 'min_secondi').to_edgelist()},
+             {at: x for at, x in between.items() if x is not None})])
+
+    def do_search(self):
+        """Parents lead back to the source, and each component is called by one of its own."""
+        G, edges = self.graph(.4)
+        source = self.chance.choice(self.names)
+        levels, front = {source: 0}, [source]
+        for u in front:
+            for w in self.names:
+                if (u, w) in edges and w not in levels:
+                    levels[w] = levels[u] + 1
+                    front.append(w)
+
+        def call():
+            parents = algorithms.bfs_parents(G, source)
+            seen = parents.by_node()
+            return (set(seen), all(seen[w] == parents[w] and (w == source == seen[w] or (
+                levels[seen[w]] == levels[w] - 1 and (seen[w], w) in edges)) for w in seen))
+        return call, (set(levels), True)
+
+    def do_components(self):
+        U, edges = self.graph(.3)
+        U = algorithms.undirected(U)
+        group = {u: {u} for u in self.names}
+        for u, w in edges:
+            group[u] |= group[w]
+            for x in group[u]:
+                group[x] = group[u]
+
+        def call():
+            found = algorithms.connected_components(U)
+            named = found.by_node()
+            return all(named[u] in group[u] and {w for w in named if named[w] == named[u]}
+                       == set(found.select('==', named[u]).by_node()) == group[u] for u in named)
+        return call, True
+
+    def do_two_kinds(self):
+        """People and things of the same names: each goes with itself alone."""
+        sold = {(u, u): 1 for u in self.names}
+        sold.update({(self.chance.choice(self.names), self.chance.choice(self.names)):
+                     self.chance.randrange(9) for _ in range(4)})
+        B = self.session.from_edgelist([(*at, x) for at, x in sold.items()], bipartite=True)
+        wrong = self.chance.choice([
+            lambda: B.mxm(B), lambda: B.ewise_add(B.T), lambda: B.dup(mask=B.T.S),
+            lambda: B.mxv(B.reduce_rowwise()), lambda: B.without(B.T.S), lambda: B.isequal(B.T),
+            lambda: B[B.reduce_columnwise().S, :], lambda: spmat.concat([[B, B.T]])])
+        if self.chance.random() < .5:
+            return wrong, REFUSED
+        shared = {}
+        for (u, x), many in sold.items():
+            for (w, y), times in sold.items():
+                if x == y:
+                    shared[u, w] = shared.get((u, w), 0) + many * times
+        return lambda: {(u, w): x for u, w, x in B.mxm(B.T).to_edgelist()}, shared
+
     def do_cut(self):
         """Two rows of one graph go together."""
-        edges = {(u, v): self.chance.randrange(9) for u in self.names for v in self.names
-                 if self.chance.random() < .6}
-        G = self.session.from_edgelist([(*at, x) for at, x in edges.items()], nodelist=self.names)
+        G, edges = self.graph(.6)
         u, v = self.chance.sample(self.names, 2)
         return (lambda: G[u, :].ewise_add(G[v, :]).by_node(),
                 {w: edges.get((u, w), 0) + edges.get((v, w), 0) for w in self.names

@@ -11,7 +11,7 @@ from typing import TYPE_CHECKING, Any, Callable, Dict, Iterator, Optional, Type,
 from .. import scale as scales
 from ..errors import BudgetExceeded, SpmatError
 from ..matrix import Matrix
-from ..metadata import VertexUnit
+from ..metadata import ROWS, VertexUnit
 
 if TYPE_CHECKING:
     from .registry import Algorithm
@@ -140,9 +140,9 @@ def as_centrality(column: Any, unit: int, error: float, measure: str = BOUND, *,
 
 def of_vertices(column: Matrix) -> Matrix:
     """A column whose values are vertices of the graph that has its rows."""
-    names = column.notes.rows
-    if names is not None:
-        column.notes = column.notes._replace(unit=VertexUnit(names))
+    axis = column.notes.axis(ROWS)
+    if axis.names is not None:
+        column.notes = column.notes._replace(unit=VertexUnit(axis.names, axis.kind))
     return column
 
 

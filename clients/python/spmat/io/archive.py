@@ -7,6 +7,7 @@ Other programs can write and read it, too.
 from __future__ import annotations
 
 import abc
+import collections
 import contextlib
 import io
 import json
@@ -21,7 +22,7 @@ from typing import Any, Dict, Generic, Iterator, Mapping, Optional, Tuple
 from ..errors import ReadError, SpmatError, TextRefused, TooLarge
 from ..limits import MOST_TEXT
 from ..matrix import Matrix
-from ..metadata import Metadata, Nodes, Unnamed, VertexUnit
+from ..metadata import Metadata, Nodes, Unnamed, VertexUnit, new_kind
 from ..scale import as_unit
 from . import matrix_market
 from .array_importers import DupOp, Made
@@ -170,10 +171,11 @@ def _describe(name: str, notes: Metadata) -> Dict[str, Any]:
              'directed': notes.directed, 'weighted': notes.weighted, 'source': notes.source}
     if notes.unit != 1 and notes.value_names is None:
         about['unit'] = str(notes.unit)
-    if notes.sides:
-        about['sides'] = notes.sides
     if notes.value_names is not None:
         about['values'] = encode(notes.value_names)
+    kinds = [notes.row_kind, notes.column_kind, getattr(notes.unit, 'kind', 0)]
+    if any(kinds):
+        about['kinds'] = kinds
     return about
 
 
@@ -220,6 +222,7 @@ def _list_members(file: zipfile.ZipFile) -> Iterator[Tuple[str, str, Metadata]]:
         raise ReadError(file.filename or '', None,
                         'its version is %r, and this client reads versions 1 and %d' % (
                             contents.get('spmat'), VERSION))
+    kinds: Dict[int, int] = collections.defaultdict(new_kind)
     for called, about in expect(contents['matrices'], dict, 'matrices').items():
         entries = expect(expect(about, dict, called)['entries'], str, 'entries')
         info = file.getinfo(entries)
@@ -229,7 +232,8 @@ def _list_members(file: zipfile.ZipFile) -> Iterator[Tuple[str, str, Metadata]]:
         _check_packed(info, SMALL)
         with file.open(entries) as text:
             sizes = matrix_market.Reader(io.BytesIO(text.read(HEAD)))
-        yield called, entries, _read_notes(about, (sizes.nrows, sizes.ncols))
+        notes = _read_notes(about, (sizes.nrows, sizes.ncols))
+        yield called, entries, _with_kinds(notes, about.get('kinds', [0, 0, 0]), kinds)
 
 
 def _check_packed(info: zipfile.ZipInfo, few: int) -> None:
@@ -251,15 +255,26 @@ def _read_notes(about: Dict[str, Any], shape: Tuple[int, int]) -> Metadata:
     for what in ('directed', 'weighted'):
         if about[what] is not None:
             expect(about[what], bool, what)
-    unit, sides = about.get('unit', '1'), about.get('sides', 0)
+    unit = about.get('unit', '1')
     if unit not in UNITS and UNIT.fullmatch(str(unit)) is None:
         raise ValueError('a unit is a number above 0, not %.40r' % (unit,))
-    if type(sides) is not int or not -1 <= sides <= 1:
-        raise ValueError('sides are -1, 0 or 1, not %.40r' % (sides,))
     return Metadata(rows, columns, about['directed'], about['weighted'],
                  expect(about['source'], str, 'source'),
                  as_unit(unit if unit in UNITS else int(unit)) if vertices is None
-                 else VertexUnit(vertices), first, second, sides)
+                 else VertexUnit(vertices), first, second)
+
+
+def _with_kinds(notes: Metadata, given: Any, known: Dict[int, int]) -> Metadata:
+    """What is known of a matrix, with the kinds of vertices that a file numbers: numbers of this
+    process stand for those of the file."""
+    given = expect(given, list, 'kinds')
+    if len(given) != 3 or any(type(kind) is not int for kind in given):
+        raise ValueError('kinds: expected three whole numbers, of rows, columns and values, not '
+                         '%.40r' % (given,))
+    rows, columns, values = ((1 if kind > 0 else -1) * known[abs(kind)] if kind else 0
+                             for kind in given)
+    unit = (notes.unit if notes.value_names is None else VertexUnit(notes.value_names, values))
+    return notes._replace(row_kind=rows, column_kind=columns, unit=unit)
 
 
 def _check_vertices(matrix: str, text: bytes, count: int) -> None:

@@ -189,8 +189,9 @@ def graph_of(edges: Edges, how: How) -> Graph:
         triples = matrix_market.lowered(triples, 'symmetric')
     axis = axis_of(first)
     notes = Metadata(None, None, how.directed, edges.values is not None,
-                  edges.left_out.added_to(edges.summary), sides=int(how.bipartite))
+                     edges.left_out.added_to(edges.summary))
     notes = notes.with_axes(axis, axis if second is first else axis_of(second))
+    notes = notes.with_two_kinds() if how.bipartite else notes
     return Graph(triples, notes, lambda: _keep_first(triples, notes, edges, (first, second)))
 
 

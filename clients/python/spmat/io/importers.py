@@ -50,7 +50,8 @@ class Sources(ArraySources[Made], ArchiveSources[Made]):
             Multiply values by this, and round them to the nearest, as for `from_coo`.
         bipartite : bool, optional
             True makes rows and columns two kinds of vertices, such as users and items, each with
-            its own names. It doesn't go with `nodelist`.
+            its own names. No method takes one kind for the other, also where their names are equal.
+            It doesn't go with `nodelist`.
         missing : str, optional
             None and NaN are missing names and values. "raise", the default, refuses them. "skip"
             leaves their edges out, and counts them in `notes.source`. With None, None is a name as
@@ -470,7 +471,8 @@ class Sources(ArraySources[Made], ArchiveSources[Made]):
         if request.directed is False and matrix.directed is not False:
             return self._both_ways_of(file, matrix, dup_op, name)
         if request.bipartite or request.directed:
-            matrix.notes = matrix.notes._replace(directed=True, sides=int(request.bipartite))
+            notes = matrix.notes._replace(directed=True)
+            matrix.notes = notes.with_two_kinds() if request.bipartite else notes
         return matrix
 
     def _both_ways_of(self, file: str, matrix: Made, dup_op: DupOp, name: Optional[str]) -> Made:

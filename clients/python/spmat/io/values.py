@@ -268,7 +268,8 @@ class Clock:
         """Times as an array of whole numbers; what is a number is one of this unit. The error of
         `wrong` where one is neither, or beyond 64 bits."""
         found = []
-        zones: Dict[bool, int] = {}                # the first time with a zone, and without
+        # the first number, the first time with a zone, and the first without
+        forms: Dict[Optional[bool], int] = {}
         for at, value in enumerate(values):
             if self._format is not None and isinstance(value, (int, numpy.integer)):
                 value = str(value)                 # as 20240531 is written
@@ -285,16 +286,17 @@ class Clock:
             if exact is None and number * self._size > YEAR_3000:
                 raise about(wrong(at, FAR % (value, 1970 + number * self._size // YEAR, self.unit,
                                              self.unit)), 'date_format', 'unit')
-            if exact is not None:
-                zones.setdefault(_has_zone(value, self._format), at)
-                self.cut += exact % self._size != 0
+            forms.setdefault(None if exact is None else _has_zone(value, self._format), at)
+            self.cut += exact is not None and exact % self._size != 0
             if not LEAST <= number <= MOST:
                 raise about(wrong(at, '%s is beyond 64 bits in %s: unit="us" has room'
                                   % (value, self.unit)), 'unit')
             found.append(number)
-        if len(zones) > 1:
-            raise wrong(max(zones.values()), 'some times have a time zone, and this one and others '
-                        'differ: either all have one, or none')
+        if len(forms) > 1:
+            what = ('are numbers, and this one and others differ: either all are'
+                    if None in forms else
+                    'have a time zone, and this one and others differ: either all have one')
+            raise wrong(max(forms.values()), 'some times %s, or none' % what)
         self.count += len(found)
         return numpy.array(found, numpy.int64)
 

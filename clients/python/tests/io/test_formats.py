@@ -96,7 +96,9 @@ class MatrixMarket(InSession):
     def test_two_kinds_of_vertices(self):
         for kind in ('general', 'symmetric'):
             B = self.read(kind, bipartite=True)
-            self.assertEqual((B.notes.sides, B.directed), (1, True))
+            self.assertTrue(B.directed)
+            with self.assertRaisesRegex(spmat.NamesDiffer, 'two kinds'):
+                B.ewise_add(B.T)
             with self.assertRaisesRegex(ValueError, 'one kind of vertices.*spmat.bipartite'):
                 spmat.algorithms.connected_components(B)
             self.assertEqual(spmat.bipartite(B).nodes[0], ('row', 0))
@@ -118,7 +120,9 @@ class MatrixMarket(InSession):
             path = os.path.join(folder, 'x.mtx')
             with open(path, 'w', encoding='ascii') as file:
                 file.write(MARKET % ('general', 2, 2))
-            self.assertEqual(s.read_graph(path, bipartite=True).notes.sides, 1)
+            B = s.read_graph(path, bipartite=True)
+            with self.assertRaisesRegex(spmat.NamesDiffer, 'two kinds'):
+                B.mxm(B)
             with self.assertRaisesRegex(spmat.ReadError, 'sep= is for a list'):
                 s.read_graph(path, sep=',')
 

@@ -102,8 +102,15 @@ class Times(support.InSession):
                                         [('a', 'b', first), ('b', 'c', second)], unit='s'))
         self.assertIn('line 3: some times have a time zone', self.said(
             self.read, 'from,to,t\na,b,2024-05-31T10:00Z\nb,c,2024-05-31T10:00\n', unit='s'))
-        self.assertEqual(self.s.from_edgelist([('a', 'b', 5), ('b', 'c', ONE.replace(tzinfo=UTC))],
-                                              unit='s').nvals, 2)
+
+    def test_numbers_beside_dates(self):
+        """2024 beside dates is no second of 1970."""
+        for values in ((5, ONE), (ONE.replace(tzinfo=UTC), 5), (ONE.date(), 2024)):
+            edges = [('a', 'b', values[0]), ('b', 'c', values[1])]
+            self.assertIn('edge 1: some times are numbers', self.said(self.s.from_edgelist, edges,
+                                                                      unit='s'))
+        self.assertIn('line 3: some times are numbers', self.said(
+            self.read, 'from,to,t\na,b,2024-05-31\nb,c,2024\n', unit='D'))
 
     def test_without_a_unit(self):
         """The error says what takes times."""
