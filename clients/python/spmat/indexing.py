@@ -143,11 +143,11 @@ def _of_slice(matrix: 'Matrix', index: slice, axis: int) -> Chosen:
     number = next((end for end in (start, stop) if hasattr(end, '__index__')
                    and not isinstance(end, TRUTHS)), None)
     if number is not None and names is not None and names.numbered and not names.are_counted:
-        raise ValueError(
-            '%ss have numbers for names, so that %d in a slice could be a name or a position: '
-            'write a list or a range of names, such as range(%s, %s)'
-            % (WHAT[axis], number, start if start is not None else names[0],
-               stop if stop is not None else '..'))
+        write = ('slice of names, such as %r:%r' % (names[0], names[-1])
+                 if isinstance(names[0], str) else 'range of names, such as range(%s, %s)' % (
+                     start if start is not None else names[0], '..' if stop is None else stop))
+        raise ValueError('%ss have numbers for names, so that %d in a slice could be a name or a '
+                         'position: write a list or a %s' % (WHAT[axis], number, write))
     for end in (start, stop):
         if isinstance(end, (*TRUTHS, float)):
             _refuse_kind(end, axis, float if isinstance(end, float) else bool)

@@ -31,7 +31,7 @@ from .mask import Mask, as_mask, structure
 from .matrix_base import MatrixBase
 from .metadata import (BY_POSITIONS, COLUMNS, ELEMENTWISE, NOTHING, ROWS, TRUTHS, Axis, Metadata,
                        Nodes, Unnamed, VertexUnit, abbreviate_names, along, check_one_kind,
-                       even, given_axis, hint_of, joined, list_of_names, of_copy, place_of,
+                       even, given_axis, hint_of, is_line, joined, list_of_names, of_copy, place_of,
                        suggest_names, vertices_of)
 from .operands import alias, common_session, not_a_matrix
 from .operators import Op, Operator, Semiring, binary, indexunary, unary
@@ -398,8 +398,7 @@ class Matrix(Signs, metaclass=MatrixType):
         >>> G.nodes
         ['Ann', 'Bob', 'Cid']
         """
-        if 1 in self.shape and (self.shape != (1, 1)
-                                or None in (self.notes.rows, self.notes.columns)):
+        if is_line(self.shape, self.notes):
             return self.notes.names(along(self.shape, self.notes))
         axis = vertices_of(self.notes)
         return None if axis is None else axis.names
@@ -583,7 +582,7 @@ class Matrix(Signs, metaclass=MatrixType):
         """The row of a vertex, or with `axis=1` the column.
 
         It is the place of its name where rows have names, else the number itself. Where no name is
-        a number, numbers are places as well.
+        a number, nor text of one such as "7", numbers are places as well.
 
         Parameters
         ----------
@@ -1242,7 +1241,7 @@ class Matrix(Signs, metaclass=MatrixType):
         part = matrix
         for axis in BOTH:
             places = chosen[axis].places
-            part = part if places is None else take(part, axis, places)
+            part = part if places is None else take(part, axis, places, one=chosen[axis].one)
         if chosen[ROWS].places is not None and chosen[ROWS].places == chosen[COLUMNS].places:
             part.notes = part.notes._replace(directed=even(matrix.notes))
         return part

@@ -39,8 +39,8 @@ class Nodes(Sequence[Any]):
     It is a sequence that equals a list, or a tuple, of the same names, as networkx' views and
     pandas' indexes are of theirs."""
 
-    def __init__(self, names: Iterable[Any], is_cut: bool = False) -> None:
-        # whether it is the one row, or column, that was cut from a graph
+    def __init__(self, names: Iterable[Any], is_cut: int = False) -> None:
+        # whether it is the one row, or column, that was cut from a graph: 1 by a list, 2 by itself
         self.is_cut = is_cut
         self._names: List[Any] = names._names if isinstance(names, Nodes) else list(names)
         # one object for all lists that were found equal to this one
@@ -95,8 +95,10 @@ class Nodes(Sequence[Any]):
 
     @functools.cached_property
     def numbered(self) -> bool:
-        """Whether some name is a number, so that a number isn't taken for an index."""
-        return any(isinstance(name, numbers.Number) for name in self)
+        """Whether some name is a number, or text of one, so that a number isn't taken for an
+        index."""
+        return any(isinstance(name, numbers.Number) or isinstance(name, str) and name.isdecimal()
+                   for name in self)
 
     @functools.cached_property
     def are_counted(self) -> bool:
@@ -233,19 +235,25 @@ class Axis(NamedTuple):
         kind = self.kind or other.kind
         return found if found.kind == kind else found._replace(kind=kind)
 
-    def part(self, places: Sequence[int]) -> 'Axis':
-        """What some of the rows, or columns, are called, in this order: nothing where one stands
-        there twice."""
+    @property
+    def cut(self) -> int:
+        """How the one row or column was cut from a graph, as `Nodes` has it; 0 of any others."""
+        return 0 if self.names is None else self.names.is_cut
+
+    def part(self, places: Sequence[int], one: bool = False) -> 'Axis':
+        """What some of the rows, or columns, are called, in this order, or the `one` that is asked
+        for by itself: nothing where one stands there twice."""
         if not self.has_names:
             return self.alone()
         if len(set(places)) < len(places):
             return Axis(None, Unnamed.POSITIONS)
+        if len(places) == 1:
+            return self._replace(names=Nodes([self.listed(places[0] + 1)[places[0]]], 1 + one),
+                                 unnamed=Unnamed.ANYTHING)
         if self.names is None:
-            found = Axis(Nodes(places, True)) if len(places) == 1 else axis_of(Nodes(places))
-            return found._replace(kind=self.kind)
+            return axis_of(Nodes(places))._replace(kind=self.kind)
         is_all = len(places) == len(self.names) and list(places) == list(range(len(places)))
-        return self if is_all else self._replace(names=Nodes(
-            (self.names[place] for place in places), len(places) == 1))
+        return self if is_all else self._replace(names=Nodes(self.names[at] for at in places))
 
     def listed(self, count: int) -> Sequence[Any]:
         """The names of so many rows, or columns: a list, or where they have none the numbers."""
@@ -508,10 +516,21 @@ def _are_cut(a: Axis, b: Axis) -> bool:
 
 def along(shape: Tuple[int, int], notes: Metadata) -> int:
     """Whether a vector is seen along its rows (0) or its columns (1): of a single entry along those
-    that have names."""
+    that have names, and where both have not along the row or the column that was cut."""
     if shape != (1, 1):
         return ROWS if shape[1] == 1 else COLUMNS
-    return COLUMNS if notes.rows is None and notes.columns is not None else ROWS
+    rows, columns = notes.axis(ROWS), notes.axis(COLUMNS)
+    if rows.has_names and columns.has_names:
+        return COLUMNS if rows.cut > columns.cut else ROWS
+    return COLUMNS if rows.names is None and columns.names is not None else ROWS
+
+
+def is_line(shape: Tuple[int, int], notes: Metadata) -> bool:
+    """Whether a matrix of one row, or one column, is seen as a vector: of a single entry where
+    that has just one name, or its row and its column were not cut alike."""
+    rows, columns = notes.axis(ROWS), notes.axis(COLUMNS)
+    return 1 in shape and (shape != (1, 1) or rows.cut != columns.cut
+                           or (rows.names is None) != (columns.names is None))
 
 
 def _is_vertex(notes: Metadata) -> bool:
@@ -559,6 +578,10 @@ def vertices_of(graph: Metadata) -> Optional[Axis]:
 
 def suggest_names(node: Any, names: Sequence[Any]) -> str:
     """The names that a wrong one may have meant, in words; nothing where none is like it."""
+    other = (int(node) if isinstance(node, str) and node.isdecimal()
+             else None if isinstance(node, str) else str(node))
+    if other is not None and other in names:
+        return 'did you mean %r? %r and %r are two names' % (other, node, other)
     folded = ({name.casefold(): name for name in names if isinstance(name, str)}
               if isinstance(node, str) else {})
     found = ([folded[word] for word in difflib.get_close_matches(node.casefold(), folded, FEW_NEAR,

@@ -54,12 +54,12 @@ def _put_ones(matrix: 'Matrix', rows: Sequence[int], columns: Sequence[int], sha
     return made
 
 
-def take(matrix: 'Matrix', axis: int, places: Sequence[int],
-         name: Optional[str] = None) -> 'Matrix':
-    """Some rows, or columns, in this order: 1 job. They have their names, or none where one is
-    taken twice."""
+def take(matrix: 'Matrix', axis: int, places: Sequence[int], name: Optional[str] = None,
+         one: bool = False) -> 'Matrix':
+    """Some rows, or columns, in this order, or the `one` that is asked for by itself: 1 job. They
+    have their names, or none where one is taken twice."""
     return move(matrix, axis, places, range(len(places)), len(places),
-                matrix.notes.axis(axis).part(places), name=name)
+                matrix.notes.axis(axis).part(places, one), name=name)
 
 
 def value_at(matrix: 'Matrix', row: int, column: int) -> Any:

@@ -234,6 +234,26 @@ class OneRow(support.InSession):
         with self.assertRaises(spmat.NamesDiffer):
             G['Ann', :].ewise_add(row)
 
+    def test_single_entries_are_seen_as_longer_vectors_are(self):
+        """A row of one column is a row, whatever else it is cut to."""
+        s, tea = self.session, self.tea
+        G = s.from_edgelist([('a', 'b', 1), ('b', 'c', 2), ('a', 'c', 7)])
+        N = s.from_edgelist([(0, 1, 1), (1, 2, 2), (0, 2, 7)])
+        for part, wanted in ((tea['Bob', :], {'tea': 2}), (tea[['Bob'], :], {'tea': 2}),
+                             (tea['Bob', ['tea']], {'tea': 2}), (tea[['Bob'], 'tea'], {'Bob': 2}),
+                             (tea.T['tea', ['Bob']], {'Bob': 2}), (tea.T[:, 'Bob'], {'tea': 2}),
+                             (G['a', ['c']], {'c': 7}), (G[['a'], 'c'], {'a': 7}),
+                             (G['a', :][:, ['c']], {'c': 7}), (G[:, 'c'][['a'], :], {'a': 7}),
+                             (spmat.Vector(G['a', :])[['c']], {'c': 7}),
+                             (spmat.Vector(G[:, 'c'])[['a']], {'a': 7}),
+                             (N[0, [2]], {2: 7}), (N[[0], 2], {0: 7}), (N[:, 2][[0], :], {0: 7})):
+            (name, value), = wanted.items()
+            self.assertEqual((part.by_node(), part.nodes, part.get(name)),
+                             (wanted, [name], value))
+            self.assertEqual((part.top(1), part.to_pandas().to_dict()), ([(name, value)], wanted))
+        self.assertEqual(tea[:, 'tea'].ewise_add(self.jam[:, 'jam']).by_node(),
+                         {'Ann': 11, 'Bob': 22})
+
     def test_one_column_folded(self):
         r = self.tea.reduce_columnwise('plus')
         self.assertEqual((r.by_node(), r.top(1), r.to_pandas().to_dict(), r.nodes),
@@ -305,6 +325,26 @@ class Kinds(support.InSession):
             self.assertEqual({type(name) for name in G.nodes}, {int})
         self.assertIsNone(self.session.from_edgelist(zip(numpy.array([2, 0]), numpy.array([0, 1]))
                                                      ).nodes)
+
+    def test_numbers_that_are_text(self):
+        """1 is not the second of '1', '2', '3': it is no name."""
+        G = self.session.from_edgelist([('1', '2', 5), ('2', '3', 7)])
+        seen = spmat.events(self.session, [('1', '2', 3)])
+        for call in (lambda: G.index(1), lambda: G[1, '2'], lambda: G.get(1, '2'),
+                     lambda: G[[1, 2], :], lambda: al.bfs_levels(G, 1), lambda: G.assign(9, 1, 2),
+                     lambda: al.pagerank(G, personalization={1: 1}),
+                     lambda: al.bfs_parents(G, '1').select('==', 1),
+                     lambda: seen.earliest_arrival(1)):
+            self.assertIn("did you mean '1'? 1 and '1' are two names",
+                          support.said(ValueError, call))
+        self.assertIn("slice of names, such as '1':'3'", support.said(ValueError, lambda: G[0:2, :]))
+        self.assertIn("no vertex 0: they are '1', '2', '3'",
+                      support.said(ValueError, lambda: G[0, :]))
+        self.assertEqual(G['1':'2', :].to_edgelist(), [('1', '2', 5), ('2', '3', 7)])
+        H = self.session.from_edgelist([(1, 2, 5)])
+        self.assertIn("did you mean 1? '1' and 1 are two names",
+                      support.said(ValueError, lambda: H['1', 2]))
+        self.assertEqual(self.session.from_edgelist([('a', 'b', 5)])[0, 1], 5)
 
     def test_tables_whose_columns_say_another_order(self):
         frame = pandas.DataFrame({'weight': [7], 'source': [1], 'target': [2]})

@@ -32,7 +32,8 @@ def order(graph: Matrix, transpose: Optional[Matrix] = None) -> int:
         raise TypeError('a graph is a matrix of a session, as read_graph, from_edgelist or '
                         'from_networkx makes it, not %s' % type(graph).__name__)
     if graph.nrows != graph.ncols:
-        raise ValueError('a graph is a square matrix; this one has %d rows and %d columns'
+        raise ValueError('a graph is a square matrix; this one has %d rows and %d columns: of two '
+                         'kinds of vertices spmat.bipartite(B) is the graph'
                          % (graph.nrows, graph.ncols))
     metadata.check_one_kind(graph.notes)
     if transpose is not None and transpose is not graph:

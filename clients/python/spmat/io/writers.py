@@ -17,7 +17,7 @@ from typing import (IO, TYPE_CHECKING, Any, Callable, Dict, Iterable, Iterator, 
 import numpy
 
 from ..extras import import_extra
-from ..metadata import along, vertices_of
+from ..metadata import along, is_line, vertices_of
 from ..scale import is_whole, to_decimal, to_decimals, to_text
 from . import files
 from .coo import real
@@ -34,11 +34,8 @@ SAMPLE = 200
 
 
 def is_vector(matrix: Matrix) -> bool:
-    """Whether this is a column or a row, and not a graph: one that was read, or of one row and
-    one column both of which have a name, or none."""
-    named = matrix.notes.rows is not None, matrix.notes.columns is not None
-    return (1 in (matrix.nrows, matrix.ncols) and matrix.notes.directed is None
-            and (matrix.nrows != matrix.ncols or named[0] != named[1]))
+    """Whether this is a column or a row, and not a graph that was read, or of one vertex."""
+    return matrix.notes.directed is None and is_line(matrix.shape, matrix.notes)
 
 
 def columns_of(matrix: Matrix, scale: Optional[float], raw: bool,
