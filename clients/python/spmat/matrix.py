@@ -3233,7 +3233,8 @@ class Matrix(Signs, metaclass=MatrixType):
         Returns
         -------
         pandas.Series
-            As pandas has it, of what the stored numbers stand for.
+            As pandas has it, of what the stored numbers stand for. Of vertices, which have no mean,
+            it says how many differ, and which stands most often.
 
         See Also
         --------
@@ -3254,7 +3255,9 @@ class Matrix(Signs, metaclass=MatrixType):
         6.0
         """
         pandas = import_extra('pandas', 'describe')
-        return pandas.Series(self._show_values(self.entries()[2], False)).describe()
+        values = self._show_values(self.entries()[2], False)
+        return (pandas.Series(values) if self.notes.value_names is None
+                else pandas.Series(values, dtype=object)).describe()
 
     def to_pandas_edgelist(self, source: str = 'source', target: str = 'target',
                            edge_attr: Optional[str] = 'weight', *, scale: Optional[float] = None,

@@ -134,11 +134,11 @@ def concat(tiles: Sequence[Sequence[Any]], *, name: Optional[str] = None) -> 'Ma
             % ' and '.join(sorted({str(len(row)) for row in tiles})))
     heights = [_find_common_size(row, 0, at) for at, row in enumerate(tiles)]
     widths = [_find_common_size(column, 1, at) for at, column in enumerate(zip(*tiles))]
-    axes = [_join_axes(bands, sizes, axis)
-            for axis, (bands, sizes) in enumerate(((tiles, heights), (list(zip(*tiles)), widths)))]
     # what joins them below is no operator of the caller's, so it isn't to be told of
     functools.reduce(functools.partial(scales.common, 'concat'),
                      [tile.unit for tile in itertools.chain(*tiles) if tile is not None])
+    axes = [_join_axes(bands, sizes, axis)
+            for axis, (bands, sizes) in enumerate(((tiles, heights), (list(zip(*tiles)), widths)))]
     placed = [_place_tile(tile, (sum(heights[:i]), sum(widths[:j])), (sum(heights), sum(widths)))
               for i, row in enumerate(tiles) for j, tile in enumerate(row) if tile is not None]
     made = placed[0]

@@ -86,6 +86,7 @@ class VertexValues(support.InSession):
         self.assertEqual(c.reduce_scalar('min'), 1)
         self.assertEqual(c.top(1), [(3, 3)])
         self.assertEqual(p.to_pandas().to_dict(), {1: 1, 2: 1, 3: 2, 4: 3})
+        self.assertEqual(p.describe().to_dict(), {'count': 4, 'unique': 3, 'top': 1, 'freq': 2})
         self.assertEqual(dict(p.by_node()), {1: 1, 2: 1, 3: 2, 4: 3})
 
     def test_names_beside_them(self):
@@ -458,6 +459,8 @@ class Refusals(support.InSession):
                 words = support.said((spmat.UnitsDiffer, spmat.NamesDiffer), call)
             self.assertIn(name, words)
             self.assertNotIn('first', words)
+        with self.assertRaisesRegex(ValueError, r'spmat\.bipartite\(B\) is the graph'):
+            al.pagerank(s.from_edgelist([('Ann', 'tea'), ('Bob', 'tea')], bipartite=True))
         three = s.full(3, 3)
         self.assertIn('2x2 places are set', support.said(ValueError, cents.assign, three))
         self.assertIn('in `update`', support.said(spmat.SpmatError, cents.update, three))
