@@ -48,8 +48,7 @@ class Transaction:
 
     def row(self, sql: str, *values: Any) -> Optional[Row]:
         """The first row that a statement finds."""
-        found = self.rows(sql, *values)
-        return found[0] if found else None
+        return next(iter(self.rows(sql, *values)), None)
 
 
 class Database:
@@ -158,7 +157,7 @@ class Database:
         if self.is_shared:
             return _make_bounded(self._module).connect(
                 self._url, autocommit=True, connect_timeout=int(SECONDS_TO_WAIT),
-                keepalives_idle=10, prepare_threshold=None)
+                keepalives_idle=10, prepare_threshold=None, client_encoding='UTF8')
         connection = sqlite3.connect(self._url, SECONDS_TO_WAIT, isolation_level=None,
                                      check_same_thread=False)
         connection.execute('PRAGMA journal_mode = WAL')

@@ -63,10 +63,13 @@ class Journal:
         os.rename(path, self._path)
 
     def open(self, session: str) -> None:
-        """Makes room for a session, before it reserves."""
+        """Makes room for a session, before it reserves. OSError where the disk has none."""
         with self._lock:
-            self._slots[session] = self._free.pop() if self._free else len(self._slots) + 1
-        self.note(Entry(session, 0, 0, 0, 0))
+            slot = self._free[-1] if self._free else len(self._slots) + 1
+            os.pwrite(self._file, RECORD.pack(bytes.fromhex(session), 0, 0, 0, 0),
+                      RECORD.size * slot)
+            self._slots[session] = slot
+            del self._free[-1:]
 
     def note(self, entry: Entry) -> None:
         """Notes what a session has spent so far."""

@@ -6,8 +6,9 @@ The counter follows the lines of docs/protocol.md. The bytes of a `show`, and th
 """
 from __future__ import annotations
 
+from .config import MOST_STEPS
+
 LONGEST_LINE = 1 << 16
-RUNS_REFUSED = {b'memory', b'thread'}              # followed by the steps that the run has spent
 
 
 class ReplyCounter:
@@ -51,7 +52,7 @@ class ReplyCounter:
             return
         words = line.split()
         if words[0] == b'no':
-            if words[1] in RUNS_REFUSED and len(words) == 3:
+            if words[1] in (b'memory', b'thread') and len(words) == 3:  # of a run
                 self._take_run(int(words[2]))
         elif words[0] != b'ok':
             raise ValueError
@@ -60,9 +61,9 @@ class ReplyCounter:
         elif words[1] in (b'run', b'dis', b'types'):
             self._lines_to_skip = int(words[2])
             if words[1] == b'run':                 # each of its lines is a job
-                self.job_count += self._lines_to_skip
+                self.job_count = min(self.job_count + self._lines_to_skip, MOST_STEPS)
                 self._take_run(int(words[3]))
 
     def _take_run(self, spent: int) -> None:
         self.runs += 1
-        self.spent += spent
+        self.spent = min(self.spent + spent, MOST_STEPS)

@@ -197,10 +197,12 @@ class Session:
     def _reserve(self) -> None:
         """Reserves steps. Where the ledger doesn't answer, whether it did is unknown, and is
         settled once it does."""
-        self._sessions.journal.open(self.id)
         try:
+            self._sessions.journal.open(self.id)
             self._reservation = self._ask(lambda: self._sessions.ledger.reserve(
                 self.id, self.user, self._config.limits, self.address))
+        except OSError as fault:                   # of the journal: the disk is full
+            raise Refused('no ledger', str(fault)) from None
         except Refused as refused:
             if refused.reply == 'no ledger':
                 self._settle(Outcome(0, 'exact', 'ledger'))
@@ -233,13 +235,14 @@ class Session:
             return ''
         except ClientGone:
             return 'client-gone'
-        except OSError as fault:                   # the journal can't be written, as on a full disk
-            log.error('session=%s: its steps can\'t be noted: %s', self.id, fault)
-            return 'ledger'
         except NoAccount as fault:
             log.error('session=%s: the engine\'s command starts another program, or has no --log: '
                       '%s', self.id, fault)
             return 'engine'
+        except Exception as fault:                 # pylint: disable=broad-exception-caught
+            # mostly of the journal, on a full disk; whatever it is, the session is settled
+            log.error('session=%s: its steps can\'t be noted: %r', self.id, fault)
+            return 'ledger'
 
     def _charge(self) -> None:
         """Notes what the session has spent so far."""
@@ -269,8 +272,8 @@ class Session:
                 self._pipe.finish(SECONDS_AFTER_CLIENT)
             status = self.engine.end(SECONDS_TO_ANSWER if self._pipe.ended else 0.0)
             self._pipe.finish(SECONDS_AFTER_CLIENT)
-        except OSError as fault:                   # of the journal
-            log.error('session=%s: its steps can\'t be noted: %s', self.id, fault)
+        except Exception as fault:                 # pylint: disable=broad-exception-caught
+            log.error('session=%s: its steps can\'t be noted: %r', self.id, fault)
             status = self.engine.end()
         finally:
             self._pipe.close()

@@ -51,10 +51,9 @@ def end_of(tls: Tls) -> float:
         return 0.0
     with open(tls.certificate, encoding='ascii', errors='replace') as file:
         found = TIME.findall(_first_of(file.read()))
-    year, rest = found[1][:-10].decode(), found[1][-10:].decode()  # of its begin and its end
-    if len(year) == 2:
-        year = ('19' if year >= '50' else '20') + year
-    return float(calendar.timegm(time.strptime(year + rest, '%Y%m%d%H%M%S')))
+    end = found[1].decode()                        # the first is its begin
+    form = '%y%m%d%H%M%S' if len(end) == 12 else '%Y%m%d%H%M%S'
+    return float(calendar.timegm(time.strptime(end, form)))
 
 
 def fingerprint_of(certificate: bytes) -> str:

@@ -61,10 +61,7 @@ def is_right(stored: Optional[str], token: str) -> bool:
 
 def parse_login(line: bytes) -> Optional[Login]:
     """The line `login USER TOKEN`, None for any other."""
-    try:
-        words = line.decode('ascii').split()
-    except UnicodeDecodeError:
-        return None
+    words = line.decode('ascii', 'replace').split()
     if len(words) != 3 or words[0] != 'login' or not is_name(words[1]):
         return None
     return Login(words[1], words[2])

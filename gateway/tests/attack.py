@@ -1,20 +1,26 @@
 """Strangers for a long time: eight good and four hostile clients over TLS, while engines, gateways
-and the database are killed and held. At two gateways that share PostgreSQL, and at one on SQLite.
+and the database are killed and held, disks are full and clocks jump. At two gateways that share
+PostgreSQL, and at one on SQLite.
 
-`tests/gateway --attack MINUTES` runs it.
+`tests/gateway --attack MINUTES` runs it, and `tests/packages --attack MINUTES` in a booted root.
 """
+import collections
 import contextlib
 import os
 import signal
 import threading
 import unittest
 
-from . import strangers
-from .support import Certificates, Gateway, Postgres, folder, needs_postgres, until
+from . import booted, strangers
+from .support import Certificates, Gateway, Postgres, folder, make_clock, needs_postgres, until
 
 SECONDS = float(os.environ.get('SPMAT_ATTACK_SECONDS', '60'))
 SEED = int(os.environ.get('SPMAT_ATTACK_SEED', '3'))
 GOOD, HOSTILE = 8, 4
+UNITS = bool(os.environ.get('SPMAT_ATTACK_UNITS'))  # the package's, in a booted root
+KIND = booted.Unit if UNITS else Gateway
+CLOCK = '/usr/local/lib/spmat-clock.so'            # made of clock.c by tests/packages
+NAMES = ('spmat-gateway', 'spmat-gateway-two')
 
 
 class Watch(threading.Thread):
@@ -43,33 +49,58 @@ class Watch(threading.Thread):
         return found
 
 
+def state_of(where, name):
+    """The folder of a gateway's ledger and journal."""
+    return os.path.join('/var/lib' if UNITS else where, name)
+
+
 class Attack(unittest.TestCase):
-    def keys(self, pem, **more):
-        return {'limits_session_steps': strangers.STEPS, 'limits_sessions': 20,
-                'limits_seconds': 20, 'limits_idle': 5, 'limits_sessions_an_hour': 1_000_000,
-                'gateway_lease_seconds': 30, 'gateway_per_address': 200, 'tls_certificate': pem,
-                'gateway_login_seconds': 15, **more}  # more than it is held
+    @contextlib.contextmanager
+    def scene(self, *names):
+        """A folder, and the disks of it and of gateways of these names. By root they are small."""
+        with folder() as where, contextlib.ExitStack() as stack:
+            paths = [where, *(state_of(where, name) for name in names)]
+            disks = [booted.Disk(path, 512 if path == where else 64)
+                     for path in paths if os.geteuid() == 0]
+            for disk in disks:
+                stack.callback(disk.close)
+            yield where, disks
+
+    def gateways(self, where, names, **keys):
+        """Gateways, and the file of the first one's clock."""
+        pem, self.authority = Certificates(where).make('localhost')
+        found = [KIND(where, name, **{
+            'limits_session_steps': strangers.STEPS, 'limits_sessions': 20, 'limits_seconds': 20,
+            'limits_idle': 5, 'limits_sessions_an_hour': 1_000_000, 'gateway_lease_seconds': 30,
+            'gateway_per_address': 200, 'gateway_login_seconds': 15,  # more than it is held
+            'tls_certificate': pem, **keys}) for name in names]
+        clock, library = ('/run/clock', CLOCK) if UNITS else (where + '/clock', where + '/clock.so')
+        if not (os.path.exists(library) if UNITS else make_clock(library)):
+            return found, ''
+        with open(clock, 'w', encoding='ascii') as file:
+            file.write('0')
+        found[0].set_clock_by(clock, library)
+        return found, clock
 
     @needs_postgres
     def test_two_gateways_on_postgresql(self):
-        with folder() as where:
-            pem, authority = Certificates(where).make('localhost')
+        with self.scene(*NAMES) as (where, disks):
             postgres = Postgres(where)
-            keys = self.keys(pem, gateway_ledger=postgres.url)
             try:
-                with Gateway(where, 'one', **keys) as one, Gateway(where, 'two', **keys) as two:
-                    self.attack([one, two], postgres, authority)
+                (one, two), clock = self.gateways(where, NAMES, gateway_ledger=postgres.url)
+                with one, two:
+                    self.attack([one, two], postgres, disks, clock)
             finally:
                 postgres.signal(signal.SIGCONT)
                 postgres.stop()
 
     def test_one_gateway_on_sqlite(self):
-        with folder() as where:
-            pem, authority = Certificates(where).make('localhost')
-            with Gateway(where, **self.keys(pem)) as gateway:
-                self.attack([gateway], None, authority)
+        with self.scene(NAMES[0]) as (where, disks):
+            (one,), clock = self.gateways(where, NAMES[:1])
+            with one:
+                self.attack([one], None, disks[1:], clock)
 
-    def attack(self, gateways, postgres, authority):
+    def attack(self, gateways, postgres, disks, clock):
         report, stop, scripts = strangers.Report(), threading.Event(), strangers.make_scripts(
             40, SEED)
         ports, one = [gateway.port for gateway in gateways], gateways[0]
@@ -77,9 +108,9 @@ class Attack(unittest.TestCase):
                  for number in range(GOOD)]
         kinds += [(strangers.Hostile, one.add('bad%d' % number), (report,))
                   for number in range(HOSTILE)]
-        threads = [kind(ports, login, *more, stop, SEED + number, authority)
+        threads = [kind(ports, login, *more, stop, SEED + number, self.authority)
                    for number, (kind, login, more) in enumerate(kinds)]
-        killer = strangers.Killer(gateways, postgres, stop, SEED, 8.0, hangs=True)
+        killer = strangers.Killer(gateways, postgres, stop, SEED, 8.0, True, disks, clock)
         watch = Watch(gateways, stop)
         for thread in [*threads, killer, watch]:
             thread.start()
@@ -92,17 +123,20 @@ class Attack(unittest.TestCase):
         until('all is settled', lambda: all(row['state'] != 'open' for row in one.sessions()))
         rows = one.sessions()
         faults = strangers.compare(report, rows)
-        charged = sum(row['charged'] for row in rows)
-        spent = sum(user['spent'] for user in one.table('users'))
+        spent = {user['name']: user['spent'] for user in one.table('users')}
+        charged = collections.Counter()
+        for row in rows:
+            charged[row['account']] += row['charged']
+        off = [name for name in spent if spent[name] != charged[name]]
         print('attack: %d s, %d sessions in the ledger, %d good ones read whole (%d bytes '
               'compared), %d cut, %d told, %d turned away, %d hostile acts, killed and held %s, '
-              'charged %d steps, accounts %d, faults %d; of good tries served, by minutes: %s; MB, '
-              'descriptors, threads: %s before, %s at most, %s after' % (
+              'charged %d steps, accounts off %d, faults %d; of good tries served, by minutes: %s; '
+              'MB, descriptors, threads: %s before, %s at most, %s after' % (
                   SECONDS, len(rows), report.whole, report.bytes, report.cut, report.told,
-                  report.refused, report.hostile, killer.killed, charged, spent, len(faults),
-                  ' '.join(report.shares()), watch.first, watch.most, watch.look()))
+                  report.refused, report.hostile, killer.killed, sum(charged.values()), len(off),
+                  len(faults), ' '.join(report.shares()), watch.first, watch.most, watch.look()))
         self.assertEqual([words[-2_000:] for words in killer.faults + faults], [])
-        self.assertEqual(charged, spent)
+        self.assertEqual(off, [])
         self.assertIn('all sums', one.command('ledger', '--check'))
         for gateway in gateways:
             self.assertEqual(gateway.measure('sessions_unsettled'), 0)

@@ -142,7 +142,8 @@ class Hostile(threading.Thread):
         self._draw, self._authority = random.Random(seed), authority
         self._kinds = [self.garbage, self.wrong_token, self.silence, self.never_reads,
                        self.reset_amid_a_batch, self.takes_memory, self.many_connections,
-                       self.long_login, self.half_tls, self.drips, self.odd_bodies]
+                       self.long_login, self.half_tls, self.drips, self.odd_bodies, self.crowd,
+                       self.logins]
 
     def run(self):
         while not self._stop_at.is_set():
@@ -196,6 +197,22 @@ class Hostile(threading.Thread):
             socket.create_connection(('127.0.0.1', self._draw.choice(self._gateways)),
                                      timeout=3).close()
 
+    def crowd(self):
+        """Many that say nothing, by an address of another network."""
+        network = self._draw.randrange(1, 250)
+        with contextlib.ExitStack() as stack:
+            for host in range(1, 60):
+                one = stack.enter_context(socket.socket())
+                one.settimeout(3)
+                one.bind(('127.0.%d.%d' % (network, 1 + host % 8), 0))
+                one.connect(('127.0.0.1', self._draw.choice(self._gateways)))
+            self._stop_at.wait(2)
+
+    def logins(self):
+        """Wrong tokens, one after another."""
+        for _ in range(20):
+            self.wrong_token()
+
     def long_login(self):
         with self._open() as client:
             client.send(b'login ' + b'a' * 100_000 + b'\n')
@@ -224,15 +241,18 @@ class Hostile(threading.Thread):
 
 class Killer(threading.Thread):
     """Kills an engine, a gateway or the database at random moments, and starts again what isn't
-    started by itself. With `hangs` it holds a gateway or the database for some seconds, too."""
+    started by itself. With `hangs` it holds a gateway or the database for some seconds, too; with
+    `disks` it fills one of them, and with `clock`, a file, sets a gateway's clock by days."""
 
-    def __init__(self, gateways, postgres, stop, seed, pause, hangs=False):
+    def __init__(self, gateways, postgres, stop, seed, pause, hangs=False, disks=(), clock=''):
         super().__init__(daemon=True)
         self._gateways, self._postgres, self._stop_at = gateways, postgres, stop
         self._draw, self._pause = random.Random(seed), pause
+        self._disks, self._clock = disks, clock
         self._kinds = ['engine', 'engine', 'gateway'] + (['database'] if postgres else [])
         if hangs:
             self._kinds += ['held gateway'] + (['held database'] if postgres else [])
+        self._kinds += (['full disk'] if disks else []) + (['clock'] if clock else [])
         self.killed = dict.fromkeys(self._kinds, 0)
         self.faults = []
 
@@ -265,6 +285,14 @@ class Killer(threading.Thread):
             self._postgres.signal(signal.SIGSTOP)
             time.sleep(12 * self._draw.random())
             self._postgres.signal(signal.SIGCONT)
+        elif kind == 'full disk':
+            with self._draw.choice(self._disks).full():
+                time.sleep(6 * self._draw.random())
+            if self._postgres:                     # which ends where it can't write its log
+                self._postgres.start_if_down()
+        elif kind == 'clock':
+            with open(self._clock, 'w', encoding='ascii') as file:
+                file.write('%d' % (3600 * self._draw.randrange(-72, 73)))
         else:
             self._postgres.kill()
             time.sleep(self._draw.random())

@@ -26,7 +26,12 @@ PATIENCE = 60.0
 WANTS = (ssl.SSLWantReadError, ssl.SSLWantWriteError, BlockingIOError)
 sys.path.insert(0, FOLDER)
 
-from spmat_gateway import cli                      # pylint: disable=wrong-import-position
+from spmat_gateway import cli, config              # pylint: disable=wrong-import-position
+from spmat_gateway.database import Database        # pylint: disable=wrong-import-position
+from spmat_gateway.journal import Journal          # pylint: disable=wrong-import-position
+from spmat_gateway.ledger import Ledger            # pylint: disable=wrong-import-position
+from spmat_gateway.metrics import Metrics          # pylint: disable=wrong-import-position
+from spmat_gateway.sessions import Sessions        # pylint: disable=wrong-import-position
 
 LINES = ('matrix A 62\n%%MatrixMarket matrix coordinate integer general\n1 1 1\n1 1 41\n'
          'asm inc unary 30\nmov64 r0, r1\nadd64 r0, 1\nexit\n').encode()
@@ -105,6 +110,16 @@ def direct(commands, steps=10 ** 12):
     """The replies of the program itself, without a gateway."""
     return subprocess.run([PROGRAM, 'run', '--steps', str(steps), '--workers', '1'], input=commands,
                           stdout=subprocess.PIPE, check=False, timeout=600).stdout
+
+
+def sessions_alone(where):
+    """The sessions of a gateway in this process, on a new ledger that isn't up yet."""
+    settings = config.Config(config.Gateway(state=where),
+                             engine=config.Engine(command=tuple(engine_command())))
+    ledger, journal = Ledger(Database(settings.ledger), 'a' * 32, ''), Journal(where, 'a' * 32)
+    ledger.prepare()
+    journal.begin()
+    return Sessions(settings, ledger, journal, Metrics())
 
 
 class Certificates:
@@ -227,6 +242,15 @@ class Postgres:
         self._run('pg_ctl', '-D', self.data, '-w', '-l', os.path.join(self.data, 'log'), '-o',
                   self.flags, 'start')
 
+    def start_if_down(self):
+        """Waits until it answers, and starts it where it has ended, as it does on a full disk."""
+        def answers():
+            if self._run('pg_ctl', '-D', self.data, 'status', check=False).returncode:
+                self.start()
+            return self._run('pg_isready', '-h', '127.0.0.1', '-p', str(self.port),
+                             check=False).returncode == 0
+        until('PostgreSQL answers', answers)
+
     def kill(self):
         """Kills it at once, with all that it does."""
         processes = self.signal(signal.SIGKILL)
@@ -250,9 +274,18 @@ class Postgres:
         self._run('pg_ctl', '-D', self.data, '-m', 'immediate', 'stop', check=False)
 
     def _run(self, name, *words, check=True):
-        subprocess.run([*self._as, os.path.join(postgres_programs(), name), *words],
-                       stdout=subprocess.DEVNULL, stderr=subprocess.DEVNULL, check=check, cwd='/',
-                       timeout=120)
+        return subprocess.run([*self._as, os.path.join(postgres_programs(), name), *words],
+                              stdout=subprocess.DEVNULL, stderr=subprocess.DEVNULL, check=check,
+                              cwd='/', timeout=120)
+
+
+def make_clock(path):
+    """Makes the library by which a process has the clock that a file tells; whether there is a
+    compiler."""
+    with contextlib.suppress(FileNotFoundError):
+        return subprocess.run(['cc', '-O1', '-shared', '-fPIC', '-o', path, os.path.join(
+            FOLDER, 'tests', 'clock.c')], check=False).returncode == 0
+    return False
 
 
 def toml(value):
@@ -274,6 +307,7 @@ class Gateway:
                                    'listen': '127.0.0.1:%d' % self.port, 'admin': self.admin,
                                    'page': '127.0.0.1:%d' % self.page},
                        'engine': {'command': command or engine_command()}, 'tls': {}, 'limits': {}}
+        self.variables = {'PYTHONPATH': FOLDER}
         self.set(**keys)
         self.process = None
 
@@ -288,6 +322,10 @@ class Gateway:
                                          ''.join('%s = %s\n' % (key, toml(value))
                                                  for key, value in values.items())))
 
+    def set_clock_by(self, path, library):
+        """Lets its clock go by a file from its next start on."""
+        self.variables.update(LD_PRELOAD=library, CLOCK_BY=path)
+
     def __enter__(self):
         self.start()
         return self
@@ -297,11 +335,10 @@ class Gateway:
 
     def start(self, ready=True):
         """Starts it, and waits until it serves."""
-        environment = dict(os.environ, PYTHONPATH=FOLDER)
         with open(self.log, 'ab') as log:
             self.process = subprocess.Popen([sys.executable, '-m', 'spmat_gateway', 'serve',
                                              '--config', self.file], stdout=log, stderr=log,
-                                            env=environment)
+                                            env={**os.environ, **self.variables})
         if ready:
             until('the gateway is ready: ' + self.said(), self.is_ready)
 

@@ -1,6 +1,7 @@
 """Nobody keeps the others out: neither a user who wants all seats, nor who connects without a login,
 nor who reaches the page."""
 import contextlib
+import gc
 import os
 import socket
 import ssl
@@ -8,12 +9,15 @@ import struct
 import threading
 import time
 import unittest
+import weakref
+from unittest import mock
 
 from spmat_gateway import gate
 from spmat_gateway.gate import Gate
+from spmat_gateway.pipe import Pipe
 from spmat_gateway.tables import short
 
-from .support import Certificates, Gateway, folder, until
+from .support import Certificates, Client, Gateway, folder, sessions_alone, until
 from .test_sessions import WithGateway
 
 
@@ -45,6 +49,19 @@ class Seats(WithGateway):
         self.assertEqual(served(self.gateway, self.anna), 10)
         for client in held + refused:
             client.close()
+
+    def test_a_quota_is_looked_at_before_a_seat(self):
+        """Who has nothing left reads so, also where all seats are taken."""
+        lea, max_, nora = (self.gateway.add(name) for name in ('lea', 'max', 'nora'))
+        self.gateway.command('quota', 'nora', '--steps-in-all', '0')
+        held = [self.gateway.client(login) for login in (lea, lea, max_, self.anna)]
+        for client in held:
+            self.assertTrue(client.ask('budget').startswith('ok budget'))
+        with self.gateway.client(nora) as client:
+            self.assertEqual(client.rest(), b'no quota steps-in-all\n')
+        for client in held:
+            client.close()
+        until('the seats are free', lambda: not self.gateway.table('sessions'))
 
     def test_a_seat_is_kept_for_who_has_none(self):
         logins = [self.gateway.add(name) for name in ('boris', 'carla', 'dora')]
@@ -110,10 +127,10 @@ class BeforeTheLogin(unittest.TestCase):
     def test_one_time_for_all_before_the_login(self):
         with folder() as where:
             pem, authority = Certificates(where).make('localhost')
-            with Gateway(where, tls_certificate=pem, gateway_login_seconds=3) as gateway:
+            with Gateway(where, tls_certificate=pem, gateway_login_seconds=4) as gateway:
                 began = time.monotonic()
                 plain = socket.create_connection(('127.0.0.1', gateway.port))
-                time.sleep(2.5)
+                time.sleep(3.5)
                 client = ssl.create_default_context(cafile=authority).wrap_socket(
                     plain, server_hostname='localhost')
                 with contextlib.suppress(OSError):
@@ -122,7 +139,7 @@ class BeforeTheLogin(unittest.TestCase):
                         time.sleep(0.3)
                 until('the place is free', lambda: 'connections_waiting 0.0'
                       in gateway.get('/metrics')[1])
-                self.assertLess(time.monotonic() - began, 8)
+                self.assertLess(time.monotonic() - began, 7.5)
                 client.close()
 
     def test_networks(self):
@@ -241,11 +258,34 @@ class PageOfStrangers(WithGateway):
 class Memory(WithGateway):
     """Nothing of a session stays."""
 
-    def test_no_session_waits_for_the_collector(self):
-        """A session's buffers are half a megabyte."""
+    def test_many_sessions(self):
         before = self.resident()
         self.assertEqual(served(self.gateway, self.anna, 100), 100)
         self.assertLess(self.resident() - before, 20_000)
+
+    def test_buffers_wait_for_no_collector(self):
+        """A session and its pipe name each other, and the collector counts no bytes."""
+        pipes = []
+
+        class Watched(Pipe):
+            """A pipe that is known here."""
+            def __init__(self, *words):
+                super().__init__(*words)
+                pipes.append(weakref.ref(self))
+        with folder() as where, mock.patch('spmat_gateway.sessions.Pipe', Watched), \
+                socket.create_server(('127.0.0.1', 0)) as listener:
+            sessions = sessions_alone(where)
+            sessions.ledger.beat()
+            login = 'anna ' + sessions.ledger.accounts.add('anna')
+            gc.disable()
+            self.addCleanup(gc.enable)
+            with Client(listener.getsockname()[1], login) as client:
+                before = threading.active_count()
+                sessions.accept(*listener.accept())
+                self.assertEqual(client.ask('quit'), 'ok quit')
+                client.rest()
+            until('its thread has ended', lambda: threading.active_count() == before)
+            self.assertEqual([pipe() for pipe in pipes], [None])
 
     def resident(self):
         with open('/proc/%d/status' % self.gateway.process.pid, encoding='ascii') as file:

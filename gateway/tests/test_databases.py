@@ -2,6 +2,7 @@
 release; and what several gateways tell each other by it."""
 import contextlib
 import os
+import resource
 import signal
 import socket
 import sqlite3
@@ -10,13 +11,14 @@ import time
 import unittest
 from unittest import mock
 
-from spmat_gateway import users
+from spmat_gateway import ledger as ledger_module, users
 from spmat_gateway.config import ConfigError
-from spmat_gateway.database import Database
+from spmat_gateway.database import Database, Refused, Unavailable
+from spmat_gateway.journal import RECORD, Journal
 from spmat_gateway.ledger import TABLES, Ledger, Outcome
 from spmat_gateway.users import Login
 
-from .support import LINES, Gateway, Postgres, folder, needs_postgres, until
+from .support import LINES, Gateway, Postgres, folder, needs_postgres, sessions_alone, until
 from .test_crowd import served
 from .test_ledger import DEFAULTS, OnPostgres, OnSqlite
 from .test_sessions import is_running
@@ -86,6 +88,7 @@ class Shared(unittest.TestCase):
             postgres.signal(signal.SIGSTOP)
             began = time.monotonic()
             until('it says so', lambda: one.get('/readyz')[0] == 503, 7)
+            until('the log has it', lambda: "doesn't answer: no answer for" in one.said(), 2)
             with one.client(anna) as late:
                 self.assertEqual(late.rest(), b'no ledger\n')
             self.assertLess(time.monotonic() - began, 9)
@@ -104,6 +107,23 @@ class Shared(unittest.TestCase):
             one.process.terminate()
             one.process.wait(60)
             self.assertLess(time.monotonic() - began, 40)
+
+    def test_a_question_ends(self):
+        """A database that hangs keeps nobody who asks for longer than told."""
+        with self.gateways() as (postgres,):
+            database, ended = Database(postgres.url), []
+            self.assertEqual(database.rows('SELECT 1'), [(1,)])
+
+            def ask():
+                try:
+                    database.transact(lambda t: t.rows('SELECT 1'), 2.0)
+                except Unavailable as fault:
+                    ended.append(str(fault))
+            postgres.signal(signal.SIGSTOP)
+            thread = threading.Thread(target=ask, daemon=True)
+            thread.start()
+            thread.join(20)
+            self.assertEqual(ended, ['no answer in time'])
 
     def test_no_session_outlives_its_lease(self):
         """Another gateway presumes the end of a session only once it has ended."""
@@ -160,6 +180,35 @@ class Shared(unittest.TestCase):
             ledger.database.close()
 
 
+    def test_a_journal_that_cannot_grow(self):
+        """As on a full disk: a client reads so, and nothing of it stays."""
+        with self.gateways('one') as (_, one):
+            anna, process = one.add('anna'), one.process.pid
+            _, most = resource.prlimit(process, resource.RLIMIT_FSIZE)
+            resource.prlimit(process, resource.RLIMIT_FSIZE, (RECORD.size, most))
+            with one.client(anna) as client:
+                self.assertEqual(client.rest(), b'no ledger\n')
+            resource.prlimit(process, resource.RLIMIT_FSIZE, (most, most))
+            self.assertEqual(served(one, anna, 3), 3)
+            user = one.table('users')[0]
+            self.assertEqual((user['running'], user['reserved']), (0, 0))
+
+
+class Journals(unittest.TestCase):
+    """What a journal does without a gateway."""
+
+    def test_a_disk_that_is_full(self):
+        with folder() as where:
+            journal = Journal(where, 'a' * 32)
+            journal.begin()
+            with mock.patch('os.pwrite', side_effect=OSError(28, 'No space left on device')):
+                self.assertRaises(OSError, journal.open, 'b' * 32)
+            self.assertEqual(journal.sessions(), [])
+            journal.open('c' * 32)                 # has the place that the other one didn't get
+            self.assertEqual(os.path.getsize(os.path.join(where, 'sessions.journal')),
+                             2 * RECORD.size)
+
+
 class OneRow(unittest.TestCase):
     """A session that can't be settled, as the ledger refuses it."""
 
@@ -185,6 +234,27 @@ class OneRow(unittest.TestCase):
             database.close()
             until('it is settled', lambda: gateway.sessions('anna')[0]['state'] == 'settled')
             self.assertIn("can't be kept in step", gateway.said())
+
+
+    def test_it_keeps_no_other_back(self):
+        """Of two that wait, the other one is settled."""
+        with folder() as where:
+            sessions = sessions_alone(where)
+            ledger, journal = sessions.ledger, sessions.journal
+            ledger.accounts.add('anna')
+            for letter in 'bc':                    # the ledger isn't up yet, so they wait
+                journal.open(letter * 32)
+                ledger.reserve(letter * 32, 'anna', DEFAULTS)
+                sessions.settle(letter * 32, 'anna', Outcome(1, 'exact', 'end'))
+            ledger.beat()
+            ledger.database.transact(lambda t: t.run(
+                "CREATE TRIGGER no BEFORE UPDATE ON sessions WHEN NEW.id LIKE 'b%' AND "
+                "NEW.state = 'settled' BEGIN SELECT RAISE(ABORT, 'no'); END"))
+            self.assertRaises(Refused, sessions.settle_all)
+            self.assertEqual({row['id'][0]: row['state'] for row in ledger.report()},
+                             {'b': 'open', 'c': 'settled'})
+            self.assertEqual((sessions.unsettled, journal.sessions()), (1, ['b' * 32]))
+            ledger.database.close()
 
 
 class Backup(unittest.TestCase):
@@ -215,21 +285,24 @@ class Kept(OnSqlite):
     """What is kept, checked, repaired and brought to this release; on PostgreSQL below."""
 
     def test_a_check_beside_logins(self):
-        """A check of many sessions takes no login's connection."""
+        """A check takes no login's connection, however long it takes."""
         self.fill(30_000)
-        ledger, stop, longest = self.open('two'), threading.Event(), [0.0]
-        threads = [threading.Thread(target=self.ledger.faults) for _ in range(2)]
-        started = time.monotonic()
-        for thread in threads:
+        inside, go_on, faults = threading.Event(), threading.Event(), []
+
+        def slow(t):
+            inside.set()
+            go_on.wait(60)
+            return differences(t)
+        differences = ledger_module._differences   # pylint: disable=protected-access
+        with mock.patch('spmat_gateway.ledger._differences', slow):
+            thread = threading.Thread(target=lambda: faults.extend(self.ledger.faults()))
             thread.start()
-        while any(thread.is_alive() for thread in threads):
-            began = time.monotonic()
-            ledger.reserve('%032x' % (1 << 100), 'user1', DEFAULTS)
-            longest[0] = max(longest[0], time.monotonic() - began)
-        stop.set()
-        # a login without a connection would wait as long as a check takes, also on a busy machine
-        self.assertLess(longest[0], max(1.0, (time.monotonic() - started) / 2))
-        ledger.settle('%032x' % (1 << 100), Outcome(0, 'exact', 'end'))
+            self.assertTrue(inside.wait(60))
+            self.ledger.reserve('f' * 32, 'user1', DEFAULTS)
+            self.ledger.settle('f' * 32, Outcome(7, 'exact', 'end'))
+            go_on.set()
+            thread.join()
+        self.assertEqual(faults, [])               # it has seen one moment
         began = time.monotonic()
         self.assertEqual(self.ledger.faults(), [])
         self.assertLess(time.monotonic() - began, 5.0)
@@ -369,11 +442,44 @@ class Kept(OnSqlite):
 class KeptOnPostgres(Kept, OnPostgres):
     """The same on PostgreSQL."""
 
+    def test_a_database_without_an_encoding(self):
+        """Where no locale was set, Debian makes databases of SQL_ASCII."""
+        import psycopg
+        with psycopg.connect(self.postgres.url, autocommit=True) as connection:
+            connection.execute("CREATE DATABASE plain ENCODING 'SQL_ASCII' LC_COLLATE 'C' "
+                               "LC_CTYPE 'C' TEMPLATE template0")
+        database = Database(self.postgres.url.replace('/postgres', '/plain'))
+        self.addCleanup(database.close)
+        ledger = Ledger(database, 'b' * 32, 'two')
+        ledger.prepare()
+        token = ledger.accounts.add('anna')
+        self.assertEqual(ledger.accounts.find(Login('anna', token)).name, 'anna')
+        ledger.reserve('c' * 32, 'anna', DEFAULTS)
+        self.assertEqual(ledger.faults(), [])
+
+    def test_a_start_without_the_right_to_create(self):
+        """Once the tables are there, a gateway needs the right to change their rows alone."""
+        self.ledger.accounts.add('anna')
+        schema = self.address.rpartition('3D')[2]
+        for sql in ('CREATE ROLE plain LOGIN', 'GRANT USAGE ON SCHEMA %s TO plain',
+                    'GRANT SELECT, INSERT, UPDATE, DELETE ON ALL TABLES IN SCHEMA %s TO plain'):
+            self.ledger.database.transact(
+                lambda t, sql=sql: t.run(sql % schema if '%' in sql else sql))
+        database = Database(self.address.replace('gateway@', 'plain@'))
+        self.addCleanup(database.close)
+        other = Ledger(database, 'b' * 32, 'two')
+        other.prepare()
+        other.beat()
+        other.reserve('c' * 32, 'anna', DEFAULTS)
+        self.assertEqual(other.settle('c' * 32, Outcome(3, 'exact', 'end')), 3)
+        with self.assertRaises(Refused):           # which it hasn't, indeed
+            database.transact(lambda t: t.run('CREATE TABLE more (a TEXT)'))
+
 
 def load_tests(loader, _, __):
     """Its own tests alone: those of test_ledger are tried there."""
     found = unittest.TestSuite()
-    for kind in (Shared, OneRow, Backup, Kept, KeptOnPostgres):
+    for kind in (Shared, Journals, OneRow, Backup, Kept, KeptOnPostgres):
         names = [name for name in loader.getTestCaseNames(kind)
                  if not hasattr(OnSqlite, name)]
         found.addTests(map(kind, names))

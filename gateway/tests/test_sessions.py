@@ -9,9 +9,10 @@ import subprocess
 import threading
 import time
 import unittest
+from unittest import mock
 
 from .support import (FIRST_SESSION, LINES, OPERATORS, PATIENCE, Certificates, Client, Gateway,
-                      dense, direct, engine_command, folder, limits_memory, until)
+                      dense, direct, engine_command, folder, limits_memory, sessions_alone, until)
 
 BUSY = OPERATORS + dense(250) + b'product B plus times A A\n' * 60
 """Sixty products of some ninety million steps each, to be run: they take seconds at the least."""
@@ -505,6 +506,28 @@ class Engines(unittest.TestCase):
         self.assertEqual((replies, row['cause'], row['charged']),
                          (b'no session engine known 0\n', 'engine', 0))
         self.assertIn('the engine ended with status 2: ' + words, said)
+
+    def test_numbers_beyond_all(self):
+        """What an engine may say that was taken over: its account ends all the same."""
+        most = '9' * 30
+        _, row, _ = self.ended(['sh', '-c', 'echo "spmat: start untold=0" >&2; sleep 0.5; '
+                                'echo "ok run %s %s"; exec cat >&2' % (most, most)])
+        self.assertEqual((row['state'], row['charged']), ('settled', row['reserved']))
+
+    def test_a_fault_while_it_runs(self):
+        """Whatever goes wrong, a session is settled and its engine ended."""
+        with folder() as where, socket.create_server(('127.0.0.1', 0)) as listener, \
+                mock.patch('spmat_gateway.pipe.Pipe.run', side_effect=RuntimeError('a fault')):
+            sessions = sessions_alone(where)
+            sessions.ledger.beat()
+            login = 'anna ' + sessions.ledger.accounts.add('anna')
+            with Client(listener.getsockname()[1], login) as client:
+                sessions.accept(*listener.accept())
+                client.rest()
+            (row,) = sessions.ledger.report()
+            self.assertEqual((row['state'], row['cause'], sessions.journal.sessions()),
+                             ('settled', 'ledger', []))
+            sessions.ledger.database.close()
 
     def test_words_before_the_log(self):
         """What starts an engine elsewhere may write to standard error, too."""

@@ -59,10 +59,10 @@ def tried(what, act):
         print(run('journalctl', '-b', '-n', '12', '--no-pager', '-o', 'cat', status=None))
 
 
-def run(*words, status=0):
+def run(*words, status=0, given=''):
     """What a command prints."""
-    said = subprocess.run(words, stdin=subprocess.DEVNULL, stdout=subprocess.PIPE,
-                          stderr=subprocess.STDOUT, text=True, check=False, timeout=150)
+    said = subprocess.run(words, input=given, stdout=subprocess.PIPE, stderr=subprocess.STDOUT,
+                          text=True, check=False, timeout=150)
     if status is not None:
         assert said.returncode == status, (words, said.returncode, said.stdout)
     return said.stdout
@@ -299,6 +299,28 @@ class Trial:
                 s.budget()
         return '%.0f ms each' % (1000 * (time.monotonic() - began) / 20)
 
+    def alone(self):
+        """Without `socket` a session is a process of the gateway's own unit."""
+        with changed('socket = "/run/spmat-engine.sock"\n', ''):
+            with self.session() as s:
+                s.budget()
+                (row,) = table('sessions')
+                unit = run('ps', '-o', 'unit=', '-p', str(row['process'])).strip()
+                assert unit == UNIT, unit
+            assert self.answers()
+
+    @staticmethod
+    def exposure():
+        """What systemd counts of each unit, of 10 at most."""
+        found = []
+        for unit, most in ((UNIT, 1.5), ('spmat-engine@a.service', 0.5), ('spmat.service', 1.2),
+                           ('spmat@a.service', 0.5)):
+            said = run('systemd-analyze', 'security', '--no-pager', unit)
+            found.append('%s %s' % (unit, re.findall(r'Overall exposure level for \S+: ([\d.]+)',
+                                                     said)[0]))
+            assert float(found[-1].split()[1]) <= most, said[-500:]
+        return ', '.join(found)
+
     # -- starts
 
     def restart(self):
@@ -395,7 +417,7 @@ class Trial:
         assert run(sys.executable, '-c', client.replace('dora@', 'fay@')).startswith('Budget(')
         rows = table('ledger', 'fay')['sessions']
         assert [(row['parent'], row['address']) for row in rows] == [('@institute', 'local')] * 2
-        assert run('ssh', '-T', 'fay@graphs.example', 'id', status=None).startswith('no S1')
+        assert run('ssh', '-T', 'fay@graphs.example', 'id', given='id\n') == 'no S1\n'  # no shell
         run('spmat-gateway', 'users', 'disable', 'fay')
         assert 'no login' in run('ssh', '-T', 'fay@graphs.example', status=None)
         shutil.rmtree('/etc/systemd/system/%s.d' % UNIT)
@@ -462,6 +484,8 @@ def main():
     tried('twenty sessions', trial.many)
     tried('an operator ends a batch', trial.end_of_one)
     tried('the gateway is killed amid a batch', trial.kill)
+    tried('sessions of the gateway\'s own unit', trial.alone)
+    tried('what each unit exposes', trial.exposure)
     tried('a restart serves at once', trial.restart)
     tried('a port that is taken for a while', trial.taken_port)
     tried('a file that is wrong for a while', trial.wrong_file)
