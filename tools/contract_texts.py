@@ -11,7 +11,7 @@ from typing import Iterator, List, NamedTuple, Set, Tuple
 
 from paths import CRATES
 
-FUNCTION = re.compile(r'^( *)(pub(?:\([a-z]+\))? )?(?:const )?fn (\w+)', re.M)
+FUNCTION = re.compile(r'^( *)(pub(?:\([a-z]+\))? )?(?:const |extern "C" )?fn (\w+)', re.M)
 BLOCK = re.compile(
     r'^(?:(?:pub(?:\(\w+\))? )?trait (\w+)|impl(?:<.*?>)? (?:(\w+)(?:<.*?>)? for )?(\w+))', re.M)
 ITEM = re.compile(r'^(?:pub(?:\(\w+\))? )?(?:struct|enum|trait) (\w+)', re.M)

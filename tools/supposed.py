@@ -71,6 +71,8 @@ SUPPOSED: Dict[Tuple[str, str], Tuple[str, str]] = {
     ('spmat.specs.inner.Running', 'Spoke'):
         ('first last',
          'the call opens the purse, with the allowance, and the calls of the session lead on'),
+    ('spmat_lib.specs.Answer', 'IsAnswer'):
+        ('outcome', 'a text stands for one matrix, and the numbers of a refusal for one refusal'),
     ('step_purse.specs.Histories', 'Begins'):
         ('rest', 'it is what one history has beyond another'),
     ('step_purse.specs.Histories', 'Leads'):

@@ -36,6 +36,7 @@ DISTRIBUTIONS = (CLIENT, Distribution('clients/blocks/', 'spmat_blocks'),
 # made for releases and packages; the repository has none
 REFERENCE = 'docs/api.md'
 PROGRAM = os.path.join('crates', 'spmat', 'out', 'spmat')
+LIBRARY = os.path.join('crates', 'spmat_lib', 'out', 'libspmat.so')
 # The files that carry the version into what is made.
 VERSIONS = ('VERSION', *(one.version_file for one in DISTRIBUTIONS))
 # What is added to the version, by `mark_untested`.

@@ -15,7 +15,7 @@ import numpy
 from spmat import Mask, Operator, Semiring, Session
 from spmat.errors import BudgetExceeded, Closed, NotMade
 from spmat.extending import (Budget, Triples, Vector, check_entries, check_indices, full_entries,
-                             head_of_text, read_text, read_vector, write_text)
+                             head_of_text, read_column, read_row, read_text, write_text)
 from . import row_partition
 from .engine import AtBlock, Settings
 from .row_partition import Stored, write_texts
@@ -105,13 +105,13 @@ def push_front(store: Store, block: Piece, front: Vector, ring: Semiring) -> Vec
     and a value for each."""
     row = store.session.backend.keep(
         Triples(front.at * 0, front.at, front.values, 1, block.counts.nrows))
-    return read_vector(row.mxm(store.matrix(block), ring).to_text(), 1)
+    return read_row(row.mxm(store.matrix(block), ring))
 
 
 def pull_front(store: Store, block: Piece, front: Piece, ring: Semiring) -> Vector:
     """What comes to the vertices whose rows of a transpose a block has: the vertices, and a value
     for each."""
-    return read_vector(store.matrix(block).mxm(store.matrix(front), ring).to_text(), 0)
+    return read_column(store.matrix(block).mxm(store.matrix(front), ring))
 
 
 def sum_of(store: Store, sofar: Piece, terms: Piece, add: Operator) -> Piece:
@@ -151,7 +151,7 @@ def join_lines(store: Store, shape: Tuple[int, int], parts: Sequence[Lines]) -> 
 
 def turn_lines(store: Store, piece: Piece, cut: row_partition.Cut) -> List[Lines]:
     """The lines of the transpose of a block, those of each block of another cut by themselves."""
-    rows, columns, values, nrows, ncols = read_text(store.text(piece), True)
+    rows, columns, values, nrows, ncols = read_text(store.text(piece))
     turned = Triples(columns, rows, values, ncols, nrows)
     return [row_partition.write_lines(part) for part in row_partition.split_rows(turned, cut)]
 
@@ -174,7 +174,7 @@ def counts_of(store: Store, piece: Piece) -> Counts:
 
 def column_counts(store: Store, piece: Piece, edges: Sequence[int]) -> List[int]:
     """How many entries of a block lie in the columns from each edge to below the next."""
-    columns = read_text(store.text(piece), True).columns
+    columns = read_text(store.text(piece)).columns
     counts: List[int] = numpy.histogram(columns, numpy.array(edges))[0].tolist()
     return counts
 

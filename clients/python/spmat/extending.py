@@ -9,7 +9,7 @@ own, and readers that see a part of a file.
 
 spmat_blocks is built so. These names may change with a minor version, as versions.md says.
 """
-from .algorithms.traversal import Vector, put_column, read_vector, vector_of
+from .algorithms.traversal import Vector, put_column, read_column, read_row, vector_of
 from .backends.estimate import stop_estimate
 from .backends.job_queue import without_frames
 from .backends.protocol import AMPLE, Backend, Budget, Handle, Job, JobResult, Run, most_of
@@ -32,7 +32,7 @@ from .io.matrix_market import (Kind as MarketKind, Line as MarketLine, Reader as
                                as is_plain_market, lowered as lower_triangle, mirrored, read_quickly
                                as read_market_lines)
 from .io.matrix_text import (BANNER, HEAD_LINES, PATTERN as PATTERN_BANNER, Triples, as_arrays,
-                             head_of as head_of_text, read_fields, read as read_text, start_of_line,
+                             head_of as head_of_text, read_lines, read as read_text, start_of_line,
                              write as write_text)
 from .metadata import BY_POSITIONS, Metadata, NOTHING, Nodes, as_constant, axis_of
 from .operators import Op, find
@@ -56,7 +56,7 @@ __all__ = ['AMPLE', 'BANNER', 'BY_POSITIONS', 'Backend', 'Budget', 'Check', 'DUP
            'edges_of_frame', 'find', 'find_repeated_line', 'full_entries', 'has_dictionaries',
            'head_of_text', 'is_plain_market', 'lay_out_list', 'load_file', 'lower_triangle',
            'mirrored', 'missing_attribute', 'most_of', 'name_of', 'number_ascending',
-           'number_names', 'open_file', 'packer_of', 'program_words', 'put_column', 'read_fields',
-           'read_list', 'read_market_lines', 'read_text', 'read_vector', 'refuse_repeated', 'shown',
-           'start_of_line', 'stop_estimate', 'unit_of_read', 'vector_of', 'without_frames',
+           'number_names', 'open_file', 'packer_of', 'program_words', 'put_column', 'read_column',
+           'read_lines', 'read_list', 'read_market_lines', 'read_row', 'read_text',
+           'refuse_repeated', 'shown', 'start_of_line', 'stop_estimate', 'unit_of_read', 'vector_of', 'without_frames',
            'write_text']

@@ -85,8 +85,8 @@ def _next_front(lines: Traversal, numbers: Array, front: Array, matrix: Optional
     start = Vector(front, front if parents else numpy.ones_like(front))
     if lines.pays_scan(len(front)):
         reached = lines.step(lines.put(start) if matrix is None else matrix, ring, unseen.mask())
-        return lines.read(reached, parents), reached
-    got = lines.push(start, ring, parents)
+        return lines.read(reached), reached
+    got = lines.push(start, ring)
     keep = numbers[got.at] == NONE
     return Vector(got.at[keep], got.values[keep] if parents else got.values), None
 

@@ -16,7 +16,7 @@ from .independent_set import draw_numbers
 from .registry import algorithm
 from .topological_order import find_topological_levels
 from .traversal import (Columns, Traversal, Vector, find_traversal, find_vectors, is_ample, keep,
-                        put_all, put_column, read_column, read_edges, read_values, read_vector,
+                        put_all, put_column, read_column, read_edges, read_row, read_values,
                         spread, vector_of)
 from .types import Array, Place
 from .utils import (Progress, as_many, beside, column, iterate, loops, mark_rows, name_of, nothing,
@@ -454,7 +454,7 @@ def _find_most_joined(G: Matrix) -> Optional[Place]:
     outgoing = G.mxv(column(G, 1), 'plus_pair')
     incoming = G.session.ones(G.nrows).mxm(G, 'plus_pair')
     scores = spread(read_column(outgoing), G.nrows)
-    scores *= spread(read_vector(incoming.to_text(), 1), G.nrows)
+    scores *= spread(read_row(incoming), G.nrows)
     best = int(scores.argmax())
     return Place(best) if scores[best] else None
 
@@ -484,7 +484,7 @@ def _pull(G: Matrix, middle: Place) -> Optional[Array]:
     end = empty('front')._replace(rests=False)
     if not loop.rounds(end, PULLS, lambda first, rounds: None):
         return None
-    reached: Array = loop.shown['front'].drain(values=False).places
+    reached: Array = loop.shown['front'].drain().places
     return numpy.append(reached, int(middle))
 
 

@@ -270,7 +270,7 @@ def _peel_by_loop(peeling: Peeling, k: int, cores: Array) -> None:
     loop = Loop(step, start, ['fallen', 'level'], alike=True)
 
     def heard(first: int, rounds: List[Round]) -> None:
-        fallen = loop.shown['fallen'].drain(values=False)
+        fallen = loop.shown['fallen'].drain()
         levels = loop.shown['level'].drain(rounds=False).values
         cores[at[fallen.places]] = levels[fallen.rounds - first]
         tells(first, rounds)

@@ -18,7 +18,7 @@ from .distance_measures import count_distances
 from .types import Array, Place, Vertices
 from .registry import algorithm
 from .results import Centrality, as_centrality, unit_of
-from .traversal import put_all, read_column, read_vector, spread
+from .traversal import put_all, read_column, read_row, spread
 from .utils import Progress, beside, find_sources, mark_rows, order, product, tell
 
 __all__ = ['betweenness', 'closeness']
@@ -237,7 +237,7 @@ def _add(G: Matrix, sources: List[Place], fixed: Fixed, sums: Array,
         through = here if through is None else through.ewise_add(here, 'first')
         shares = counts.apply(inverse).ewise_add(came, 'plus')
     assert through is not None
-    at, values = read_vector(through.reduce_columnwise('plus').to_text(), 1)
+    at, values = read_row(through.reduce_columnwise('plus'))
     sums[at] += values
     return paths
 

@@ -81,7 +81,7 @@ def continue_levels(G: Matrix, levels: Array, reached: Reached, depth: Optional[
     tells = hear(progress, 'level', level, result='front')
 
     def heard(first: int, rounds: List[Round]) -> None:
-        new = loop.shown['front'].drain(values=False)
+        new = loop.shown['front'].drain()
         levels[new.places] = new.rounds + level
         tells(first, rounds)
     loop.rounds(empty('front'), G.nrows + 1 if depth is None else depth - level, heard)

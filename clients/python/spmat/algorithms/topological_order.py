@@ -91,7 +91,7 @@ class Order:
         def heard(first: int, rounds: List[Round]) -> None:
             if any(one.counts.get('wrapped') for one in rounds):
                 raise ValueError(WRAPS)
-            new = loop.shown[name].drain(values=bool(more))
+            new = loop.shown[name].drain()
             self.numbers[new.places] = new.values if more else new.rounds
             tells(first, rounds)
         if (self.numbers != NONE).any():

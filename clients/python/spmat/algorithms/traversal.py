@@ -21,7 +21,6 @@ from typing import Dict, Any, List, NamedTuple, Optional, Sequence, Tuple, cast
 
 import numpy
 
-from ..io import matrix_text
 from ..io.matrix_text import Triples
 from ..loops.round_text import Push
 from ..matrix import Matrix
@@ -59,13 +58,12 @@ class Traversal:
     def __init__(self, graph: Matrix) -> None:
         self.graph, self.count = graph, graph.nrows
 
-    def push(self, front: Vector, ring: Semiring, values: bool = True) -> Vector:
-        """What comes to each vertex j along the edges (i, j) from the front's vertices i; `values`
-        says whether those are wanted.
+    def push(self, front: Vector, ring: Semiring) -> Vector:
+        """What comes to each vertex j along the edges (i, j) from the front's vertices i.
 
         The terms are `mul(front(i), edge)`, folded by `add`. `mul` is `first`, `second`, or
         commutative."""
-        return self.read(self.step(self.put(front), ring), values)
+        return self.read(self.step(self.put(front), ring))
 
     def pays_scan(self, front: int, part: int = 4) -> bool:
         """Whether a front of so many vertices has so many edges that jobs over all vertices pay.
@@ -106,9 +104,9 @@ class Traversal:
         """A vector whose values are the vertices' own numbers, plus `more`."""
         return vector.apply('rowindex' if self.is_column else 'colindex', right=more)
 
-    def read(self, matrix: Matrix, values: bool = True) -> Vector:
-        """The vector that a matrix is. Without `values` there may be none."""
-        return read_vector(matrix.to_text(), 0 if self.is_column else 1, values)
+    def read(self, matrix: Matrix) -> Vector:
+        """The vector that a matrix is."""
+        return (read_column if self.is_column else read_row)(matrix)
 
     def step(self, front: Matrix, ring: Semiring, mask: Optional[Matrix] = None) -> Matrix:
         """`push`, of a matrix, under the structure of a mask."""
@@ -130,14 +128,14 @@ class Rows(Traversal):
         super().__init__(graph)
         self._pushes: Dict[Semiring, Push] = {}
 
-    def push(self, front: Vector, ring: Semiring, values: bool = True) -> Vector:
+    def push(self, front: Vector, ring: Semiring) -> Vector:
         """By one trip; as a job where it is refused, so that the error is that of a job."""
         if ring not in self._pushes:
             self._pushes[ring] = Push(self.graph, ring)
         row = Triples(numpy.zeros_like(front.at), front.at, front.values, 1, self.count)
-        got = self._pushes[ring](row, values)
+        got = self._pushes[ring](row)
         if got is None:
-            return super().push(front, ring, values)
+            return super().push(front, ring)
         return Vector(got.places, got.values)
 
     def may_loop(self) -> bool:
@@ -174,7 +172,7 @@ class BlockFronts(Traversal):
         super().__init__(graph)
         self.transpose = transpose
 
-    def push(self, front: Vector, ring: Semiring, values: bool = True) -> Vector:
+    def push(self, front: Vector, ring: Semiring) -> Vector:
         graph, backend = self.graph, cast(Any, self.graph.session.backend)
         is_large = 4 * len(front.at) * graph.nvals >= self.count * self.count
         rings = ring, swap(ring)
@@ -304,35 +302,34 @@ def keep(graph: Matrix, entries: Triples) -> Matrix:
     return made
 
 
-def read_vector(text: bytes, field: int, values: bool = True) -> Vector:
-    """The vector of a text as the server writes it; `field` is 1 of a row, 0 of a column.
+def read_entries(matrix: Matrix) -> Triples:
+    """The entries of a matrix, by ascending row and column."""
+    found: Triples = matrix.session.backend.read(matrix.handle)
+    return found
 
-    The places of a full vector aren't read, nor values that aren't wanted."""
-    nrows, ncols, nvals, start = matrix_text.head_of(text)
-    is_full = nvals == (ncols if field else nrows)
-    wanted = (() if is_full else (field,)) + ((2,) if values else ())
-    numbers = matrix_text.read_fields(text, wanted, start=start) if wanted else []
-    at = numpy.arange(nvals) if is_full else numbers[0] - 1
-    return Vector(at, numbers[-1] if values else at[:0])
+
+def read_row(matrix: Matrix) -> Vector:
+    """The vector that a row is."""
+    entries = read_entries(matrix)
+    return Vector(entries.columns, entries.values)
 
 
 def read_column(matrix: Matrix) -> Vector:
     """The vector that a column is."""
-    return read_vector(matrix.to_text(), 0)
+    entries = read_entries(matrix)
+    return Vector(entries.rows, entries.values)
 
 
 def read_edges(graph: Matrix) -> Tuple[Array, Array]:
     """Where the edges of a graph begin and end, by ascending vertices."""
-    text = graph.to_text()
-    rows, columns = matrix_text.read_fields(text, (0, 1), start=matrix_text.head_of(text).start)
-    return rows - 1, columns - 1
+    entries = read_entries(graph)
+    return entries.rows, entries.columns
 
 
 def read_values(matrix: Matrix) -> Array:
     """The values of a vector whose places are known."""
-    text = matrix.to_text()
-    values: Array = matrix_text.read_fields(text, (2,), start=matrix_text.head_of(text).start)[0]
-    return values
+    found: Array = read_entries(matrix).values
+    return found
 
 
 def spread(vector: Vector, count: int) -> Array:

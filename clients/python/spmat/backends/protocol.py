@@ -224,7 +224,7 @@ class Backend(abc.ABC):
 
     def read(self, handle: Handle) -> Triples:
         """The entries of a matrix, once it is there: arrays of numpy."""
-        return matrix_text.read(self.read_text(handle), True)
+        return matrix_text.read(self.read_text(handle))
 
     def texts(self, handle: Handle) -> Iterator[bytes]:
         """The same text by pieces, of which one is held at a time."""

@@ -14,7 +14,7 @@ from ..io import matrix_text
 from ..io.matrix_text import Triples
 from ..limits import MOST_OPERATOR, MOST_SIDE, MOST_TEXT, QUEUE
 from ..operators import Operator, diagnostics
-from ..wire.commands import (NOTHING, Command, Limits, Reply, check_text, longest_text,
+from ..wire.commands import (NOTHING, Command, Limits, Reply, longest_text, read_shown,
                              sizes_of_text)
 from ..wire.connection import Connection, SessionLock
 from .estimate import ESTIMATES, estimate_here
@@ -46,8 +46,8 @@ class SentMatrix(Command):
 
 
 class ShownMatrix(Command):
-    """The command that gets the text of a matrix. The session ends where it is another's.
-    `entries` are those of a short text, all of which was looked at."""
+    """The command that gets the text of a matrix, of which `entries` are read. The session ends
+    where it is another's."""
 
     __slots__ = ('_handle', 'entries')
 
@@ -62,7 +62,7 @@ class ShownMatrix(Command):
         return {'BYTES': (0, longest_text(most))}
 
     def check(self, reply: Reply) -> None:
-        self.entries = check_text(self.line, reply.body, self._handle.shape, self._handle.nvals)
+        self.entries = read_shown(self.line, reply.body, self._handle.shape, self._handle.nvals)
 
 
 class ServerBackend(Backend):
@@ -159,12 +159,10 @@ class ServerBackend(Backend):
     def read(self, handle: Handle) -> Triples:
         if isinstance(handle, DeferredHandle):
             return matrix_text.as_arrays(handle.entries)
-        reply, entries = self._show(handle)
-        return matrix_text.read(reply.body) if entries is None else entries
+        return self._show(handle)[1]
 
-    def _show(self, handle: Handle) -> Tuple[Reply, Optional[Triples]]:
-        """The reply with a matrix, and its entries where they were looked at. Runs the queue where
-        it waits."""
+    def _show(self, handle: Handle) -> Tuple[Reply, Triples]:
+        """The reply with a matrix, and its entries. Runs the queue where it waits."""
         with self._lock:
             handle.check_made()
             if handle.nvals is None:
@@ -177,7 +175,7 @@ class ServerBackend(Backend):
                 raise self.connection.refused or refused
             if self.connection.refused is not None:
                 raise self.connection.refused
-            assert reply is not None
+            assert reply is not None and command.entries is not None
             return reply, command.entries
 
     def wait(self, handle: Handle) -> None:

@@ -27,6 +27,9 @@ FIELDS = {'integer': 'integer', 'unsigned-integer': 'integer', 'pattern': 'patte
           'double': 'real', 'complex': 'complex'}
 SYMMETRIES = ('general', 'symmetric', 'skew-symmetric')
 NUMBERS = b'+-0123456789 \t\r\n'
+LF = 10
+# bytes of lines whose fields are counted together
+PIECE = 1 << 20
 NO_MARKET = (
     'this is no Matrix Market file, which begins with %%MatrixMarket: read_graph reads other '
     'formats, too')
@@ -315,7 +318,7 @@ def _entry_of(line: Line, kind: Kind, nrows: int, ncols: int) -> Tuple[int, int,
 
 def read_quickly(kind: Kind, body: bytes, count: int, nrows: int, ncols: int) -> Optional[Triples]:
     """All lines at once by numpy; None where something is unusual or wrong."""
-    columns = matrix_text.read_plain(body, kind.width) or _read_numbers(kind, body)
+    columns = _read_numbers(kind, body)
     if columns is None or len(columns[0]) != count:
         return None
     i, j = (_grid(kind.symmetry, nrows, ncols) if kind.array
@@ -333,15 +336,15 @@ def read_quickly(kind: Kind, body: bytes, count: int, nrows: int, ncols: int) ->
 
 
 def _read_numbers(kind: Kind, body: bytes) -> Optional[List[Any]]:
-    """The fields of lines with signs, points, tabs or several blanks: places as whole numbers,
-    values as floats, which hold small whole numbers alone."""
-    width, places = kind.width, 0 if kind.array else 2
-    allowed = NUMBERS + (b'.eE' if kind.field in ('real', 'complex') else b'')
-    lines = matrix_text.count_even_lines(body, width)
-    if body.translate(None, allowed) or not lines:
+    """The fields of all lines: places as whole numbers, and values too where all are written so;
+    else values as floats, which hold small whole numbers alone."""
+    width, places, others = kind.width, 0 if kind.array else 2, body.translate(None, NUMBERS)
+    lines = count_even_lines(body, width)
+    if not lines or others.translate(None, b'.eE' if kind.field in ('real', 'complex') else b''):
         return None
     try:
-        numbers = numpy.fromstring(body, numpy.float64, sep=' ')
+        numbers = (numpy.fromstring(body, numpy.float64, sep=' ') if others
+                   else matrix_text.read_lines(body, width).ravel())
     except (ValueError, DeprecationWarning):       # of what is no number, as numpy will have it
         return None
     # numpy's reader ends amid the last one without a word, at 2 of `2-1`
@@ -352,3 +355,23 @@ def _read_numbers(kind: Kind, body: bytes) -> Optional[List[Any]]:
            for column in columns[:places]):
         return None
     return [column.astype(numpy.int64) for column in columns[:places]] + columns[places:]
+
+
+def count_even_lines(body: bytes, width: int) -> Optional[int]:
+    """The number of lines that aren't blank, where each of these has so many fields; else None."""
+    start = count = 0
+    while start < len(body):
+        end = body.find(b'\n', start + PIECE) + 1 or len(body)
+        piece = body[start:end] if body.endswith(b'\n', start, end) else body[start:end] + b'\n'
+        marks = numpy.frombuffer(piece, numpy.uint8)
+        parts = marks > 32                         # the first byte of each field
+        parts[1:] &= marks[:-1] <= 32
+        parts |= marks == LF
+        events = numpy.flatnonzero(parts)
+        ends = numpy.flatnonzero(marks[events] == LF)
+        widths: Any = numpy.diff(ends, prepend=-1) - 1
+        if ((widths != width) & (widths != 0)).any():
+            return None
+        count += numpy.count_nonzero(widths)
+        start = end
+    return count

@@ -33,6 +33,8 @@ if TYPE_CHECKING:
 MOST_TEMPLATES = 512                               # which are kept at a time
 NONE = numpy.zeros(0, numpy.int64)
 HEAD = len(matrix_text.BANNER)
+# bytes of a text that is read in less time alone than together with others
+LONG = 1 << 12
 # words of the replies to a job and to a run, and of each line of that
 QUEUED, RAN, LINE = 4, 4, 5
 Source = Union[Matrix, ServerHandle]
@@ -248,17 +250,22 @@ class Shown:
     def add(self, number: int, count: int, text: bytes) -> None:
         """The text of a round, as the server writes it."""
         if count:
-            self._new.append((number, count, text[text.index(b'\n', HEAD) + 1:]))
+            self._new.append((number, count, text))
 
-    def drain(self, values: bool = True, rounds: bool = True) -> Entries:
-        """The entries that came since this was asked last, and weren't read otherwise; values and
-        rounds where they are wanted."""
+    def drain(self, rounds: bool = True) -> Entries:
+        """The entries that came since this was asked last, and weren't read otherwise; rounds where
+        they are wanted."""
         new, self._new = self._new, []
-        text = b''.join(lines for _, _, lines in new)
-        found = matrix_text.read_fields(text, (self._field, 2) if values else (self._field,))
+        texts = [text for _, _, text in new]
         numbers_of = numpy.repeat(numpy.array([number for number, _, _ in new], numpy.int64),
                                   [count for _, count, _ in new]) if rounds else NONE
-        return Entries(numbers_of, found[0] - 1, found[1] if values else NONE)
+        if texts and sum(map(len, texts)) >= LONG * len(texts):
+            found = [matrix_text.read(text) for text in texts]
+            return Entries(numbers_of, numpy.concatenate([one[self._field] for one in found]),
+                           numpy.concatenate([one.values for one in found]))
+        lines = matrix_text.read_lines(b''.join(text[text.index(b'\n', HEAD) + 1:]
+                                                for text in texts))
+        return Entries(numbers_of, lines[:, self._field] - 1, lines[:, 2].copy())
 
     def entries(self) -> Entries:
         """All entries, by ascending rounds and places."""
@@ -306,9 +313,9 @@ class Push:
                                                                        graph.handle.key.encode(),
                                                                        made)
 
-    def __call__(self, entries: Triples, values: bool = True) -> Optional[Entries]:
-        """The row that the product is: places, and values where they are wanted. None where the
-        server refuses the job, whatever for."""
+    def __call__(self, entries: Triples) -> Optional[Entries]:
+        """The row that the product is: places and values. None where the server refuses the job,
+        whatever for."""
         session = self.session
         if session.backend.queue.limits:           # which hold for jobs that are queued
             return None
@@ -327,7 +334,7 @@ class Push:
             return None
         shown = Shown((1, self.graph.ncols))
         shown.add(1, 1, bodies[0])
-        return shown.drain(values, rounds=False)
+        return shown.drain(rounds=False)
 
 
 def flush(session: 'Session') -> None:

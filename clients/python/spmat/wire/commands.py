@@ -18,11 +18,9 @@ from types import MappingProxyType
 from typing import (Callable, Dict, List, Mapping, NamedTuple, NoReturn, Optional, Sequence, Tuple,
                     Union)
 
-import numpy
-
 from ..errors import ProtocolError, Refused, refusal
 from ..io import matrix_text
-from ..io.matrix_text import BANNER, LF, Triples
+from ..io.matrix_text import BANNER, Triples
 from ..limits import MOST_PRICE, MOST_SIDE, MOST_SLOTS, MOST_STEPS, QUEUE
 from ..refusal_rules import OF_GATEWAY, is_placed
 
@@ -108,17 +106,13 @@ WORDS_WITH_BODY = {name: len(syntax.words.split()) for name, syntax in COMMANDS.
 # -- whether a reply answers its command
 
 LONGEST_NUMBER = 20                                # digits: 2^64 - 1 has as many
-# bytes of a text whose entries are looked at here: whoever reads a longer one looks at them
+# bytes of a text that is compared with what the client writes of its entries
 LOOKED_AT_WHOLE = 1 << 13
 # of a matrix text: its first line has 47 bytes, the second up to 27
 LONGEST_HEAD = 80
 # two indices, a value with its sign, two blanks and LF
 LONGEST_ENTRY = 8 + 1 + 8 + 1 + 20 + 1
-# values that have 64 bits for sure
-_ALL_ENTRIES = re.compile(rb'(?:\d{1,8} \d{1,8} -?\d{1,18}\n)*')
-_ENTRY = re.compile(rb'(\d{1,8}) (\d{1,8}) (-?\d{1,19})')
 _HEAD = re.compile(rb'%s(\d{1,8}) (\d{1,8}) (\d{1,8})\n' % re.escape(BANNER))
-BANNER_LETTERS = BANNER.translate(None, b'0123456789- \n')
 _REFUSAL = re.compile(
     r'no (?:(?:[ASVMJ]\d{1,2}|busy|memory|thread|stuck)(?: [A-Z]?\d{1,20}){0,3}|(?:%s)(?: '
     r'[\x20-\x7e]{0,200})?)' % '|'.join(OF_GATEWAY))
@@ -209,11 +203,11 @@ def longest_text(entries: int) -> int:
     return LONGEST_HEAD + entries * LONGEST_ENTRY
 
 
-def check_text(command: str, text: bytes, shape: Tuple[int, int],
-               entries: Optional[int]) -> Optional[Triples]:
-    """ProtocolError where a text isn't that of a matrix of this shape: its head, its number of
-    lines, and its characters are looked at. `entries` is how many it has, where that is known. Of a
-    short text all entries are looked at; they are given back, but for some of 19 digits."""
+def read_shown(command: str, text: bytes, shape: Tuple[int, int],
+               entries: Optional[int]) -> Triples:
+    """The entries of a text. ProtocolError where it isn't that of a matrix of this shape, with so
+    many entries, where that is known: a short one as the server writes it, byte by byte, and a
+    longer one as the format allows."""
     head = _HEAD.match(text)
     if head is None:
         raise_fault(command,
@@ -225,43 +219,14 @@ def check_text(command: str, text: bytes, shape: Tuple[int, int],
                     'a text of %d rows and %d columns%s'
                     % (*shape, '' if entries is None else ' with %d entries' % entries),
                     ['%d %d %d' % (rows, columns, count)])
-    lines = numpy.count_nonzero(numpy.frombuffer(text, numpy.uint8) == LF)
-    if lines != count + 2 or not text.endswith(b'\n') or text.translate(
-        None, b'0123456789- \n') != BANNER_LETTERS:
-        raise_fault(command, 'a text with %d lines of three numbers' % count,
-                    ['%d lines' % (lines - 2)])
-    if len(text) > LOOKED_AT_WHOLE:
-        return None
-    is_plain = _ALL_ENTRIES.fullmatch(text, head.end()) is not None
-    found = matrix_text.read(text) if is_plain else None
-    if found is None or not _are_ascending(found):
-        _check_entries(command, text[head.end():], shape)
+    try:
+        found = matrix_text.read(text)
+        if len(text) <= LOOKED_AT_WHOLE and matrix_text.write(found) != text:
+            raise ValueError('it is not as the server writes it')
+    except ValueError as fault:
+        raise_fault(command, 'the entries of %d rows and %d columns, in order, with values of 64 '
+                    'bits' % shape, ['%d bytes: %s' % (len(text), fault)])
     return found
-
-
-def _check_entries(command: str, lines: bytes, shape: Tuple[int, int]) -> None:
-    """ProtocolError where an entry lies outside of a shape, doesn't follow the one before, or has a
-    value beyond 64 bits."""
-    before = (0, 0)
-    for line in lines.splitlines():
-        found = _ENTRY.fullmatch(line)
-        row, column, value = map(int, found.groups()) if found is not None else (0, 0, 0)
-        if found is None or not (1 <= row <= shape[0] and 1 <= column <= shape[1]
-                                 and before < (row, column) and -1 << 63 <= value < 1 << 63):
-            raise_fault(command,
-                        'the entries of %d rows and %d columns, in order, with values of 64 bits'
-                        % shape, [line.decode('ascii', 'replace')])
-        before = row, column
-
-
-def _are_ascending(entries: Triples) -> bool:
-    """Whether entries lie within their shape, by ascending rows and columns."""
-    rows, columns, _, nrows, ncols = entries
-    if not len(rows):
-        return True
-    inside = (rows[0] >= 0 and rows[-1] < nrows and columns.min() >= 0 and columns.max() < ncols)
-    places = rows * ncols + columns
-    return bool(inside and (places[1:] > places[:-1]).all())
 
 
 def raise_fault(command: str, expected: str, words: Sequence[str]) -> NoReturn:

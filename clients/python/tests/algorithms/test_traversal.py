@@ -1,5 +1,5 @@
 """Rounds with full vectors, where many workers share a product with a column; and vectors out of
-the text of a matrix: their places and values, full and with gaps."""
+matrices: their places and values, full and with gaps."""
 import unittest
 from unittest import mock
 
@@ -11,11 +11,9 @@ import support
 from spmat import algorithms
 from spmat.algorithms import traversal
 from spmat.algorithms.traversal import Columns, Rows
-from spmat.io import matrix_text
 
 pytestmark = pytest.mark.slow
 
-MANY = 3072
 PAIRS = [(i, j) for i in range(40) for j in range(40) if i != j and (7 * i + 3 * j) % 5 == 0]
 SOME_ALONE = graphs.undirected('some vertices have no edge', 50, PAIRS)
 SOME_END = graphs.directed('some vertices have no edge that leaves them', 50,
@@ -86,37 +84,15 @@ class ManyWorkers(unittest.TestCase):
             self.one.workers = 4
 
 
-def text_of(places, count, column):
-    """The text of a row or a column, as the server writes it, with a value for each place."""
-    values = [(-7 * i) % 1000 - 500 for i in places]
-    size, line = ((count, 1), '%d 1 %d\n') if column else ((1, count), '1 %d %d\n')
-    head = matrix_text.BANNER.decode() + '%d %d %d\n' % (*size, len(places))
-    return (head + ''.join(line % (i + 1, value)
-                           for i, value in zip(places, values))).encode(), values
-
-
-class Vectors(unittest.TestCase):
-    """`traversal.read_vector`, and the values alone."""
-
+class Vectors(support.InSession):
     def test_arrays(self):
-        for count in (0, 1, 5, MANY):
-            for places in (list(range(count)), list(range(count))[1::2], list(range(count))[1:]):
-                for column in (False, True):
-                    text, values = text_of(places, count, column)
-                    with self.subTest(count=count, entries=len(places), column=column):
-                        got = traversal.read_vector(text, 0 if column else 1)
-                        self.assertEqual((list(got.at), list(got.values)), (places, values))
-                        bare = traversal.read_vector(text, 0 if column else 1, values=False)
-                        self.assertEqual((list(bare.at), list(bare.values)), (places, []))
-                        self.assertEqual(list(
-                            traversal.read_values(mock.Mock(to_text=lambda text=text: text))),
-                                         values)
-
-    def test_places_of_a_full_vector_are_not_read(self):
-        for column in (False, True):
-            text = text_of(list(range(MANY)), MANY, column)[0]
-            with self.subTest(column=column), \
-                    mock.patch.object(matrix_text, 'read_fields',
-                                      wraps=matrix_text.read_fields) as fields:
-                traversal.read_vector(text, 0 if column else 1)
-                self.assertEqual(fields.call_args.args[1], (2,))
+        """Places and values of rows and columns, and the values alone."""
+        for places in ([], [0, 1, 2, 3], [1, 3]):
+            values = [-7 * i for i in places]
+            row = self.s.from_coo([0] * len(places), places, values, 1, 4)
+            for read, matrix in ((traversal.read_row, row), (traversal.read_column, row.T)):
+                got = read(matrix)
+                self.assertEqual((got.at.tolist(), got.values.tolist()), (places, values))
+                self.assertEqual(traversal.read_values(matrix).tolist(), values)
+        rows, columns = traversal.read_edges(self.s.from_coo([2, 0], [1, 3], 1, 4, 4))
+        self.assertEqual((rows.tolist(), columns.tolist()), ([0, 2], [3, 1]))

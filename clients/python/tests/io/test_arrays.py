@@ -3,15 +3,13 @@ import io
 import os
 import random
 import time
-from unittest import mock
 
 import numpy
 import pytest
 
 from support import InSession, needs
 import spmat
-from spmat import limits
-from spmat.io import matrix_text
+from spmat.io import text_library
 
 pytestmark = pytest.mark.slow
 
@@ -35,21 +33,6 @@ class Numpy(InSession):
                              list(zip(*(part[order].tolist() for part in (rows, columns, values)))))
             self.assertTrue(A.isequal(self.s.from_coo(rows.tolist(), columns.tolist(),
                                                       values.tolist(), 1 << 20, 1 << 20)))
-
-    def test_without_leading_zeros(self):
-        """Where lines of one width are too long for a body, the zeros are taken out."""
-        rows, columns, values = numpy.array([0, 99999,
-                                             7]), numpy.array([12345678, 0, 9]), numpy.array(
-                                                 [0, -10, 2 ** 62])
-        triples = matrix_text.Triples(rows, columns, values, 100000, 12345679)
-        with mock.patch.object(matrix_text, 'FEW_LINES', 0):
-            long = matrix_text.write(triples)
-            with mock.patch.object(limits, 'MOST_TEXT', len(long) - 1):
-                short = matrix_text.write(triples)
-        self.assertEqual(short.split(b'\n')[2:],
-                         [b'1 12345679 +0', b'100000 1 -10', b'8 10 +4611686018427387904', b''])
-        self.assertLess(len(short), len(long))
-        self.assertTrue(self.s.from_text(short).isequal(self.s.from_text(long)))
 
     def test_kinds_of_arrays(self):
         s = self.s
@@ -87,16 +70,6 @@ class Numpy(InSession):
             self.s.from_coo(numpy.array([4, 0, 1, 0]), numpy.array([0, 2, 0, 2]), numpy.arange(4))
         self.assertIn('row 0, column 2 is given as entry 1 and as entry 3', str(said.exception))
         self.assertNotIn('line', str(said.exception))
-
-    def test_small_arrays_are_quick(self):
-        """The table of digits is made once, not at each upload."""
-        matrix_text.write(matrix_text.Triples(numpy.arange(3), numpy.arange(3), numpy.arange(3), 3,
-                                              3))
-        before = matrix_text._four_digits.cache_info().misses
-        for _ in range(5):
-            matrix_text.write(matrix_text.Triples(numpy.arange(3), numpy.arange(3), numpy.arange(3),
-                                                  3, 3))
-        self.assertEqual(matrix_text._four_digits.cache_info().misses, before)
 
     def test_wrong_arrays(self):
         s, one = self.s, numpy.array([0])
@@ -200,6 +173,8 @@ class Scipy(InSession):
         said of the clock's, and the least of three rounds by turns (a third on an idle one)."""
         import scipy.io
         import scipy.sparse
+        if text_library.load() is None:
+            self.skipTest('without its library the client writes in more time')
         r = numpy.random.default_rng(1)
         at = numpy.unique(r.integers(0, 1 << 40, 1_000_000))
         rows, columns, values = at >> 20, at & (1 << 20) - 1, r.integers(-1000, 1000, len(at))

@@ -254,11 +254,15 @@ class Texts(unittest.TestCase):
         self.assertEqual(text, b'%%MatrixMarket matrix coordinate integer general\n3 6 2\n'
                                b'1 6 -9223372036854775808\n3 1 9223372036854775807\n')
         self.assertEqual(self.listed(matrix_text.read(text)), self.listed(triples))
-        self.assertEqual(self.listed(matrix_text.read(matrix_text.swapped(text))),
-                         [[5, 0], [0, 2], [-2 ** 63, 2 ** 63 - 1], 6, 3])
+        self.assertEqual(matrix_text.swapped(text), b'%%MatrixMarket matrix coordinate integer '
+                         b'general\n6 3 2\n6 1 -9223372036854775808\n1 3 9223372036854775807\n')
         self.assertEqual(self.listed(matrix_text.read(matrix_text.EMPTY)), [[], [], [], 0, 0])
-        self.assertEqual(matrix_text.read(text, arrays=False),
-                         matrix_text.Triples([0, 2], [5, 0], [-2 ** 63, 2 ** 63 - 1], 3, 6))
+
+    def test_even_lines(self):
+        for text, count in ((b'', 0), (b'1 2\n', 1), (b' 1\t2 \n\n3 4', 2), (b'1 2\n3\n', None),
+                            (b'1 2\n3 4 5\n', None), (b'\n \n', 0)):
+            with mock.patch.object(matrix_market, 'PIECE', 1):
+                self.assertEqual(matrix_market.count_even_lines(text, 2), count, text)
 
     def test_line_at(self):
         text = b'one\n\nthree\r\n' + b'x' * 200
