@@ -6,7 +6,7 @@ use Rattle.command_text.specs.declared.refusal.Refusal.TheVariants as no
 use Rattle.command_text.specs.declared.rules.SessionRule.TheVariants.{MalformedWords}
 use Rattle.session.specs.Talk.{Talk, finish, stop, go}
 use Rattle.session.specs.declared.end.End.TheVariants.{InputEnd, Quit}
-use Rattle.session_laws.specs.Laws.{TellsWant, HasNoWant}
+use Rattle.session_laws.specs.Laws.{TellsWant, TellNoWant, exchanges}
 use Rattle.step_purse.specs.declared.dealings.Dealing.TheVariants.{Observed}
 use Rattle.step_purse.specs.declared.dealings.Totals.{Totals}
 use Rattle.workspace.specs.State.{empty}
@@ -28,18 +28,18 @@ not_want at text a b c w = elim w [
 ]
 
 pub budget_talk : (totals : Totals) → (talk : Talk false (empty 1) (codes "budget\nquit\n") false (Observed totals ∷ [])
-    (budget_text totals.left totals.reserved totals.spent ++ quit_text) (Some Quit) (empty 1)) × HasNoWant talk
+    (budget_text totals.left totals.reserved totals.spent ++ quit_text) (Some Quit) (empty 1)) × TellNoWant (exchanges talk)
 budget_talk totals = (
   go false (empty 1) (empty 1) (empty 1) (codes "budget\nquit\n") (codes "quit\n") false ask.Budget (Observed totals ∷ []) []
       (budget_text totals.left totals.reserved totals.spent) quit_text (Some Quit) refl (totals, refl, refl, refl)
       (stop false (empty 1) (empty 1) (codes "quit\n") false ask.Quit Quit [] quit_text refl (refl, refl, refl)),
   (
     not_want 0 (budget_text totals.left totals.reserved totals.spent) (λ e. omega (arith, e)) (λ n e. omega (arith, e)) (λ n e. omega (arith, e)),
-    not_want 0 quit_text (λ e. omega (arith, e)) (λ n e. omega (arith, e)) (λ n e. omega (arith, e)),
+    (not_want 0 quit_text (λ e. omega (arith, e)) (λ n e. omega (arith, e)) (λ n e. omega (arith, e)), tt),
   ),
 )
 
-pub rule_talk : (talk : Talk false (empty 1) (codes "op A x 0\n") true [] (refusal_text (no.Session MalformedWords)) (Some InputEnd) (empty 1)) × HasNoWant talk
+pub rule_talk : (talk : Talk false (empty 1) (codes "op A x 0\n") true [] (refusal_text (no.Session MalformedWords)) (Some InputEnd) (empty 1)) × TellNoWant (exchanges talk)
 rule_talk = (
   go false (empty 1) (empty 1) (empty 1) (codes "op A x 0\n") [] true (ask.Op (codes "A") (codes "x") []) [] []
       (refusal_text (no.Session MalformedWords)) [] (Some InputEnd) refl (inr (refl, refl, refl)) (finish false (empty 1) [] true refl),

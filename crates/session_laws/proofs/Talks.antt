@@ -11,7 +11,7 @@ use Rattle.session.specs.NextCommand.{NextCommand, Waits, Ends, Goes, Stops, nex
 use Rattle.session.specs.Talk.{Talk, leave, wait, finish, stop, go}
 use Rattle.session.specs.declared.end.End.{End}
 use Rattle.session.specs.declared.end.End.TheVariants.{InputEnd}
-use Rattle.session_laws.specs.Laws.{ToReserve, ToTotals, budget_replies, TellsWant, HasNoWant, SameText}
+use Rattle.session_laws.specs.Laws.{ToReserve, ToTotals, budget_replies, TellsWant, exchanges, TellNoWant, SameText}
 use Rattle.session_laws.proofs.Bare.{bare_job, price_bare}
 use Rattle.session_laws.proofs.Alike.{AreAlike, alike_empty}
 use Rattle.session_laws.proofs.Turns.{same_turn}
@@ -33,13 +33,13 @@ ends_or_stops x c e p q = cc
 ends_or_goes : (x : NextCommand) (c : Command) (rest : List ℕ) → x ≡ Ends → x ≡ Goes c rest → ⊥
 ends_or_goes x c rest p q = cc
 
-stops_or_goes : (x : NextCommand) (c d : Command) (e : End) (rest : List ℕ) → x ≡ Stops c e → x ≡ Goes d rest → ⊥
+pub stops_or_goes : (x : NextCommand) (c d : Command) (e : End) (rest : List ℕ) → x ≡ Stops c e → x ≡ Goes d rest → ⊥
 stops_or_goes x c d e rest p q = cc
 
-same_stop : (x : NextCommand) (c d : Command) (e f : End) → x ≡ Stops c e → x ≡ Stops d f → (c ≡ d) × (e ≡ f)
+pub same_stop : (x : NextCommand) (c d : Command) (e f : End) → x ≡ Stops c e → x ≡ Stops d f → (c ≡ d) × (e ≡ f)
 same_stop x c d e f p q = (cc, cc)
 
-same_go : (x : NextCommand) (c d : Command) (rest more : List ℕ) → x ≡ Goes c rest → x ≡ Goes d more → (c ≡ d) × (rest ≡ more)
+pub same_go : (x : NextCommand) (c d : Command) (rest more : List ℕ) → x ≡ Goes c rest → x ≡ Goes d more → (c ≡ d) × (rest ≡ more)
 same_go x c d rest more p q = (cc, cc)
 
 not_cut : true ≡ false → ⊥
@@ -63,7 +63,7 @@ record HasGone (t : State) (ended : Bool) (c : Command) (rest : List ℕ) (es : 
   turn : Turn t c first reply mid
   good : TellsWant reply → ⊥
   talk : Talk false mid rest ended later text last v
-  wants_nothing : HasNoWant talk
+  wants_nothing : TellNoWant (exchanges talk)
 
 waited : (cut : Bool) (t v : State) (bytes : List ℕ) (ended : Bool) (es : List Dealing) (other : List ℕ) (last : Option End) → Talk cut t bytes ended es other last v
     → cut ≡ false → next ended bytes ≡ Waits → (es ≡ []) × (other ≡ []) × (last ≡ None) × (v ≡ t)
@@ -82,26 +82,26 @@ finished cut t v bytes ended es other last (stop k s u bs e c x ds reply w turn)
 finished cut t v bytes ended es other last (go k s m u bs rest e c ds fs reply text end w turn talk) f n = absurd (ends_or_goes (next e bs) c rest n w)
 
 stopped : (cut : Bool) (t v : State) (bytes : List ℕ) (ended : Bool) (es : List Dealing) (other : List ℕ) (last : Option End) (b : Talk cut t bytes ended es other last v)
-    → cut ≡ false → HasNoWant b → (c : Command) (x : End) → next ended bytes ≡ Stops c x → HasStopped t c x es other last v
+    → cut ≡ false → TellNoWant (exchanges b) → (c : Command) (x : End) → next ended bytes ≡ Stops c x → HasStopped t c x es other last v
 stopped cut t v bytes ended es other last (leave s bs e) f good c x n = absurd (not_cut f)
 stopped cut t v bytes ended es other last (wait k s bs e w) f good c x n = absurd (waits_or_stops (next e bs) c x w n)
 stopped cut t v bytes ended es other last (finish k s bs e w) f good c x n = absurd (ends_or_stops (next e bs) c x w n)
 stopped cut t v bytes ended es other last (stop k s u bs e d y ds reply w turn) f good c x n =
     let same = same_stop (next e bs) d c y x w n in
-    record { turn = subst (λ (z : Command). Turn s z ds reply u) same.0 turn; ending = ap Some same.1; good = good }
+    record { turn = subst (λ (z : Command). Turn s z ds reply u) same.0 turn; ending = ap Some same.1; good = good.0 }
 stopped cut t v bytes ended es other last (go k s m u bs rest e d ds fs reply text end w turn talk) f good c x n =
     absurd (stops_or_goes (next e bs) c d x rest n w)
 
 gone : (cut : Bool) (t v : State) (bytes : List ℕ) (ended : Bool) (es : List Dealing) (other : List ℕ) (last : Option End) (b : Talk cut t bytes ended es other last v)
-    → cut ≡ false → HasNoWant b → (c : Command) (rest : List ℕ) → next ended bytes ≡ Goes c rest → HasGone t ended c rest es other last v
+    → cut ≡ false → TellNoWant (exchanges b) → (c : Command) (rest : List ℕ) → next ended bytes ≡ Goes c rest → HasGone t ended c rest es other last v
 gone cut t v bytes ended es other last (leave s bs e) f good c rest n = absurd (not_cut f)
 gone cut t v bytes ended es other last (wait k s bs e w) f good c rest n = absurd (waits_or_goes (next e bs) c rest w n)
 gone cut t v bytes ended es other last (finish k s bs e w) f good c rest n = absurd (ends_or_goes (next e bs) c rest w n)
 gone cut t v bytes ended es other last (stop k s u bs e d y ds reply w turn) f good c rest n = absurd (stops_or_goes (next e bs) d c y rest w n)
 gone cut t v bytes ended es other last (go k s m u bs more e d ds fs reply text end w turn talk) f good c rest n =
     let same = same_go (next e bs) d c more rest w n in
-    let there : (x : Talk k m rest e fs text end u) × HasNoWant x = subst (λ (r : List ℕ). (x : Talk k m r e fs text end u) × HasNoWant x) same.1 (talk, good.1) in
-    let whole : (x : Talk false m rest e fs text end u) × HasNoWant x = subst (λ (z : Bool). (x : Talk z m rest e fs text end u) × HasNoWant x) f there in
+    let there : (x : Talk k m rest e fs text end u) × TellNoWant (exchanges x) = subst (λ (r : List ℕ). (x : Talk k m r e fs text end u) × TellNoWant (exchanges x)) same.1 (talk, good.1) in
+    let whole : (x : Talk false m rest e fs text end u) × TellNoWant (exchanges x) = subst (λ (z : Bool). (x : Talk z m rest e fs text end u) × TellNoWant (exchanges x)) f there in
     record {
       mid = m;
       first = ds;
@@ -118,7 +118,7 @@ gone cut t v bytes ended es other last (go k s m u bs more e d ds fs reply text 
 
 -- ---- whole talks
 
-budget_replies-append : (ds es : List Dealing) → budget_replies (ds ++ es) ≡ budget_replies ds ++ budget_replies es
+pub budget_replies-append : (ds es : List Dealing) → budget_replies (ds ++ es) ≡ budget_replies ds ++ budget_replies es
 budget_replies-append [] es = refl
 budget_replies-append (Reserved amount reply ∷ ds) es = ap (λ xs. ToReserve reply ∷ xs) (budget_replies-append ds es)
 budget_replies-append (Settled amount spent ∷ ds) es = budget_replies-append ds es
@@ -131,8 +131,8 @@ record IsSame (ds es : List Dealing) (text other : List ℕ) (end last : Option 
   states : AreAlike u v
 
 same_talk : (cut : Bool) (s u : State) (bytes : List ℕ) (ended : Bool) (ds : List Dealing) (text : List ℕ) (end : Option End) (a : Talk cut s bytes ended ds text end u)
-    → cut ≡ false → HasNoWant a
-    → (t v : State) (es : List Dealing) (other : List ℕ) (last : Option End) (b : Talk false t bytes ended es other last v) → HasNoWant b
+    → cut ≡ false → TellNoWant (exchanges a)
+    → (t v : State) (es : List Dealing) (other : List ℕ) (last : Option End) (b : Talk false t bytes ended es other last v) → TellNoWant (exchanges b)
     → AreAlike s t → budget_replies ds ≡ budget_replies es → IsSame ds es text other end last u v
 same_talk cut s u bytes ended ds text end (leave s0 bs e) f well t v es other last b good alike heard = absurd (not_cut f)
 same_talk cut s u bytes ended ds text end (wait k s0 bs e w) f well t v es other last b good alike heard =
@@ -143,7 +143,7 @@ same_talk cut s u bytes ended ds text end (finish k s0 bs e w) f well t v es oth
     record { dealings = sym h.0; texts = sym h.1; ends = sym h.2; states = subst (AreAlike s0) (sym h.3) alike }
 same_talk cut s u bytes ended ds text end (stop k s0 u0 bs e c x ds0 reply w turn) f well t v es other last b good alike heard =
     let h = stopped false t v bs e es other last b refl good c x w in
-    let same = same_turn s0 t u0 v ds0 es reply other [] [] alike (append-nil (budget_replies ds0) ∙ (heard ∙ sym (append-nil (budget_replies es)))) well h.good c turn h.turn in
+    let same = same_turn s0 t u0 v ds0 es reply other [] [] alike (append-nil (budget_replies ds0) ∙ (heard ∙ sym (append-nil (budget_replies es)))) well.0 h.good c turn h.turn in
     record { dealings = same.dealings; texts = same.replies; ends = sym h.ending; states = same.states }
 same_talk cut s u bytes ended ds text end (go k s0 m u0 bs rest e c ds0 fs reply more x w turn talk) f well t v es other last b good alike heard =
     let h = gone false t v bs e es other last b refl good c rest w in

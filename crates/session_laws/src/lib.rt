@@ -10,7 +10,7 @@ ghost use Rattle.command_text.specs.declared.refusal.Refusal.TheVariants as no;
 ghost use Rattle.command_text.specs.declared.rules.SessionRule.TheVariants.{MalformedWords};
 ghost use Rattle.session.specs.Talk.{Talk};
 ghost use Rattle.session.specs.declared.end.End.TheVariants.{InputEnd, Quit};
-ghost use Rattle.session_laws.specs.Laws.{SameText, HasNoWant};
+ghost use Rattle.session_laws.specs.Laws.{SameText, SameFirst, SaidByCommands, TellNoWant, exchanges};
 ghost use Rattle.step_purse.specs.declared.dealings.Dealing.TheVariants.{Observed};
 ghost use Rattle.step_purse.specs.declared.dealings.Totals.{Totals};
 ghost use Rattle.workspace.specs.State.{empty};
@@ -22,16 +22,28 @@ pub fn same_text()
     ensures law { SameText }
 {}
 
+/// The first commands of two sessions have the same replies and the same calls of the budget, as long
+/// as none of these replies tells of want. One session may have read more than the other, and either
+/// may have been broken off by a write that failed.
+pub fn same_first()
+    ensures law { SameFirst }
+{}
+
+/// What a session says, and its calls of the budget, are those of its commands, in order.
+pub fn said_by_commands()
+    ensures law { SaidByCommands }
+{}
+
 /// The law is of talks that there are: this one has no want, whatever the budget's totals are.
 pub fn budget_told()
     ensures talk { (totals : Totals) → (talk : Talk false (empty 1) (codes "budget\nquit\n") false (Observed totals ∷ [])
-        (budget_text totals.left totals.reserved totals.spent ++ quit_text) (Some Quit) (empty 1)) × HasNoWant talk }
+        (budget_text totals.left totals.reserved totals.spent ++ quit_text) (Some Quit) (empty 1)) × TellNoWant (exchanges talk) }
 {}
 
 /// The law needs its premise: to one line a session may reply with the rule that it breaks, or that
 /// memory is wanting.
 pub fn want_told()
     ensures rule { (talk : Talk false (empty 1) (codes "op A x 0\n") true [] (refusal_text (no.Session MalformedWords))
-        (Some InputEnd) (empty 1)) × HasNoWant talk }
+        (Some InputEnd) (empty 1)) × TellNoWant (exchanges talk) }
     ensures want { Talk false (empty 1) (codes "op A x 0\n") true [] (refusal_text no.Memory) (Some InputEnd) (empty 1) }
 {}
