@@ -20,7 +20,7 @@ PAUSES = (0, 60)
 
 class Package(NamedTuple):
     """A package, what is left out without it, and how it is seen: a program, or a module of the
-    distribution's Python. Quick tests want few of them."""
+    distribution's Python. Quick tests install few of them, a tenth of the bytes of all."""
     name: str
     of: str
     program: str = ''
@@ -37,14 +37,14 @@ class Package(NamedTuple):
 
 
 PACKAGES = (
-    Package('mypy', 'the client\'s types', program='mypy', is_quick=True),
-    Package('pylint', 'the client\'s style', program='pylint', is_quick=True),
+    Package('mypy', 'the client\'s types', program='mypy'),
+    Package('pylint', 'the client\'s style', program='pylint'),
     Package('valgrind', 'counts of instructions', program='valgrind'),
     Package('python3-pytest', 'the client\'s tests, and networkx\' own', module='pytest', is_quick=True),
     Package('python3-pytest-xdist', 'quick tests, side by side', module='xdist', is_quick=True),
     Package('python3-numpy', 'the client', module='numpy', is_quick=True),
     Package('python3-click', 'the client\'s commands', module='click', is_quick=True),
-    Package('python3-scipy', 'matrices of scipy', module='scipy', is_quick=True),
+    Package('python3-scipy', 'matrices of scipy', module='scipy'),
     Package('python3-pandas', 'lists that pandas reads, and frames', module='pandas', is_quick=True),
     Package('python3-networkx', 'the networkx backend', module='networkx', is_quick=True),
     Package('python3-matplotlib', 'pictures', module='matplotlib'),
