@@ -14,6 +14,7 @@ import enum
 import functools
 import itertools
 import numbers
+import re
 from collections import Counter
 from collections.abc import KeysView, Mapping, Set
 from typing import (TYPE_CHECKING, Any, Dict, Iterable, Iterator, List, NamedTuple, Optional,
@@ -30,6 +31,7 @@ N = TypeVar('N', bound='MatrixBase')
 FEW_NAMES = 6                                      # so many names are listed where one isn't found
 FEW_NEAR, LIKE = 2, .7                             # so many names that are so much alike
 TRUTHS = (bool, numpy.bool_)
+NUMBER = re.compile(r'[+-]?[0-9]+(\.[0-9]*)?')     # as names write one
 
 
 class Nodes(Sequence[Any]):
@@ -39,7 +41,7 @@ class Nodes(Sequence[Any]):
     It is a sequence that equals a list, or a tuple, of the same names, as networkx' views and
     pandas' indexes are of theirs."""
 
-    def __init__(self, names: Iterable[Any], is_cut: int = False) -> None:
+    def __init__(self, names: Iterable[Any], is_cut: int = 0) -> None:
         # whether it is the one row, or column, that was cut from a graph: 1 by a list, 2 by itself
         self.is_cut = is_cut
         self._names: List[Any] = names._names if isinstance(names, Nodes) else list(names)
@@ -97,8 +99,8 @@ class Nodes(Sequence[Any]):
     def numbered(self) -> bool:
         """Whether some name is a number, or text of one, so that a number isn't taken for an
         index."""
-        return any(isinstance(name, numbers.Number) or isinstance(name, str) and name.isdecimal()
-                   for name in self)
+        return any(NUMBER.fullmatch(name) is not None if isinstance(name, str)
+                   else isinstance(name, numbers.Number) for name in self)
 
     @functools.cached_property
     def are_counted(self) -> bool:

@@ -2,7 +2,9 @@
 one row or one column."""
 import decimal
 import math
+import os
 import random
+import tempfile
 import unittest
 import warnings
 
@@ -149,6 +151,9 @@ class VertexValues(support.InSession):
                      lambda: a.update(b, mask=b.S), lambda: a.assign(b, ['x', 'y'])):
             self.assertIn("'a' and 'q'", support.said(spmat.NamesDiffer, call))
         self.assertEqual(a.ewise_mult(b, 'first').by_node(), {'x': 'b', 'y': 'a'})
+        C = s.from_edgelist([('x', 'a', 5), ('y', 'b', 7), ('y', 'c', 9)], bipartite=True)
+        self.assertIn('have different names: 2 and 3 names', support.said(
+            spmat.NamesDiffer, a.ewise_mult, C.reduce_rowwise('argmax'), 'eq'))
 
     def test_forms(self):
         """Whatever gives the entries another place keeps what their values are."""
@@ -254,6 +259,13 @@ class OneRow(support.InSession):
             self.assertEqual((part.top(1), part.to_pandas().to_dict()), ([(name, value)], wanted))
         self.assertEqual(tea[:, 'tea'].ewise_add(self.jam[:, 'jam']).by_node(),
                          {'Ann': 11, 'Bob': 22})
+        with tempfile.TemporaryDirectory() as folder:
+            path = os.path.join(folder, 'cut.spmat')
+            s.save(path, one=tea['Bob', :], row=G['a', :], tea=tea)
+            found = s.load(path)
+        self.assertEqual(found['one'].by_node(), {'tea': 2})
+        self.assertEqual(found['row'].ewise_add(G['b', :]).by_node(), {'b': 1, 'c': 9})
+        self.assertEqual(found['tea'].column_nodes, ['tea'])
 
     def test_one_column_folded(self):
         r = self.tea.reduce_columnwise('plus')
@@ -342,6 +354,9 @@ class Kinds(support.InSession):
         self.assertIn("no vertex 0: they are '1', '2', '3'",
                       support.said(ValueError, lambda: G[0, :]))
         self.assertEqual(G['1':'2', :].to_edgelist(), [('1', '2', 5), ('2', '3', 7)])
+        for names in (['1.0', '2.0'], ['-1', '+2'], ['x', '3']):
+            H = self.session.from_coo([0], [1], 5, 2, 2, nodes=names)
+            self.assertRaises(ValueError, H.index, 0)
         H = self.session.from_edgelist([(1, 2, 5)])
         self.assertIn("did you mean 1? '1' and 1 are two names",
                       support.said(ValueError, lambda: H['1', 2]))

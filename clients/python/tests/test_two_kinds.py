@@ -129,11 +129,13 @@ class TwoKinds(Both):
             s.save(path, B=B)
             with zipfile.ZipFile(path) as file:
                 parts = {name: file.read(name) for name in file.namelist()}
-            contents = json.loads(parts['matrices.json'])
-            for kinds in (None, 5, [1, -1], [1, -1, 0, 0], [1.5, 0, 0], [True, 0, 0], ['1', 0, 0]):
-                contents['matrices']['B']['kinds'] = kinds
+            for what, wrong in [('kinds', kinds) for kinds in (
+                    None, 5, [1, -1], [1, -1, 0, 0], [1.5, 0, 0], [True, 0, 0], ['1', 0, 0])] + [
+                        ('cut', cut) for cut in (None, 1, [1], [1, 3], [-1, 0], [True, 0])]:
+                contents = json.loads(parts['matrices.json'])
+                contents['matrices']['B'][what] = wrong
                 with zipfile.ZipFile(path, 'w') as file:
                     for name, text in parts.items():
                         file.writestr(name, json.dumps(contents) if name == 'matrices.json'
                                       else text)
-                self.assertIn('kinds: expected', support.said(spmat.ReadError, s.load, path))
+                self.assertIn('%s: expected' % what, support.said(spmat.ReadError, s.load, path))

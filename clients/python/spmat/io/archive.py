@@ -22,7 +22,7 @@ from typing import Any, Dict, Generic, Iterator, Mapping, Optional, Tuple
 from ..errors import ReadError, SpmatError, TextRefused, TooLarge
 from ..limits import MOST_TEXT
 from ..matrix import Matrix
-from ..metadata import Metadata, Nodes, Unnamed, VertexUnit, new_kind
+from ..metadata import COLUMNS, ROWS, Metadata, Nodes, Unnamed, VertexUnit, new_kind
 from ..scale import as_unit
 from . import matrix_market
 from .array_importers import DupOp, Made
@@ -176,6 +176,9 @@ def _describe(name: str, notes: Metadata) -> Dict[str, Any]:
     kinds = [notes.row_kind, notes.column_kind, getattr(notes.unit, 'kind', 0)]
     if any(kinds):
         about['kinds'] = kinds
+    cuts = [notes.axis(axis).cut for axis in (ROWS, COLUMNS)]
+    if any(cuts):
+        about['cut'] = cuts
     return about
 
 
@@ -246,6 +249,12 @@ def _read_notes(about: Dict[str, Any], shape: Tuple[int, int]) -> Metadata:
     """What is known of a matrix of these sizes. ValueError where it can't be."""
     rows = decode_names(about['rows'], shape[0])
     columns = decode_names(about['columns'], shape[1], rows)
+    cuts = expect(about.get('cut', [0, 0]), list, 'cut')
+    if len(cuts) != 2 or any(type(cut) is not int or not 0 <= cut <= 2 for cut in cuts):
+        raise ValueError('cut: expected two numbers from 0 to 2, of rows and of columns, not %.40r'
+                         % (cuts,))
+    rows, columns = (names if names is None or not cut else Nodes(names, cut)
+                     for names, cut in zip((rows, columns), cuts))
     vertices = decode_names(about.get('values'), None, rows)
     # which older files don't say
     words = expect(about.get('unnamed', ['positions', 'positions']), list, 'unnamed')
