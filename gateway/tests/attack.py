@@ -24,7 +24,7 @@ NAMES = ('spmat-gateway', 'spmat-gateway-two')
 
 
 class Watch(threading.Thread):
-    """Looks each second at memory and descriptors of gateways: at first, at most, and in the end."""
+    """Looks each second at memory and descriptors of gateways: at first, at most, in the end."""
 
     def __init__(self, gateways, stop):
         super().__init__(daemon=True)
@@ -129,12 +129,13 @@ class Attack(unittest.TestCase):
             charged[row['account']] += row['charged']
         off = [name for name in spent if spent[name] != charged[name]]
         print('attack: %d s, %d sessions in the ledger, %d good ones read whole (%d bytes '
-              'compared), %d cut, %d told, %d turned away, %d hostile acts, killed and held %s, '
-              'charged %d steps, accounts off %d, faults %d; of good tries served, by minutes: %s; '
-              'MB, descriptors, threads: %s before, %s at most, %s after' % (
+              'compared), %d cut, %d told, %d turned away, %d found no gateway, %d hostile acts, '
+              'killed and held %s, charged %d steps, accounts off %d, faults %d; good ones served, '
+              'by minutes: %s; MB, descriptors, threads: %s before, %s at most, %s after' % (
                   SECONDS, len(rows), report.whole, report.bytes, report.cut, report.told,
-                  report.refused, report.hostile, killer.killed, sum(charged.values()), len(off),
-                  len(faults), ' '.join(report.shares()), watch.first, watch.most, watch.look()))
+                  report.refused, report.down, report.hostile, killer.killed,
+                  sum(charged.values()), len(off), len(faults), ' '.join(report.shares()),
+                  watch.first, watch.most, watch.look()), flush=True)
         self.assertEqual([words[-2_000:] for words in killer.faults + faults], [])
         self.assertEqual(off, [])
         self.assertIn('all sums', one.command('ledger', '--check'))

@@ -48,6 +48,7 @@ class Unit(Gateway):
         self.state, self.admin = ('%s/%s' % pair for pair in (('/var/lib', name),
                                                               ('/run', name + '/admin.sock')))
         self._unit, self.process = name + '.service', Main(name + '.service')
+        self._is_started = False
         shutil.copy(keys['tls_certificate'], '/etc/%s.pem' % name)
         shutil.chown('/etc/%s.pem' % name, 'spmat-gateway')
         self.set(tls_certificate='/etc/%s.pem' % name)
@@ -66,10 +67,10 @@ class Unit(Gateway):
             file.write('[Service]\nEnvironment=LD_PRELOAD=%s CLOCK_BY=%s\n' % (library, path))
 
     def start(self, ready=True):
-        if self.process.pid == 0 and run('systemctl', 'show', '-p', 'ActiveState', '--value',
-                                         self._unit) == 'inactive':
+        if not self._is_started:                   # after a kill systemd starts it
             run('systemctl', 'daemon-reload')
-            run('systemctl', 'start', self._unit)
+            run('systemctl', 'restart', self._unit)
+            self._is_started = True
         until('the unit is ready', self.is_ready)
 
     def is_ready(self):

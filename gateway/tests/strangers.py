@@ -14,7 +14,6 @@ import random
 import re
 import signal
 import socket
-import ssl
 import struct
 import threading
 import time
@@ -55,20 +54,21 @@ class Report:
         self.lock = threading.Lock()
         # who, the steps that it has read, those that may have been spent, its last line
         self.sessions = []
-        self.whole = self.cut = self.told = self.refused = self.hostile = self.bytes = 0
+        self.whole = self.cut = self.told = self.refused = self.hostile = self.bytes = self.down = 0
         self.faults = []
         self.began = time.monotonic()
-        self.minutes = collections.defaultdict(lambda: [0, 0])  # tries of good ones, and served ones
+        # of each minute the connections of good clients, and those that were served
+        self.minutes = collections.defaultdict(lambda: [0, 0])
 
     def count(self, served):
-        """A good client was served, or wasn't."""
+        """A gateway has taken a good client's connection, and served it or didn't."""
         with self.lock:
             minute = self.minutes[int(time.monotonic() - self.began) // 60]
             minute[0] += 1
             minute[1] += served
 
     def shares(self):
-        """Of the tries of each minute the part that was served."""
+        """Of the connections of each minute the part that was served."""
         return ['%.2f' % (served / tries) for _, (tries, served) in sorted(self.minutes.items())]
 
     def fault(self, words):
@@ -94,7 +94,11 @@ class Good(threading.Thread):
         while not self._stop_at.is_set():
             try:
                 self._session()
-            except (OSError, ssl.SSLError):        # a gateway that is down
+            except ConnectionRefusedError:         # the gateway is being started again
+                with self._report.lock:
+                    self._report.down += 1
+                self._stop_at.wait(1.0)
+            except OSError:
                 self._report.count(False)
                 self._stop_at.wait(1.0)
 
@@ -147,8 +151,13 @@ class Hostile(threading.Thread):
 
     def run(self):
         while not self._stop_at.is_set():
-            with contextlib.suppress(OSError, ssl.SSLError):
+            try:
                 self._draw.choice(self._kinds)()
+            except ConnectionRefusedError:         # as above
+                self._stop_at.wait(0.5)
+                continue
+            except OSError:
+                pass
             with self._report.lock:
                 self._report.hostile += 1
 
