@@ -344,7 +344,7 @@ def _read_numbers(kind: Kind, body: bytes) -> Optional[List[Any]]:
         return None
     try:
         numbers = (numpy.fromstring(body, numpy.float64, sep=' ') if others
-                   else matrix_text.read_lines(body, width).ravel())
+                   else matrix_text.read_any_lines(body, width).ravel())
     except (ValueError, DeprecationWarning):       # of what is no number, as numpy will have it
         return None
     # numpy's reader ends amid the last one without a word, at 2 of `2-1`

@@ -93,7 +93,7 @@ def _read_by_numpy(text: bytes) -> Triples:
     nrows, ncols, nvals, start = head_of(text)
     if WHOLE.fullmatch(text) is None or max(nrows, ncols) > limits.MOST_SIDE:
         raise ValueError('it is not as the server writes a matrix')
-    rows, columns, values = numpy.ascontiguousarray(read_lines(text[start:]).T)
+    rows, columns, values = numpy.ascontiguousarray(read_any_lines(text[start:]).T)
     rows, columns = rows - 1, columns - 1
     places = rows * ncols + columns
     if not (len(rows) == nvals and (rows < nrows).all() and (columns < ncols).all()
@@ -103,15 +103,22 @@ def _read_by_numpy(text: bytes) -> Triples:
 
 
 def read_lines(lines: bytes, width: int = 3) -> Any:
-    """The numbers of lines that have so many each: an array with a row for each line. ValueError of
-    others, and of numbers beyond 64 bits."""
+    """The numbers of lines that the client or a server wrote, so many a line: an array with a row
+    for each line."""
     numbers = (numpy.fromstring(lines, numpy.int64, sep=' ') if lines
                else numpy.zeros(0, numpy.int64))
-    # where numpy's reader ends at what is beyond 64 bits
-    if ((numbers == MOST) | (numbers == LEAST)).any() and numbers.tolist() != list(
+    return numbers.reshape(-1, width)
+
+
+def read_any_lines(lines: bytes, width: int = 3) -> Any:
+    """The same of lines of anybody. ValueError of a number beyond 64 bits, and where lines have
+    other widths."""
+    found = read_lines(lines, width)
+    # numpy takes the nearest number that has 64 bits
+    if ((found == MOST) | (found == LEAST)).any() and found.ravel().tolist() != list(
         map(int, lines.split())):
         raise ValueError('a number is beyond 64 bits')
-    return numbers.reshape(-1, width)
+    return found
 
 
 class Head(NamedTuple):

@@ -21,7 +21,7 @@ class Numbers(unittest.TestCase):
                      random_.randrange(1, 1 << 24), random_.choice(ends) if k % 7 == 0
                      else random_.randrange(-1 << random_.randrange(1, 63), 1 << 40))
                     for k in range(many)]
-            got = matrix_text.read_lines(b''.join(b'%d %d %d\n' % line for line in made))
+            got = matrix_text.read_any_lines(b''.join(b'%d %d %d\n' % line for line in made))
             self.assertEqual((list(map(tuple, got.tolist())), got.dtype), (made, numpy.int64))
         self.assertEqual(matrix_text.read_lines(b'1 2\n3 4\n', 2).tolist(), [[1, 2], [3, 4]])
 
@@ -29,7 +29,7 @@ class Numbers(unittest.TestCase):
         for lines in (b'1 2\n', b'1 2 9223372036854775808\n', b'1 2 -9223372036854775809\n',
                       b'1 2 3\n4\n'):
             with self.assertRaises(ValueError):
-                matrix_text.read_lines(lines)
+                matrix_text.read_any_lines(lines)
 
 
 class Loading(InSession):
