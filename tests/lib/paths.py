@@ -15,6 +15,7 @@ DISTRIBUTIONS = (CLIENT, BLOCKS, NETWORKX)
 # the PYTHONPATH by which a checkout has what is installed
 PYTHON_PATH = os.pathsep.join(DISTRIBUTIONS)
 PROGRAM = os.path.join(TOP, 'crates', 'spmat', 'out', 'spmat')
+LIBRARY = os.path.join(TOP, 'crates', 'spmat_lib', 'out', 'libspmat.so')
 PLAIN_SERVER = os.path.join(TOP, 'reference', '__main__.py')
 
 

@@ -13,6 +13,7 @@ from tests.lib.paths import TOP
 from tests.lib.patience import FOR_A_COMMAND
 
 PROGRAM = os.path.relpath(paths.PROGRAM, TOP)
+LIBRARY = os.path.relpath(paths.LIBRARY, TOP)
 WHO = {'GIT_%s_%s' % (role, what): value for role in ('AUTHOR', 'COMMITTER')
        for what, value in (('NAME', 'nobody'), ('EMAIL', 'nobody@localhost'),
                            ('DATE', '2026-01-02T03:04:05Z'))}

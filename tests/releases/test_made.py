@@ -17,7 +17,7 @@ from typing import Dict, List
 
 from tests.lib.paths import TOP
 from tests.lib.patience import FOR_A_COMMAND
-from tests.releases.copies import PROGRAM, Copy, needs_git
+from tests.releases.copies import LIBRARY, PROGRAM, Copy, needs_git
 from tools.releasing import look, tree
 
 # the Debian packages too, and every Python of this machine
@@ -78,6 +78,8 @@ class Made(unittest.TestCase):
         program = os.path.abspath(os.environ.get('SPMAT') or os.path.join(TOP, PROGRAM))
         if not os.access(program, os.X_OK):
             raise unittest.SkipTest('no program %s' % program)
+        if not os.path.exists(os.path.join(TOP, LIBRARY)):
+            raise unittest.SkipTest('no library: tools/build makes it')
         if shutil.which('rt') is None:
             raise unittest.SkipTest('no rt')
         cls.kinds = cls.parts()
@@ -87,8 +89,9 @@ class Made(unittest.TestCase):
         first = None
         for room in cls.rooms:
             copy = first = Copy(os.path.join(room.name, 'tree'), first)
-            os.makedirs(os.path.dirname(copy.path(PROGRAM)), exist_ok=True)
-            shutil.copy(program, copy.path(PROGRAM))
+            for path, name in ((program, PROGRAM), (os.path.join(TOP, LIBRARY), LIBRARY)):
+                os.makedirs(os.path.dirname(copy.path(name)), exist_ok=True)
+                shutil.copy(path, copy.path(name))
             if not cls.made:                       # the other folder is a copy of this one
                 name_toolchain_of_this_machine(copy)
             copy.pass_gate()
@@ -135,6 +138,9 @@ class Made(unittest.TestCase):
     def program(self) -> bytes:
         return self.bytes_of(os.path.join(self.rooms[0].name, 'tree', PROGRAM))
 
+    def library(self) -> bytes:
+        return self.bytes_of(os.path.join(self.rooms[0].name, 'tree', LIBRARY))
+
     def test_the_same_bytes_from_two_folders(self) -> None:
         for name in sorted(set(self.made[0]) | set(self.made[1])):
             with self.subTest(name=name):
@@ -164,6 +170,8 @@ class Made(unittest.TestCase):
             reached.add(left[-1])
             left.extend(name for name in links[left.pop()] if name not in reached)
         self.assertEqual(reached, set(known))
+        self.assertIn({'name': 'spmat:library', 'value': sum_of(self.library())},
+                      told['metadata']['component']['properties'])
         for name in ('clap', 'strsim', 'hex', 'itoa', 'thiserror', 'crossbeam_utils', 'bpf_verify',
                      'glibc'):
             self.assertIn(name, known)
@@ -207,6 +215,8 @@ class Made(unittest.TestCase):
                 self.assertEqual(carried in held.namelist(), 'manylinux_2_34_x86_64' in name)
                 if carried in held.namelist():
                     self.assertEqual(sum_of(held.read(carried)), sum_of(self.program()))
+                    self.assertEqual(sum_of(held.read('spmat/carried/libspmat.so')),
+                                     sum_of(self.library()))
                     self.assertEqual(held.getinfo(carried).external_attr >> 16 & 0o777, 0o755)
                 about = held.read(next(entry for entry in held.namelist()
                                        if entry.endswith('/METADATA'))).decode()
@@ -243,6 +253,9 @@ class Made(unittest.TestCase):
                                        'import spmat; print(spmat.__version__)']), file.read())
         karate = os.path.join(TOP, 'docs', 'karate.mtx')
         self.assertEqual(self.ran(room, ['env/bin/spmat-graph', 'triangle-count', karate]), '45\n')
+        asked = 'from spmat.io import text_library as t; print(t.load() is not None, t.find())'
+        self.assertRegex(self.ran(room, ['env/bin/python', '-c', asked]),
+                         r'^True .*/env/.*/spmat/carried/libspmat\.so\n$')
         self.use_others(room)
         self.assertEqual(self.ran(room, ['env/bin/spmat', 'run', '--steps', '5', '--workers', '1'],
                                   'budget\n'), 'ok budget 5 0 0\n')
@@ -283,6 +296,8 @@ class Made(unittest.TestCase):
                                check=True)
             self.assertEqual(sum_of(self.bytes_of(os.path.join(room, 'usr/bin/spmat'))),
                              sum_of(self.program()))
+            self.assertEqual(self.bytes_of(os.path.join(room, 'usr/lib/spmat/libspmat.so')),
+                             self.library())
             for path in ('usr/share/man/man1/spmat.1.gz', 'usr/share/man/man7/spmat-protocol.7.gz',
                          'usr/share/man/man7/spmat-operators.7.gz',
                          'usr/share/man/man7/spmat-bpf.7.gz',

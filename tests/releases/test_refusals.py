@@ -9,7 +9,7 @@ import unittest
 import zipfile
 
 from tests.lib.paths import TOP
-from tests.releases.copies import PROGRAM, TELLS, Copy, InCopy, needs_git
+from tests.releases.copies import LIBRARY, PROGRAM, TELLS, Copy, InCopy, needs_git
 
 
 def documented() -> str:
@@ -39,6 +39,7 @@ class Refusals(InCopy):
         self.copy.toolchain(documented())
         self.version = self.copy.text('VERSION').strip()
         self.copy.write(PROGRAM, TELLS % self.version, 0o755)
+        self.copy.write(LIBRARY, 'a library')
         self.copy.pass_gate()
 
     def refused(self, said: str) -> None:
@@ -156,6 +157,12 @@ class Refusals(InCopy):
     def test_a_program_that_did_not_pass(self) -> None:
         self.copy.write(PROGRAM, TELLS % self.version + '# another\n', 0o755)
         self.refused('is not the program that passed the gate')
+
+    def test_another_library(self) -> None:
+        self.copy.write(LIBRARY, 'another library')
+        self.refused('is not the library that passed the gate')
+        os.remove(self.copy.path(LIBRARY))
+        self.refused('there is no ' + LIBRARY)
 
     def test_a_commit_that_did_not_pass(self) -> None:
         self.copy.commit()

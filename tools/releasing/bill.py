@@ -81,7 +81,7 @@ def dependencies(components: List[Dict[str, Any]]) -> List[Dict[str, Any]]:
     below = {name: sorted(graph.get(name, []) + parts.BELOW.get(name, []) + inside.get(name, []))
              for name in (part['bom-ref'] for part in components)}
     links = [{'ref': name, 'dependsOn': names} for name, names in sorted(below.items())]
-    whole = ['spmat', 'glibc', *parts.STANDARD] + [part['bom-ref'] for part in components
+    whole = ['spmat', 'spmat_lib', 'glibc', *parts.STANDARD] + [part['bom-ref'] for part in components
                                   if part['bom-ref'].endswith('.a')]
     return [{'ref': 'release', 'dependsOn': sorted(whole)}] + links
 
@@ -95,7 +95,9 @@ def bill(program: str) -> str:
           'licenses': [{'expression': 'MIT'}],
           'externalReferences': [{'type': 'website', 'url': look.homepage()}],
           'properties': [{'name': 'spmat:commit', 'value': tree.commit()},
-                         {'name': 'spmat:logic', 'value': logic_of(program)}]}
+                         {'name': 'spmat:logic', 'value': logic_of(program)},
+                         {'name': 'spmat:library',
+                          'value': tree.sum_of(tree.path_of(tree.LIBRARY))}]}
     time = datetime.datetime.fromtimestamp(tree.commit_time(),
                                            datetime.timezone.utc).strftime('%Y-%m-%dT%H:%M:%SZ')
     told = {'bomFormat': 'CycloneDX', 'specVersion': '1.5',

@@ -152,6 +152,7 @@ def make(to: str, program: str) -> None:
         lay_out(stage)
         site.lay_out(stage)
         environment = dict(os.environ, SPMAT_PROGRAM=program,
+                           SPMAT_LIBRARY=tree.path_of(tree.LIBRARY),
                            SOURCE_DATE_EPOCH=str(tree.commit_time()), PATH=system_path(),
                            LC_ALL='C.UTF-8')
         environment.pop('PYTHONPATH', None)

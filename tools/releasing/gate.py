@@ -22,7 +22,8 @@ UNKNOWN = 'none'
 # A run that lacks one of these is none of the gate.
 STEPS = ('documents', 'definitions', 'release --check', 'a fresh clone', 'rt ci', 'refused memory',
          'little memory', 'cases', 'served', 'instructions', 'odd texts', 'altered code', 'opcodes',
-         'fuzzer', 'client', 'spmat-blocks', 'spmat-networkx', 'networkx', 'snippets', 'release')
+         'fuzzer', 'client', 'client, without its library', 'spmat-blocks', 'spmat-networkx',
+         'networkx', 'snippets', 'release')
 MOST_SECONDS = 20 * 60                             # of a step that has no other limit
 LINES_OF_A_FAULT = 20                              # that are repeated behind what other steps said
 
@@ -102,6 +103,7 @@ class Run:
         note = {'commit': self.began if self.began == state() else UNKNOWN,
                 'toolchain': ' logic '.join(toolchain) if toolchain else UNKNOWN,
                 'program': tree.sum_of(tree.path_of(tree.PROGRAM)),
+                'library': tree.sum_of(tree.path_of(tree.LIBRARY)),
                 'ended': datetime.datetime.now(datetime.timezone.utc).strftime(
                     '%Y-%m-%dT%H:%M:%SZ'),
                 'steps': {step.name: step.seconds for step in self.steps}}
@@ -154,9 +156,11 @@ def read() -> Dict[str, Any]:
 def faults() -> List[str]:
     """Why the program that lies here isn't the one that passed the gate at this commit, by this
     toolchain."""
-    if not os.path.exists(tree.path_of(tree.PROGRAM)):
-        return ['there is no program %s: tools/build makes it, and tools/test passes it'
-                % tree.PROGRAM]
+    missing = [name for name in (tree.PROGRAM, tree.LIBRARY)
+               if not os.path.exists(tree.path_of(name))]
+    if missing:
+        return ['there is no %s: tools/build makes it, and tools/test passes it' % name
+                for name in missing]
     note = read()
     if not note:
         return ['no gate has passed here: tools/test writes %s at its end' % NOTE]
@@ -164,8 +168,9 @@ def faults() -> List[str]:
     if note.get('commit') != tree.commit():
         out.append('the gate passed commit %s, and this is %s'
                    % (note.get('commit'), tree.commit()))
-    if note.get('program') != tree.sum_of(tree.path_of(tree.PROGRAM)):
-        out.append('%s is not the program that passed the gate' % tree.PROGRAM)
+    out += ['%s is not the %s that passed the gate' % (name, kind)
+            for kind, name in (('program', tree.PROGRAM), ('library', tree.LIBRARY))
+            if note.get(kind) != tree.sum_of(tree.path_of(name))]
     toolchain = tree.toolchain()
     here = ' logic '.join(toolchain) if toolchain else UNKNOWN
     if note.get('toolchain') != here:

@@ -133,6 +133,8 @@ def release_faults() -> List[str]:
 def untested_faults() -> List[str]:
     """What stands against packages of a tree that no gate has passed: as `faults`, and that there
     is no program."""
-    here = os.path.exists(tree.path_of(tree.PROGRAM))
-    return faults() + ([] if here else ['there is no program %s: `rt run` in crates/spmat makes it'
-                                        % tree.PROGRAM]) + program_faults()
+    return faults() + [
+        'there is no %s %s: %s makes it' % (kind, name, how)
+        for kind, name, how in (('program', tree.PROGRAM, '`rt run` in crates/spmat'),
+                                ('library', tree.LIBRARY, 'tools/build --library'))
+        if not os.path.exists(tree.path_of(name))] + program_faults()

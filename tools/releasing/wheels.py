@@ -1,7 +1,7 @@
 """The wheels: of the Python client one for every machine, and one for Linux on x86_64 that carries
-the program; of each other distribution one.
+the program and the client's library; of each other distribution one.
 
-setuptools makes the first; the second is the same with the program and the command `spmat` added.
+setuptools makes the first; the second is the same with these and the command `spmat` added.
 Both are packed here, so that their bytes depend on their files alone, and not on the folder, the
 time or the user.
 """
@@ -88,6 +88,8 @@ def with_program(files: Dict[str, Entry], program: str) -> Dict[str, Entry]:
     return {**files, information('WHEEL'): Entry(kind.encode()),
             information('entry_points.txt'): Entry(points),
             information('THIRD-PARTY.md'): Entry(tree.bytes_of(tree.path_of('THIRD-PARTY.md'))),
+            'spmat/carried/' + os.path.basename(tree.LIBRARY): Entry(
+                tree.bytes_of(tree.path_of(tree.LIBRARY))),
             'spmat/carried/spmat': Entry(tree.bytes_of(program), is_program=True)}
 
 
