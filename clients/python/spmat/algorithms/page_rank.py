@@ -136,16 +136,28 @@ class System:
         unit = (self.damping.parts << BITS) // self.damping.whole
         return out.apply(asm('unary', 'wide r0, %d\ndiv64 r0, r1\nexit\n' % unit))
 
-    def flow(self, ranks: Matrix, turn: Operator) -> Matrix:
-        """What comes to each vertex of what others have, which an operator turns into shares."""
-        return self.lines.step(ranks.ewise_mult(self.reciprocals, turn), self._ring)
+    def flow(self, shares: Matrix) -> Matrix:
+        """What comes to each vertex of the shares that others hand on."""
+        return self.lines.step(shares, self._ring)
 
-    def comes_to_all(self, flow: Matrix) -> bool:
-        """Whether something comes to each vertex that edges leave; it is kept with the graph."""
-        graph, reciprocals = self.lines.graph, self.reciprocals
-        return graph.directed is False or bool(
-            found(graph, 'comes to all, %s' % self._weighted, lambda: bool(
-                flow.ewise_mult(reciprocals, 'first').nvals == reciprocals.nvals)))
+    def shares(self, ranks: Matrix) -> Matrix:
+        """The shares of ranks, which all vertices have."""
+        return ranks.ewise_mult(self.reciprocals, SHARE_OF_ALL)
+
+    def shares_of(self, rank: int) -> Matrix:
+        """The shares of one rank."""
+        text = 'mov64 r2, r1\nwide r0, %d\n%s' % (rank, SHARE)
+        return self.reciprocals.apply(asm('unary', text))
+
+    def factors(self, flow: Matrix, base: int) -> Matrix:
+        """The reciprocals of the vertices to which something comes, and of others the shares of
+        what they are given anew; kept with the graph, as its edges say to whom something comes."""
+        def find() -> Matrix:
+            reached = flow.ewise_mult(self.reciprocals, 'second')
+            return reached.ewise_add(self.shares_of(base), 'first')
+        made: Matrix = found(self.lines.graph, 'factors of %d for %d/%d of %s, %s' % (
+            base, *self.damping, type(self.lines).__name__, self._weighted), find)
+        return made
 
     def rounding(self, count: int, weight: int) -> float:
         """What rounding may take of all ranks together in one round, where edges weigh so much."""
@@ -158,16 +170,18 @@ class System:
 
 
 class Flowing(NamedTuple):
-    """A round of flows. A column is added to all before they are turned into shares, where the
-    operator doesn't add the same to each."""
+    """A round of flows. Where all vertices are given the same anew, an operator adds that to a
+    flow, and turns it into shares by its vertex' factor; else what they are given is added before.
+    """
     system: System
-    turn: Operator
-    column: Optional[Matrix]
+    given: Matrix
+    turn: Optional[Operator]
 
     def make(self, numbers: Matrix) -> Dict[str, Matrix]:
         """The next flows."""
-        flow = numbers if self.column is None else self.column.ewise_add(numbers, 'plus')
-        return {'now': self.system.flow(flow, self.turn)}
+        shares = (self.system.shares(self.given.ewise_add(numbers, 'plus')) if self.turn is None
+                  else numbers.ewise_add(self.given, self.turn))
+        return {'now': self.system.flow(shares)}
 
 
 class Ranking:
@@ -180,23 +194,23 @@ class Ranking:
         self.system, self.aim = system, aim
         self.anew = scaled(given, damping.whole - damping.parts, damping.parts)
         most = max(1, math.ceil(math.log(aim / 2) / math.log(damping.value)))
-        flow = system.flow(system.lines.put(scaled(given, damping.whole, damping.parts)),
-                           SHARE_OF_ALL)
+        begun = scaled(given, damping.whole, damping.parts)
+        is_even = bool((given.values == given.values[0]).all())
+        flow = system.flow(system.shares_of(int(begun.values[0])) if is_even
+                           else system.shares(system.lines.put(begun)))
         tell(progress, 'round', 1, most)
         self.rounds = Rounds(flow, 1, progress, most)
-        self._step = self._step_of(flow)
+        self._step = self._step_of(flow, is_even)
         # at the last look: a bound of the distance, and what all ranks add up to
         self._bound, self._looked, self.total = 2 * damping.value, 1, 0.0
 
-    def _step_of(self, flow: Matrix) -> Flowing:
-        """Where all vertices are given the same the turn adds that; else, and where some have edges
-        and nothing comes to them, it is added to all beforehand."""
-        system, base = self.system, int(self.anew.values[0])
-        if (not system.fills and (self.anew.values == base).all()
-            and system.comes_to_all(flow)):
-            return Flowing(system, asm('binary', 'wide r0, %d\nadd64 r0, r1\n%s' % (base, SHARE)),
-                           None)
-        return Flowing(system, SHARE_OF_ALL, system.lines.put(self.anew))
+    def _step_of(self, flow: Matrix, is_even: bool) -> Flowing:
+        system = self.system
+        if not is_even:
+            return Flowing(system, system.lines.put(self.anew), None)
+        base = int(self.anew.values[0])
+        turn = asm('binary', 'wide r0, %d\nadd64 r0, r1\n%s' % (base, SHARE))
+        return Flowing(system, system.factors(flow, base), turn)
 
     @property
     def distance(self) -> float:
@@ -359,11 +373,11 @@ def pagerank(G: Matrix, GT: Optional[Matrix] = None, damping: float = 0.85,
     Power iteration in whole numbers, as a loop on the server. Every few rounds the client asks
     whether the tolerance is met, and ends the rounds as soon as it is.
 
-    Cost: up to 5 steps per edge and 16 per vertex, per round, with 2 or 3 runs per round, and 8.
+    Cost: up to 5 steps per edge and 16 per vertex, per round, with 2 runs per round, and 11.
 
-    With weights a round takes 6 steps per edge and 18 per vertex. `dangling` doubles all of it.
-    Preparation takes 5 steps per edge and 20 per vertex, and each question 15 per vertex and 3
-    runs.
+    With weights a round takes 6 steps per edge and 18 per vertex, and with `personalization` a run
+    more. `dangling` doubles all of it. Preparation takes 5 steps per edge and 55 per vertex, and
+    each question 15 per vertex and 3 runs.
 
     GraphBLAS: `vxm` over plus and first, damped. LAGraph: `LAGr_PageRank`. networkx: `pagerank`.
 
