@@ -77,6 +77,8 @@ class Traced:
         self.used = {value.name for value in values if isinstance(value, Given)}
         self.constants = [value for value in (*values, *out.values()) if isinstance(value, Handle)]
         self.is_known = False                      # whether it was looked at
+        # what the server calls the operators of each job, once it was written down
+        self.operators: List[List[str]] = []
 
 
 class TraceHandle(Handle):

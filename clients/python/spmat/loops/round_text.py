@@ -10,8 +10,8 @@ that the server does in a round. It takes one trip, and its commands are made on
 """
 from __future__ import annotations
 
-from typing import (TYPE_CHECKING, Any, Dict, FrozenSet, List, NamedTuple, Optional, Sequence, Set,
-                    Tuple, Union)
+from typing import (TYPE_CHECKING, Any, Dict, FrozenSet, Iterator, List, NamedTuple, Optional,
+                    Sequence, Set, Tuple, Union)
 
 import numpy
 
@@ -50,15 +50,14 @@ class OwnNames:
         self._backend, self._size = backend, size
         self._own: List[ServerHandle] = []
 
-    def free(self, taken: Set[str]) -> ServerHandle:
-        """One whose name isn't taken."""
-        for owner in self._own:
-            if owner.key not in taken:
-                return owner
-        made = ServerHandle(self._backend, (0, 0))
-        made.note_size(self._size, 0)
-        self._own.append(made)
-        return made
+    def free(self, taken: Set[str]) -> Iterator[ServerHandle]:
+        """Those whose names aren't taken, one after the other."""
+        yield from [owner for owner in self._own if owner.key not in taken]
+        while True:
+            made = ServerHandle(self._backend, (0, 0))
+            made.note_size(self._size, 0)
+            self._own.append(made)
+            yield made
 
     def hand_over(self, owner: ServerHandle) -> None:
         """An owner that a matrix has from now on."""
@@ -138,7 +137,7 @@ class Writing:
     def __init__(self, renderer: Renderer, state: Sources, held: FrozenSet[str],
                  pending: Sequence[Pending]) -> None:
         self._renderer, self._state, self._pending = renderer, state, list(pending)
-        self._taken = {*keys_of(state), *held, *(job.name for job in pending)}
+        self._free = renderer.names.free({*keys_of(state), *held, *(job.name for job in pending)})
         self._text: List[bytes] = []
         self._made: Dict[int, ServerHandle] = {}
         self._words = self._commands = 0
@@ -147,8 +146,11 @@ class Writing:
 
     def write(self, traced: Traced) -> Template:
         """The commands of a round, whose last jobs stay queued."""
+        if not traced.operators:
+            upload = self._renderer.backend.upload
+            traced.operators = [[upload(op).name for op in job.operators] for job in traced.jobs]
         for number, job in enumerate(traced.jobs):
-            self._write_job(number, job, traced.labels[number])
+            self._write_job(number, job, traced.labels[number], traced.operators[number])
         return self._finish({name: self._find_source(traced.out[name]) for name in self._state})
 
     def write_run(self) -> Template:
@@ -170,15 +172,14 @@ class Writing:
         return value.key if isinstance(value, Handle) else key_of(
             self._state[value.name] if isinstance(value, Given) else self._made[value.job])
 
-    def _write_job(self, number: int, job: TracedJob, labels: Tuple[str, ...]) -> None:
+    def _write_job(self, number: int, job: TracedJob, labels: Tuple[str, ...],
+                   ops: List[str]) -> None:
         operands = list(map(self._find_key, job.operands))
         mask = None if job.mask is None else self._find_key(job.mask)
         waiting = {one.name for one in self._pending}
         if len(waiting) >= QUEUE or mask in waiting or not waiting.isdisjoint(operands):
             self._write_run()
-        owner = self._made[number] = self._renderer.names.free(self._taken)
-        self._taken.add(owner.key)
-        ops = [self._renderer.backend.upload(op).name for op in job.operators]
+        owner = self._made[number] = next(self._free)
         words = [job.form, owner.key, *ops, *operands, *(['%d'] if job.is_numbered else []),
                  *([] if mask is None else ['mask', mask])]
         self._text.append(' '.join(words).encode() + b'\n')
@@ -304,9 +305,8 @@ class Push:
         session = graph.session
         self.session, self.graph = session, graph.wait()
         self._names = OwnNames(session.backend, graph.ncols)
-        row = self._names.free(set()).key
-        made = self._names.free({row}).key.encode()
-        self._row = row.encode()
+        free = self._names.free(set())
+        self._row, made = next(free).key.encode(), next(free).key.encode()
         ops = [session.backend.upload(op).name.encode() for op in (ring.add, ring.mul)]
         self._rest = b'product %s %s %s %s\nrun\nshow %s\nbudget\n' % (made, b' '.join(ops),
                                                                        self._row,
