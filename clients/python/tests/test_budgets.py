@@ -1,11 +1,13 @@
 """What is said where a budget is too small, and what was found by then."""
 import pickle
 import unittest
+from unittest import mock
 
 import graphs
-import support  # pylint: disable=unused-import  # it names the program
+import support
 import spmat
 from spmat import algorithms
+from spmat.algorithms import traversal
 
 
 class Budgets(unittest.TestCase):
@@ -55,6 +57,10 @@ class Budgets(unittest.TestCase):
 
 class Partial(unittest.TestCase):
     """What a call has found that is refused amid its work: by a budget, and by a limit."""
+
+    def setUp(self):
+        # what is found on a budget takes as many steps without one
+        support.enter(self, mock.patch.object(traversal, 'AT_ONCE', 0))
 
     def refused(self, name, share, *more):
         """The result of a call, and the partial ones of the same call with a share of the steps

@@ -3,6 +3,7 @@ is done for one."""
 import random
 import threading
 import warnings
+from unittest import mock
 
 import pytest
 
@@ -12,6 +13,7 @@ import support
 import spmat
 import spmat_blocks as blocks
 from spmat import algorithms
+from spmat.algorithms import traversal
 from test_alike import here
 
 pytestmark = pytest.mark.slow
@@ -101,7 +103,8 @@ class Jobs(support.InSession):
         for call in (lambda: loop.advance(3), lambda: spmat.fixpoint(A, lambda x: x.apply('one')),
                      lambda: algorithms.bfs_levels(A, 0), self.s.run):
             A.apply('one')
-            priced = spmat.price(call)
+            with mock.patch.object(traversal, 'AT_ONCE', 0):
+                priced = spmat.price(call)
             self.assertFalse(priced.complete)
             self.s.run()
         self.assertEqual((self.s.budget().spent - before[0].spent, loop.number), (4 * 18, 0))

@@ -11,8 +11,11 @@ a call on your graph costs.
 
 Searches, cores and components keep a number for each vertex at the client, and ask the server only
 for the edges of the vertices that changed. So a round costs what these edges cost. While many
-vertices change at a time, the server does it all. For cores, forests and strong components of a
-graph of up to 32,768 edges, the client reads the edges and does the work itself.
+vertices change at a time, the server does it all.
+
+Of a graph of up to 65,536 edges the client reads the edges once, and keeps them. Cores, strong
+components and forests ask the server for nothing else. Nor do searches and `modularity`, if the
+budget is above 2^56 steps, as by default.
 
 If the values of a graph have a unit, lengths of paths and spanning forests have it too; levels,
 counts and shares have none.

@@ -169,7 +169,8 @@ def bfs_levels(G: Matrix, source: Vertices, GT: Optional[Matrix] = None, progres
     A breadth-first search. Each level follows the edges that leave the previous one; the client
     remembers which vertices it has seen.
 
-    Cost: up to 4 steps per edge that leaves a reached vertex, and 1 run per level.
+    Cost: up to 4 steps per edge that leaves a reached vertex, and 1 run per level; on a small graph
+    the client searches by itself.
 
     A level with a large front takes 4 steps per vertex and 2 more runs. On a budget of more than
     2^56 steps, levels after the 32nd of an undirected graph run as a loop on the server: less time,

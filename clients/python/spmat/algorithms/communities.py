@@ -2,7 +2,8 @@
 from __future__ import annotations
 
 from fractions import Fraction
-from typing import Any, Dict, Hashable, Iterable, List, Mapping, NamedTuple, Tuple, Union
+from typing import (Any, Dict, Hashable, Iterable, List, Mapping, NamedTuple, Sequence, Tuple,
+                    Union)
 
 import numpy
 
@@ -16,7 +17,7 @@ from .cached_properties import check_undirected, check_weights, extremes, has_lo
 from .independent_set import Seed, draw_on_paper, generator_of
 from .registry import BOTH_WAYS, algorithm
 from .results import Communities, as_result, keep_partial
-from .traversal import keep, put_all, read_column
+from .traversal import held_edges, is_ample, is_small, keep, put_all, read_column
 from .types import Array, Place
 from .utils import Progress, beside, contract, find_place, name_of, order, product, tell
 
@@ -191,15 +192,29 @@ def modularity(G: Matrix, labels: Partition, resolution: float = 1.0, *,
     if max(most, -least) * max(1, G.nvals) >= MOST_SUM:
         raise ValueError('weights add up to less than 2^62: here %d are %d to %d; divide them'
                          % (G.nvals, least, most))
-    graph = double_loops(G, weighted) if is_both_ways(G) else G if weighted else G.apply('one')
-    joined_ = contract(graph, (numpy.arange(len(numbers)), numbers), many, 'plus')
-    rows, columns, values = joined_.to_coo()
+    rows, columns, values = _edges_between(G, weighted, numbers, many)
     out, come = (_add_up(ends, values, many) for ends in (rows, columns))
     inside, drawn = int(values[rows == columns].sum()), sum(a * b for a, b in zip(out, come))
     return float(compute_modularity(inside, sum(out), drawn, resolution))
 
 
+def _edges_between(G: Matrix, weighted: bool, numbers: Array,
+                   many: int) -> Tuple[Array, Array, Array]:
+    """The edges from community to community, those of a small graph one by one."""
+    if not (is_small(G) and is_ample(G)):
+        graph = double_loops(G, weighted) if is_both_ways(G) else G if weighted else G.apply('one')
+        folded = contract(graph, (numpy.arange(len(numbers)), numbers), many, 'plus')
+        return folded.to_coo()
+    edges = held_edges(G)
+    tails, heads = edges.tails(), edges.heads
+    values = edges.values if weighted else numpy.ones_like(heads)
+    values = values * (1 + (tails == heads)) if is_both_ways(G) else values
+    return numbers[tails], numbers[heads], values
+
+
 def _add_up(at: Array, values: Array, count: int) -> List[int]:
+    if int(numpy.abs(values).sum()) < 1 << FLOAT_BITS:
+        return [int(one) for one in numpy.bincount(at, values, count)]
     sums = numpy.zeros(count, numpy.int64)
     numpy.add.at(sums, at, values)
     return sums.tolist()  # type: ignore[no-any-return]
@@ -218,8 +233,15 @@ def number_communities(graph: Matrix, partition: Partition) -> Tuple[Array, int]
     """The community of each vertex as a number from 0 on, and how many there are. ValueError where
     a vertex has none, or several, or isn't one of the graph's; TypeError for what has none of the
     forms."""
+    if hasattr(partition, 'to_coo') and hasattr(partition, 'nodes'):
+        rows, values = _read_column(graph, partition)
+        if numpy.array_equal(rows, numpy.arange(graph.nrows)):
+            return number_labels(values)
+        members: Iterable[Tuple[int, Any]] = zip(rows, values.tolist())
+    else:
+        members = _read_members(graph, partition)
     found: Dict[int, Any] = {}
-    for at, community in _read_members(graph, partition):
+    for at, community in members:
         if at in found:
             raise ValueError('the vertex %r is in a community twice: each has to be in one'
                              % (name_of(graph, Place(at)),))
@@ -236,11 +258,7 @@ def number_communities(graph: Matrix, partition: Partition) -> Tuple[Array, int]
 
 def _read_members(graph: Matrix, partition: Any) -> Iterable[Tuple[int, Any]]:
     """The row of each vertex that has a community, and that."""
-    if hasattr(partition, 'to_coo') and hasattr(partition, 'nodes'):
-        pairs, are_rows = _read_column(graph, partition)
-        if are_rows:
-            return pairs
-    elif hasattr(partition, 'items'):              # a mapping, or a Series
+    if hasattr(partition, 'items'):                # a mapping, or a Series
         pairs = partition.items()
     else:
         pairs = [(vertex, number) for number, vertices in enumerate(_listed(partition))
@@ -256,18 +274,18 @@ def _listed(given: Any) -> Iterable[Any]:
     return given  # type: ignore[no-any-return]
 
 
-def _read_column(graph: Matrix, column: Any) -> Tuple[Iterable[Tuple[Any, Any]], bool]:
-    """What a column says, and whether by row: else by name, as where its vertices have other names
-    than the graph's, or another order."""
-    rows, _, values = (numbers.tolist() for numbers in column.to_coo())
+def _read_column(graph: Matrix, column: Any) -> Tuple[Sequence[int], Array]:
+    """The rows of vertices, and what a column says of them: by name where its vertices have other
+    names than the graph's, or another order."""
+    rows, _, values = column.to_coo()
     names, others = column.nodes, graph.nodes
     if names is not None and others is not None and column.ncols == 1 and [*names] != [*others]:
-        return ((names[at], value) for at, value in zip(rows, values)), False
+        return [int(find_place(graph, names[at])) for at in rows.tolist()], values
     if column.shape != (graph.nrows, 1):
         raise ValueError('labels are a column with a community for each of %d vertices, and this '
                          'one is %dx%d' % (graph.nrows, *column.shape))
     joined(graph.notes, column.notes, VERTICES)
-    return zip(rows, values), True
+    return rows.tolist(), values
 
 
 # -- Louvain's method

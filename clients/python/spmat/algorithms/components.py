@@ -386,9 +386,10 @@ def strongly_connected_components(G: Matrix, GT: Optional[Matrix] = None, progre
 
     Notes
     -----
-    Two searches from the vertex with the most edges find the first component. The client finishes
-    what is left by Tarjan's algorithm, once that is 262,144 edges or fewer. A larger rest is first
-    trimmed of vertices that are on no cycle, and then searched from many vertices at once.
+    Where each edge leads both ways, they are those of `connected_components`. Else two searches
+    from the vertex with the most edges find the first component. The client finishes what is left
+    by Tarjan's algorithm, once that is 262,144 edges or fewer. A larger rest is first trimmed of
+    vertices that are on no cycle, and then searched from many vertices at once.
 
     Cost: two searches (`bfs_levels`) and 10 runs; with many components 6 runs more per level of
     trimming.
@@ -416,6 +417,8 @@ def label_strong_components(G: Matrix, GT: Optional[Matrix] = None,
     count = order(G)
     if count == 0:
         return nothing(G)
+    if G.nvals > AT_ONCE and G.directed is not True and is_both_ways(G):
+        return label_components(G, G, progress, False)
     parts, near, number = Parts(count), G, 0
     back: Optional[Matrix] = None
     while near.nvals > (SMALL if number else AT_ONCE):

@@ -1,53 +1,42 @@
 """Cores: parts of a graph in which each vertex has so many neighbours."""
 from __future__ import annotations
 
-from typing import Any, Dict, Iterator, List, Optional, Set
+from typing import Any, Iterator, List, Optional, Set
 
 import numpy
 
 from ..errors import about
 from ..io.coo import shown, whole
-from ..loops import Loop, State, empty
-from ..loops.trips import Round
 from ..matrix import Matrix
 from ..metadata import Nodes
-from ..operators import Semiring, asm, binary
+from ..operators import Semiring, binary
 from .cached_properties import check_undirected
 from .components import label_components
 from .types import Array
 from .registry import WITHOUT_LOOPS, algorithm
 from .results import Result, as_result, keep_partial
-from .server_loops import hear
-from .traversal import (Vector, find_traversal, is_ample, put_all, put_column, put_known, put_row,
-                        read_column, read_edges, spread)
+from .traversal import (Edges, Vector, find_traversal, held_edges, is_small, is_whole, load_edges,
+                        put_all, put_column, put_known, read_column, spread)
 from .utils import Progress, beside, contract, count_edges, order, tell
 
 __all__ = ['core_numbers', 'k_core']
 
 COUNTS = Semiring(binary.plus, binary.first)
 GONE = UNKNOWN = -1
-# y less x, and x and y, where what the least gap is counts from 0 on
-LOWERED = Semiring(binary.any, asm('binary', 'mov64 r0, r2\njsle64 r1, 0, 1\nsub64 r0, r1\nexit\n'))
-RAISED = asm('binary', 'mov64 r0, r1\njsle64 r2, 0, 1\nadd64 r0, r2\nexit\n')
-# vertices that are left where a loop at the server does the rest
-HANDED_OVER = 1 << 12
-AT_ONCE = 1 << 15                                # edges that the client looks at by itself
+MOST_READ = 1 << 22                            # edges that are read where all vertices fall
+SPARSE = 16                                    # so many vertices for an edge are many
 
 
 class Peeling:
-    """The vertices that are left of a graph, with their degrees there. Those that fall push one
-    each along their edges: their neighbours lose so much, and nobody else is looked at. The client
-    has the edges of a small graph."""
+    """The vertices that are left of a graph, with their degrees there. Where the client has the
+    edges it looks at those of the vertices that fall. Else these push one each along their edges:
+    their neighbours lose so much, and nobody else is looked at."""
 
-    def __init__(self, G: Matrix, progress: Progress) -> None:
-        self.lines, self.progress, self.number = find_traversal(G, G, False), progress, 0
-        self._heads: List[Array] = []              # where the edges of each vertex lead
-        if max(G.nrows, G.nvals) <= AT_ONCE:
-            rows, heads = read_edges(G)
-            self.left = numpy.bincount(rows, minlength=G.nrows)
-            self._heads = numpy.split(heads, numpy.cumsum(self.left)[:-1])
-        else:
-            self.left = spread(read_column(count_edges(G)), G.nrows)
+    def __init__(self, G: Matrix, progress: Progress, edges: Optional[Edges]) -> None:
+        self.lines, self.edges = find_traversal(G, G, False), edges
+        self.progress, self.number = progress, 0
+        self.left = (spread(read_column(count_edges(G)), G.nrows) if edges is None
+                     else numpy.diff(edges.starts))
         self.alive = numpy.flatnonzero(self.left)
 
     def least(self) -> Optional[int]:
@@ -60,10 +49,6 @@ class Peeling:
         """Those that are left, and have a neighbour."""
         rest: Array = self.alive[self.left[self.alive] > 0]
         return rest
-
-    def may_loop(self) -> bool:
-        """Whether a loop at the server does the rest in less time."""
-        return not self._heads and len(self.alive) <= HANDED_OVER and is_ample(self.lines.graph)
 
     def peel(self, k: int) -> Iterator[Array]:
         """Takes away those with fewer than k neighbours, until none is left; who they were, by
@@ -81,18 +66,26 @@ class Peeling:
 
     def _lose(self, fallen: Array, k: int) -> Array:
         """The neighbours of those that fall lose them; who falls by it."""
-        if self._heads:
-            heads = numpy.concatenate([self._heads[at] for at in fallen.tolist()])
-            lost = numpy.bincount(heads, minlength=len(self.left))
-            at = numpy.flatnonzero(lost) if len(fallen) > 1 else heads
-            came = Vector(at, lost[at])
-        else:
-            came = self.lines.push(Vector(fallen, numpy.ones_like(fallen)), COUNTS)
-        stays = self.left[came.at] != GONE
-        at = came.at[stays]
-        self.left[at] -= came.values[stays]
+        at, lost = self._count(fallen)
+        stays = self.left[at] != GONE
+        at = at[stays]
+        self.left[at] -= lost[stays]
         falls: Array = at[self.left[at] < k]
         return falls
+
+    def _count(self, fallen: Array) -> Vector:
+        """The vertices to which those that fall have edges, and how many."""
+        if self.edges is None:
+            return self.lines.push(Vector(fallen, numpy.ones_like(fallen)), COUNTS)
+        heads = self.edges.heads[self.edges.leaving(fallen)[1]]
+        heads = heads[self.left[heads] != GONE]
+        if SPARSE * len(heads) > len(self.left):
+            counts = numpy.bincount(heads, minlength=len(self.left))
+            at = numpy.flatnonzero(counts)
+            return Vector(at, counts[at])
+        heads.sort()
+        firsts = numpy.flatnonzero(numpy.diff(heads, prepend=-1))
+        return Vector(heads[firsts], numpy.diff(firsts, append=len(heads)))
 
 
 class Core(Result):
@@ -150,7 +143,7 @@ def k_core(G: Matrix, k: int, progress: Progress = None, *, check: bool = True) 
     -----
     Each round removes vertices with too few neighbours, and looks at their neighbours alone.
 
-    Cost: up to 5 steps per edge, and 1 run per round; 1 run for a graph of up to 32,768 edges,
+    Cost: up to 5 steps per edge, and 1 run per round; 1 run for a graph of up to 65,536 edges,
     which the client reads.
 
     GraphBLAS: `vxm` over plus and first. LAGraph: `LAGraph_KCore`. networkx: `k_core`.
@@ -169,7 +162,7 @@ def k_core(G: Matrix, k: int, progress: Progress = None, *, check: bool = True) 
     if k < 0:
         raise about(ValueError('a k-core has k of 0 or above, not %s' % shown(k)), 'k')
     check_undirected(G, check)
-    peeling = Peeling(G, progress)
+    peeling = Peeling(G, progress, held_edges(G) if is_small(G) else None)
     for _ in peeling.peel(k):
         pass
     at = numpy.flatnonzero(peeling.left >= k)
@@ -209,13 +202,10 @@ def core_numbers(G: Matrix, progress: Progress = None, *, check: bool = True) ->
 
     Notes
     -----
-    The graph is peeled once, for all k. On a budget of more than 2^56 steps, the last 4,096
-    vertices of a large graph are peeled by a loop on the server.
+    The graph is peeled once, for all k, by the client, which reads the edges.
 
-    Cost: up to 10 steps per edge, and 1 run per round; 1 run for a graph of up to 32,768 edges,
-    which the client reads.
-
-    The loop takes 4 runs per round, 20 steps per vertex left and round, and 20 per edge among them.
+    Cost: no step, and 1 run; on a graph of more than 4,194,304 edges up to 10 steps per edge, and 1
+    run per round.
 
     LAGraph: `LAGraph_KCore` for all k. networkx: `core_number`. igraph: `coreness`.
 
@@ -230,15 +220,14 @@ def core_numbers(G: Matrix, progress: Progress = None, *, check: bool = True) ->
     """
     order(G)
     check_undirected(G, check)
-    peeling = Peeling(G, progress)
+    is_read = is_whole(G) and G.nvals <= MOST_READ
+    peeling = Peeling(G, progress, held_edges(G) if is_small(G)
+                      else load_edges(G) if is_read else None)
     cores: Array = numpy.zeros(G.nrows, numpy.int64)
     cores[peeling.alive] = UNKNOWN
     with keep_partial(lambda: beside(G, put_known(G, cores, UNKNOWN))):
         k = peeling.least()
         while k is not None:
-            if peeling.may_loop():
-                _peel_by_loop(peeling, k, cores)
-                break
             for fallen in peeling.peel(k + 1):
                 cores[fallen] = k
             k = peeling.least()
@@ -249,29 +238,3 @@ def _among(graph: Matrix, at: Array) -> Matrix:
     """The graph of some vertices alone, which have the numbers from 0 on."""
     many = len(at)
     return graph if many == graph.nrows else contract(graph, (at, numpy.arange(many)), many, 'any')
-
-
-def _peel_by_loop(peeling: Peeling, k: int, cores: Array) -> None:
-    """Peels what is left, from k on. A vertex has its degree less the level as its value; where
-    each is above 0, the level rises by the least of them, a matrix of one entry."""
-    at = peeling.alive
-    graph = _among(peeling.lines.graph, at)
-    gaps = put_row(graph, Vector(numpy.arange(len(at)), peeling.left[at] - k))
-    start = State({'gap': gaps, 'level': graph.session.full(1, 1, k)})
-    tells = hear(peeling.progress, 'round', peeling.number)
-
-    def step(s: State) -> Dict[str, Any]:
-        least = s.gap.reduce_rowwise('min')
-        gap = least.mxm(s.gap, LOWERED)
-        fallen, alive = gap.select('valuele', 0), gap.select('valuegt', 0)
-        lost = fallen.mxm(graph, 'plus_pair', mask=alive.S)
-        return {'gap': alive.ewise_add(lost, 'minus'), 'level': s.level.ewise_add(least, RAISED),
-                'fallen': fallen}
-    loop = Loop(step, start, ['fallen', 'level'], alike=True)
-
-    def heard(first: int, rounds: List[Round]) -> None:
-        fallen = loop.shown['fallen'].drain()
-        levels = loop.shown['level'].drain(rounds=False).values
-        cores[at[fallen.places]] = levels[fallen.rounds - first]
-        tells(first, rounds)
-    loop.rounds(empty('gap'), 1 << 40, heard)

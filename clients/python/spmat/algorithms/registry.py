@@ -158,7 +158,7 @@ def algorithm(gives: str, **more: Any) -> Callable[[F], F]:
                 raise
             if one.are_vertices:
                 of_vertices(found)
-            found = with_zeros(found) if one.counts else found
+            found = with_zeros(found, next(iter(given.arguments.values()))) if one.counts else found
             return tuple(map(as_vector, found)) if type(found) is tuple else as_vector(found)
         return cast(F, call)
     return register

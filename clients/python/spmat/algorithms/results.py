@@ -12,6 +12,7 @@ from .. import scale as scales
 from ..errors import BudgetExceeded, SpmatError
 from ..matrix import Matrix
 from ..metadata import ROWS, VertexUnit
+from .utils import column as column_of
 
 if TYPE_CHECKING:
     from .registry import Algorithm
@@ -146,10 +147,10 @@ def of_vertices(column: Matrix) -> Matrix:
     return column
 
 
-def with_zeros(column: Any) -> Any:
-    """A column that has an entry for each vertex, so that means and minima know those that count
-    0: 1 job."""
-    zeros = column.session.full(column.nrows, 1, 0)
+def with_zeros(column: Any, graph: Matrix) -> Any:
+    """A column that has an entry for each vertex of a graph, so that means and minima know those
+    that count 0: 1 job."""
+    zeros = column_of(graph, 0)
     zeros.notes = zeros.notes._replace(unit=column.unit)
     made = column.ewise_add(zeros, 'first')
     if isinstance(column, Centrality):

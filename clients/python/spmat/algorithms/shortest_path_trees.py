@@ -17,8 +17,8 @@ from .cached_properties import extremes, transpose_of
 from .registry import algorithm
 from .results import of_vertices
 from .single_source_paths import UNREACHED, Query, find_lengths
-from .traversal import (Traversal, Vector, find_traversal, find_vectors, keep, put_known,
-                        select_known, vector_of)
+from .traversal import (Traversal, Vector, find_traversal, find_vectors, held_edges, is_small, keep,
+                        put_known, select_known, vector_of)
 from .types import Array, Place, Vertex
 from .utils import Progress, beside, find_place, name_of, order, product
 
@@ -29,7 +29,7 @@ __all__ = ['has_path', 'k_shortest_paths', 'NoPath', 'Path', 'PathTree', 'shorte
 WORD = 1 << 62
 IS_SUM = Semiring(binary.any, binary.eq)
 LENGTHEN = Semiring(binary.any, binary.plus)
-AT_ONCE = 1 << 16              # edges of a graph that the client reads at once
+BY_TRIP = 1 << 11              # edges that are read in the time of a trip
 # the length of a path, its vertices, and how far along it they are
 Route = Tuple[int, List[Place], List[int]]
 
@@ -443,31 +443,31 @@ def has_path(G: Matrix, source: Vertex, target: Vertex, GT: Optional[Matrix] = N
 
 class Spurs:
     """Searches by the client for paths to one vertex around what is barred. Rows of a large graph
-    are fetched as they are met, and lengths to the target that leave out what is barred say where
-    to look first (A*)."""
+    are fetched as they are met, until to read all would have taken less, and lengths to the target
+    that leave out what is barred say where to look first (A*)."""
 
     def __init__(self, lines: Traversal, target: Place, home: Array, weighted: bool) -> None:
         self.target, self.home = target, home.tolist()
         self._lines, self._weighted = lines, weighted
-        self._entries = lines.graph.entries() if lines.graph.nvals <= AT_ONCE else None
         self._rows: Dict[Place, List[Tuple[Place, int]]] = {}
 
     def near(self, i: Place) -> List[Tuple[Place, int]]:
         """Where the edges of a vertex lead, and how long they are; those alone from where the
-        target is reached. 1 run, once."""
+        target is reached. 1 run, once, until all edges are read."""
         if i not in self._rows:
-            got = self._read_row(int(i))
-            far = got.values if self._weighted else numpy.ones_like(got.at)
-            self._rows[i] = [(j, edge) for j, edge in zip(map(Place, got.at.tolist()), far.tolist())
+            at, values = self._read_row(int(i))
+            far = values if self._weighted else numpy.ones_like(at)
+            self._rows[i] = [(j, edge) for j, edge in zip(map(Place, at.tolist()), far.tolist())
                              if self.home[int(j)] != UNREACHED]
         return self._rows[i]
 
     def _read_row(self, i: int) -> Vector:
-        if self._entries is None:
+        graph = self._lines.graph
+        if not is_small(graph) and len(self._rows) * BY_TRIP < graph.nvals:
             return self._lines.push(vector_of([i], [0]), LENGTHEN)
-        rows, columns, values = self._entries[:3]
-        part = slice(*numpy.searchsorted(rows, (i, i + 1)))
-        return Vector(columns[part], values[part])
+        edges = held_edges(graph)
+        part = slice(*edges.starts[i:i + 2])
+        return Vector(edges.heads[part], edges.values[part])
 
     def search(self, start: Place, barred: Set[Place], not_first: Set[Place]) -> Optional[Route]:
         """The shortest path that enters no barred vertex, and leaves the start for none of some.
@@ -551,6 +551,8 @@ def k_shortest_paths(G: Matrix, source: Vertex, target: Vertex, k: int, GT: Opti
 
     Cost: one `bfs_levels` or `sssp`, then 5 steps per edge of each vertex met on the way, and 1 run
     each; 1 run for all on a graph of up to 65,536 edges.
+
+    Of a larger graph the client reads all edges once it has met a vertex for each 2,048 of them.
 
     networkx: `shortest_simple_paths`.
 

@@ -8,6 +8,8 @@ This module decides by the sizes and by where the graph is how the step is made:
 - In blocks a row would bring the whole graph to one block. There the client has the front, and
   each step is one trip to the blocks that have to do with it; full vectors are columns, which are
   *pulled* along the rows of the transpose.
+- Of a small graph the client has the edges, which it reads once, where nobody counts steps: it
+  pushes fronts by itself, in less time than a trip takes.
 - A full vector that flows through a large graph round after round is a column, too, where many
   workers share a product: they share its rows.
 
@@ -17,7 +19,7 @@ as long by the clock: a pull looks at all rows, and wants the front as a column,
 """
 from __future__ import annotations
 
-from typing import Dict, Any, List, NamedTuple, Optional, Sequence, Tuple, cast
+from typing import Any, Callable, Dict, List, NamedTuple, Optional, Sequence, Tuple, cast
 
 import numpy
 
@@ -34,6 +36,12 @@ MANY_WORKERS, MANY_ENTRIES, MANY_AT_A_VERTEX = 3, 500_000, 3
 # Of fewer vertices all that a front reaches is read in less time than a mask is made.
 SMALL = 1 << 15
 SWAPPED = {binary.first: binary.second, binary.second: binary.first}
+# edges, or vertices, of a small graph
+AT_ONCE = 1 << 16
+# what numpy has for the operators of pushes: for MUL of the values of a front and of its edges
+TERMS: Dict[Any, Callable[[Array, Array], Array]] = {
+    binary.first: lambda values, edges: values, binary.plus: numpy.add}
+FOLDS: Dict[Any, Any] = {binary.min: numpy.minimum, binary.plus: numpy.add}
 
 
 class Vector(NamedTuple):
@@ -142,6 +150,55 @@ class Rows(Traversal):
         return is_ample(self.graph) and is_both_ways(self.graph)
 
 
+class Edges(NamedTuple):
+    """The edges of a graph at the client: where those of each vertex begin, by ascending vertices,
+    where each leads, and its value."""
+    starts: Array
+    heads: Array
+    values: Array
+
+    def tails(self) -> Array:
+        """Where each edge begins."""
+        return numpy.repeat(numpy.arange(len(self.starts) - 1), numpy.diff(self.starts))
+
+    def leaving(self, at: Array) -> Tuple[Array, Array]:
+        """How many edges leave each of some vertices, and the places of these edges."""
+        begin = self.starts[at]
+        many = self.starts[at + 1] - begin
+        ends = numpy.cumsum(many)
+        return many, numpy.repeat(begin - ends + many, many) + numpy.arange(ends[-1] if len(at)
+                                                                            else 0)
+
+
+class HeldRows(Rows):
+    """Rows beside a graph whose edges the client has, which it pushes by itself."""
+
+    def push(self, front: Vector, ring: Semiring) -> Vector:
+        """By no trip, where numpy has the operators."""
+        if ring.mul not in TERMS or (ring.add != binary.any and ring.add not in FOLDS):
+            return super().push(front, ring)
+        edges = held_edges(self.graph)
+        many, places = edges.leaving(front.at)
+        heads = edges.heads[places]
+        terms = TERMS[ring.mul](numpy.repeat(front.values, many), edges.values[places])
+        if ring.add == binary.any:                 # that of several is the first, which is put last
+            values, is_head = numpy.zeros(self.count, numpy.int64), numpy.zeros(self.count, bool)
+            values[heads[::-1]], is_head[heads] = terms[::-1], True
+            at = numpy.flatnonzero(is_head)
+            return Vector(at, values[at])
+        ranks = numpy.argsort(heads, kind='stable')
+        heads = heads[ranks]
+        firsts = numpy.flatnonzero(numpy.diff(heads, prepend=-1))
+        return Vector(heads[firsts], FOLDS[ring.add].reduceat(terms[ranks], firsts)
+                      if len(firsts) else heads)
+
+    def pays_scan(self, front: int, part: int = 4) -> bool:
+        return False
+
+    def may_loop(self) -> bool:
+        return False
+
+
 class Columns(Traversal):
     """Vectors as columns, which pull along the rows of the transpose."""
 
@@ -189,7 +246,7 @@ def find_traversal(G: Matrix, GT: Optional[Matrix], check: bool, values: bool = 
     if G.in_one_place:
         if GT is not None:
             transpose_of(G, GT, check, values)
-        return Rows(G)
+        return HeldRows(G) if is_small(G) and is_ample(G) else Rows(G)
     if GT is not None:
         return BlockFronts(G, transpose_of(G, GT, check, values))
     both = is_both_ways(G) if not values else G.directed is False
@@ -208,6 +265,11 @@ def find_flow(G: Matrix, GT: Optional[Matrix], check: bool, values: bool = False
     if is_shared(G):
         return Columns(G, transpose_of(G, GT, check, values))
     return find_vectors(G, GT, check, values)
+
+
+def is_small(graph: Matrix) -> bool:
+    """Whether a graph has so few edges that the client may keep them."""
+    return bool(max(graph.nrows, graph.nvals) <= AT_ONCE)
 
 
 def is_whole(graph: Matrix) -> bool:
@@ -320,8 +382,23 @@ def read_column(matrix: Matrix) -> Vector:
     return Vector(entries.rows, entries.values)
 
 
+def load_edges(graph: Matrix) -> Edges:
+    """The edges of a graph, which are read now."""
+    tails, heads, values = read_entries(graph)[:3]
+    return Edges(numpy.searchsorted(tails, numpy.arange(graph.nrows + 1)), heads, values)
+
+
+def held_edges(graph: Matrix) -> Edges:
+    """The edges of a graph, which are read once, and kept while it is held."""
+    edges: Edges = found(graph, 'edges', lambda: load_edges(graph))
+    return edges
+
+
 def read_edges(graph: Matrix) -> Tuple[Array, Array]:
     """Where the edges of a graph begin and end, by ascending vertices."""
+    if is_small(graph):
+        edges = held_edges(graph)
+        return edges.tails(), edges.heads
     entries = read_entries(graph)
     return entries.rows, entries.columns
 

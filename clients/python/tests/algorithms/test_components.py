@@ -116,7 +116,7 @@ class Scans(InSession):
 
     def setUp(self):
         super().setUp()
-        enter(self, mock.patch.object(traversal, 'SMALL', 0))
+        enter(self, mock.patch.multiple(traversal, SMALL=0, AT_ONCE=0))
 
     def test_searches(self):
         scanned = []

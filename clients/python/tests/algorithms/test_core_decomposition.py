@@ -7,7 +7,7 @@ import graphs
 import spmat
 import support
 from spmat import algorithms
-from spmat.algorithms import core_decomposition
+from spmat.algorithms import core_decomposition, traversal
 
 pytestmark = pytest.mark.slow
 
@@ -16,16 +16,17 @@ PATH = graphs.undirected('path', 90, [(i, i + 1) for i in range(89)])
 
 class Cores(graphs.OnGraphs):
     def test_pushes(self):
-        """The client does it; or the loop takes over at the start, amid the peeling, and never."""
+        """The client has the edges, as it may keep them or all fall; or vertices push."""
         def look(graph, near, G):
             want, k = dict.fromkeys([(i, 0) for i in range(graph.count)], 0), 1
             while graphs.core(near, k):
                 want.update(dict.fromkeys([(i, 0) for i in graphs.core(near, k)], k))
                 k += 1
-            for at_once, most in ((1 << 15, 0), (0, 1 << 12), (0, graph.count // 2), (0, 3),
-                                  (0, 0)):
+            for at_once, most, sparse in ((1 << 15, 0, 16), (0, 1 << 12, 16), (0, 1 << 12, 0),
+                                          (0, 0, 16)):
                 told = []
-                with mock.patch.multiple(core_decomposition, AT_ONCE=at_once, HANDED_OVER=most):
+                with mock.patch.object(traversal, 'AT_ONCE', at_once), \
+                        mock.patch.multiple(core_decomposition, MOST_READ=most, SPARSE=sparse):
                     self.assertEqual(algorithms.core_numbers(
                         G, lambda *now: told.append(now)).to_dict(), want, most)
                     for k in (0, 1, 2, 4):
@@ -35,19 +36,16 @@ class Cores(graphs.OnGraphs):
                 self.assertEqual(told, [('round', number, 0) for number in range(1, len(told) + 1)])
         self.each(graphs.UNDIRECTED, look)
 
-    def test_a_budget_counts(self):
-        """Where steps are counted nobody is looked at but those that fall; and of a small graph
-        nobody."""
-        with mock.patch.object(core_decomposition, '_peel_by_loop',
-                               side_effect=AssertionError('more steps')):
-            path = PATH.matrix(self.few)
-            before = self.few.budget().spent
-            self.assertEqual(algorithms.core_numbers(path, check=False).to_list(), [1] * 90)
-            self.assertEqual(self.few.budget().spent, before)
-            with mock.patch.object(core_decomposition, 'AT_ONCE', 0):
-                self.assertEqual(algorithms.core_numbers(path).to_list(), [1] * 90)
-                with self.assertRaisesRegex(AssertionError, 'more steps'):
-                    algorithms.core_numbers(PATH.matrix(self.s))
+    def test_no_step_is_taken(self):
+        """But by the pushes of a graph whose edges are too many to be read."""
+        path = PATH.matrix(self.few)
+        before = self.few.budget().spent
+        for most, is_free in ((1 << 12, True), (0, False)):
+            for at_once in (1 << 12, 0):
+                with mock.patch.object(traversal, 'AT_ONCE', at_once), \
+                        mock.patch.object(core_decomposition, 'MOST_READ', most):
+                    self.assertEqual(algorithms.core_numbers(path, check=False).to_list(), [1] * 90)
+                self.assertEqual(self.few.budget().spent == before, is_free or at_once > 0)
 
     def setUp(self):
         super().setUp()

@@ -6,6 +6,7 @@ import os
 import random
 import sys
 import unittest
+from unittest import mock
 
 import pytest
 
@@ -13,7 +14,7 @@ import graphs
 import support
 import spmat
 from spmat import algorithms
-from spmat.algorithms import cached_properties
+from spmat.algorithms import cached_properties, traversal
 from spmat.algorithms.registry import ALGORITHMS, Size
 from spmat.algorithms.utils import column, loops, nothing, product, settle
 
@@ -161,7 +162,7 @@ class Costs(unittest.TestCase):
         said, and a few trips."""
         count = 600
         graph = graphs.undirected('path', count, [(i, i + 1) for i in range(count - 1)])
-        with spmat.Session() as session:
+        with spmat.Session() as session, mock.patch.object(traversal, 'AT_ONCE', 0):
             path = graph.matrix(session)
             cached_properties.is_both_ways(path), cached_properties.extremes(path)
             for function, steps in ((algorithms.bfs_levels, 30), (algorithms.bfs_parents, 40),

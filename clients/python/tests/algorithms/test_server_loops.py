@@ -7,7 +7,7 @@ import pytest
 import graphs
 import support
 from spmat import algorithms
-from spmat.algorithms import server_loops
+from spmat.algorithms import server_loops, traversal
 
 pytestmark = pytest.mark.slow
 
@@ -20,6 +20,11 @@ SOME = [graphs.UNDIRECTED[2], graphs.UNDIRECTED[3], graphs.UNDIRECTED[5], graphs
 
 
 class Long(support.InSession):
+    def setUp(self):
+        super().setUp()
+        # the client has no edges
+        support.enter(self, mock.patch.object(traversal, 'AT_ONCE', 0))
+
     def compare(self):
         for after in (0, 1, 3):
             for graph in SOME:

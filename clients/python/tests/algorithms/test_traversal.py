@@ -10,7 +10,7 @@ import spmat
 import support
 from spmat import algorithms
 from spmat.algorithms import traversal
-from spmat.algorithms.traversal import Columns, Rows
+from spmat.algorithms.traversal import Columns, HeldRows, Rows
 
 pytestmark = pytest.mark.slow
 
@@ -82,6 +82,49 @@ class ManyWorkers(unittest.TestCase):
                 self.assertEqual(got, algorithms.pagerank(SOME_ALONE.matrix(self.one)).to_text())
         with self.assertRaisesRegex(AttributeError, 'with 1 workers'):
             self.one.workers = 4
+
+
+class Held(support.InSession):
+    """Small graphs, whose edges the client has where nobody counts steps."""
+
+    RINGS = ('any_first', 'min_first', 'min_plus', 'plus_first', 'max_plus')
+
+    def test_pushes_are_those_of_the_server(self):
+        """Of fronts of no vertex, of one, of some and of all; also by a ring that numpy lacks."""
+        for graph in graphs.ALL:
+            G = graph.matrix(self.session)
+            for at in ([], [0], range(0, graph.count, 3), range(graph.count)):
+                front = traversal.vector_of(at, [5 - 2 * i for i in at])
+                for name in self.RINGS:
+                    ring = spmat.semiring(*name.split('_'))
+                    with self.subTest(graph=graph.name, ring=name, front=len(front.at)):
+                        if graph.count > max(at, default=0):
+                            one, other = (kind(G).push(front, ring)
+                                          for kind in (HeldRows, Rows))
+                            self.assertEqual(one.at.tolist(), other.at.tolist())
+                            self.assertEqual(one.values.tolist(), other.values.tolist())
+
+    def test_a_search_takes_no_trip(self):
+        """Nor do later ones read the edges again."""
+        G = SOME_ALONE.matrix(self.session)
+        calls = [lambda: algorithms.bfs_levels(G, 0), lambda: algorithms.bfs_parents(G, 0),
+                 lambda: algorithms.sssp(G, 0), lambda: algorithms.has_path(G, 0, 9),
+                 lambda: algorithms.core_numbers(G, check=False)]
+        self.assertIsInstance(traversal.find_traversal(G, None, True), HeldRows)
+        for call in calls:
+            call()
+        before = self.session.connection.commands
+        for call in calls:
+            call()
+        self.assertEqual(self.session.connection.commands, before)
+
+    def test_who_counts_steps_keeps_no_edges(self):
+        with spmat.Session(1 << 50) as few:
+            lines = traversal.find_traversal(SOME_ALONE.matrix(few), None, True)
+            self.assertIs(type(lines), Rows)
+        with mock.patch.object(traversal, 'AT_ONCE', 49):
+            lines = traversal.find_traversal(SOME_ALONE.matrix(self.session), None, True)
+            self.assertIs(type(lines), Rows)
 
 
 class Vectors(support.InSession):
