@@ -24,7 +24,8 @@ from spmat.extending import (BANNER, Edges, HEAD_LINES, LEAST, LIST_FORMATS, Lay
                              ListForm, ListTable, MOST, MarketKind, PATTERN_BANNER, Request,
                              Triples, check_format, decode_list, edges_of, edges_of_frame,
                              head_of_text, load_file, lower_triangle, mirrored, number_names,
-                             read_lines, read_list, read_market_lines)
+                             read_list, read_market_lines)
+from spmat.extending import read_lines as read_entries
 from . import row_partition
 from .row_partition import Cut, Stored, write_texts
 from .worker_store import Piece, Store
@@ -251,7 +252,7 @@ def _fold_lines(store: Store, bare: bool, text: bytes, fold: Fold, refused: Refu
     """A block of lines that repeat: they are folded, or count once where they have no values.
     ValueError where a sum is beyond 64 bits."""
     nrows, ncols, _, start = head_of_text(text)
-    rows, columns, *values = read_lines(text[start:], 2 if bare else 3).T
+    rows, columns, *values = read_entries(text[start:], 2 if bare else 3).T
     triples = Triples(rows - 1, columns - 1, values[0] if values
                       else numpy.ones(len(rows), numpy.int64), nrows, ncols)
     if fold.op is not None:
