@@ -129,11 +129,11 @@ class Attack(unittest.TestCase):
             charged[row['account']] += row['charged']
         off = [name for name in spent if spent[name] != charged[name]]
         print('attack: %d s, %d sessions in the ledger, %d good ones read whole (%d bytes '
-              'compared), %d cut, %d told, %d turned away, %d found no gateway, %d hostile acts, '
+              'compared), %d cut, %d told, turned away %s, %d found no gateway, %d hostile acts, '
               'killed and held %s, charged %d steps, accounts off %d, faults %d; good ones served, '
               'by minutes: %s; MB, descriptors, threads: %s before, %s at most, %s after' % (
                   SECONDS, len(rows), report.whole, report.bytes, report.cut, report.told,
-                  report.refused, report.down, report.hostile, killer.killed,
+                  dict(report.refused), report.down, report.hostile, killer.killed,
                   sum(charged.values()), len(off), len(faults), ' '.join(report.shares()),
                   watch.first, watch.most, watch.look()), flush=True)
         self.assertEqual([words[-2_000:] for words in killer.faults + faults], [])

@@ -21,6 +21,7 @@ import time
 from .support import LINES, OPERATORS, Client, dense, direct
 
 STEPS = 10 ** 9
+REFUSALS = (b'no busy', b'no ledger', b'no engine')  # the last where systemd takes too long
 OPEN_FOR = 30.0
 PRICES = re.compile(rb'^ok queued \d+ (\d+)\n', re.M)
 SPENT = re.compile(rb'^(?:ok run \d+|no memory|no thread) (\d+)\n', re.M)
@@ -54,7 +55,8 @@ class Report:
         self.lock = threading.Lock()
         # who, the steps that it has read, those that may have been spent, its last line
         self.sessions = []
-        self.whole = self.cut = self.told = self.refused = self.hostile = self.bytes = self.down = 0
+        self.whole = self.cut = self.told = self.hostile = self.bytes = self.down = 0
+        self.refused = collections.Counter()       # by what they read
         self.faults = []
         self.began = time.monotonic()
         # of each minute the connections of good clients, and those that were served
@@ -82,13 +84,14 @@ def spent_by(replies):
 
 
 class Good(threading.Thread):
-    """Opens a session after another."""
+    """Opens a session after another, from an address that no hostile client has."""
 
     def __init__(self, gateways, login, scripts, report, stop, seed, authority=''):
         super().__init__(daemon=True)
         self._gateways, self._login, self._scripts, self._report, self._stop_at = (
             gateways, login, scripts, report, stop)
         self._draw, self._authority = random.Random(seed), authority
+        self._source = '127.77.0.%d' % (1 + seed % 250)
 
     def run(self):
         while not self._stop_at.is_set():
@@ -105,7 +108,7 @@ class Good(threading.Thread):
     def _session(self):
         script, expected = self._draw.choice(self._scripts)
         port = self._draw.choice(self._gateways)
-        with Client(port, self._login, authority=self._authority) as client:
+        with Client(port, self._login, self._authority, source=self._source) as client:
             address = '%s:%d' % client.socket.getsockname()
             replies = client.exchange(script, OPEN_FOR)
         self._report.count(b'ok ' in replies)
@@ -118,8 +121,7 @@ class Good(threading.Thread):
         if not expected.startswith(replies):
             body, _, line = replies[:-1].rpartition(b'\n')
             body = body + b'\n' if body else b''
-            known = (line.startswith(b'no session ') or not body
-                     and line in (b'no busy', b'no ledger'))
+            known = line.startswith(b'no session ') or not body and line in REFUSALS
             if not known or not expected.startswith(body):
                 report.fault('other bytes at %s: %r' % (address, replies[-200:]))
                 return
@@ -130,7 +132,7 @@ class Good(threading.Thread):
             report.whole += replies == expected
             report.cut += replies != expected and not line
             report.told += line.startswith(b'no session')
-            report.refused += line in (b'no busy', b'no ledger')
+            report.refused.update([line] * (line in REFUSALS))
             if replies or line.startswith(b'no session') or not line:
                 client = (self._login.split()[0], address)
                 report.sessions.append((client, read, read if replies == expected else most,

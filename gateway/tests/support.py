@@ -138,8 +138,9 @@ class Certificates:
 class Client:
     """A connection that sends and reads bytes."""
 
-    def __init__(self, port, login='', authority='', pem='', host='127.0.0.1'):
-        plain = socket.create_connection((host, port), timeout=PATIENCE)
+    def __init__(self, port, login='', authority='', pem='', host='127.0.0.1', source=''):
+        plain = socket.create_connection((host, port), timeout=PATIENCE,
+                                         source_address=(source, 0) if source else None)
         self.socket = plain
         if authority:
             context = ssl.create_default_context(cafile=authority)

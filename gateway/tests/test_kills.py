@@ -38,9 +38,9 @@ class Kills(unittest.TestCase):
         for name, steps in spent.items():
             self.assertEqual(steps, sum(row['charged'] for row in rows if row['account'] == name))
         self.assertGreater(report.whole, 5)
-        print('kills: %d sessions in the ledger, %d read whole, %d cut, %d told, %d turned away, '
-              '%s, %d steps' % (len(rows), report.whole, report.cut, report.told, report.refused,
-                                killer.killed, sum(spent.values())))
+        print('kills: %d sessions in the ledger, %d read whole, %d cut, %d told, turned away %s, '
+              '%s, %d steps' % (len(rows), report.whole, report.cut, report.told,
+                                dict(report.refused), killer.killed, sum(spent.values())))
 
     def settled(self, gateway):
         until('all is settled', lambda: all(row['state'] != 'open' for row in gateway.sessions()))
