@@ -34,7 +34,7 @@ MOST_TEMPLATES = 512                               # which are kept at a time
 NONE = numpy.zeros(0, numpy.int64)
 HEAD = len(matrix_text.BANNER)
 # bytes of a text that is read in less time alone than together with others
-LONG = 1 << 12
+LONG = 1 << 10
 # words of the replies to a job and to a run, and of each line of that
 QUEUED, RAN, LINE = 4, 4, 5
 Source = Union[Matrix, ServerHandle]
