@@ -58,5 +58,5 @@ __all__ = ['AMPLE', 'BANNER', 'BY_POSITIONS', 'Backend', 'Budget', 'Check', 'DUP
            'mirrored', 'missing_attribute', 'most_of', 'name_of', 'number_ascending',
            'number_names', 'open_file', 'packer_of', 'program_words', 'put_column', 'read_column',
            'read_lines', 'read_list', 'read_market_lines', 'read_row', 'read_text',
-           'refuse_repeated', 'shown', 'start_of_line', 'stop_estimate', 'unit_of_read', 'vector_of', 'without_frames',
-           'write_text']
+           'refuse_repeated', 'shown', 'start_of_line', 'stop_estimate', 'unit_of_read',
+           'vector_of', 'without_frames', 'write_text']
