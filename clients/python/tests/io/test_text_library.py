@@ -228,7 +228,8 @@ class Found(unittest.TestCase):
                 text_library.load()
 
     def test_places(self):
-        """Where no variable names one, the first that is there is taken; and none that is damaged."""
+        """Where no variable names one, the first that is there is taken, but none that is
+        damaged."""
         with mock.patch.dict(os.environ):
             os.environ.pop(text_library.VARIABLE, None)
             with mock.patch.object(text_library, 'PLACES', ('/nonexistent/one', __file__)):
