@@ -11,7 +11,8 @@ from .limits import MOST_SIDE
 from .matrix import Matrix
 from .metadata import (COLUMNS, ONE_KIND, POSITIONS, ROWS, Axis, Nodes, VertexUnit, check_names,
                        vertices_of)
-from .operands import alias
+from .matrix_base import alias
+from .types import Vertex
 
 M = TypeVar('M', bound=Matrix)
 WAYS = ('outer', 'inner')
@@ -191,7 +192,7 @@ def _mixes_kinds(sides: Sequence[_Target]) -> bool:
     return bool(mixed)
 
 
-def _join_names(lists: Sequence[Sequence[Any]], how: str) -> List[Any]:
+def _join_names(lists: Sequence[Sequence[Vertex]], how: str) -> List[Any]:
     """The names that any list has, or that all have: whole numbers ascending, others as they first
     stand."""
     found = list(dict.fromkeys(itertools.chain.from_iterable(lists)))

@@ -17,12 +17,14 @@ from typing import Any, Dict, List, Optional, Sequence
 
 import numpy
 
-from .display import count_in_groups, graph_pictures, pictures
+from .display import count_in_groups, pictures
+from .display.pictures import Look
 from .display.pictures import INK, WARM, Path, Target
 from .extras import import_extra
 from .io import coo
 from .matrix import Matrix
 from .metadata import VERTICES, VertexUnit, check_one_kind, joined
+from .types import Array, Axes
 
 __all__ = ['check', 'degree_histogram', 'graph', 'levels', 'raster', 'route', 'spy', 'values']
 
@@ -111,7 +113,7 @@ def raster(A: Matrix, rows: int = RASTER, columns: int = RASTER) -> Matrix:
 
 
 def spy(A: Matrix, path: Optional[Path] = None, size: int = RASTER, first: int = 0, *,
-        ax: Any = None) -> Any:
+        ax: Optional[Axes] = None) -> Any:
     """Draw where the entries of a matrix are.
 
     Up to `size` rows and columns, each entry is a square. Above that, the colours of a raster of
@@ -177,7 +179,7 @@ def spy(A: Matrix, path: Optional[Path] = None, size: int = RASTER, first: int =
     return pictures.finish(ax, path)
 
 
-def _draw_counts(ax: Any, table: Any, cell: Sequence[int], frame: Dict[str, Any]) -> None:
+def _draw_counts(ax: Axes, table: Array, cell: Sequence[int], frame: Dict[str, Any]) -> None:
     """Draw the counts of a raster, with a colour bar."""
     colors = import_extra('matplotlib.colors', 'a picture')
     least, most = int(numpy.nanmin(table)), int(numpy.nanmax(table))
@@ -189,7 +191,7 @@ def _draw_counts(ax: Any, table: Any, cell: Sequence[int], frame: Dict[str, Any]
     pictures.set_plain_ticks(bar.ax.yaxis, least, most)
 
 
-def degree_histogram(A: Matrix, path: Optional[Path] = None, *, ax: Any = None) -> Any:
+def degree_histogram(A: Matrix, path: Optional[Path] = None, *, ax: Optional[Axes] = None) -> Any:
     """Draw how many vertices have how many edges that leave them.
 
     Degrees up to 40 have a bar each; above that, there are points on logarithmic axes, and a line
@@ -250,8 +252,8 @@ def degree_histogram(A: Matrix, path: Optional[Path] = None, *, ax: Any = None) 
     return pictures.finish(ax, path)
 
 
-def graph(G: Matrix, path: Optional[Path] = None, *, color: Any = None, size: Any = None,
-          labels: Any = None, pos: Any = None, ax: Any = None) -> Any:
+def graph(G: Matrix, path: Optional[Path] = None, *, color: Look = None, size: Look = None,
+          labels: Look = None, pos: Look = None, ax: Optional[Axes] = None) -> Any:
     """Draw a graph: a dot for each vertex, and a line or an arrow for each edge.
 
     A matrix whose rows and columns are two kinds of vertices is drawn as two columns.
@@ -309,17 +311,18 @@ def graph(G: Matrix, path: Optional[Path] = None, *, color: Any = None, size: An
     >>> G = spmat.Session().from_edgelist([("Ann", "Bob"), ("Bob", "Cid")])
     >>> axes = draw.graph(G, "graph.png", size=spmat.algorithms.pagerank(G))
     """
-    graph_pictures.check_is_drawable(G)
+    pictures.check_is_drawable(G)
     target = Target(ax, path)
-    if not graph_pictures.has_two_kinds(G):
-        return pictures.finish(graph_pictures.draw_graph(G, color, size, labels, pos, target), path)
+    if not pictures.has_two_kinds(G):
+        return pictures.finish(pictures.draw_graph(G, color, size, labels, pos, target), path)
     if any(given is not None for given in (color, size, labels, pos)):
         raise ValueError('color, size, labels and pos are of graphs with one kind of vertices: '
                          'spmat.bipartite(B) is the graph of both kinds')
-    return pictures.finish(graph_pictures.draw_two_kinds(G, target), path)
+    return pictures.finish(pictures.draw_two_kinds(G, target), path)
 
 
-def values(G: Matrix, found: Matrix, path: Optional[Path] = None, *, ax: Any = None) -> Any:
+def values(G: Matrix, found: Matrix, path: Optional[Path] = None, *,
+           ax: Optional[Axes] = None) -> Any:
     """Draw a value for each vertex, such as most algorithms give.
 
     Up to 1,000 vertices and 5,000 edges, this is the drawing of `graph` in the values' colours. Of
@@ -363,7 +366,7 @@ def values(G: Matrix, found: Matrix, path: Optional[Path] = None, *, ax: Any = N
     >>> axes = draw.values(G, algorithms.closeness(G), "closeness.png")
     """
     check_one_kind(G.notes)
-    if graph_pictures.is_drawable(G):
+    if pictures.is_drawable(G):
         return graph(G, path, color=found, ax=ax)
     held = list(pictures.values_of_vertices(G, found, 'values').values())
     ax = pictures.open_axes(Target(ax, path))
@@ -387,7 +390,8 @@ def values(G: Matrix, found: Matrix, path: Optional[Path] = None, *, ax: Any = N
     return pictures.finish(ax, path)
 
 
-def levels(G: Matrix, found: Matrix, path: Optional[Path] = None, *, ax: Any = None) -> Any:
+def levels(G: Matrix, found: Matrix, path: Optional[Path] = None, *,
+           ax: Optional[Axes] = None) -> Any:
     """Draw the levels of a breadth-first search.
 
     Up to 150 vertices and 700 edges, each vertex and each edge is drawn, a level a column. Above
@@ -435,14 +439,15 @@ def levels(G: Matrix, found: Matrix, path: Optional[Path] = None, *, ax: Any = N
         raise ValueError('levels are a column with a row for each vertex, as bfs_levels gives it')
     joined(G.notes, found.notes, VERTICES)
     at = {i: level for (i, _), level in found.to_dict().items()}
-    ax = graph_pictures.draw_levels(G, at, Target(ax, path))
+    ax = pictures.draw_levels(G, at, Target(ax, path))
     count, unreached = max(at.values(), default=-1) + 1, G.nrows - len(at)
     pictures.set_title(ax, {'vertex': G.nrows, 'entry': G.nvals, 'level': count},
                        *(['%s not reached' % format(unreached, ',')] if unreached else []))
     return pictures.finish(ax, path)
 
 
-def route(G: Matrix, found: Sequence[Any], path: Optional[Path] = None, *, ax: Any = None) -> Any:
+def route(G: Matrix, found: Sequence[Any], path: Optional[Path] = None, *,
+          ax: Optional[Axes] = None) -> Any:
     """Draw a path of a graph.
 
     Up to 150 vertices and 700 edges, this is the drawing of `levels` from the path's first vertex,
@@ -489,7 +494,7 @@ def route(G: Matrix, found: Sequence[Any], path: Optional[Path] = None, *, ax: A
     for edge, value in zip(zip(found, found[1:]), values):
         if value is None:
             raise ValueError('no edge leads from %r to %r' % edge)
-    ax = graph_pictures.draw_route(G, vertices, values, Target(ax, path))
+    ax = pictures.draw_route(G, vertices, values, Target(ax, path))
     length = pictures.count_words(len(values), 'edge')
     ax.set_title('from %s to %s: %s' % (found[0], found[-1], length), fontsize=10)
     return pictures.finish(ax, path)

@@ -10,22 +10,20 @@ own, and readers that see a part of a file.
 spmat_blocks is built so. These names may change with a minor version, as versions.md says.
 """
 from .algorithms.traversal import Vector, put_column, read_column, read_row, vector_of
-from .backends.estimate import stop_estimate
-from .backends.job_queue import without_frames
+from .prices import stop_estimate
+from .backends.server import without_frames
 from .backends.protocol import AMPLE, Backend, Budget, Handle, Job, JobResult, Run, most_of
 from .io.coo import (DUP_OP, LEAST, MOST, checked as check_entries, indices as check_indices, side
                      as check_size, whole as check_whole, word as check_word, columns_of, full as
                      full_entries, repeated as refuse_repeated, shown)
 from .io.edge_lists import (Form as ListForm, Table as ListTable, as_text as decode_list, lay_out as
                             lay_out_list, read_edges as read_list)
-from .io.edge_sources import choose_value_column, edges_of_frame
-from .io.edges import (Edges, FOLDS, How, Layout, LeftOut, check_direction, number_ascending,
-                       number_names)
+from .io.edges import (FOLDS, Edges, How, Layout, LeftOut, check_direction, choose_value_column,
+                       edges_of_frame, number_ascending, number_names)
 from .io.files import (Limit as FileLimit, check_length, load as load_file, name_of, opened as
                        open_file, packer_of)
-from .io.formats import (OF_LISTS as LIST_FORMATS, Request, PARTED as SEPARATORS, check_format,
-                         check_layout, edges_of)
-from .io.graph_formats import has_dictionaries
+from .io.formats import (OF_LISTS as LIST_FORMATS, PARTED as SEPARATORS, Request,
+                               check_format, check_layout, edges_of, has_dictionaries)
 from .io.importers import DupOp, Sources
 from .io.matrix_market import (Kind as MarketKind, Line as MarketLine, Reader as MarketReader,
                                Values as MarketValues, find_repeated as find_repeated_line, is_plain

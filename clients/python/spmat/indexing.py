@@ -6,8 +6,10 @@ for.
 from __future__ import annotations
 
 import collections
+import operator
 from collections.abc import Iterator, KeysView, Set, ValuesView
-from typing import TYPE_CHECKING, Any, List, NamedTuple, NoReturn, Optional
+from typing import (TYPE_CHECKING, Any, List, NamedTuple, NoReturn, Optional, SupportsFloat,
+                    SupportsIndex, Union, cast)
 
 import numpy
 
@@ -15,6 +17,7 @@ from .io.coo import shown
 from .mask import Mask
 from .matrix_base import MatrixBase
 from .metadata import Nodes, joined
+from .types import Many, Series
 
 if TYPE_CHECKING:
     from .matrix import Matrix
@@ -48,7 +51,7 @@ def check_once(matrix: 'Matrix', chosen: Chosen, axis: int) -> None:
         'None, and write positions' % (what, name, what, what, what))
 
 
-def pair_of(at: Any) -> Any:
+def pair_of(at: object) -> Any:
     """The index of the rows and that of the columns. TypeError where there aren't two."""
     if isinstance(at, MatrixBase):
         raise TypeError(
@@ -71,12 +74,12 @@ def pair_of(at: Any) -> Any:
     return found
 
 
-def _is_boolean_table(at: Any) -> bool:
+def _is_boolean_table(at: object) -> bool:
     return (getattr(at, 'ndim', 0) == 2
             and all(kind == bool for kind in getattr(at, 'dtypes', [getattr(at, 'dtype', None)])))
 
 
-def choose_places(matrix: 'Matrix', index: Any, axis: int) -> Chosen:
+def choose_places(matrix: 'Matrix', index: object, axis: int) -> Chosen:
     """The rows (or columns) that an index means: by names where they have some, else by position.
     ValueError where one isn't there, IndexError where a filter has another length, TypeError for
     what is no index."""
@@ -94,38 +97,38 @@ def choose_places(matrix: 'Matrix', index: Any, axis: int) -> Chosen:
     return Chosen([locate(matrix, index, axis)], one=True)
 
 
-def locate(matrix: 'Matrix', index: Any, axis: int) -> int:
+def locate(matrix: 'Matrix', index: object, axis: int) -> int:
     """The place of one row (or column). A number that is no whole one, and a truth value, are names
     alone, where names are such."""
     names = matrix.notes.names(axis)
     is_name = _is_name(names, index)
     kind = (bool if isinstance(index, TRUTHS) else float if isinstance(index, FLOATS) else None)
     if kind is not None and not (names and is_name and isinstance(names[names.at(index)], kind)):
-        _refuse_kind(index, axis, kind)
+        _refuse_kind(cast(float, index), axis, kind)
     if (not is_name and not (names and names.numbered) and hasattr(index, '__index__')
-            and index < 0):
+            and operator.index(cast(SupportsIndex, index)) < 0):
         raise ValueError(
             'no vertex %s: they are 0 to %d; negative numbers count from the end in slices '
             'alone, G[-2:, :]' % (shown(index), matrix.shape[axis] - 1))
     return matrix.index(index, axis)
 
 
-def _refuse_kind(index: Any, axis: int, kind: type) -> NoReturn:
+def _refuse_kind(index: SupportsFloat, axis: int, kind: type) -> NoReturn:
     if kind is bool:
         raise TypeError('%s is no %s: a filter is a list with True or False for each'
                         % (index, WHAT[axis]))
     raise TypeError('%r is a float, and a %s is a name or a whole number' % (index, WHAT[axis])
-                    + (': write %d' % index if float(index).is_integer() else ''))
+                    + (': write %d' % float(index) if float(index).is_integer() else ''))
 
 
-def _is_name(names: Optional[Nodes], index: Any) -> bool:
+def _is_name(names: Optional[Nodes], index: object) -> bool:
     try:
         return names is not None and index in names.places
     except TypeError:                              # what has no hash is no name
         return False
 
 
-def _is_boolean(many: Any) -> bool:
+def _is_boolean(many: Many) -> bool:
     """Whether a list, an array or a column has truth values, and nothing else."""
     kind = getattr(getattr(many, 'dtype', None), 'kind', None)
     if kind is not None and kind != 'O':
@@ -182,14 +185,14 @@ def _of_list(matrix: 'Matrix', many: Any, axis: int) -> List[int]:
     return [locate(matrix, one, axis) for one in plain]
 
 
-def _filtered(matrix: 'Matrix', many: Any, axis: int) -> List[int]:
+def _filtered(matrix: 'Matrix', many: Many, axis: int) -> List[int]:
     count = matrix.shape[axis]
     if len(many) != count:
         raise IndexError('a filter of %d values for %d %ss' % (len(many), count, WHAT[axis]))
     return [place for place, chosen in enumerate(many) if chosen]
 
 
-def _of_series(matrix: 'Matrix', series: Any, axis: int) -> List[int]:
+def _of_series(matrix: 'Matrix', series: Series, axis: int) -> List[int]:
     """The places of a column of pandas that filters: by its labels where they name the rows, else
     by position."""
     names, labels = matrix.notes.names(axis), series.index.tolist()
@@ -208,7 +211,7 @@ def _of_series(matrix: 'Matrix', series: Any, axis: int) -> List[int]:
             WHAT[axis], 'some stand twice' if lacking is None else 'there is none %r' % (lacking,)))
 
 
-def _of_column(matrix: 'Matrix', mask: Any, axis: int) -> List[int]:
+def _of_column(matrix: 'Matrix', mask: Union[Mask, MatrixBase], axis: int) -> List[int]:
     """The places of a mask of a column (or row); aligned by names where both have some. TypeError
     for the column itself."""
     if not isinstance(mask, Mask):

@@ -3,9 +3,7 @@ from __future__ import annotations
 
 import datetime
 import functools
-from decimal import Decimal
-from fractions import Fraction
-from typing import Any, Dict, FrozenSet, NamedTuple, Optional, Tuple, Union
+from typing import Dict, FrozenSet, NamedTuple, Optional, Tuple, Union
 
 import numpy
 
@@ -17,10 +15,9 @@ from .operators.other_names import is_ufunc
 from .scale import (COMPARE, FIRST, KEEP, MEET, OVER, SECOND, TIMES, UNDER, TimeUnit, chooses,
                     compared, exact_number, is_whole, meaning_of, name_of, of_both, of_vertex,
                     refuse, tells_apart, to_stored)
+from .types import Number
 from .wire.commands import FORMS
 
-Number = Union[int, float, Fraction, Decimal, datetime.date, datetime.timedelta, numpy.datetime64,
-               numpy.timedelta64]
 DATES = (datetime.date, numpy.datetime64)
 Ring = Union[str, Semiring, Tuple[Op, Op]]
 
@@ -145,11 +142,11 @@ def of_unary(op: Operator, unit: int) -> int:
     return unit if meaning == KEEP else 1
 
 
-def of_index(op: Operator, thunk: Any, unit: int,
+def of_index(op: Operator, thunk: Number, unit: int,
              what: str = 'the number beside the operator') -> Bound:
     """The same of an index operator, with the number beside it: a value stands for itself, what the
     caller's own operators get is a stored number."""
-    if unit == 1 and _is_stored(thunk):
+    if unit == 1 and type(thunk) is int and _is_stored(thunk):
         return op, thunk, 1
     if isinstance(unit, VertexUnit):
         if tells_apart(op):
@@ -162,10 +159,10 @@ def of_index(op: Operator, thunk: Any, unit: int,
     return op, _whole(thunk, what, 'is'), unit if meaning == KEEP else 1
 
 
-def of_bound(op: Operator, number: Any, is_left: bool, unit: int) -> Bound:
+def of_bound(op: Operator, number: Number, is_left: bool, unit: int) -> Bound:
     """The same of a binary operator, one of whose operands is a number: where it meets the values
     it is one of these, by times and division it is a factor."""
-    if unit == 1 and _is_stored(number):
+    if unit == 1 and type(number) is int and _is_stored(number):
         return op, number, 1
     meaning, what = meaning_of(op), 'left=' if is_left else 'right='
     is_factor = meaning in (TIMES, OVER, UNDER)
@@ -185,13 +182,13 @@ def of_bound(op: Operator, number: Any, is_left: bool, unit: int) -> Bound:
     return op, _whole(number, what, 'of "%s" is' % name_of(op)), found
 
 
-def _is_stored(number: Any) -> bool:
+def _is_stored(number: int) -> bool:
     """Whether a number is stored as it is where values have no scale. So most are, and all that
     follows here would take longer than the rest of a job."""
-    return type(number) is int and coo.LEAST <= number <= coo.MOST
+    return coo.LEAST <= number <= coo.MOST
 
 
-def _whole(number: Any, what: str, verb: str) -> int:
+def _whole(number: object, what: str, verb: str) -> int:
     """A whole number of 64 bits that callers write beside an operator, by the word that they know
     it by."""
     try:
@@ -201,7 +198,7 @@ def _whole(number: Any, what: str, verb: str) -> int:
                           % (what, verb, coo.shown(number))) from None
 
 
-def _check_factor(op: Operator, number: Any, is_left: bool, unit: int) -> None:
+def _check_factor(op: Operator, number: Number, is_left: bool, unit: int) -> None:
     """ValueError for a factor, or a divisor, that isn't whole: it says how to take it all the
     same."""
     try:

@@ -5,8 +5,7 @@ from typing import Any, NamedTuple, NoReturn, Optional, Union
 
 from .display import html
 from .errors import MaskWarning, refusal, warn_user
-from .matrix_base import MatrixBase
-from .operands import common_session
+from .matrix_base import MatrixBase, common_session
 
 
 class Mask(NamedTuple):
@@ -52,7 +51,7 @@ class Mask(NamedTuple):
         """
         return Mask(self.matrix, self.value, not self.complement)
 
-    def __and__(self, other: Any) -> 'Mask':
+    def __and__(self, other: 'Mask') -> 'Mask':
         """Where both masks are.
 
         Parameters
@@ -73,7 +72,7 @@ class Mask(NamedTuple):
             return Mask(structure(inside).without(Mask(structure(outside))))
         return Mask(structure(self).ewise_mult(structure(other), 'pair'))
 
-    def __or__(self, other: Any) -> 'Mask':
+    def __or__(self, other: 'Mask') -> 'Mask':
         """Where either mask is.
 
         Parameters
@@ -92,7 +91,7 @@ class Mask(NamedTuple):
             return Mask(both.matrix, complement=not both.complement)
         return Mask(structure(self).ewise_add(structure(other), 'pair'))
 
-    def __sub__(self, other: Any) -> 'Mask':
+    def __sub__(self, other: 'Mask') -> 'Mask':
         """Where this mask is and the other is not.
 
         Parameters
@@ -107,7 +106,7 @@ class Mask(NamedTuple):
         """
         return Mask.__and__(self, ~_as_operand(other))
 
-    def __xor__(self, other: Any) -> 'Mask':
+    def __xor__(self, other: 'Mask') -> 'Mask':
         """Where one of both masks is alone.
 
         Parameters
@@ -189,14 +188,14 @@ def structure(mask: Mask) -> Any:
     return mask.matrix.select('nonzero') if mask.value else mask.matrix
 
 
-def _as_operand(other: Any) -> Mask:
+def _as_operand(other: object) -> Mask:
     """What stands beside a mask. TypeError where that is no mask."""
     if not isinstance(other, Mask):
         raise TypeError('beside a mask stands a mask, A.S or A.V, and not %r' % (other,))
     return other
 
 
-def _check_shapes(one: Mask, other: Any) -> None:
+def _check_shapes(one: Mask, other: 'Mask') -> None:
     """DimensionMismatch where two masks have other shapes, ValueError where they are of two
     sessions."""
     common_session(one.matrix.session, _as_operand(other).matrix.session)
@@ -205,7 +204,11 @@ def _check_shapes(one: Mask, other: Any) -> None:
             *one.matrix.shape, *other.matrix.shape))
 
 
-def as_mask(mask: Union[MatrixBase, Mask, None], warns: bool = True) -> Optional[Mask]:
+MaskLike = Union[MatrixBase, Mask, None]
+"""What methods take for a mask."""
+
+
+def as_mask(mask: MaskLike, warns: bool = True) -> Optional[Mask]:
     """A mask that is given as itself, or as a matrix, which is its structure; of a matrix it
     `warns`. TypeError for anything else."""
     if mask is None or isinstance(mask, Mask):

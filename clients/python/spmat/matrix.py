@@ -10,13 +10,14 @@ from __future__ import annotations
 import functools
 import heapq
 import itertools
+import operator
 import os
 from typing import (TYPE_CHECKING, Any, Dict, Iterable, Iterator, List, Optional, Sequence, Set,
-                    Tuple, Type, TypeVar, Union, cast)
+                    SupportsIndex, Tuple, Type, TypeVar, Union, cast)
 
 import numpy
 
-from . import oversized_jobs, result_metadata, scale as scales, submatrices, updates
+from . import oversized_jobs, result_metadata, scale as scales, submatrices
 from .backends.protocol import Handle, Job, OneVisit
 from .display import html
 from .errors import BudgetExceeded, TooLarge, refusal, warn_user
@@ -25,25 +26,24 @@ from .greatest_entries import find_first, find_greatest
 from .indexing import check_once, choose_places, pair_of
 from .io import coo, files, writers
 from .io.arrays import dense
-from .job_operators import (Number, Ring, applied, kind_of_function, of_form, of_index, ring_of)
+from .job_operators import (Ring, applied, kind_of_function, of_form, of_index, ring_of)
 from .limits import MOST_SIDE
-from .mask import Mask, as_mask, structure
-from .matrix_base import MatrixBase
+from .mask import Mask, MaskLike, as_mask, structure
+from .matrix_base import MatrixBase, alias, common_session, not_a_matrix
 from .metadata import (BY_POSITIONS, COLUMNS, ELEMENTWISE, NOTHING, ROWS, TRUTHS, Axis, Metadata,
                        Nodes, Unnamed, VertexUnit, abbreviate_names, along, check_one_kind,
                        even, given_axis, hint_of, is_line, joined, list_of_names, of_copy, place_of,
                        suggest_names, vertices_of)
-from .operands import alias, common_session, not_a_matrix
 from .operators import Op, Operator, Semiring, binary, indexunary, unary
 from .reductions import aggregate, aggregate_all, is_aggregator
 from .submatrices import BOTH, move, take, value_at, value_of
+from .types import Array, DType, Exact, NodesLike, Number, Path, Source, Target, Vertex
 from .unsupported_syntax import Signs, refusing
 
 if TYPE_CHECKING:
     from .session import Session
 
 Self = TypeVar('Self', bound='Matrix')
-MaskLike = Union['Matrix', Mask, None]
 # What stands on the diagonal of a matrix that is multiplied by others without changing them.
 NEUTRAL: Dict[str, int] = {'plus_times': 1, 'lor_land': 1, 'any_pair': 1, 'min_plus': 0,
                            'max_plus': 0}
@@ -404,7 +404,7 @@ class Matrix(Signs, metaclass=MatrixType):
         return None if axis is None else axis.names
 
     @nodes.setter
-    def nodes(self, names: Optional[Iterable[Any]]) -> None:
+    def nodes(self, names: NodesLike) -> None:
         self.notes = self.notes.with_nodes(names if names is None or isinstance(names, Nodes)
                                            else list_of_names(names), self.shape)
 
@@ -435,7 +435,7 @@ class Matrix(Signs, metaclass=MatrixType):
         return self.notes.rows
 
     @row_nodes.setter
-    def row_nodes(self, names: Optional[Iterable[Any]]) -> None:
+    def row_nodes(self, names: Optional[Iterable[Vertex]]) -> None:
         axis = given_axis(names, self.nrows)._replace(kind=self.notes.row_kind)
         self.notes = self.notes.with_axes(axis, self.notes.axis(COLUMNS))
 
@@ -466,7 +466,7 @@ class Matrix(Signs, metaclass=MatrixType):
         return self.notes.columns
 
     @column_nodes.setter
-    def column_nodes(self, names: Optional[Iterable[Any]]) -> None:
+    def column_nodes(self, names: Optional[Iterable[Vertex]]) -> None:
         axis = given_axis(names, self.ncols)._replace(kind=self.notes.column_kind)
         self.notes = self.notes.with_axes(self.notes.axis(ROWS), axis)
 
@@ -533,10 +533,10 @@ class Matrix(Signs, metaclass=MatrixType):
         return unit
 
     @unit.setter
-    def unit(self, unit: Any) -> None:
+    def unit(self, unit: Union[Exact, str]) -> None:
         self.notes = self.notes._replace(unit=scales.as_unit(unit))
 
-    def rescale(self: Self, unit: Any, *, exact: bool = True) -> Self:
+    def rescale(self: Self, unit: Union[Exact, str], *, exact: bool = True) -> Self:
         """The same numbers in another unit: 1.25 of 125 stored hundredths is 1250 thousandths after
         `A.rescale(1000)`.
 
@@ -578,7 +578,7 @@ class Matrix(Signs, metaclass=MatrixType):
         """
         return scales.rescaled(self, unit, exact)  # type: ignore[no-any-return]
 
-    def index(self, node: Any, axis: int = 0) -> int:
+    def index(self, node: Vertex, axis: int = 0) -> int:
         """The row of a vertex, or with `axis=1` the column.
 
         It is the place of its name where rows have names, else the number itself. Where no name is
@@ -624,10 +624,12 @@ class Matrix(Signs, metaclass=MatrixType):
             if names.numbered or not hasattr(node, '__index__'):
                 words = suggest_names(node, names) or 'they are ' + abbreviate_names(names)
                 raise ValueError('no vertex %s: %s' % (coo.shown(node), words))
-        if isinstance(node, TRUTHS) or not hasattr(node, '__index__') or not 0 <= node < count:
+        place = (None if isinstance(node, TRUTHS) or not hasattr(node, '__index__')
+                 else operator.index(cast(SupportsIndex, node)))
+        if place is None or not 0 <= place < count:
             raise ValueError('no vertex %s: %s' % (coo.shown(node), 'they are 0 to %d' % (count - 1)
                                                    if count else 'there is no vertex'))
-        return int(node)
+        return place
 
     # -- products
 
@@ -994,7 +996,7 @@ class Matrix(Signs, metaclass=MatrixType):
         """
         return self._combine('union', op, other, mask, name)
 
-    def ewise_union(self: Self, other: Self, op: Op, left_default: Any, right_default: Any, *,
+    def ewise_union(self: Self, other: Self, op: Op, left_default: Number, right_default: Number, *,
                     mask: MaskLike = None, name: Optional[str] = None) -> Self:
         """The union of two matrices, with a default for an entry that is missing.
 
@@ -1048,8 +1050,8 @@ class Matrix(Signs, metaclass=MatrixType):
         """
         defaults = (scales.to_stored(left_default, self.unit, 'default '),
                     scales.to_stored(right_default, other.unit, 'default '))
-        ours = updates.fill(other, defaults[0], self.unit)
-        theirs = updates.fill(self, defaults[1], other.unit)
+        ours = submatrices.fill(other, defaults[0], self.unit)
+        theirs = submatrices.fill(self, defaults[1], other.unit)
         left, right = self.ewise_add(ours, 'first'), other.ewise_add(theirs, 'first')
         return cast(Self, left.ewise_mult(cast(Any, right), op, mask=mask, name=name))
 
@@ -1172,7 +1174,7 @@ class Matrix(Signs, metaclass=MatrixType):
 
     # -- parts, and updates of them
 
-    def __getitem__(self, at: Any) -> Any:
+    def __getitem__(self, at: object) -> Any:
         """A value, a row, a column, a part, or a copy under a mask.
 
         `G[i, j]` is the value of an entry, what it stands for where there is a unit, None where
@@ -1246,7 +1248,7 @@ class Matrix(Signs, metaclass=MatrixType):
             part.notes = part.notes._replace(directed=even(matrix.notes))
         return part
 
-    def get(self, row: Any, column: Any = None, default: Any = None) -> Any:
+    def get(self, row: object, column: object = None, default: object = None) -> Any:
         """The value of one entry, or a default where there is none.
 
         `A.get(i, j, 0)` is of a matrix, `c.get(i, default=0)` of a column or a row.
@@ -1305,9 +1307,9 @@ class Matrix(Signs, metaclass=MatrixType):
                             % (row, column, *part.shape))
         return scales.to_decimal(values[0], part.unit) if values else default
 
-    def assign(self: Self, what: Any, rows: Any = None, columns: Any = None, *,
-               accum: Optional[Op] = None, mask: MaskLike = None, replace: bool = False,
-               name: Optional[str] = None) -> Self:
+    def assign(self: Self, what: Union['Matrix', Number], rows: object = None,
+               columns: object = None, *, accum: Optional[Op] = None, mask: MaskLike = None,
+               replace: bool = False, name: Optional[str] = None) -> Self:
         """A new matrix in which a part has other entries: C<M, accum>(rows, columns) = what.
 
         Parameters
@@ -1368,33 +1370,33 @@ class Matrix(Signs, metaclass=MatrixType):
         if where is not None and where.matrix.shape != matrix.shape:
             raise refusal('J9', detail='the matrix is %dx%d, the mask %dx%d'
                           % (*matrix.shape, *where.matrix.shape))
-        part = [updates.choose_once(matrix, index, axis)
+        part = [submatrices.choose_once(matrix, index, axis)
                 for axis, index in enumerate((rows, columns))]
         is_whole = all(one.places is None for one in part)
         if isinstance(what, Matrix):
-            fitting = updates.fit_part(what, part, matrix.shape)
+            fitting = submatrices.fit_part(what, part, matrix.shape)
             if accum is None and not (is_whole and (where is None or replace)):
                 scales.common('assign', matrix.unit, what.unit)
             if is_whole:
                 return cast(Self, matrix.update(fitting, accum, where, replace, name=name))
-            given = updates.spread_part(matrix, fitting, part)
+            given = submatrices.spread_part(matrix, fitting, part)
         else:
             stored = scales.to_stored(what, matrix.unit, 'value ')
-            given = (updates.repeat_number(matrix, stored, part)
-                     if where is None or where.complement else updates.keep_part(
-                         updates.fill(structure(where), stored, matrix.unit), part))
+            given = (submatrices.repeat_number(matrix, stored, part)
+                     if where is None or where.complement else submatrices.keep_part(
+                         submatrices.fill(structure(where), stored, matrix.unit), part))
         last = name if where is None else None
         if accum is not None:
             whole = matrix.ewise_add(given, accum, name=last)
         elif is_whole:
             whole = given
         else:
-            rest = matrix.without(updates.keep_part(matrix, part).S)
+            rest = matrix.without(submatrices.keep_part(matrix, part).S)
             whole = rest.ewise_add(given, 'first', name=last)
         return cast(Self, whole if where is None
                     else matrix.update(whole, None, where, replace, name=name))
 
-    def update(self: Self, other: 'Matrix', accum: Optional[Op] = None, mask: Any = None,
+    def update(self: Self, other: 'Matrix', accum: Optional[Op] = None, mask: MaskLike = None,
                replace: bool = False, *, name: Optional[str] = None) -> Self:
         """A new matrix, what the GraphBLAS writes C<M, accum> = other.
 
@@ -1482,7 +1484,7 @@ class Matrix(Signs, metaclass=MatrixType):
             return inside.dup(mask=where, name=name)
         return self.without(where).ewise_add(inside.dup(mask=where), binary.first, name=name)
 
-    def dup(self: Self, *, mask: Any = None, name: Optional[str] = None) -> Self:
+    def dup(self: Self, *, mask: MaskLike = None, name: Optional[str] = None) -> Self:
         """A copy.
 
         Parameters
@@ -1527,7 +1529,7 @@ class Matrix(Signs, metaclass=MatrixType):
             return self.without(~where, name=name)
         return cast(Self, self.apply(unary.identity, mask=where, name=name))
 
-    def without(self: Self, mask: Any, *, name: Optional[str] = None) -> Self:
+    def without(self: Self, mask: MaskLike, *, name: Optional[str] = None) -> Self:
         """The entries outside a mask, whatever the values.
 
         Parameters
@@ -1778,7 +1780,7 @@ class Matrix(Signs, metaclass=MatrixType):
         return self._queue(Job('reduce', (found,), (self.handle,), (self.nrows, 1)), (self,), notes,
                            mask, name)
 
-    def reduce_columnwise(self: Self, op: Op = 'plus', *, mask: Any = None,
+    def reduce_columnwise(self: Self, op: Op = 'plus', *, mask: MaskLike = None,
                           associative: Optional[bool] = None, name: Optional[str] = None) -> Self:
         """The fold of each column, as a row.
 
@@ -2029,7 +2031,7 @@ class Matrix(Signs, metaclass=MatrixType):
         return [[submatrices.take_part(self, rows, columns) for columns in bounds[1]]
                 for rows in bounds[0]]
 
-    def resize(self: Self, nrows: int, ncols: int, *, nodes: Any = None,
+    def resize(self: Self, nrows: int, ncols: int, *, nodes: NodesLike = None,
                name: Optional[str] = None) -> Self:
         """A new matrix of other sizes.
 
@@ -2255,9 +2257,8 @@ class Matrix(Signs, metaclass=MatrixType):
             job, operands = job._replace(mask=cut.handle), (*operands, cut)
         return self._submit(job, operands, notes, name)
 
-    def _visit(self, job: Job, operands: Sequence[MatrixBase], where: Mask,
-               notes: Metadata, name: Optional[str], method: Tuple[Any, ...] = (),
-               **options: Any) -> Any:
+    def _visit(self, job: Job, operands: Sequence[MatrixBase], where: Mask, notes: Metadata,
+               name: Optional[str], method: Tuple[object, ...] = (), **options: object) -> Any:
         """The result of a method under a mask, of which this job is the last, where one visit to a
         session makes all of them; else None, and the caller queues them."""
         if not self.session.backend.fuses(job):
@@ -2266,7 +2267,7 @@ class Matrix(Signs, metaclass=MatrixType):
         job = job._replace(mask=where.matrix.handle, visit=visit)
         return self._submit(job, (*operands, where.matrix), notes, name)
 
-    def _check_shape(self, form: str, other: Any, shape: Tuple[int, Optional[int]]) -> None:
+    def _check_shape(self, form: str, other: object, shape: Tuple[int, Optional[int]]) -> None:
         if not isinstance(other, Matrix):
             raise not_a_matrix(other)
         common_session(self.session, other.session)
@@ -2275,7 +2276,7 @@ class Matrix(Signs, metaclass=MatrixType):
             raise refusal('J5', command=form, detail='%dx%d and %dx%d: the second has to %s%s' % (
                 *self.shape, *other.shape, due, hint_of(self.notes, other.notes)))
 
-    def _submit(self, job: Job, operands: Sequence[Any], notes: Metadata,
+    def _submit(self, job: Job, operands: Sequence[MatrixBase], notes: Metadata,
                 name: Optional[str]) -> 'Matrix':
         session, is_vector = self.session, False
         for operand in operands:
@@ -2288,7 +2289,7 @@ class Matrix(Signs, metaclass=MatrixType):
         except TooLarge as fault:
             if job.is_by_parts:
                 raise
-            raise oversized_jobs.explained(fault, job, operands) from None
+            raise oversized_jobs.explained(fault, job, cast(Any, operands)) from None
         return make_matrix(session, handle, notes, is_vector, name)
 
     # -- entries by position
@@ -2334,7 +2335,8 @@ class Matrix(Signs, metaclass=MatrixType):
         return ((rows, columns, values) if arrays
                 else (rows.tolist(), columns.tolist(), values.tolist()))
 
-    def entries(self, *, arrays: Optional[bool] = None, dtype: Any = None) -> Tuple[Any, Any, Any]:
+    def entries(self, *, arrays: Optional[bool] = None,
+                dtype: DType = None) -> Tuple[Any, Any, Any]:
         """Rows, columns and values, as `Matrix.to_coo` has them, also of a vector.
 
         Parameters
@@ -2365,7 +2367,7 @@ class Matrix(Signs, metaclass=MatrixType):
         rows, columns, values = self._read_stored(arrays is not False)
         return rows, columns, self._to_floats(values) if scales.are_decimals(dtype) else values
 
-    def to_coo(self, *, arrays: Optional[bool] = None, dtype: Any = None) -> Tuple[Any, Any, Any]:
+    def to_coo(self, *, arrays: Optional[bool] = None, dtype: DType = None) -> Tuple[Any, Any, Any]:
         """Rows, columns (from 0) and values, by ascending row and column.
 
         Those of a part count within the part: `from_coo(*part.to_coo(), nodes=part.nodes)` has its
@@ -2547,7 +2549,7 @@ class Matrix(Signs, metaclass=MatrixType):
         """
         return coo.to_compressed(coo.by_columns(self.entries()), self.ncols)
 
-    def to_list(self, missing: Any = None, dtype: Any = None) -> List[Any]:
+    def to_list(self, missing: object = None, dtype: DType = None) -> List[Any]:
         """The values of a column or a row.
 
         Parameters
@@ -2596,7 +2598,8 @@ class Matrix(Signs, metaclass=MatrixType):
             out[at] = value
         return out
 
-    def to_dense(self, fill: Any = 0, dtype: Any = None, *, fill_value: Any = None) -> Any:
+    def to_dense(self, fill: Union[Exact, DType] = 0, dtype: DType = None, *,
+                 fill_value: Optional[Exact] = None) -> Any:
         """An array of numpy of this shape.
 
         One column is an array of shape (n, 1), which refuses to become n x n beside one of shape
@@ -2634,18 +2637,18 @@ class Matrix(Signs, metaclass=MatrixType):
         >>> A.to_dense(fill=0).tolist()
         [[1, 0, -2], [0, 0, 3]]
         """
-        fill = fill if fill_value is None else fill_value
-        if dtype is None and (isinstance(fill, (type, str)) or hasattr(fill, 'itemsize')
-                              and not hasattr(fill, '__float__')):
-            fill, dtype = 0, fill
+        value: Any = fill if fill_value is None else fill_value
+        if dtype is None and (isinstance(value, (type, str)) or hasattr(value, 'itemsize')
+                              and not hasattr(value, '__float__')):
+            value, dtype = 0, value
         kind = numpy.float64 if scales.are_decimals(dtype) else numpy.int64
-        table = numpy.full(self.shape, fill if kind is numpy.float64 else coo.word(fill, 'fill'),
+        table = numpy.full(self.shape, value if kind is numpy.float64 else coo.word(value, 'fill'),
                            kind)
         rows, columns, values = self.entries(arrays=True, dtype=dtype)
         table[rows, columns] = values
         return dense(table)
 
-    def to_scipy_sparse(self, format: str = 'csr', dtype: Any = None) -> Any:
+    def to_scipy_sparse(self, format: str = 'csr', dtype: DType = None) -> Any:
         """A matrix of scipy.sparse.
 
         Parameters
@@ -2899,7 +2902,7 @@ class Matrix(Signs, metaclass=MatrixType):
                                                                 raw))]
 
     def to_networkx(self, directed: Optional[bool] = None, weight: Optional[str] = 'weight',
-                    nodes: Optional[Sequence[Any]] = None, *, raw: bool = False) -> Any:
+                    nodes: Optional[Sequence[Vertex]] = None, *, raw: bool = False) -> Any:
         """A networkx graph of a square matrix.
 
         Parameters
@@ -2980,12 +2983,12 @@ class Matrix(Signs, metaclass=MatrixType):
         at, names = (rows, columns)[axis], self.notes.names(axis)
         return (at if names is None else map(names.__getitem__, at)), values
 
-    def _to_floats(self, values: Any) -> Any:
+    def _to_floats(self, values: Union[List[int], Array]) -> Any:
         """What stored values stand for, as floats."""
         return (scales.to_decimals(values, self.unit) if not scales.is_whole(self.unit)
                 else list(map(float, values)) if isinstance(values, list) else values * 1.0)
 
-    def _show_values(self, values: Any, raw: bool) -> Any:
+    def _show_values(self, values: Union[List[int], Array], raw: bool) -> Any:
         """Values as people are shown them: what they stand for, or with `raw` as they are
         stored."""
         return values if raw else scales.to_decimals(values, self.unit)
@@ -3000,8 +3003,8 @@ class Matrix(Signs, metaclass=MatrixType):
 
     # -- entries in files and tables
 
-    def to_csv(self, target: Any = None, fields: Optional[Sequence[str]] = None, *, sep: str = ',',
-               header: bool = True, scale: Optional[float] = None,
+    def to_csv(self, target: Optional[Target] = None, fields: Optional[Sequence[str]] = None, *,
+               sep: str = ',', header: bool = True, scale: Optional[float] = None,
                raw: bool = False) -> Optional[str]:
         """Write a line for each entry.
 
@@ -3063,7 +3066,7 @@ class Matrix(Signs, metaclass=MatrixType):
         """
         return writers.to_csv(self, target, fields, sep, header=header, scale=scale, raw=raw)
 
-    def write_edgelist(self, target: Any, sep: str = ' ', *, values: bool = True,
+    def write_edgelist(self, target: Target, sep: str = ' ', *, values: bool = True,
                        scale: Optional[float] = None, raw: bool = False) -> None:
         """Write a line for each edge: two names and a value.
 
@@ -3147,7 +3150,7 @@ class Matrix(Signs, metaclass=MatrixType):
         """
         return writers.to_pandas(self, scale=scale, raw=raw)
 
-    def to_frame(self, fill: Any = 0, *, raw: bool = False) -> Any:
+    def to_frame(self, fill: object = 0, *, raw: bool = False) -> Any:
         """A table of pandas with a cell for each row and column, and names on both sides.
 
         Parameters
@@ -3306,7 +3309,7 @@ class Matrix(Signs, metaclass=MatrixType):
         """
         return writers.to_pandas_edgelist(self, (source, target, edge_attr), scale=scale, raw=raw)
 
-    def to_parquet(self, path: Any, *, scale: Optional[float] = None, raw: bool = False) -> None:
+    def to_parquet(self, path: Path, *, scale: Optional[float] = None, raw: bool = False) -> None:
         """Write what `to_pandas` gives as a parquet file.
 
         Parameters
@@ -3346,7 +3349,7 @@ class Matrix(Signs, metaclass=MatrixType):
         """
         writers.to_parquet(self, path, scale=scale, raw=raw)
 
-    def mmwrite(self, target: Any) -> None:
+    def mmwrite(self, target: Source) -> None:
         """Writes the text to a path, or to a file opened in binary.
 
         It warns where values have a unit, which the text has not.
@@ -3434,7 +3437,7 @@ def _warn_of_positions(op: Op, first: Metadata) -> None:
 
 
 def _check_both_ways(rows: Sequence[int], columns: Sequence[int], values: Sequence[int],
-                     labels: Sequence[Any]) -> None:
+                     labels: Sequence[Vertex]) -> None:
     """ValueError where (i, j) and (j, i) have different values, of which a graph without directions
     could keep one."""
     stored = dict(zip(zip(rows, columns), values))
@@ -3458,7 +3461,7 @@ def _pair_names(first: MatrixBase, second: MatrixBase, axis: int) -> Axis:
                                         other.listed(second.shape[axis]))))
 
 
-def is_positional(op: Any) -> bool:
+def is_positional(op: Ring) -> bool:
     """Whether a semiring's second operator gives positions, as `any_secondi` does: rows or columns
     of the operands, from 0 or from 1."""
     mul = (op.partition('_')[2] if isinstance(op, str) else op[1] if isinstance(op, tuple)
@@ -3466,17 +3469,17 @@ def is_positional(op: Any) -> bool:
     return isinstance(mul, str) and mul in POSITIONAL and mul not in binary
 
 
-def multiply_positions(first: Any, second: Any, op: Any, mask: Any, name: Optional[str],
-                       **options: Any) -> Any:
+def multiply_positions(first: 'Matrix', second: 'Matrix', op: Ring, mask: MaskLike,
+                       name: Optional[str], **options: Any) -> Any:
     """A product over a semiring of positions: the operand whose positions are meant has them in
     place of its values. Where they have names, they are vertices."""
-    add, mul = op.split('_', 1) if isinstance(op, str) else op
-    of_second, index, shift = POSITIONAL[mul]
+    add, mul = op.split('_', 1) if isinstance(op, str) else cast(Tuple[Op, str], op)
+    of_second, index, shift = POSITIONAL[str(mul)]
     ring = (add, 'second' if of_second else 'first')
     own = second if of_second else first
     axis = own.notes.axis(ROWS if index == 'rowindex' else COLUMNS)
-    places = own.apply(index, right=shift)
-    is_vertex = axis.names is not None and not axis.names.are_counted and not shift
-    places.notes = places.notes._replace(unit=VertexUnit(axis.names, axis.kind) if is_vertex else 1)
+    places, names = own.apply(index, right=shift), axis.names
+    places.notes = places.notes._replace(
+        unit=1 if names is None or names.are_counted or shift else VertexUnit(names, axis.kind))
     left, right = (first, places) if of_second else (places, second)
     return left.mxm(right, ring, mask=mask, name=name, **options)

@@ -17,12 +17,13 @@ import numbers
 import re
 from collections import Counter
 from collections.abc import KeysView, Mapping, Set
-from typing import (TYPE_CHECKING, Any, Dict, Iterable, Iterator, List, NamedTuple, Optional,
-                    Sequence, Tuple, TypeVar)
+from typing import (TYPE_CHECKING, Any, Collection, Dict, Iterable, Iterator, List, NamedTuple,
+                    Optional, Sequence, Tuple, TypeVar, cast)
 
 import numpy
 
 from .errors import NamesDiffer
+from .types import NodesLike, Vertex
 
 if TYPE_CHECKING:
     from .matrix_base import MatrixBase
@@ -41,7 +42,7 @@ class Nodes(Sequence[Any]):
     It is a sequence that equals a list, or a tuple, of the same names, as networkx' views and
     pandas' indexes are of theirs."""
 
-    def __init__(self, names: Iterable[Any], is_cut: int = 0) -> None:
+    def __init__(self, names: Iterable[Vertex], is_cut: int = 0) -> None:
         # whether it is the one row, or column, that was cut from a graph: 1 by a list, 2 by itself
         self.is_cut = is_cut
         self._names: List[Any] = names._names if isinstance(names, Nodes) else list(names)
@@ -73,10 +74,10 @@ class Nodes(Sequence[Any]):
     def __hash__(self) -> int:
         return hash(tuple(self._names))
 
-    def __add__(self, other: Iterable[Any]) -> List[Any]:
+    def __add__(self, other: Iterable[Vertex]) -> List[Any]:
         return [*self._names, *other]
 
-    def __radd__(self, other: Iterable[Any]) -> List[Any]:
+    def __radd__(self, other: Iterable[Vertex]) -> List[Any]:
         return [*other, *self._names]
 
     def __repr__(self) -> str:
@@ -120,7 +121,7 @@ class Nodes(Sequence[Any]):
             other.equal_lists = mine
         return True
 
-    def at(self, name: Any) -> int:
+    def at(self, name: Vertex) -> int:
         """The index of a name. KeyError where there is none."""
         try:
             return self.places[name]
@@ -163,7 +164,7 @@ class VertexUnit(int):
         return Axis(self.names, kind=self.kind)
 
 
-def place_of(names: Nodes, node: Any) -> Optional[int]:
+def place_of(names: Nodes, node: Vertex) -> Optional[int]:
     """The place of a vertex among names; None where it is none of them. A truth value, or a
     fraction, is no whole number that equals it."""
     try:
@@ -173,7 +174,7 @@ def place_of(names: Nodes, node: Any) -> Optional[int]:
     return place if _is_alike(names[place], node) else None
 
 
-def _is_alike(name: Any, node: Any) -> bool:
+def _is_alike(name: Vertex, node: Vertex) -> bool:
     """Whether two equal things are both truth values, or neither is."""
     return isinstance(name, TRUTHS) == isinstance(node, TRUTHS)
 
@@ -277,7 +278,7 @@ ROWS, COLUMNS = 0, 1
 Axes = Tuple[Axis, Axis]
 
 
-def list_of_names(names: Iterable[Any]) -> List[Any]:
+def list_of_names(names: Iterable[Vertex]) -> List[Any]:
     """Names as a list. TypeError for a set, which has no order, and for a dict, whose values would
     be lost."""
     if isinstance(names, (str, bytes)):
@@ -290,7 +291,7 @@ def list_of_names(names: Iterable[Any]) -> List[Any]:
     return list(names)
 
 
-def given_axis(names: Optional[Iterable[Any]], count: int) -> Axis:
+def given_axis(names: Optional[Iterable[Vertex]], count: int) -> Axis:
     """What so many vertices are called by a caller who made a matrix by indexes. ValueError where
     there are more or fewer names, or they can't be told apart."""
     if names is None:
@@ -303,7 +304,7 @@ def given_axis(names: Optional[Iterable[Any]], count: int) -> Axis:
     return Axis(found)
 
 
-def axes_of(nodes: Any, shape: Tuple[int, int]) -> Axes:
+def axes_of(nodes: NodesLike, shape: Tuple[int, int]) -> Axes:
     """What rows and columns are called by a caller: both of a square matrix, the longer side of a
     vector by one list, of any matrix by a pair. ValueError where sizes don't fit."""
     (nrows, ncols), pair = shape, _pair(nodes)
@@ -320,29 +321,28 @@ def axes_of(nodes: Any, shape: Tuple[int, int]) -> Axes:
     return axis if nrows == count else Axis(), axis if ncols == count else Axis()
 
 
-def sizes_of(nodes: Any, nrows: Optional[int],
+def sizes_of(nodes: Optional[Collection[Vertex]], nrows: Optional[int],
              ncols: Optional[int]) -> Tuple[Optional[int], Optional[int]]:
     """Rows and columns, where a caller doesn't say how many those that have names."""
     if nodes is None:
         return nrows, ncols
     pair = _pair(nodes)
-    rows, columns = (pair if pair is not None else (nodes if ncols in (None, 1, len(nodes))
-                                                    else None,
-                                                    nodes if nrows in (None, 1, len(nodes))
-                                                    else None))
+    count = len(nodes)
+    rows, columns = pair if pair is not None else (nodes if ncols in (None, 1, count) else None,
+                                                   nodes if nrows in (None, 1, count) else None)
     return (len(rows) if nrows is None and rows is not None else nrows,
             len(columns) if ncols is None and columns is not None else ncols)
 
 
-def _pair(nodes: Any) -> Optional[Tuple[Any, Any]]:
+def _pair(nodes: Optional[Collection[Any]]) -> Optional[Tuple[Any, Any]]:
     """The names of rows and of columns, where these are given each by themselves: a tuple of two
     lists, of which one may be None."""
-    def is_list(many: Any) -> bool:
+    def is_list(many: object) -> bool:
         return (hasattr(many, '__len__') and hasattr(many, '__getitem__')
                 and not isinstance(many, (str, bytes, tuple)))
     is_pair = (isinstance(nodes, tuple) and len(nodes) == 2
                and all(many is None or is_list(many) for many in nodes))
-    return nodes if is_pair else None
+    return cast(Tuple[Any, Any], nodes) if is_pair else None
 
 
 class Metadata(NamedTuple):
@@ -578,23 +578,24 @@ def vertices_of(graph: Metadata) -> Optional[Axis]:
     return rows.with_other(columns) if rows.agrees(columns) else None
 
 
-def suggest_names(node: Any, names: Sequence[Any]) -> str:
+def suggest_names(node: Vertex, names: Sequence[Vertex]) -> str:
     """The names that a wrong one may have meant, in words; nothing where none is like it."""
     other = (int(node) if isinstance(node, str) and node.isdecimal()
              else None if isinstance(node, str) else str(node))
     if other is not None and other in names:
         return 'did you mean %r? %r and %r are two names' % (other, node, other)
-    folded = ({name.casefold(): name for name in names if isinstance(name, str)}
-              if isinstance(node, str) else {})
-    found = ([folded[word] for word in difflib.get_close_matches(node.casefold(), folded, FEW_NEAR,
-                                                                 LIKE)] if folded else [])
+    if not isinstance(node, str):
+        return ''
+    folded = {name.casefold(): name for name in names if isinstance(name, str)}
+    found = [folded[word] for word in difflib.get_close_matches(node.casefold(), folded, FEW_NEAR,
+                                                                LIKE)]
     return 'did you mean %s?' % ' or '.join(map(repr, found)) if found else ''
 
 
-def abbreviate_names(names: Sequence[Any]) -> str:
+def abbreviate_names(names: Sequence[Vertex]) -> str:
     """Some names in words."""
-    if len(names) > 1 and type(names[0]) is int and names == list(
-        range(names[0], names[0] + len(names))):
-        return '%d to %d' % (names[0], names[-1])
+    first = names[0] if names else None
+    if len(names) > 1 and type(first) is int and names == list(range(first, first + len(names))):
+        return '%d to %d' % (first, first + len(names) - 1)
     some = ', '.join(map(repr, names[:FEW_NAMES]))
     return some + (', .. (%d)' % len(names) if len(names) > FEW_NAMES else '')

@@ -15,6 +15,7 @@ from .limits import MOST_PRICE, MOST_SIDE
 from .operators import indexunary
 
 if TYPE_CHECKING:
+    from .matrix_base import MatrixBase
     from .matrix import Matrix
 
 

@@ -1,7 +1,7 @@
 """Progress bars of long work, by tqdm: in a terminal, and in a notebook."""
 from __future__ import annotations
 
-from typing import Any
+from typing import Any, Dict
 
 from .extras import import_extra
 
@@ -25,9 +25,9 @@ class Bar:
     >>> session = spmat.Session(progress=spmat.progress.Bar())
     """
 
-    def __init__(self, **settings: Any) -> None:
+    def __init__(self, **settings: object) -> None:
         self._tqdm = import_extra('tqdm.auto', 'a progress bar').tqdm
-        self._settings = {'leave': False, **settings}
+        self._settings: Dict[str, object] = {'leave': False, **settings}
         self._bar: Any = None
         self._shown = ('', 0)
 

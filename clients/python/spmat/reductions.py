@@ -3,13 +3,16 @@ Their names are python-graphblas'."""
 from __future__ import annotations
 
 from fractions import Fraction
-from typing import Any, Callable, Dict, NamedTuple, NoReturn, Optional
+from typing import TYPE_CHECKING, Any, Callable, Dict, NamedTuple, NoReturn, Optional
 
 from . import scale as scales
 from .io.coo import MOST
-from .mask import Mask, as_mask
+from .mask import Mask, MaskLike, as_mask
 from .metadata import VertexUnit
 from .operators import binary, find
+
+if TYPE_CHECKING:
+    from .matrix import Matrix
 
 HALF = 32                                          # bits of a half of a number
 # parts of a mean's unit, or fewer where means are so large that these don't fit
@@ -34,7 +37,7 @@ def _index(axis: int) -> str:
 
 def _extremes(op: str) -> Callable[[Any, int], Any]:
     """The places of the least, or greatest, entries of each row."""
-    def found(matrix: Any, axis: int) -> Any:
+    def found(matrix: 'Matrix', axis: int) -> Any:
         spread = fold_axis(matrix, op, axis).diag()
         alike = spread.mxm(matrix, 'any_eq') if axis else matrix.mxm(spread, 'any_eq')
         return alike.select('nonzero').apply(_index(axis))
@@ -62,7 +65,7 @@ STATISTICS = {'median': 'median', 'var': 'var', 'variance': 'var', 'std': 'std',
               'quantile': 'quantile', 'nunique': 'nunique', 'count_distinct': 'nunique'}
 
 
-def is_aggregator(op: Any) -> bool:
+def is_aggregator(op: object) -> bool:
     """Whether a fold is named that no built-in or registered operator makes alone. ValueError for a
     name that no fold has."""
     if not isinstance(op, str) or op in binary:
@@ -89,13 +92,14 @@ def _refuse_name(name: str) -> NoReturn:
     raise AssertionError(name)
 
 
-def fold_axis(matrix: Any, op: str, axis: int, mask: Any = None, name: Optional[str] = None) -> Any:
+def fold_axis(matrix: 'Matrix', op: str, axis: int, mask: MaskLike = None,
+              name: Optional[str] = None) -> Any:
     """The column of the folds of the rows, or the row of those of the columns."""
     return (matrix.reduce_rowwise(op, mask=mask, name=name) if axis
             else matrix.reduce_columnwise(op, mask=mask, name=name))
 
 
-def aggregate(matrix: Any, op: str, axis: int, mask: Any, name: Optional[str]) -> Any:
+def aggregate(matrix: 'Matrix', op: str, axis: int, mask: MaskLike, name: Optional[str]) -> Any:
     """The column of an aggregator's results by rows (with an axis of 0 the row of those by
     columns)."""
     where = as_mask(mask)
@@ -114,13 +118,13 @@ def aggregate(matrix: Any, op: str, axis: int, mask: Any, name: Optional[str]) -
     return _means(matrix, axis, where, name)
 
 
-def _check_numbers(matrix: Any) -> None:
+def _check_numbers(matrix: 'Matrix') -> None:
     """UnitsDiffer where values are vertices, which have no mean."""
     if isinstance(matrix.unit, VertexUnit):
         scales.refuse_vertices('vertices have no mean')
 
 
-def _means(matrix: Any, axis: int, where: Optional[Mask], name: Optional[str]) -> Any:
+def _means(matrix: 'Matrix', axis: int, where: Optional[Mask], name: Optional[str]) -> Any:
     """Means as parts of a unit, each the nearest."""
     _check_numbers(matrix)
     stored = scales.with_unit(matrix, 1)
@@ -147,7 +151,7 @@ def _total(low: int, high: int) -> int:
     return least + (low - least) % (1 << 64)
 
 
-def aggregate_all(matrix: Any, op: str, raw: bool) -> Any:
+def aggregate_all(matrix: 'Matrix', op: str, raw: bool) -> Any:
     """One number for all entries, None where there are none. TypeError for an aggregator of
     positions, which a matrix has two of."""
     if op in INDEXES:

@@ -17,7 +17,8 @@ import functools
 import math
 import operator
 from fractions import Fraction
-from typing import Any, Callable, Dict, FrozenSet, NoReturn, Optional, Tuple, Union
+from typing import (TYPE_CHECKING, Any, Callable, Dict, FrozenSet, List, NoReturn, Optional, Tuple,
+                    Union)
 
 import numpy
 
@@ -25,9 +26,13 @@ from .errors import UnitsDiffer, about, warn_user
 from .io.coo import LEAST, MOST, shown
 from .io.matrix_text import is_array
 from .io.values import LONG_UNITS, UNITS, nanoseconds
+from .matrix_base import alias
 from .metadata import VertexUnit, abbreviate_names, names_differ, place_of, suggest_names
-from .operands import alias
-from .operators import Op, READY, Operator, find
+from .operators import READY, Op, Operator, find
+from .types import Array, DType, Exact
+
+if TYPE_CHECKING:
+    from .matrix import Matrix
 
 EXACT = 1 << 53                                    # floats hold every whole number below it
 # both values have one scale, and so has the result; or it is a number that says how they compare
@@ -82,7 +87,7 @@ class TimeUnit(int):
         return UNITS[self.name]
 
 
-def as_unit(number: Any) -> int:
+def as_unit(number: object) -> int:
     """A number as a scale; of "s" and the like the label of times. ValueError where it is no
     whole number above 0."""
     if isinstance(number, (TimeUnit, VertexUnit)):
@@ -110,14 +115,14 @@ def describe_unit(unit: int) -> str:
     return 'parts of 1/%s' % shown(unit)
 
 
-def with_unit(matrix: Any, unit: int) -> Any:
+def with_unit(matrix: 'Matrix', unit: int) -> Any:
     """A matrix with the same stored numbers, of another scale: no job."""
     return matrix if matrix.notes.unit == unit else alias(matrix, matrix.notes._replace(unit=unit))
 
 
 # -- numbers beside stored ones
 
-def exact_number(number: Any) -> Fraction:
+def exact_number(number: object) -> Fraction:
     """A number of Python or numpy, a float as it is written in decimals (0.29 is 29/100). TypeError
     for what is no number, ValueError for what isn't finite."""
     if hasattr(number, '__index__') and not hasattr(number, '__len__'):
@@ -133,7 +138,7 @@ def exact_number(number: Any) -> Fraction:
         raise TypeError('expected a number, not %s' % shown(number)) from None
 
 
-def exact_in(number: Any, unit: int) -> Fraction:
+def exact_in(number: object, unit: int) -> Fraction:
     """A number, or a time since 1970-01-01 or as long as it is, as a number of stored parts.
     TypeError for a time beside other values, ValueError for one that is missing."""
     if not isinstance(number, (datetime.date, datetime.timedelta, numpy.datetime64,
@@ -158,7 +163,7 @@ def exact_in(number: Any, unit: int) -> Fraction:
     return Fraction(nanoseconds(number) or 0, unit.size)
 
 
-def to_stored(number: Any, unit: int, what: str) -> int:
+def to_stored(number: object, unit: int, what: str) -> int:
     """The whole number that a number, a time or a vertex is stored as. ValueError where there is
     none, or it is beyond 64 bits; `what` stands before the number in its words, as "right="."""
     if isinstance(unit, VertexUnit):
@@ -192,7 +197,8 @@ _CERTAIN: Dict[bool, Dict[bool, str]] = {False: {True: 'ge', False: 'lt'},
                                          True: {True: 'le', False: 'gt'}}
 
 
-def compared(op: Operator, number: Any, unit: int, is_left: bool = False) -> Tuple[Operator, int]:
+def compared(op: Operator, number: object, unit: int,
+             is_left: bool = False) -> Tuple[Operator, int]:
     """The operator and the whole number of 64 bits that compare stored numbers as an operator
     compares what they stand for with any number: x > 0.125 is x > 12 of hundredths. TypeError for
     what is no number, ValueError for NaN."""
@@ -229,15 +235,16 @@ def is_whole(unit: int) -> bool:
     return unit == 1 or isinstance(unit, TimeUnit)
 
 
-def to_decimals(values: Any, unit: int) -> Any:
+def to_decimals(values: Union[List[int], Array], unit: int) -> Any:
     """The same of a list, or of an array of numpy."""
     if is_whole(unit):
         return values
     if isinstance(unit, VertexUnit) or not is_array(values):
         return [to_decimal(value, unit) for value in values]
-    if unit < EXACT and (numpy.abs(values) < EXACT).all():
-        return values / numpy.float64(unit)
-    return numpy.array([value / unit for value in values.tolist()], numpy.float64)
+    array = numpy.asarray(values)
+    if unit < EXACT and (numpy.abs(array) < EXACT).all():
+        return array / numpy.float64(unit)
+    return numpy.array([value / unit for value in array.tolist()], numpy.float64)
 
 
 def to_text(value: int, unit: int) -> str:
@@ -273,7 +280,7 @@ def _places(divisor: int) -> Optional[int]:
     return max(twos, fives) if divisor == 1 else None
 
 
-def are_decimals(dtype: Any) -> bool:
+def are_decimals(dtype: DType) -> bool:
     """Whether a type that is asked for means decimals (float), or stored whole numbers (int, None).
     TypeError for another one."""
     name = (dtype if isinstance(dtype, str) else getattr(dtype, 'name', None)
@@ -374,7 +381,7 @@ def of_fold(op: Operator, unit: int) -> int:
         'exact=False) rounds to whole ones' % (name_of(op), unit))
 
 
-def of_read(scale: Any, dup_op: Optional[Op], times: Optional[str] = None) -> int:
+def of_read(scale: Optional[Exact], dup_op: Optional[Op], times: Optional[str] = None) -> int:
     """The scale of what is read, or its label of times. UnitsDiffer where values that share a
     position are folded to numbers of another one."""
     if scale is None and times is None:
@@ -438,7 +445,7 @@ def refuse_vertices(what: str) -> NoReturn:
 
 # -- another scale
 
-def rescaled(matrix: Any, unit: Any, exact: bool) -> Any:
+def rescaled(matrix: 'Matrix', unit: object, exact: bool) -> Any:
     """A matrix with the same numbers in another scale; see `Matrix.rescale`."""
     before, wanted = matrix.unit, as_unit(unit)
     if isinstance(before, VertexUnit):
@@ -465,7 +472,7 @@ def rescaled(matrix: Any, unit: Any, exact: bool) -> Any:
     return made
 
 
-def _check_digits(stored: Any, less: int, before: int, wanted: int) -> None:
+def _check_digits(stored: 'Matrix', less: int, before: int, wanted: int) -> None:
     """ValueError where a stored value is no multiple of a divisor."""
     left = stored.apply('cmod', right=less).select('nonzero')
     if left.nvals:
@@ -475,7 +482,7 @@ def _check_digits(stored: Any, less: int, before: int, wanted: int) -> None:
             left.nvals, stored.nvals, describe_unit(wanted), to_text(some, before), how))
 
 
-def _check_fits(stored: Any, factor: Fraction, wanted: int) -> None:
+def _check_fits(stored: 'Matrix', factor: Fraction, wanted: int) -> None:
     """ValueError where a stored value times a factor is beyond 64 bits."""
     ends = (('valuelt', math.ceil(LEAST / factor)), ('valuegt', math.floor(MOST / factor)))
     # both wait, so that one run makes them

@@ -5,9 +5,8 @@ from __future__ import annotations
 import contextlib
 from typing import TYPE_CHECKING, Any, Dict, Iterator, List, Optional, Type
 
-from .backends.job_queue import Limit
 from .backends.protocol import Budget, Run
-from .backends.server import ServerBackend
+from .backends.server import Limit, ServerBackend
 from .errors import OperatorRefused
 from .unsupported_syntax import SESSION, missing_attribute
 from .io.coo import whole
@@ -160,7 +159,7 @@ class Session(SessionSources):
         """
         return self
 
-    def __exit__(self, *_: Any) -> None:
+    def __exit__(self, *_: object) -> None:
         self.close()
 
     if not TYPE_CHECKING:                          # which knows all attributes that there are

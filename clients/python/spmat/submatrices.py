@@ -15,7 +15,7 @@ import numpy
 
 from . import result_metadata, scale as scales
 from .errors import refusal, warn_user
-from .indexing import WHAT
+from .indexing import WHAT, Chosen, choose_places
 from .io.coo import shown, side, whole, whole_list
 from .io.matrix_text import Triples
 from .matrix_base import MatrixBase
@@ -149,7 +149,7 @@ def concat(tiles: Sequence[Sequence[Any]], *, name: Optional[str] = None) -> 'Ma
     return made
 
 
-def _find_common_size(tiles: Sequence[Any], axis: int, at: int) -> int:
+def _find_common_size(tiles: Sequence[Optional['Matrix']], axis: int, at: int) -> int:
     """The rows that all tiles beside one another have, or the columns of those below one
     another."""
     sizes = [tile.shape[axis] for tile in tiles if tile is not None]
@@ -162,7 +162,8 @@ def _find_common_size(tiles: Sequence[Any], axis: int, at: int) -> int:
     return int(sizes[0])
 
 
-def _join_axes(bands: Sequence[Sequence[Any]], sizes: Sequence[int], axis: int) -> Axis:
+def _join_axes(bands: Sequence[Sequence[Optional['Matrix']]], sizes: Sequence[int],
+               axis: int) -> Axis:
     """What all rows (or columns) of tiles are called one after the other; nothing, with a warning,
     where some have no names, or one stands twice."""
     found = [_join_band(band, axis, at) for at, band in enumerate(bands)]
@@ -186,7 +187,7 @@ def _join_axes(bands: Sequence[Sequence[Any]], sizes: Sequence[int], axis: int) 
     return Axis(None, Unnamed.POSITIONS)
 
 
-def _join_band(band: Sequence[Any], axis: int, at: int) -> Axis:
+def _join_band(band: Sequence[Optional['Matrix']], axis: int, at: int) -> Axis:
     """What the rows of tiles beside one another are called, or the columns of those below one
     another. NamesDiffer where they differ."""
     words = 'the %ss of the tiles of %s %d' % (WHAT[axis], WHAT[axis], at)
@@ -258,7 +259,7 @@ def bipartite(B: Matrix) -> Matrix:
 
 # -- sizes
 
-def take_part(matrix: Any, *bounds: Tuple[int, int]) -> Any:
+def take_part(matrix: 'Matrix', *bounds: Tuple[int, int]) -> Any:
     """A part by positions, whatever rows and columns are called."""
     part = matrix
     for axis in BOTH:
@@ -269,7 +270,7 @@ def take_part(matrix: Any, *bounds: Tuple[int, int]) -> Any:
     return part
 
 
-def note_directed(matrix: MatrixBase, part: Any, is_corner: bool) -> None:
+def note_directed(matrix: MatrixBase, part: 'Matrix', is_corner: bool) -> None:
     """Notes of a part that it is undirected where it `is_corner`, with the same rows and columns,
     of a matrix that is."""
     part.notes = part.notes._replace(directed=even(matrix.notes) if is_corner else None)
@@ -309,3 +310,71 @@ def fill_size(matrix: MatrixBase, size: int, other: int) -> int:
     """A size, which may be -1 for what is left beside the other, as in numpy."""
     size, other = whole(size, 'size'), whole(other, 'size')
     return matrix.nrows * matrix.ncols // max(other, 1) if size == -1 else side(size, 0, 'size')
+
+
+# -- parts that are set, as GrB_assign has it
+
+def choose_once(matrix: 'Matrix', index: object, axis: int) -> Chosen:
+    """The rows or columns that are set. ValueError where one is given twice."""
+    chosen = Chosen(None) if index is None else choose_places(matrix, index, axis)
+    if chosen.places is not None and len(set(chosen.places)) < len(chosen.places):
+        twice = next(place for at, place in enumerate(chosen.places) if place in chosen.places[:at])
+        names = matrix.notes.names(axis)
+        raise ValueError('the %s %r is given twice: each is set once'
+                         % (WHAT[axis], twice if names is None else names[twice]))
+    return chosen
+
+
+def fit_part(what: 'Matrix', part: Sequence[Chosen], shape: Tuple[int, int]) -> 'Matrix':
+    """What a part is set to. One row may be given as a column, and one column as a row.
+    DimensionMismatch where it has another shape."""
+    wanted = tuple(count if one.places is None else len(one.places)
+                   for one, count in zip(part, shape))
+    is_turned = what.shape == wanted[::-1] and any(one.one for one in part)
+    if what.shape == wanted or is_turned:
+        return what if what.shape == wanted else what.T
+    raise refusal('J5', detail='%dx%d places are set, and the matrix has %dx%d'
+                  % (*wanted, *what.shape))
+
+
+def spread_part(matrix: 'Matrix', what: 'Matrix', part: Sequence[Chosen]) -> 'Matrix':
+    """What a part is set to, at its places in a matrix of the whole's shape. Its rows and columns
+    are called as those that are set; where they have no names, the caller says by the index which
+    they are."""
+    for axis in BOTH:
+        places, whole = part[axis].places, matrix.notes.axis(axis)
+        if places is not None:
+            own = whole.part(places) if what.notes.axis(axis).has_names else Axis()
+            joined(what.notes, NOTHING.with_axes(own, own),
+                   ((axis, axis, 'the %ss of what is assigned, and the %ss that are set,'
+                     % (WHAT[axis], WHAT[axis])),),
+                   'B = what.dup(); B.%s_nodes = None takes the names off what is assigned'
+                   % WHAT[axis])
+            what = move(what, axis, range(len(places)), places, matrix.shape[axis], whole, own)
+    return what
+
+
+def keep_part(matrix: 'Matrix', part: Sequence[Chosen]) -> 'Matrix':
+    """The entries of a matrix in some rows and columns."""
+    for axis in BOTH:
+        places = part[axis].places
+        if places is not None:
+            matrix = move(matrix, axis, places, places, matrix.shape[axis], matrix.notes.axis(axis))
+    return matrix
+
+
+def repeat_number(matrix: 'Matrix', stored: int, part: Sequence[Chosen]) -> 'Matrix':
+    """A number in each of some rows and columns: a column that has it in these rows, whose one
+    column is moved to each of these columns."""
+    down, along = (range(count) if one.places is None else one.places
+                   for one, count in zip(part, matrix.shape))
+    made = matrix.session.from_coo(down, [0] * len(down), stored, matrix.nrows, 1)
+    made.notes = NOTHING._replace(unit=matrix.unit).with_axes(matrix.notes.axis(ROWS), Axis())
+    return move(made, COLUMNS, [0] * len(along), along, matrix.ncols, matrix.notes.axis(COLUMNS))
+
+
+def fill(pattern: 'Matrix', stored: int, unit: int) -> Any:
+    """One stored number wherever a matrix has an entry: 1 job."""
+    made = pattern.apply('thunk', right=stored)
+    made.notes = made.notes._replace(unit=unit)
+    return made

@@ -182,7 +182,7 @@ def refusing(sign: str, instead: str, owner: str = 'matrix') -> Callable[..., An
     callable
         The method.
     """
-    def method(*_: Any, **__: Any) -> NoReturn:
+    def method(*_: object, **__: object) -> NoReturn:
         raise TypeError(REFUSED % (owner, sign, instead))
     method.__doc__ = 'A %s has no %s.\n\n%s' % (owner, sign, RAISES % instead)
     return method
@@ -300,7 +300,7 @@ class Signs(MatrixBase):
 
     __array__ = refusing('array of its own', 'A.to_dense(), A.to_coo() or A.to_scipy_sparse()')
 
-    def __array_ufunc__(self, ufunc: Any, *_: Any, **__: Any) -> NoReturn:
+    def __array_ufunc__(self, ufunc: Any, *_: object, **__: object) -> NoReturn:
         """A matrix is no operand of a function of numpy.
 
         Parameters

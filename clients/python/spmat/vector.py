@@ -4,17 +4,19 @@ from __future__ import annotations
 # some methods raise, so none gives what Python wants of it
 # pylint: disable=invalid-length-returned,non-iterator-returned
 
-from typing import Any, Optional, Tuple
+from typing import Any, Optional, Tuple, Union
 
 import numpy
 
+from .operators import Op
 from .errors import refusal
 from .indexing import choose_places
 from .mask import Mask
 from .matrix import Matrix, vector_type
 from .metadata import along
-from .operands import alias
+from .matrix_base import alias
 from .submatrices import take, value_of
+from .types import DType, Exact
 from .unsupported_syntax import refusing
 
 
@@ -72,7 +74,7 @@ class Vector(Matrix):
         """
         return self.nrows if self.ncols == 1 else self.ncols
 
-    def __getitem__(self, at: Any) -> Any:
+    def __getitem__(self, at: object) -> Any:
         """The value of a vertex, or the vector of some.
 
         `v[i]` is the value of a vertex, None where it has none. `v[indexes]`, `v[1:3]` and
@@ -98,7 +100,7 @@ class Vector(Matrix):
         part = take(self, axis, chosen.places)
         return value_of(part) if chosen.one else as_vector(part)
 
-    def _has_name(self, at: Any, axis: int) -> bool:
+    def _has_name(self, at: object, axis: int) -> bool:
         """Whether a tuple is the name of a vertex, and not two indexes."""
         names = self.notes.names(axis)
         try:
@@ -110,7 +112,7 @@ class Vector(Matrix):
     __iter__ = refusing('iteration', 'v.to_list() for values, v.by_node().items() for vertices '
                            'and values', 'vector')
 
-    def __contains__(self, node: Any) -> bool:
+    def __contains__(self, node: object) -> bool:
         """Whether there is an entry.
 
         Parameters
@@ -128,8 +130,8 @@ class Vector(Matrix):
         except ValueError:                         # there is no such vertex
             return False
 
-    def to_coo(  # type: ignore[override]
-            self, *, arrays: Optional[bool] = None, dtype: Any = None) -> Tuple[Any, Any]:
+    def to_coo(self, *, arrays: Optional[bool] = None,  # type: ignore[override]
+               dtype: DType = None) -> Tuple[Any, Any]:
         """Indexes (from 0) and values, by ascending index.
 
         `entries()` has rows, columns and values.
@@ -161,7 +163,8 @@ class Vector(Matrix):
         rows, columns, values = self.entries(arrays=arrays, dtype=dtype)
         return rows if self.ncols == 1 else columns, values
 
-    def to_dense(self, fill: Any = 0, dtype: Any = None, *, fill_value: Any = None) -> Any:
+    def to_dense(self, fill: Union[Exact, DType] = 0, dtype: DType = None, *,
+                 fill_value: Optional[Exact] = None) -> Any:
         """An array of numpy of one dimension.
 
         Else it is as `Matrix.to_dense`.
@@ -194,7 +197,7 @@ class Vector(Matrix):
         """
         return numpy.asarray(super().to_dense(fill, dtype, fill_value=fill_value)).ravel()
 
-    def reduce(self, op: Any = 'plus') -> Any:
+    def reduce(self, op: Op = 'plus') -> Any:
         """The fold of all entries, as a number.
 
         It is `reduce_scalar`, by python-graphblas' name.
@@ -224,7 +227,7 @@ class Vector(Matrix):
         return self.reduce_scalar(op)
 
 
-def as_vector(column: Any) -> Any:
+def as_vector(column: Matrix) -> Any:
     """A column or a row as a vector, of whatever class of matrices it is; anything else as it
     is."""
     if not isinstance(column, Matrix) or column.is_vector or 1 not in column.shape:
@@ -234,7 +237,7 @@ def as_vector(column: Any) -> Any:
     return made
 
 
-def as_matrix(one: Any) -> Any:
+def as_matrix(one: object) -> Any:
     """A vector as the column or row that it is; anything else as it is."""
     if not isinstance(one, Vector):
         return one

@@ -15,7 +15,7 @@ import support
 import spmat
 from spmat import algorithms, draw
 from spmat.algorithms.registry import ALGORITHMS, required
-from spmat.display import count_in_groups, graph_pictures, pictures
+from spmat.display import count_in_groups, pictures
 
 
 def ink(path, colour):
@@ -216,8 +216,8 @@ class Pictures(unittest.TestCase):
             self.drawn(draw.graph, graph.matrix(self.session))
         sides = [(i, j) for part in (0, 10) for i in range(part, part + 10)
                  for j in range(part, i)] + [(0, 10)]
-        at = graph_pictures.lay_out(20, set(sides))
-        self.assertEqual(at.tolist(), graph_pictures.lay_out(20, set(sides)).tolist())
+        at = pictures.lay_out(20, set(sides))
+        self.assertEqual(at.tolist(), pictures.lay_out(20, set(sides)).tolist())
         self.assertLessEqual(abs(at).max(), 1)
         within, across = (sum(abs(at[i] - at[j]).sum() for i, j in pairs) / len(pairs)
                           for pairs in (sides[:-1],

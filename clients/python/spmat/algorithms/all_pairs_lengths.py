@@ -11,7 +11,7 @@ from ..limits import MOST_SIDE
 from ..matrix import Matrix
 from ..operators import Operator, Semiring, asm, binary
 from .cached_properties import extremes
-from .types import Vertices
+from ..types import Vertices
 from .registry import algorithm
 from .single_source_paths import CYCLE, TOO_LONG
 from .components import label_strong_components

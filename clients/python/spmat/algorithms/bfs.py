@@ -16,7 +16,7 @@ from .registry import algorithm
 from .results import keep_partial, unless_empty
 from .server_loops import ANY_NEXT, hear
 from .traversal import Traversal, Unseen, Vector, find_traversal, put_known
-from .types import Array, Place, Vertex, Vertices
+from ..types import Array, Place, Vertex, Vertices
 from .utils import (Progress, beside, find_place, find_places, find_sources, mark_rows, name_rows,
                     order, product, tell, warn_of_repeated)
 

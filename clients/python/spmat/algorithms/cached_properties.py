@@ -5,10 +5,10 @@ from __future__ import annotations
 import random
 from typing import Any, Callable, Optional, Tuple, cast
 
-from ..backends.estimate import ESTIMATES, estimate_here
+from ..prices import ESTIMATES, estimate_here
 from ..matrix import Matrix
 from ..metadata import NOTHING
-from ..operands import alias, is_same
+from ..matrix_base import alias, is_same
 from ..operators import asm
 from ..result_metadata import of_transpose
 

@@ -17,8 +17,8 @@ from .cached_properties import check_undirected, check_weights, extremes, has_lo
 from .independent_set import Seed, draw_on_paper, generator_of
 from .registry import BOTH_WAYS, algorithm
 from .results import Communities, as_result, keep_partial
+from ..types import Array, Place
 from .traversal import held_edges, is_ample, is_small, keep, put_all, read_column
-from .types import Array, Place
 from .utils import Progress, beside, contract, find_place, name_of, order, product, tell
 
 __all__ = ['label_propagation', 'louvain', 'modularity']
@@ -266,15 +266,15 @@ def _read_members(graph: Matrix, partition: Any) -> Iterable[Tuple[int, Any]]:
     return [(int(find_place(graph, vertex)), community) for vertex, community in pairs]
 
 
-def _listed(given: Any) -> Iterable[Any]:
+def _listed(given: object) -> Iterable[Any]:
     """Some vertices, or some sets of them. TypeError for what is neither."""
     if isinstance(given, (str, bytes)) or not hasattr(given, '__iter__'):
         raise TypeError('communities are a column as louvain gives it, {vertex: community}, or a '
                         'list of sets of vertices: %s is no such set' % shown(given))
-    return given  # type: ignore[no-any-return]
+    return given
 
 
-def _read_column(graph: Matrix, column: Any) -> Tuple[Sequence[int], Array]:
+def _read_column(graph: Matrix, column: Matrix) -> Tuple[Sequence[int], Array]:
     """The rows of vertices, and what a column says of them: by name where its vertices have other
     names than the graph's, or another order."""
     rows, _, values = column.to_coo()

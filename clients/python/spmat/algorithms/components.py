@@ -8,7 +8,7 @@ import numpy
 from ..io.matrix_text import Triples
 from ..loops import Loop, State, empty
 from ..matrix import Matrix
-from ..operands import is_same
+from ..matrix_base import is_same
 from ..operators import Semiring, asm, binary
 from .bfs import NONE, Search, run_search
 from .cached_properties import check_undirected, found, is_both_ways, transpose_of
@@ -18,7 +18,7 @@ from .topological_order import find_topological_levels
 from .traversal import (Columns, Traversal, Vector, find_traversal, find_vectors, is_ample, keep,
                         put_all, put_column, read_column, read_edges, read_row, read_values,
                         spread, vector_of)
-from .types import Array, Place
+from ..types import Array, Place
 from .utils import (Progress, as_many, beside, column, iterate, loops, mark_rows, name_of, nothing,
                     order, product, rows_of, settle, tell)
 

@@ -12,7 +12,7 @@ from ..metadata import Nodes
 from ..operators import Semiring, binary
 from .cached_properties import check_undirected
 from .components import label_components
-from .types import Array
+from ..types import Array
 from .registry import WITHOUT_LOOPS, algorithm
 from .results import Result, as_result, keep_partial
 from .traversal import (Edges, Vector, find_traversal, held_edges, is_small, is_whole, load_edges,

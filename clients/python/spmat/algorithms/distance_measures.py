@@ -17,13 +17,13 @@ from ..limits import MOST_SIDE
 from ..loops import Loop, State, empty
 from ..matrix import Matrix
 from ..metadata import without_names
-from ..operands import is_same
+from ..matrix_base import is_same
 from ..operators import Semiring, asm, binary
 from .bfs import NONE, Search, run_search
 from .cached_properties import is_both_ways, transpose_of
 from .registry import algorithm
 from .traversal import find_traversal, read_column
-from .types import Array, Place
+from ..types import Array, Place
 from .utils import Progress, beside, count_edges, name_of, nothing, order, tell
 
 __all__ = ['Bounds', 'diameter', 'distance_counts', 'eccentricity']

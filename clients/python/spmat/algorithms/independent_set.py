@@ -10,7 +10,7 @@ from ..matrix import Matrix
 from ..operators import Semiring, asm, binary
 from ..operators.evaluation import evaluate
 from .cached_properties import check_undirected
-from .types import Array
+from ..types import Array
 from .registry import BOTH_WAYS, algorithm
 from .traversal import Vector, find_vectors, put_column, vector_of
 from .utils import Progress, beside, order, tell

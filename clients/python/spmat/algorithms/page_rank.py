@@ -18,7 +18,7 @@ from ..io.coo import shown
 from ..matrix import Matrix
 from ..operators import Operator, Semiring, asm, binary
 from .cached_properties import check_weights, found, is_both_ways
-from .types import Array
+from ..types import Array
 from .registry import algorithm
 from .results import Centrality, as_centrality, keep_partial
 from .rounds import Rounds, settle

@@ -15,7 +15,7 @@ from ..operators import Semiring, asm, binary
 from .all_pairs_lengths import lengths_from, reach_of
 from .cached_properties import extremes, is_both_ways, is_transpose, transpose_of
 from .distance_measures import count_distances
-from .types import Array, Place, Vertices
+from ..types import Array, Place, Vertices
 from .registry import algorithm
 from .results import Centrality, as_centrality, unit_of
 from .traversal import put_all, read_column, read_row, spread

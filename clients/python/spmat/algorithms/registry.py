@@ -172,7 +172,7 @@ def table() -> Iterator[str]:
                                           % one.elsewhere if one.elsewhere else '')
 
 
-def required(function: Callable[..., Any]) -> Tuple[str, ...]:
+def required(function: F) -> Tuple[str, ...]:
     """The parameters that have to be given."""
     return tuple(name for name, one in inspect.signature(function).parameters.items()
                  if one.default is one.empty)
@@ -188,21 +188,21 @@ LONGEST = 60                                       # words on what came
 WEIGHTS = ('weight', 'weights', 'weighted', 'distance')
 
 
-def _is_matrix(one: Any) -> bool:
+def _is_matrix(one: object) -> bool:
     return hasattr(type(one), 'mxm')
 
 
-def _is_number(one: Any) -> bool:
+def _is_number(one: object) -> bool:
     return isinstance(one, numbers.Number) and not isinstance(one, complex)
 
 
-def _finite(one: Any) -> Any:
+def _finite(one: object) -> Any:
     """A finite number: a decimal as a fraction, which goes with floats."""
     real(one, 'it')
     return Fraction(one) if isinstance(one, decimal.Decimal) else one
 
 
-def _length(one: Any) -> Any:
+def _length(one: object) -> Any:
     """What bounds lengths, which are times where the values of edges are."""
     if isinstance(one, (datetime.timedelta, numpy.timedelta64)) or one in (math.inf, -math.inf):
         return one
@@ -262,7 +262,7 @@ def checks_arguments(algorithm: Algorithm) -> Bind:
     optional = {called for called, parameter in signature.parameters.items()
                 if parameter.default is None}
 
-    def bind(args: Tuple[Any, ...], named: Mapping[str, Any]) -> inspect.BoundArguments:
+    def bind(args: Tuple[object, ...], named: Mapping[str, object]) -> inspect.BoundArguments:
         try:
             bound = signature.bind(*args, **named)
         except TypeError as fault:
@@ -284,7 +284,7 @@ def checks_arguments(algorithm: Algorithm) -> Bind:
     return bind
 
 
-def _shorten_repr(one: Any) -> str:
+def _shorten_repr(one: object) -> str:
     """What came, in a few words."""
     words = shown(one)
     is_long = '\n' in words or (len(words) > LONGEST and not _is_number(one))
@@ -292,7 +292,7 @@ def _shorten_repr(one: Any) -> str:
 
 
 def _unknown(algorithm: Algorithm, signature: inspect.Signature, said: str,
-             named: Mapping[str, Any]) -> str:
+             named: Mapping[str, object]) -> str:
     """What is said of a call whose arguments are others than the function has."""
     name = algorithm.function.__name__
     wrong = next((called for called in named if called not in signature.parameters), None)

@@ -6,12 +6,13 @@ import contextlib
 import functools
 import inspect
 import math
-from typing import TYPE_CHECKING, Any, Callable, Dict, Iterator, Optional, Type, TypeVar
+from typing import TYPE_CHECKING, Any, Callable, Dict, Iterator, Mapping, Optional, Type, TypeVar
 
 from .. import scale as scales
 from ..errors import BudgetExceeded, SpmatError
 from ..matrix import Matrix
 from ..metadata import ROWS, VertexUnit
+from ..types import Exact
 from .utils import column as column_of
 
 if TYPE_CHECKING:
@@ -120,7 +121,7 @@ def _joined(kind: Any, base: Any) -> Any:
                 {'__doc__': kind.__doc__, '__module__': kind.__module__})
 
 
-def as_result(kind: Type[R], column: Any, **more: Any) -> R:
+def as_result(kind: Type[R], column: Any, **more: object) -> R:
     """A column that nobody else has, made a result of a kind: the same matrix, as the server's name
     of one goes with it."""
     classes: Any = kind, type(column)
@@ -131,8 +132,8 @@ def as_result(kind: Type[R], column: Any, **more: Any) -> R:
     return made
 
 
-def as_centrality(column: Any, unit: int, error: float, measure: str = BOUND, *,
-                  tolerance: Any = None, rounds: Any = None) -> Centrality:
+def as_centrality(column: Matrix, unit: int, error: float, measure: str = BOUND, *,
+                  tolerance: Optional[float] = None, rounds: Optional[int] = None) -> Centrality:
     """A column of numbers in units of 1/unit as a result."""
     column.unit = unit
     return as_result(Centrality, column, error=error, measure=measure, tolerance=tolerance,
@@ -147,7 +148,7 @@ def of_vertices(column: Matrix) -> Matrix:
     return column
 
 
-def with_zeros(column: Any, graph: Matrix) -> Any:
+def with_zeros(column: Matrix, graph: Matrix) -> Any:
     """A column that has an entry for each vertex of a graph, so that means and minima know those
     that count 0: 1 job."""
     zeros = column_of(graph, 0)
@@ -213,14 +214,14 @@ def unit_of(graph: Matrix, transpose: Optional[Matrix]) -> int:
     return graph.unit
 
 
-def _check_transpose(algorithm: 'Algorithm', given: Dict[str, Any], unit: int) -> None:
-    for name in ('GT', 'WT'):
-        if isinstance(given.get(name), Matrix):
+def _check_transpose(algorithm: 'Algorithm', given: Mapping[str, object], unit: int) -> None:
+    for other in (given.get('GT'), given.get('WT')):
+        if isinstance(other, Matrix):
             scales.common('%s of a graph and its transpose' % algorithm.function.__name__, unit,
-                         given[name].unit)
+                          other.unit)
 
 
-def _floor(cutoff: Any, unit: int) -> Any:
+def _floor(cutoff: Optional[Exact], unit: int) -> Any:
     """The greatest stored number that is no farther."""
     try:
         return math.floor(scales.exact_in(cutoff, unit))
@@ -228,7 +229,7 @@ def _floor(cutoff: Any, unit: int) -> Any:
         return cutoff
 
 
-def _mark_unit(found: Any, unit: int) -> Any:
+def _mark_unit(found: object, unit: int) -> Any:
     """A result whose lengths are in a unit: a matrix, a path, a tree of paths, or a list of these.
     """
     if isinstance(found, Matrix):

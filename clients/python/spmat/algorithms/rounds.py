@@ -19,7 +19,7 @@ from .cached_properties import is_both_ways, transpose_of
 from .results import keep_partial
 from .server_loops import hear
 from .traversal import Columns, Traversal, Vector, spread
-from .types import Array
+from ..types import Array
 from .utils import Progress
 
 MOST_AHEAD = 8                                     # rounds between two looks

@@ -16,7 +16,7 @@ from ..loops.trips import Round
 from ..matrix import Matrix
 from ..operators import Semiring, asm, binary
 from .cached_properties import found
-from .types import Array
+from ..types import Array
 from .traversal import Vector, put_row
 from .utils import Progress, tell
 

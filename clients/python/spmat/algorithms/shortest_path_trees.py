@@ -17,9 +17,9 @@ from .cached_properties import extremes, transpose_of
 from .registry import algorithm
 from .results import of_vertices
 from .single_source_paths import UNREACHED, Query, find_lengths
+from ..types import Array, Place, Vertex
 from .traversal import (Traversal, Vector, find_traversal, find_vectors, held_edges, is_small, keep,
                         put_known, select_known, vector_of)
-from .types import Array, Place, Vertex
 from .utils import Progress, beside, find_place, name_of, order, product
 
 __all__ = ['has_path', 'k_shortest_paths', 'NoPath', 'Path', 'PathTree', 'shortest_path',
@@ -49,7 +49,7 @@ class Path(List[Any]):
         number; floats where the values have a unit.
     """
 
-    def __init__(self, vertices: Iterable[Any], lengths: Iterable[int]) -> None:
+    def __init__(self, vertices: Iterable[Vertex], lengths: Iterable[int]) -> None:
         super().__init__(vertices)
         self.lengths: List[Any] = list(lengths)
 

@@ -11,7 +11,7 @@ from ..operators import Semiring, asm, binary
 from . import server_loops
 from .bfs import make_column
 from .cached_properties import extremes
-from .types import Array, Place, Vertex
+from ..types import Array, Place, Vertex
 from .registry import algorithm
 from .traversal import (Traversal, Vector, find_traversal, is_ample, join, select_known, vector_of)
 from .utils import Progress, find_place, order, tell

@@ -11,7 +11,7 @@ from ..metadata import of_copy
 from ..operators import asm
 from .cached_properties import check_undirected, extremes, found, is_transpose
 from .components import Labels
-from .types import Array
+from ..types import Array
 from .registry import BOTH_WAYS, algorithm
 from .traversal import keep, read_column, read_values
 from .utils import Progress, contract, order, tell

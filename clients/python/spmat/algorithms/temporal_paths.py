@@ -9,7 +9,7 @@ from __future__ import annotations
 
 import datetime
 import numbers
-from typing import Any, Dict, Iterable, List, NamedTuple, Optional, Tuple
+from typing import Any, Dict, Iterable, List, NamedTuple, Optional, Tuple, Union
 
 import numpy
 
@@ -25,7 +25,7 @@ from ..session import Session
 from .server_loops import hear
 from .single_source_paths import LESS, NOT_LESS
 from .traversal import Vector, put_column, put_row, vector_of
-from .types import Place, Vertex, Vertices
+from ..types import DataFrame, Many, Number, Place, Vertex, Vertices
 from .utils import Progress, find_place, find_places
 
 # The time at which an event begins, where that isn't before one is there; else the least number
@@ -126,8 +126,8 @@ class Events:
         return Event(row, nodes[columns.sources[row]], nodes[columns.targets[row]],
                      moment(columns.times[row]), moment(columns.arrivals[row]))
 
-    def earliest_arrival(self, source: Vertices, start: Any = None, stop: Any = None,
-                         progress: Progress = None) -> Arrivals:
+    def earliest_arrival(self, source: Vertices, start: Optional[Number] = None,
+                         stop: Optional[Number] = None, progress: Progress = None) -> Arrivals:
         """When what begins at a vertex could first be at each other one: money, news, a traveller.
 
         An event takes it on that begins when it is there, or later.
@@ -190,8 +190,8 @@ class Events:
         return {'front': new, 'known': s.known.ewise_add(new, 'second')}
 
 
-def events(session: Session, table: Any, source: Any = 'source', target: Any = 'target',
-           time: Any = 'time', duration: Any = None) -> Events:
+def events(session: Session, table: DataFrame, source: Vertex = 'source', target: Vertex = 'target',
+           time: Vertex = 'time', duration: Union[Vertex, Number] = None) -> Events:
     """Events with times between vertices, from a table: payments, messages, trips.
 
     Two vertices may have several.
@@ -354,7 +354,7 @@ class Clock(NamedTuple):
         return lengths
 
 
-def read_times(times: Any) -> Tuple[List[int], Clock]:
+def read_times(times: Many) -> Tuple[List[int], Clock]:
     """A column of times as numbers, and how they are counted. ValueError where one is missing,
     TypeError for what is no time."""
     listed = _listed(times)
@@ -375,23 +375,23 @@ def read_times(times: Any) -> Tuple[List[int], Clock]:
     return found.astype('int64').tolist(), clock
 
 
-def _kind(column: Any) -> str:
+def _kind(column: Many) -> str:
     """The kind of a column or a number of numpy or pandas: M for dates, m for durations."""
     found: str = getattr(getattr(column, 'dtype', None), 'kind', '')
     return found
 
 
-def _has_zone(moment: Any) -> bool:
+def _has_zone(moment: object) -> bool:
     return getattr(moment, 'tzinfo', None) is not None
 
 
-def _listed(column: Any) -> List[Any]:
+def _listed(column: Many) -> List[Any]:
     """A column of numpy, pandas or Python as a list, in which dates stay dates."""
     return list(column.tolist() if isinstance(column, numpy.ndarray) and _kind(column) not in 'mM'
                 else column)
 
 
-def _dates(many: Any, what: str, unit: str = '') -> Any:
+def _dates(many: Many, what: str, unit: str = '') -> Any:
     """Dates as an array of numpy, in a unit or the finest that they have; with a zone those of UTC.
     """
     if isinstance(many, numpy.ndarray):

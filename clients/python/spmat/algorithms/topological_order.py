@@ -12,7 +12,7 @@ from ..matrix import Matrix
 from ..operators import Semiring, asm, binary
 from .bfs import NONE
 from .cached_properties import extremes
-from .types import Array, Place
+from ..types import Array, Place
 from .registry import algorithm
 from .server_loops import hear
 from .single_source_paths import MOST, WRAPS

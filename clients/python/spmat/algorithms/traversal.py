@@ -19,7 +19,8 @@ as long by the clock: a pull looks at all rows, and wants the front as a column,
 """
 from __future__ import annotations
 
-from typing import Any, Callable, Dict, List, NamedTuple, Optional, Sequence, Tuple, cast
+from typing import (Any, Callable, Dict, List, NamedTuple, Optional, Sequence, Tuple, Union,
+                    cast)
 
 import numpy
 
@@ -28,7 +29,7 @@ from ..loops.round_text import Push
 from ..matrix import Matrix
 from ..operators import Semiring, binary
 from .cached_properties import found, is_both_ways, transpose_of
-from .types import Array
+from ..types import Array
 
 # From so many on a full column takes less time than a full row by the clock. With three entries at
 # a vertex it takes 1.7 times a row's time of processors, which three workers share.
@@ -352,7 +353,7 @@ def select_known(numbers: Array, missing: int) -> Vector:
     return Vector(at, numbers[at])
 
 
-def put_all(graph: Matrix, values: Any) -> Matrix:
+def put_all(graph: Matrix, values: Union[Sequence[int], Array]) -> Matrix:
     """A column with a value for each vertex of a graph."""
     found_values = numpy.asarray(values, numpy.int64)
     return put_column(graph, Vector(numpy.arange(len(found_values)), found_values))

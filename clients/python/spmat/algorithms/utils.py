@@ -12,9 +12,9 @@ from ..errors import NotSettled
 from ..io.matrix_text import Triples
 from ..job_operators import Ring
 from ..matrix import Matrix
-from ..operands import common_session
+from ..matrix_base import common_session
 from .cached_properties import found
-from .types import Array, Place, Vertex, Vertices
+from ..types import Array, Place, Vertex, Vertices
 
 __all__ = ['Progress']
 

@@ -18,7 +18,7 @@ from .registry import algorithm
 from .results import CHANGE, RESIDUAL, Centrality, as_centrality, keep_partial, unit_of
 from .rounds import SPARE, Products, Room, Scale, Vectors, settle
 from .traversal import find_flow, put_all
-from .types import Array
+from ..types import Array
 from .utils import Progress, beside, order, tell
 
 __all__ = ['eigenvector', 'hits', 'katz']

@@ -7,7 +7,7 @@ from typing import TYPE_CHECKING, Any, Dict, List, NamedTuple, NoReturn, Optiona
 from ..io.matrix_text import Triples
 from ..limits import MOST_PRICE, MOST_SIDE
 from ..matrix import Matrix
-from ..operands import alias
+from ..matrix_base import alias
 from ..operators import Operator
 from . import protocol
 from .protocol import Backend, Budget, Handle, Job, Most, Run, most_of

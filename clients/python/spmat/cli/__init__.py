@@ -104,7 +104,7 @@ def main(words: Optional[List[str]] = None, program: str = PROGRAM) -> int:
         return finish(fault)
 
 
-def end(*_: Any) -> NoReturn:
+def end(*_: object) -> NoReturn:
     """Ends as the shell's status has it, with the program that was started: it may be amid a batch,
     which nothing cancels."""
     sys.exit(Status.TERMINATED)

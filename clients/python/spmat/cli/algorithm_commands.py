@@ -193,7 +193,7 @@ def find_vertices(algorithm: Algorithm, graph: Matrix, given: Dict[str, Any]) ->
 
 
 def call_algorithm(name: str, graph: Matrix, options: SimpleNamespace,
-                   progress: Any) -> Tuple[Any, Dict[str, Any]]:
+                   progress: object) -> Tuple[Any, Dict[str, Any]]:
     """Call an algorithm with the options that are named as its parameters are. Gives its result,
     and what it was called with, by name. UsageError where it takes no such argument."""
     algorithm = COMMANDS[name]

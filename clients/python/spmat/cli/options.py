@@ -54,7 +54,7 @@ class Option(click.Option):
 
 def whole(least: int = -1 << 63, most: int = (1 << 63) - 1) -> Callable[[Any], int]:
     """What reads a whole number from the least to the most, also written as 1e9."""
-    def number(word: Any) -> int:
+    def number(word: object) -> int:
         with contextlib.suppress(ValueError, OverflowError):
             found = whole_of_word(str(word))
             if least <= found <= most:

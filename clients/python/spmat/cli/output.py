@@ -33,7 +33,7 @@ import click
 
 from ..errors import (MORE_STEPS, BudgetExceeded, Busy, Closed, CompileError, NoThread, NotMade,
                       OutOfMemory, ReadError, Refused, SpmatError, TextRefused, parameters_of)
-from ..io.edge_list_writer import csv_line
+from ..io.writers import csv_line
 from ..matrix import Matrix
 from ..progress import Bar
 
@@ -169,7 +169,7 @@ def describe_flags(fault: BaseException) -> str:
     return ' (flags: %s)' % found if found else ''
 
 
-def show_warning(message: Union[Warning, str], *_: Any, **__: Any) -> None:
+def show_warning(message: Union[Warning, str], *_: object, **__: object) -> None:
     """Print a warning as one line on standard error, in the command line's words."""
     words = ' '.join(str(message).replace(MORE_STEPS, MORE_STEPS_HERE).split())
     print('%s: %s' % (PROGRAM, words), file=sys.stderr)
@@ -231,7 +231,7 @@ def _format_json(result: Result) -> Iterator[str]:
     yield texts + '\n' if result.single else '[\n%s\n]\n' % texts if texts else '[]\n'
 
 
-def _plain_object(cell: Any) -> Any:
+def _plain_object(cell: object) -> Any:
     """A cell as JSON has it: whole numbers as such, also those of numpy; names that are no text or
     number by their words."""
     if cell is None or isinstance(cell, (bool, int, float, str, list, dict)):
@@ -241,7 +241,7 @@ def _plain_object(cell: Any) -> Any:
     return int(cell) if hasattr(cell, '__index__') else str(cell)
 
 
-def _format_cell(cell: Any) -> str:
+def _format_cell(cell: object) -> str:
     """A cell as text: fractions to nine decimals, decimals of the graph's unit as they are."""
     return ('%.9f' % cell if isinstance(cell, float) else format(cell, 'f')
             if isinstance(cell, decimal.Decimal) else '' if cell is None else str(cell))

@@ -2,17 +2,18 @@
 made of."""
 from __future__ import annotations
 
-from typing import TYPE_CHECKING, Any
+from typing import TYPE_CHECKING
 
 import numpy
 
 from ..metadata import without_names
+from ..types import Array
 
 if TYPE_CHECKING:
     from ..matrix import Matrix
 
 
-def count_in_groups(A: Matrix, rows: Any, columns: Any) -> Matrix:
+def count_in_groups(A: Matrix, rows: Array, columns: Array) -> Matrix:
     """Count the entries of a matrix in each group of rows and group of columns.
 
     Parameters

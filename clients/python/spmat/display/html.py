@@ -30,12 +30,12 @@ HEAD = 'text-align:right;padding:1px 6px;color:#5a6672;font-weight:normal;border
 Cells = Dict[Tuple[int, int], int]
 
 
-def text_of(thing: Any) -> str:
+def text_of(thing: object) -> str:
     """Anything as text in HTML."""
     return html.escape(str(thing))
 
 
-def table(heads: Sequence[Any], rows: Sequence[Sequence[Any]]) -> str:
+def table(heads: Sequence[object], rows: Sequence[Sequence[object]]) -> str:
     """A table; the first cell of each row is its name."""
     top = ''.join('<th style="%s">%s</th>' % (HEAD, text_of(head)) for head in heads)
     body = ''.join('<tr><th style="%s">%s</th>%s</tr>' % (HEAD, text_of(row[0]), ''.join(
@@ -144,7 +144,7 @@ def values_of(shown: 'Matrix', near: Cells) -> Dict[Tuple[int, int], str]:
         '%.*g' % (DIGITS, float(text)) for at, text in texts.items()}
 
 
-def corner(shown: 'Matrix', near: Mapping[Tuple[int, int], Any]) -> str:
+def corner(shown: 'Matrix', near: Mapping[Tuple[int, int], object]) -> str:
     """The first rows and columns with their values and names."""
     rows, columns = (range(min(CORNER, side)) for side in shown.shape)
     first: Sequence[Any] = shown.row_nodes or range(shown.nrows)

@@ -24,6 +24,7 @@ from ..limits import MOST_TEXT
 from ..matrix import Matrix
 from ..metadata import COLUMNS, ROWS, Metadata, Nodes, Unnamed, VertexUnit, new_kind
 from ..scale import as_unit
+from ..types import Path
 from . import matrix_market
 from .array_importers import DupOp, Made
 from .files import RATIO, SMALL, name_of, replacing
@@ -43,7 +44,7 @@ FEW_CONTENTS = 1 << 22
 class ArchiveSources(abc.ABC, Generic[Made]):
     """What saves matrices, and loads them."""
 
-    def save(self, path: Any, **matrices: Made) -> None:
+    def save(self, path: Path, **matrices: Made) -> None:
         """Write matrices with the names of their vertices into one file.
 
         A file that is there is replaced once the new one is whole.
@@ -84,7 +85,7 @@ class ArchiveSources(abc.ABC, Generic[Made]):
         """
         write(path, choose(self._named(), matrices))
 
-    def load(self, path: Any) -> Dict[str, Made]:
+    def load(self, path: Path) -> Dict[str, Made]:
         """Read the matrices of a file that `save` wrote.
 
         What the file says is held against the sizes of its matrices before the first of them is
@@ -144,7 +145,7 @@ class ArchiveSources(abc.ABC, Generic[Made]):
         """A matrix of a Matrix Market text."""
 
 
-def write(path: Any, matrices: Mapping[str, Matrix]) -> None:
+def write(path: Path, matrices: Mapping[str, Matrix]) -> None:
     """Writes matrices with their names; a file that is there is replaced at the end. TypeError,
     before anything is written, for a name of a vertex that is no text, number, date, or tuple or
     frozenset of these."""
@@ -182,7 +183,7 @@ def _describe(name: str, notes: Metadata) -> Dict[str, Any]:
     return about
 
 
-def read(path: Any) -> Iterator[Tuple[str, bytes, Metadata]]:
+def read(path: Path) -> Iterator[Tuple[str, bytes, Metadata]]:
     """The name of each matrix, its text and what is known of it. ReadError where the file is none
     that `save` wrote, or is damaged: what it says of all matrices is held against their sizes
     before the first of them is given."""

@@ -3,7 +3,7 @@ blocks share."""
 from __future__ import annotations
 
 import abc
-from typing import Any, Generic, Iterable, Optional, Sequence, TypeVar
+from typing import Any, Generic, Iterable, Mapping, Optional, Sequence, TypeVar
 
 import numpy
 
@@ -11,7 +11,8 @@ from .. import scale as scales
 from ..matrix import Matrix
 from ..metadata import NOTHING, Axes, axes_of, sizes_of
 from ..operators import READY, Op, find
-from . import arrays, coo, edge_sources, matrix_market
+from ..types import Exact, Many, NodesLike, NxGraph, Vertex, spmatrix
+from . import arrays, coo, edges, matrix_market
 from .matrix_text import Triples
 from .values import Rounding, scaled
 
@@ -33,10 +34,10 @@ class ArraySources(abc.ABC, Generic[Made]):
         its mirror, is given once."""
         return self._from(matrix_market.mirrored(triples, 'symmetric'), name=name)
 
-    def from_coo(self, rows: Iterable[int], columns: Iterable[int], values: Any = 1,
+    def from_coo(self, rows: Iterable[int], columns: Iterable[int], values: Many = 1,
                  nrows: Optional[int] = None, ncols: Optional[int] = None, *, square: bool = False,
                  symmetric: bool = False, scale: Optional[float] = None, dup_op: DupOp = None,
-                 name: Optional[str] = None, nodes: Any = None) -> Made:
+                 name: Optional[str] = None, nodes: NodesLike = None) -> Made:
         """A matrix from rows, columns and values.
 
         Parameters
@@ -122,7 +123,7 @@ class ArraySources(abc.ABC, Generic[Made]):
     def from_triples(self, triples: Iterable[Sequence[Any]], nrows: Optional[int] = None,
                      ncols: Optional[int] = None, *, square: bool = False,
                      scale: Optional[float] = None, dup_op: DupOp = None,
-                     name: Optional[str] = None, nodes: Any = None) -> Made:
+                     name: Optional[str] = None, nodes: NodesLike = None) -> Made:
         """A matrix from triples.
 
         Parameters
@@ -165,9 +166,9 @@ class ArraySources(abc.ABC, Generic[Made]):
         return self.from_coo(*coo.columns_of(triples), nrows, ncols, square=square, scale=scale,
                              dup_op=dup_op, name=name, nodes=nodes)
 
-    def from_dense(self, rows: Any, missing: Any = None, *, missing_value: Any = None,
+    def from_dense(self, rows: object, missing: object = None, *, missing_value: object = None,
                    scale: Optional[float] = None, name: Optional[str] = None,
-                   nodes: Any = None) -> Made:
+                   nodes: NodesLike = None) -> Made:
         """A matrix from a table.
 
         Parameters
@@ -219,7 +220,7 @@ class ArraySources(abc.ABC, Generic[Made]):
             made.notes = made.notes._replace(rows=table.rows, columns=table.columns)
         return made
 
-    def from_csr(self, indptr: Any, columns: Any, values: Any = 1, nrows: Optional[int] = None,
+    def from_csr(self, indptr: Many, columns: Many, values: Many = 1, nrows: Optional[int] = None,
                  ncols: Optional[int] = None, *, scale: Optional[float] = None,
                  dup_op: DupOp = None, name: Optional[str] = None) -> Made:
         """A matrix from compressed rows.
@@ -271,7 +272,7 @@ class ArraySources(abc.ABC, Generic[Made]):
         return self.from_coo(rows, columns, values, nrows, ncols, scale=scale, dup_op=dup_op,
                              name=name)
 
-    def from_csc(self, indptr: Any, rows: Any, values: Any = 1, nrows: Optional[int] = None,
+    def from_csc(self, indptr: Many, rows: Many, values: Many = 1, nrows: Optional[int] = None,
                  ncols: Optional[int] = None, *, scale: Optional[float] = None,
                  dup_op: DupOp = None, name: Optional[str] = None) -> Made:
         """A matrix from compressed columns, as `from_csr` has it of rows.
@@ -323,9 +324,9 @@ class ArraySources(abc.ABC, Generic[Made]):
         return self.from_coo(rows, columns, values, nrows, ncols, scale=scale, dup_op=dup_op,
                              name=name)
 
-    def from_dicts(self, nested: Any, nrows: Optional[int] = None, ncols: Optional[int] = None, *,
-                   order: str = 'rowwise', scale: Optional[float] = None,
-                   name: Optional[str] = None) -> Made:
+    def from_dicts(self, nested: Mapping[int, Mapping[int, Exact]], nrows: Optional[int] = None,
+                   ncols: Optional[int] = None, *, order: str = 'rowwise',
+                   scale: Optional[float] = None, name: Optional[str] = None) -> Made:
         """A matrix from a dict for each row.
 
         Parameters
@@ -366,7 +367,7 @@ class ArraySources(abc.ABC, Generic[Made]):
         rows, columns, values = coo.from_dicts(nested, order)
         return self.from_coo(rows, columns, values, nrows, ncols, scale=scale, name=name)
 
-    def from_scipy_sparse(self, matrix: Any, *, scale: Optional[float] = None,
+    def from_scipy_sparse(self, matrix: spmatrix, *, scale: Optional[float] = None,
                           name: Optional[str] = None) -> Made:
         """A matrix from one of scipy.sparse.
 
@@ -409,9 +410,9 @@ class ArraySources(abc.ABC, Generic[Made]):
         rows, columns, values, shape = coo.from_scipy(matrix)
         return self.from_coo(rows, columns, values, *shape, scale=scale, name=name)
 
-    def vector_from_coo(self, indices: Iterable[int], values: Any = 1, size: Optional[int] = None,
+    def vector_from_coo(self, indices: Iterable[int], values: Many = 1, size: Optional[int] = None,
                         *, scale: Optional[float] = None, dup_op: DupOp = None,
-                        name: Optional[str] = None, nodes: Any = None) -> Any:
+                        name: Optional[str] = None, nodes: NodesLike = None) -> Any:
         """A vector, a column, from indexes and values.
 
         Parameters
@@ -460,8 +461,8 @@ class ArraySources(abc.ABC, Generic[Made]):
         from ..vector import as_vector             # which is a matrix
         return as_vector(made)
 
-    def from_networkx(self, graph: Any, weight: Optional[str] = 'weight',
-                      nodelist: Optional[Sequence[Any]] = None, *, scale: Optional[float] = None,
+    def from_networkx(self, graph: NxGraph, weight: Optional[str] = 'weight',
+                      nodelist: Optional[Sequence[Vertex]] = None, *, scale: Optional[float] = None,
                       dup_op: DupOp = None, name: Optional[str] = None) -> Made:
         """The adjacency matrix of a networkx graph.
 
@@ -511,7 +512,7 @@ class ArraySources(abc.ABC, Generic[Made]):
         >>> s.from_networkx(networkx.path_graph(3)).to_edgelist()
         [(0, 1, 1), (1, 0, 1), (1, 2, 1), (2, 1, 1)]
         """
-        triples, notes = edge_sources.triples_of_graph(graph, weight, nodelist, dup_op is not None,
+        triples, notes = edges.triples_of_graph(graph, weight, nodelist, dup_op is not None,
                                                      scale)
         unit = scales.of_read(scale, dup_op) if weight is not None else 1
         triples = self._folded(triples, dup_op)

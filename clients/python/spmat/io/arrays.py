@@ -11,8 +11,10 @@ from typing import (TYPE_CHECKING, Any, Callable, Iterable, Iterator, List, Name
 import numpy
 
 from ..metadata import Nodes, check_names
+from ..types import DataFrame, Series
 
 if TYPE_CHECKING:
+    from ..matrix_base import MatrixBase
     Array = numpy.ndarray[Any, Any]
 else:
     Array = numpy.ndarray
@@ -39,17 +41,17 @@ def _class(module: str, name: str) -> Any:
     return getattr(sys.modules.get(module), name, ())
 
 
-def is_frame(thing: Any) -> bool:
+def is_frame(thing: object) -> bool:
     """Whether this is a table of pandas."""
     return isinstance(thing, _class('pandas', 'DataFrame'))
 
 
-def is_series(thing: Any) -> bool:
+def is_series(thing: object) -> bool:
     """Whether this is a column of pandas."""
     return isinstance(thing, _class('pandas', 'Series'))
 
 
-def is_many(values: Any) -> bool:
+def is_many(values: object) -> bool:
     """Whether this is more than one number: what can be gone through, but for text, and arrays
     without a dimension."""
     return (hasattr(values, '__iter__') and not isinstance(values, (str, bytes))
@@ -88,18 +90,18 @@ def plain_column(many: Any, what: str) -> Any:
     return list(many)
 
 
-def _is_filter(many: Any) -> bool:
+def _is_filter(many: object) -> bool:
     """Whether an array, or the first of a list, is a truth value."""
     kind = getattr(getattr(many, 'dtype', None), 'kind', '')
     return (kind == 'b' or (isinstance(many, (list, tuple)) and len(many) > 0
                             and isinstance(many[0], bool)))
 
 
-def _is_masked(thing: Any) -> bool:
+def _is_masked(thing: object) -> bool:
     return isinstance(thing, _class('numpy.ma', 'MaskedArray'))
 
 
-def _check_column(many: Any, what: str) -> None:
+def _check_column(many: object, what: str) -> None:
     """TypeError where this isn't a column of numbers but something else that can be gone
     through."""
     from ..matrix_base import MatrixBase
@@ -116,7 +118,7 @@ def _refuse(what: str, kind: str, instead: str) -> NoReturn:
     raise TypeError('expected a list or an array of %ss, not %s: %s' % (what, kind, instead))
 
 
-def columns_of_frame(frame: Any) -> Tuple[Any, Any, Any]:
+def columns_of_frame(frame: DataFrame) -> Tuple[Any, Any, Any]:
     """The columns of a table of pandas, by position: rows, columns and values, which are 1 where
     there are two."""
     parts: List[Any] = [frame.iloc[:, place] for place in range(frame.shape[1])]
@@ -138,7 +140,7 @@ def columns_of_frame(frame: Any) -> Tuple[Any, Any, Any]:
     return parts[0], parts[1], parts[2] if len(parts) == 3 else 1
 
 
-def edges_of_frame(frame: Any) -> List[Tuple[Any, ...]]:
+def edges_of_frame(frame: DataFrame) -> List[Tuple[Any, ...]]:
     """The edges of a table of pandas with two or three columns, by position."""
     return list(zip(*columns_of_frame(frame)[:frame.shape[1]]))
 
@@ -168,7 +170,7 @@ def table_of(thing: Any) -> Table:
     return Table([list(row) for row in rows_] if any(many) else [[cell] for cell in rows_])
 
 
-def _check_labels(frame: Any) -> None:
+def _check_labels(frame: DataFrame) -> None:
     """ValueError for a square table whose rows and columns have the same labels, but for those of
     one side being numbers, and of the other text."""
     sides = list(map(str, frame.index)), list(map(str, frame.columns))
@@ -181,7 +183,7 @@ def _check_labels(frame: Any) -> None:
             % (frame.index[0], frame.columns[0]))
 
 
-def _check_table(thing: Any) -> None:
+def _check_table(thing: object) -> None:
     """TypeError where this is something else than a table."""
     from ..matrix_base import MatrixBase
     if isinstance(thing, MatrixBase):
@@ -198,7 +200,7 @@ def _check_table(thing: Any) -> None:
             'a set, which has no order' if isinstance(thing, (set, frozenset)) else repr(thing)))
 
 
-def _names_of(labels: Any, what: str) -> Optional[Nodes]:
+def _names_of(labels: Series, what: str) -> Optional[Nodes]:
     """The labels of a table's side as names; None where these are its positions."""
     if labels.isna().any() if type(labels).__name__ != 'MultiIndex' else False:
         raise ValueError(
@@ -211,7 +213,7 @@ def _names_of(labels: Any, what: str) -> Optional[Nodes]:
     return found
 
 
-def _cells_of(frame: Any) -> Any:
+def _cells_of(frame: DataFrame) -> Any:
     """The values of a table of pandas: an array, of objects where numpy has no kind for all of
     them."""
     kinds = {getattr(kind, 'kind', 'O') for kind in frame.dtypes}
@@ -220,7 +222,7 @@ def _cells_of(frame: Any) -> Any:
             or len(kinds) > 1 else frame.to_numpy())
 
 
-def is_gap(cell: Any) -> bool:
+def is_gap(cell: object) -> bool:
     """Whether a cell stands for a value that is missing: None, NaN, and NA and NaT of pandas."""
     if cell is None or type(cell).__name__ in ('NAType', 'NaTType'):
         return True
@@ -241,7 +243,8 @@ class DenseColumn(Array):
     array of numpy, and `numpy.asarray` gives a plain one.
     """
 
-    def __array_ufunc__(self, ufunc: Any, method: str, *inputs: Any, **named: Any) -> Any:
+    def __array_ufunc__(self, ufunc: numpy.ufunc, method: str, *inputs: object,
+                        **named: Any) -> Any:
         if method == '__call__' and ufunc.signature is None:
             _check_shapes(inputs)
         target = named.get('out')
@@ -252,8 +255,8 @@ class DenseColumn(Array):
             return target[0] if len(target) == 1 else target
         return tuple(map(dense, found)) if isinstance(found, tuple) else dense(found)
 
-    def __array_function__(self, function: Callable[..., Any], types: Any, args: Iterable[Any],
-                           kwargs: Any) -> Any:
+    def __array_function__(self, function: Callable[..., Any], types: Iterable[type],
+                           args: Iterable[Any], kwargs: Any) -> Any:
         if function in _BESIDE:
             _check_shapes(list(_arrays((*args, *kwargs.values()))))
         # pylint: disable=no-member  # numpy's own
@@ -261,11 +264,11 @@ class DenseColumn(Array):
         return dense(found) if function in _BESIDE else found
 
     # numpy answers False where a comparison's ufunc raises
-    def __eq__(self, other: Any) -> Any:
+    def __eq__(self, other: object) -> Any:
         _check_shapes((self, other))
         return super().__eq__(other)
 
-    def __ne__(self, other: Any) -> Any:
+    def __ne__(self, other: object) -> Any:
         _check_shapes((self, other))
         return super().__ne__(other)
 
@@ -275,7 +278,7 @@ class DenseColumn(Array):
         return _plain(self).__reduce__()           # without this module where it is read
 
 
-def dense(found: Any) -> Any:
+def dense(found: Array) -> Any:
     """An array of several rows and one column as a column; anything else as it is."""
     if isinstance(found, numpy.ndarray) and _is_column(found.shape):
         return found.view(DenseColumn)
@@ -286,11 +289,11 @@ def _is_column(shape: Tuple[int, ...]) -> bool:
     return len(shape) == 2 and shape[0] > 1 and shape[1] == 1
 
 
-def _plain(one: Any) -> Any:
+def _plain(one: object) -> Any:
     return one.view(numpy.ndarray) if isinstance(one, DenseColumn) else one
 
 
-def _arrays(given: Sequence[Any]) -> Iterator[Any]:
+def _arrays(given: Sequence[object]) -> Iterator[Any]:
     """The arrays among arguments, also in lists."""
     for one in given:
         if isinstance(one, numpy.ndarray):

@@ -10,12 +10,14 @@ import csv
 import io
 import itertools
 import re
-from typing import Any, Callable, Dict, Iterator, List, Match, NamedTuple, Optional, Sequence, Tuple
+from typing import (Any, Callable, Dict, Iterator, List, Mapping, Match, NamedTuple, Optional,
+                    Sequence, Tuple, Union)
 
 import numpy
 
 from ..errors import HeaderUnclear, ReadError, about
 from ..extras import import_extra
+from ..types import Array
 from .arrays import PAIRS
 from .edges import WHOLE, Comments, Edges, Layout, LeftOut, Names, code_names
 from .files import ENDINGS
@@ -412,7 +414,7 @@ def _ask_columns(first: List[str], header: bool, what: str, ask: Ask) -> ReadErr
                  'columns')
 
 
-def _find_column(first: List[str], column: Any, ask: Ask) -> int:
+def _find_column(first: List[str], column: Union[int, str], ask: Ask) -> int:
     """The place of a column that the caller names."""
     if isinstance(column, str):
         if column not in first:
@@ -492,7 +494,7 @@ class _Reading:
         return Edges(ends[0], ends[1], values, self._fault,
                      '; '.join(filter(None, (table.summary, done))), left_out, table.question)
 
-    def _parse(self, kinds: Any, wanted: Sequence[int] = ()) -> Any:
+    def _parse(self, kinds: Mapping[int, type], wanted: Sequence[int] = ()) -> Any:
         """Columns by their numbers, as pandas has them."""
         form = self._table.form
         pandas = import_extra('pandas', 'a list of edges')
@@ -512,7 +514,7 @@ class _Reading:
         """The error of an edge, by its place among those that are kept."""
         return self._table.fault(at if self._kept is None else int(self._kept[at]), words)
 
-    def _fields(self, columns: Any) -> Any:
+    def _fields(self, columns: Mapping[int, Array]) -> Any:
         """The values as they are written, where they aren't numbers that pandas reads exactly."""
         at, scale = self._table.form.value, self._layout.scale
         if at is None or (self._layout.unit is None and columns[at].dtype.kind in 'iuf'
@@ -520,7 +522,7 @@ class _Reading:
             return None
         return self._parse({at: object}, [at])[at]
 
-    def _leave_out(self, coded: Any, fields: Any) -> LeftOut:
+    def _leave_out(self, coded: Optional[Tuple[Names, Names]], fields: Optional[Array]) -> LeftOut:
         """Leaves out what isn't complete, and says how many rows that are. ReadError where it is to
         be refused."""
         missing, left_out = self._layout.missing, self._table.left_out
@@ -535,7 +537,7 @@ class _Reading:
         self._table.check_widths()
         if missing != SKIP and nameless.any():
             at = int(nameless.argmax())
-            name = next(filter(is_missing, (end.names[end.codes[at]] for end in coded)))
+            name = next(filter(is_missing, (end.names[end.codes[at]] for end in coded or ())))
             skip = SKIPS % 'line'
             raise about(self._fault(
                 at, 'a name is missing (%r): %s, missing=None takes it for a name' % (name, skip)
@@ -545,7 +547,7 @@ class _Reading:
             return left_out._replace(names=int(nameless.sum()), values=int(valueless.sum()))
         return left_out
 
-    def _values(self, columns: Any, fields: Any) -> Tuple[Any, str]:
+    def _values(self, columns: Mapping[int, Array], fields: Optional[Array]) -> Tuple[Any, str]:
         """Values as whole numbers, and what was done to them."""
         at, clock, rounding = self._table.form.value, self._layout.clock(), Rounding(
             self._layout.scale)
@@ -581,7 +583,7 @@ class _Reading:
         return convert_names(Names(codes[0], names), Names(codes[1], names), self._layout.nodetype,
                              self._fault)
 
-    def _strip(self, codes: List[Any], names: List[str]) -> Tuple[List[Any], List[str]]:
+    def _strip(self, codes: List[Array], names: List[str]) -> Tuple[List[Any], List[str]]:
         """Names without blanks at their ends, unless quoted ones have some."""
         sep = re.escape((self._table.form.sep or '').encode())
         if b'"' in self._table.body and re.search(rb'[ \t]" *(?:%s|\n|\Z)' % sep, self._table.body):
@@ -590,7 +592,7 @@ class _Reading:
         places = numpy.array([found.setdefault(name.rstrip(BLANKS), len(found)) for name in names])
         return [places[end] for end in codes], list(found)
 
-    def _check_names(self, codes: List[Any], names: List[str]) -> None:
+    def _check_names(self, codes: List[Array], names: List[str]) -> None:
         """ReadError for names that no list has, or of which two may be one."""
         ended = next((at for at, name in enumerate(names) if '\n' in name), None)
         if ended is not None:
@@ -609,7 +611,7 @@ class _Reading:
                 raise about(self._fault(0, ASK_FLOATS), 'nodetype')
 
 
-def _first_row(codes: Sequence[Any], at: int) -> int:
+def _first_row(codes: Sequence[Array], at: int) -> int:
     """The first edge that has a name, by the name's number."""
     return int(((codes[0] == at) | (codes[1] == at)).argmax())
 

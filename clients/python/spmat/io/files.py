@@ -23,6 +23,7 @@ from typing import IO, Any, Callable, Iterator, NamedTuple, Optional
 
 from ..errors import ReadError
 from ..limits import MOST_TEXT
+from ..types import Source
 
 ENDINGS = ('.gz', '.bz2', '.xz', '.zst', '.zip')
 LONGEST_MARK = 10
@@ -95,7 +96,7 @@ def packer_of(start: bytes) -> Optional[Packer]:
     return next((packer for mark, packer in PACKERS if mark.match(start)), None)
 
 
-def name_of(source: Any) -> str:
+def name_of(source: object) -> str:
     """What errors call a path or an open file."""
     if isinstance(source, (str, os.PathLike)):
         return os.fsdecode(source)
@@ -184,12 +185,13 @@ def too_long(name: str, most: int, packed: bool = False) -> ReadError:
 
 
 @contextlib.contextmanager
-def opened(source: Any, limit: Limit = Limit()) -> Iterator[IO[bytes]]:
+def opened(source: Source, limit: Limit = Limit()) -> Iterator[IO[bytes]]:
     """A path, or a file that is open in binary, unpacked as it is read. ReadError where it can't be
     unpacked, is a folder, or has more bytes than it may have."""
     name = name_of(source)
     check_max_bytes(limit.max_bytes)
     with contextlib.ExitStack() as stack:
+        plain: Any
         if hasattr(source, 'read'):
             plain = source
         elif isinstance(source, (list, tuple, dict)):
@@ -245,7 +247,7 @@ def check_max_bytes(max_bytes: Optional[int]) -> None:
         raise ValueError('max_bytes is 1 or more, not %d' % max_bytes)
 
 
-def check_length(source: Any, max_bytes: Optional[int]) -> None:
+def check_length(source: object, max_bytes: Optional[int]) -> None:
     """ReadError for a path whose file has more bytes already than it may have once it is
     unpacked."""
     check_max_bytes(max_bytes)
@@ -254,7 +256,7 @@ def check_length(source: Any, max_bytes: Optional[int]) -> None:
         raise too_long(name_of(source), max_bytes)
 
 
-def load(source: Any, max_bytes: Optional[int] = None) -> bytes:
+def load(source: Source, max_bytes: Optional[int] = None) -> bytes:
     """The bytes of a path, or of a file opened in binary, unpacked, without a byte-order mark.
     ReadError where there are more than `max_bytes`, as soon as that is seen. Without it a packed
     Matrix Market file has at most the bytes that a session takes."""

@@ -2,15 +2,16 @@
 blocks share."""
 from __future__ import annotations
 
-from typing import TYPE_CHECKING, Any, Iterable, List, Optional, Sequence
+from typing import TYPE_CHECKING, Any, Iterable, List, Optional, Sequence, Union
 
 from .. import scale as scales
 from ..errors import ReadError, Refused, about
+from ..types import DataFrame, Source, Vertex
 from . import arrays, matrix_market
 from .archive import ArchiveSources
 from .array_importers import ArraySources, DupOp, Made
-from .edge_sources import edges_of_frame, graph_of_list
-from .edges import Column, Comments, Graph, How, Layout, check_direction, graph_of
+from .edges import (Column, Comments, Graph, How, Layout, check_direction, edges_of_frame, graph_of,
+                    graph_of_list)
 from .files import name_of
 from .formats import Request, check_format, check_layout, read
 from .matrix_text import Triples
@@ -24,12 +25,12 @@ __all__ = ['DupOp', 'Sources']
 class Sources(ArraySources[Made], ArchiveSources[Made]):
     """What makes matrices of edges and files, once triples can be sent."""
 
-    def from_edgelist(self, edges: Iterable[Any], *, directed: bool = True,
-                      nodelist: Optional[Sequence[Any]] = None, values: bool = True,
-                      scale: Optional[float] = None, bipartite: Optional[bool] = None,
-                      missing: Optional[str] = 'raise', unit: Optional[str] = None,
-                      date_format: Optional[str] = None, dup_op: DupOp = None,
-                      name: Optional[str] = None) -> Made:
+    def from_edgelist(self, edges: Union[Iterable[Sequence[Any]], DataFrame], *,
+                      directed: bool = True, nodelist: Optional[Sequence[Vertex]] = None,
+                      values: bool = True, scale: Optional[float] = None,
+                      bipartite: Optional[bool] = None, missing: Optional[str] = 'raise',
+                      unit: Optional[str] = None, date_format: Optional[str] = None,
+                      dup_op: DupOp = None, name: Optional[str] = None) -> Made:
         """The adjacency matrix of edges by name.
 
         Edges lead one way, or with `directed=False` both.
@@ -111,9 +112,11 @@ class Sources(ArraySources[Made], ArchiveSources[Made]):
         how = How(directed, nodelist, bool(bipartite))
         return self._graph(graph_of_list(edges, how, layout), layout, dup_op, name)
 
-    def from_pandas_edgelist(self, frame: Any, source: Any = 'source', target: Any = 'target',
-                             edge_attr: Any = None, *, scale: Optional[float] = None,
-                             directed: bool = True, nodelist: Optional[Sequence[Any]] = None,
+    def from_pandas_edgelist(self, frame: DataFrame, source: Vertex = 'source',
+                             target: Vertex = 'target',
+                             edge_attr: Optional[Vertex] = None, *,
+                             scale: Optional[float] = None, directed: bool = True,
+                             nodelist: Optional[Sequence[Vertex]] = None,
                              bipartite: Optional[bool] = None, missing: Optional[str] = 'raise',
                              unit: Optional[str] = None, date_format: Optional[str] = None,
                              dup_op: DupOp = None, name: Optional[str] = None) -> Made:
@@ -241,10 +244,10 @@ class Sources(ArraySources[Made], ArchiveSources[Made]):
         return self.from_edgelist(edges, directed=bool(graph.is_directed()), nodelist=names,
                                   scale=scale if weighted else None, dup_op=dup_op, name=name)
 
-    def read_edgelist(self, path: Any, *, sep: Optional[str] = None,
+    def read_edgelist(self, path: Source, *, sep: Optional[str] = None,
                       header: Optional[bool] = None, columns: Optional[Sequence[Column]] = None,
                       values: bool = True, scale: Optional[float] = None, directed: bool = True,
-                      nodelist: Optional[Sequence[Any]] = None, bipartite: Optional[bool] = None,
+                      nodelist: Optional[Sequence[Vertex]] = None, bipartite: Optional[bool] = None,
                       comments: Comments = True, missing: Optional[str] = 'raise',
                       nodetype: Optional[type] = None, unit: Optional[str] = None,
                       date_format: Optional[str] = None, max_bytes: Optional[int] = None,
@@ -341,7 +344,7 @@ class Sources(ArraySources[Made], ArchiveSources[Made]):
         return self._read(path, Request('edges', layout, directed, nodelist, max_bytes), dup_op,
                           name)
 
-    def read_graph(self, path: Any, format: Optional[str] = None, *, values: bool = True,
+    def read_graph(self, path: Source, format: Optional[str] = None, *, values: bool = True,
                    scale: Optional[float] = None, directed: Optional[bool] = None,
                    bipartite: Optional[bool] = None, dup_op: DupOp = None,
                    name: Optional[str] = None, **layout: Any) -> Made:
@@ -452,7 +455,7 @@ class Sources(ArraySources[Made], ArchiveSources[Made]):
         made.notes = matrix.notes
         return made
 
-    def _read(self, path: Any, request: Request, dup_op: DupOp, name: Optional[str]) -> Made:
+    def _read(self, path: Source, request: Request, dup_op: DupOp, name: Optional[str]) -> Made:
         file, text = name_of(path), matrix_market.load(path, request.max_bytes)
         if check_format(file, text, request.format) == 'mtx':
             check_layout(file, 'mtx', request)

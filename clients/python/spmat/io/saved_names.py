@@ -20,7 +20,7 @@ TIMES = ('date', 'datetime', 'datetime64', 'Timestamp')
 DATETIME64 = re.compile(r'[<>=|]?M8\[\d{0,4}[a-zA-Z]{1,2}\]')
 
 
-def expect(thing: Any, kind: type, what: str) -> Any:
+def expect(thing: object, kind: type, what: str) -> Any:
     """A thing of the kind that it has to be of. ValueError where it isn't."""
     if not isinstance(thing, kind):
         raise ValueError('%s: expected %s, got %.40r' % (what, kind.__name__, thing))
@@ -38,7 +38,7 @@ def encode_names(names: Optional[Nodes], matrix: str) -> Any:
     return [_encode_name(name, matrix) for name in names]
 
 
-def can_save(name: Any) -> bool:
+def can_save(name: object) -> bool:
     """Whether `save` keeps a name of a vertex as it is."""
     try:
         _encode_name(name, '')
@@ -69,7 +69,8 @@ def _encode_name(name: Any, matrix: str) -> Any:
     return name
 
 
-def decode_names(names: Any, count: Optional[int], rows: Optional[Nodes] = None) -> Optional[Nodes]:
+def decode_names(names: Any, count: Optional[int],
+                 rows: Optional[Nodes] = None) -> Optional[Nodes]:
     """Names of so many vertices, or of any number of them; those of the rows where it says so.
     ValueError where there are others, or one stands twice."""
     if names == 'rows':
@@ -94,7 +95,7 @@ def decode_names(names: Any, count: Optional[int], rows: Optional[Nodes] = None)
     return found
 
 
-def _decode_name(name: Any) -> Any:
+def _decode_name(name: object) -> Any:
     if isinstance(name, dict):
         return (frozenset(map(_decode_name, name['frozenset'])) if 'frozenset' in name
                 else _decode_time(name))

@@ -2,14 +2,15 @@
 from __future__ import annotations
 
 import io
-from typing import TYPE_CHECKING, Any, Dict, Optional, Tuple, Union, cast
+from typing import TYPE_CHECKING, Dict, Optional, Tuple, Union, cast
 
 from .. import limits, scale as scales
 from ..backends.server import ServerBackend
 from ..errors import Refused, TextRefused, about, refusal
 from ..matrix import Matrix
 from ..metadata import BY_POSITIONS, NOTHING, as_constant
-from ..operands import alias
+from ..matrix_base import alias
+from ..types import Source
 from . import coo, matrix_market, matrix_text
 from .edges import Layout
 from .files import name_of
@@ -97,7 +98,7 @@ class SessionSources(Sources[Matrix]):
             raise coo.repeated(triples, refused.at - matrix_text.HEAD_LINES - 1,
                                symmetric) from None
 
-    def mmread(self, source: Any, *, values: bool = True, scale: Optional[float] = None,
+    def mmread(self, source: Source, *, values: bool = True, scale: Optional[float] = None,
                max_bytes: Optional[int] = None, dup_op: DupOp = None,
                name: Optional[str] = None) -> Matrix:
         """Read a Matrix Market file.

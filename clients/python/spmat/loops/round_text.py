@@ -15,8 +15,8 @@ from typing import (TYPE_CHECKING, Any, Dict, FrozenSet, Iterator, List, NamedTu
 
 import numpy
 
-from ..backends.estimate import stop_estimate
-from ..backends.names import ServerHandle
+from ..prices import stop_estimate
+from ..backends.server import ServerHandle
 from ..backends.protocol import Handle
 from ..backends.trace import Given, Traced, TracedJob, Value
 from ..io import matrix_text

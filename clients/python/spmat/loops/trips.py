@@ -10,7 +10,7 @@ import collections
 from typing import (TYPE_CHECKING, Any, Callable, Deque, Dict, FrozenSet, List, Mapping, NamedTuple,
                     Optional, Sequence, Tuple, Union)
 
-from ..backends.names import ServerHandle
+from ..backends.server import ServerHandle
 from ..backends.protocol import AMPLE
 from ..backends.trace import Given
 from ..matrix import Matrix

@@ -12,7 +12,7 @@ from __future__ import annotations
 import difflib
 import os
 from dataclasses import dataclass
-from typing import Any, Callable, Dict, Iterator, List, Optional, Tuple, Union, overload
+from typing import Any, Callable, Dict, Iterator, List, Optional, Tuple, Union, cast, overload
 
 from . import other_names
 from .operator import KINDS, Operator, asm, code
@@ -79,7 +79,7 @@ class BuiltIns:
     def __call__(self, *, name: Optional[str] = None,
                  check: bool = True) -> Callable[[Callable[..., Any]], Operator]: ...
 
-    def __call__(self, function: Any = None, *, name: Optional[str] = None,
+    def __call__(self, function: object = None, *, name: Optional[str] = None,
                  check: bool = True) -> Any:
         """Make an operator of this kind of a Python function; also as a decorator.
 
@@ -122,7 +122,7 @@ class BuiltIns:
         if function is None:
             return lambda function: self(function, name=name, check=check)
         from .compiler import operator_of          # only now, as it takes time to load
-        return operator_of(self._kind, function, name, check)
+        return operator_of(self._kind, cast(Any, function), name, check)
 
     def register_anonymous(self, func: Callable[..., Any], name: Optional[str] = None) -> Operator:
         """Make an operator of a function, as python-graphblas has it: `binary(func, name=name)`."""
@@ -279,7 +279,7 @@ def find(kind: str, op: Op) -> Operator:
         if not callable(op):
             raise TypeError('expected an operator, its name or a function, got %r' % (op,))
         if other_names.is_ufunc(op):
-            kind, name = other_names.ready_of(kind, op)
+            kind, name = other_names.ready_of(kind, cast(Any, op))
             return READY[kind][name]
         if op is abs and kind == 'unary':          # so that its result has a unit, as "abs" has
             return unary.abs

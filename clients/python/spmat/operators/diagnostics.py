@@ -1,18 +1,143 @@
 """An operator for people: what a server's check says of it, how one that is refused may be mended,
 and what it was written as, its instructions and its price.
 
-What registers hold before each instruction is what the verifier finds, reckoned here (`dataflow`);
-only `Session.check` asks a server.
+What registers hold before each instruction is what the verifier finds, reckoned here (`walk`); only
+`Session.check` asks a server.
 """
 from __future__ import annotations
 
 import difflib
 import re
 from dataclasses import dataclass
-from typing import Any, Dict, List, Optional
+from typing import Any, Dict, List, NamedTuple, Optional, Tuple
 
 from ..errors import OperatorRefused
-from . import KINDS, Op, Operator, READY, assembly, dataflow, find
+from . import KINDS, READY, Op, Operator, assembly, find
+
+STACK_TOP, REGISTERS = 10, 11
+GIVEN = {'unary': (1,), 'binary': (1, 2), 'index': (1, 2, 3, 4)}
+UNSET, NUMBER = 'u', 'n'
+MOST_KINDS = 8                                     # of one register at one slot: more help nobody
+
+Way = Tuple[Tuple[int, bool], ...]
+"""The conditional jumps on a way: their slots, and whether each was taken."""
+State = List[Dict[str, Way]]
+"""For each register what it may hold (u, n, p-8), and a way on which it does."""
+
+
+class Step(NamedTuple):
+    """An instruction: its slot, the slots that may follow, the registers that it reads, the one
+    that it writes, what it leaves there (a register whose content it copies, with what is added to
+    it, or None for a number), its text, and whether it is a choice."""
+    slot: int
+    next: Tuple[int, ...]
+    reads: Tuple[int, ...]
+    writes: Optional[int]
+    copies: Optional[Tuple[int, int]]
+    text: str
+
+    @property
+    def chooses(self) -> bool:
+        """Whether this is a conditional jump."""
+        return len(self.next) == 2
+
+
+def walk(kind: str, steps: List[Step]) -> Dict[int, State]:
+    """What each register may hold before each instruction that a path leads to."""
+    start: State = [{UNSET: ()} for _ in range(REGISTERS)]
+    for register in GIVEN[kind]:
+        start[register] = {NUMBER: ()}
+    start[STACK_TOP] = {'p0': ()}
+    before: Dict[int, State] = {0: start}
+    for step in steps:
+        if step.slot in before:
+            after = _apply_step(step, before[step.slot])
+            for number, slot in enumerate(step.next):
+                _merge_state(before, slot, after,
+                             ((step.slot, number == 1),) if step.chooses else ())
+    return before
+
+
+def _apply_step(step: Step, state: State) -> State:
+    if step.writes is None or step.writes >= REGISTERS:
+        return state
+    out = list(state)
+    if step.copies is None or step.copies[0] >= REGISTERS:
+        out[step.writes] = {NUMBER: min(state[step.writes].values(), key=len, default=())}
+    else:
+        source, more = step.copies
+        out[step.writes] = {_add(kind, more): way for kind, way in state[source].items()}
+    return out
+
+
+def _add(kind: str, by: int) -> str:
+    """What a register holds to which a number is added."""
+    return 'p%d' % (int(kind[1:]) + by) if kind.startswith('p') else kind
+
+
+def _merge_state(before: Dict[int, State], slot: int, after: State, choice: Way) -> None:
+    """Adds what comes to a slot to what was known to come there."""
+    held = before.setdefault(slot, [{} for _ in range(REGISTERS)])
+    for known, new in zip(held, after):
+        for kind, way in new.items():
+            if kind not in known and len(known) < MOST_KINDS:
+                known[kind] = way + choice
+
+
+def tag(kinds: Dict[str, Way]) -> str:
+    """What the verifier says of a register that may hold these: `u` where some path leaves it
+    unset, `m` where paths set it differently, else what it holds."""
+    return UNSET if UNSET in kinds or not kinds else next(iter(kinds)) if len(kinds) == 1 else 'm'
+
+
+# -- steps
+
+def steps_of(operator: Operator) -> List[Step]:
+    """The instructions of an operator whose text or code stands for a program. What has no mnemonic
+    reads and writes nothing: a server refuses it."""
+    text = operator.text
+    if text is None:
+        text = ''.join(line + '\n' for _, line in operator.lines())
+    return [_step_of_line(line) for line in assembly.lines_of(text)]
+
+
+def _step_of_line(line: assembly.Line) -> Step:
+    form = assembly.OPERANDS.get(line.mnemonic, '')
+    reads: List[int] = []
+    writes: Optional[int] = None
+    jump: Optional[int] = None
+    for letter, operand in zip(form, line.operands):
+        register = int(operand[1:]) if operand[:1] == 'r' and operand[1:].isdigit() else None
+        if register is not None and letter in 'SRVB':
+            reads.append(register)
+        if register is not None and letter in 'DR':
+            writes = register
+        if letter == 'J':
+            jump = int(operand) if _is_number(operand) else 0
+    copies = None
+    if line.mnemonic == 'mov64' and reads:
+        copies = reads[0], 0
+    elif line.mnemonic == 'add64' and len(reads) == 1 and _is_number(line.operands[1]):
+        copies = reads[0], int(line.operands[1])
+    return Step(line.slot, _following(line, jump),
+                tuple(reads if line.mnemonic != 'exit' else [0]), writes, copies, line.text)
+
+
+def _is_number(text: str) -> bool:
+    return text.lstrip('+-').isdigit()
+
+
+def _following(line: assembly.Line, jump: Optional[int]) -> Tuple[int, ...]:
+    """The slots that may follow an instruction, which may jump over so many."""
+    after = line.slot + assembly.size_of(line.mnemonic)
+    if line.mnemonic == 'exit':
+        return ()
+    if jump is None:
+        return (after,)
+    return (after + jump,) if line.mnemonic in ('ja', 'ja32') else (after, after + jump)
+
+
+# -- in words
 
 COMMENTS = 'comments begin with ; or #'
 # How to mend a line, by the rule of assembly text that it breaks; A2 and A3 go on.
@@ -22,7 +147,7 @@ REPAIRS = {'A1': 'put the comment on lines of its own',
            'A5': 'offsets are -32768 to 32767, other numbers -2147483648 to 2147483647; '
                  '`wide rD, NUMBER` takes 64 bits',
            'A6': '`exit` ends each operator, with its value in r0'}
-HEADS = ['slot', 'instruction'] + ['R%d' % number for number in range(dataflow.REGISTERS)]
+HEADS = ['slot', 'instruction'] + ['R%d' % number for number in range(REGISTERS)]
 UNREACHED = 'no way leads here'
 BOTH = 'each position at which both have an entry (row by row, the fewer of both)'
 # Of each method the calls that its price counts, as docs/protocol.md has them.
@@ -104,10 +229,10 @@ def rows_of(lines: List[str], types: List[str]) -> List[List[str]]:
 
 def rows_before(operator: Operator, slot: Optional[int] = None) -> List[List[str]]:
     """The rows up to the instruction of a slot, or all, as the client reckons them."""
-    steps = dataflow.steps_of(operator)
-    before = dataflow.walk(operator.kind, steps)
+    steps = steps_of(operator)
+    before = walk(operator.kind, steps)
     return [_make_row(str(step.slot), step.text,
-                      list(map(dataflow.tag, before.get(step.slot, ()))))
+                      list(map(tag, before.get(step.slot, ()))))
             for step in steps if slot is None or step.slot <= slot]
 
 
@@ -134,17 +259,17 @@ def explain_refusal(operator: Operator, refused: OperatorRefused) -> OperatorRef
 def register_of(operator: Operator, rule: str, slot: int) -> str:
     """The register that is read there and unset on some path, or set differently on two, with the
     paths."""
-    steps = dataflow.steps_of(operator)
+    steps = steps_of(operator)
     step = next((step for step in steps if step.slot == slot), None)
-    state = dataflow.walk(operator.kind, steps).get(slot)
+    state = walk(operator.kind, steps).get(slot)
     if step is None or state is None:
         return ''
     texts = {step.slot: step.text for step in steps}
     for register in step.reads:
-        kinds = state[register] if register < dataflow.REGISTERS else {}
-        if rule == 'V11' and dataflow.UNSET in kinds:
-            return 'r%d is unset %s' % (register, _describe_way(kinds[dataflow.UNSET], texts))
-        if rule == 'V12' and dataflow.UNSET not in kinds and len(kinds) > 1:
+        kinds = state[register] if register < REGISTERS else {}
+        if rule == 'V11' and UNSET in kinds:
+            return 'r%d is unset %s' % (register, _describe_way(kinds[UNSET], texts))
+        if rule == 'V12' and UNSET not in kinds and len(kinds) > 1:
             (one, first), (other, second) = list(kinds.items())[:2]
             return 'r%d is %s %s, and %s %s' % (
                 register, _content(one), _describe_way(first, texts), _content(other),
@@ -153,12 +278,12 @@ def register_of(operator: Operator, rule: str, slot: int) -> str:
 
 
 def _content(kind: str) -> str:
-    if kind == dataflow.NUMBER:
+    if kind == NUMBER:
         return 'a number'
     return "the stack's top" if kind == 'p0' else "the stack's top less %d" % -int(kind[1:])
 
 
-def _describe_way(way: dataflow.Way, texts: 'dict[int, str]') -> str:
+def _describe_way(way: Way, texts: 'dict[int, str]') -> str:
     """A way in words: by its last few jumps."""
     if not way:
         return 'on each way that leads here'
@@ -300,7 +425,7 @@ def code_of(op: Op, kind: Optional[str] = None) -> Listing:
 def longest_way(op: Operator) -> int:
     """The steps of an operator's longest way, whatever its conditions say."""
     most: Dict[int, int] = {}
-    for step in reversed(dataflow.steps_of(op)):
+    for step in reversed(steps_of(op)):
         most[step.slot] = 1 + max((most.get(slot, 0) for slot in step.next), default=0)
     return most.get(0, 0)
 

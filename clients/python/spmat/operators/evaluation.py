@@ -6,26 +6,27 @@ instructions is enough, and each is run for those calls that come to it.
 from __future__ import annotations
 
 import functools
-from typing import Any, Callable, Dict, List
+from typing import Any, Callable, Dict, List, Sequence
 
 import numpy
 
+from ..types import Array
 from . import assembly
 from .operator import Operator
 
 HALF = (1 << 32) - 1
 
 
-def _unsigned(words: Any) -> Any:
+def _unsigned(words: Array) -> Any:
     return words.view(numpy.uint64)
 
 
-def _quotient(a: Any, b: Any) -> Any:
+def _quotient(a: Array, b: Array) -> Any:
     divided = _unsigned(a) // numpy.maximum(_unsigned(b), numpy.uint64(1))
     return numpy.where(b == 0, 0, divided.view(numpy.int64))
 
 
-def _truncated(a: Any, b: Any) -> Any:
+def _truncated(a: Array, b: Array) -> Any:
     divisor = numpy.where(b == 0, 1, b)
     with numpy.errstate(over='ignore'):            # of the least word by -1, which wraps
         down = a // divisor
@@ -53,7 +54,7 @@ def _program_of(op: Operator) -> List[assembly.Line]:
     return list(assembly.lines_of(text))
 
 
-def evaluate(op: Operator, *operands: Any) -> Any:
+def evaluate(op: Operator, *operands: Array) -> Any:
     """What an operator gives of each of some operands.
 
     Parameters
@@ -86,7 +87,7 @@ class _Calls:
     """Calls of one program, with what their registers hold. `coming` says of each slot which calls
     come to it; `values` are what those gave that ended."""
 
-    def __init__(self, operands: Any) -> None:
+    def __init__(self, operands: Sequence[Any]) -> None:
         self.shape = numpy.shape(operands[0])
         self.registers = {'r%d' % number: words for number, words in enumerate(operands, 1)}
         self.coming: Dict[int, Any] = {0: numpy.ones(self.shape, bool)}
@@ -111,7 +112,7 @@ class _Calls:
                                       else numpy.where(here, value, held))
             self._send(after, here)
 
-    def _send(self, slot: int, calls: Any) -> None:
+    def _send(self, slot: int, calls: Array) -> None:
         self.coming[slot] = self.coming[slot] | calls if slot in self.coming else calls
 
     def _word(self, operand: str) -> Any:

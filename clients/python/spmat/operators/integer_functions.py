@@ -7,7 +7,7 @@ Operands are words that are no numbers yet, of which the compiler makes expressi
 from __future__ import annotations
 
 import operator
-from typing import Any, Optional
+from typing import Any, Optional, SupportsIndex, Union
 
 from .assembly import MEANINGS, wrap
 
@@ -16,14 +16,18 @@ class Operand:
     """A number of an operator's call, which isn't known when its function is compiled."""
     __slots__ = ()
 
-    def operate(self, name: str, a: Any, b: Any) -> Any:
+    def operate(self, name: str, a: Whole, b: Whole) -> Any:
         """An operation of two operands, of which this is one, or of this one and a number;
         NotImplemented for what is no number."""
         raise NotImplementedError
 
-    def choose(self, condition: Any, a: Any, b: Any) -> Any:
+    def choose(self, condition: Whole, a: Whole, b: Whole) -> Any:
         """`a` where the condition holds, else `b`."""
         raise NotImplementedError
+
+
+Whole = Union[SupportsIndex, Operand]
+"""A number, or an operand of a function that becomes an operator."""
 
 
 def whole(value: Any) -> Optional[int]:
@@ -37,7 +41,7 @@ def whole(value: Any) -> Optional[int]:
         return None
 
 
-def where(condition: Any, a: Any, b: Any) -> Any:
+def where(condition: Whole, a: Whole, b: Whole) -> Any:
     """`a` where the condition holds, else `b`, as `numpy.where` of one number.
 
     Parameters
@@ -70,7 +74,7 @@ def where(condition: Any, a: Any, b: Any) -> Any:
     return a if condition else b
 
 
-def _compute(name: str, called: str, x: Any, y: Any) -> Any:
+def _compute(name: str, called: str, x: Whole, y: Whole) -> Any:
     """An operation of the machine on operands, or on numbers as signed words."""
     for each in (x, y):
         if isinstance(each, Operand):
@@ -81,7 +85,7 @@ def _compute(name: str, called: str, x: Any, y: Any) -> Any:
     return wrap(MEANINGS[name](wrap(a), wrap(b)))
 
 
-def cdiv(x: Any, y: Any) -> Any:
+def cdiv(x: Whole, y: Whole) -> Any:
     """x / y rounded toward 0, as in C; 0 where y is 0.
 
     Parameters
@@ -107,7 +111,7 @@ def cdiv(x: Any, y: Any) -> Any:
     return _compute('sdiv', 'cdiv', x, y)
 
 
-def cmod(x: Any, y: Any) -> Any:
+def cmod(x: Whole, y: Whole) -> Any:
     """The remainder of `cdiv`, with the sign of x; x where y is 0.
 
     Parameters
@@ -133,7 +137,7 @@ def cmod(x: Any, y: Any) -> Any:
     return _compute('smod', 'cmod', x, y)
 
 
-def udiv(x: Any, y: Any) -> Any:
+def udiv(x: Whole, y: Whole) -> Any:
     """x // y of words without sign; 0 where y is 0.
 
     Parameters
@@ -159,7 +163,7 @@ def udiv(x: Any, y: Any) -> Any:
     return _compute('div', 'udiv', x, y)
 
 
-def umod(x: Any, y: Any) -> Any:
+def umod(x: Whole, y: Whole) -> Any:
     """x % y of words without sign; x where y is 0.
 
     Parameters
@@ -185,7 +189,7 @@ def umod(x: Any, y: Any) -> Any:
     return _compute('mod', 'umod', x, y)
 
 
-def ult(x: Any, y: Any) -> Any:
+def ult(x: Whole, y: Whole) -> Any:
     """Whether x < y of words without sign, as 1 or 0.
 
     Parameters
@@ -210,7 +214,7 @@ def ult(x: Any, y: Any) -> Any:
     return _compute('ult', 'ult', x, y)
 
 
-def rsh(x: Any, y: Any) -> Any:
+def rsh(x: Whole, y: Whole) -> Any:
     """x shifted right by the low 6 bits of y, with 0 shifted in: `>>` of a word without sign.
 
     Parameters

@@ -3,7 +3,10 @@ built-in one exactly, and what to write for those that don't.
 """
 from __future__ import annotations
 
-from typing import Any, Dict, Tuple
+from typing import TYPE_CHECKING, Dict, Tuple
+
+if TYPE_CHECKING:
+    import numpy
 
 # Words for built-in operators, where the meaning is the same for all words of 64 bits.
 ALIASES: Dict[str, Dict[str, str]] = {
@@ -79,12 +82,12 @@ INSTEAD: Dict[str, str] = {
     'average': '"mean" is an aggregator: A.reduce_rowwise("mean")'}
 
 
-def is_ufunc(thing: Any) -> bool:
+def is_ufunc(thing: object) -> bool:
     """Whether this is a function of numpy that works entry by entry."""
     return type(thing).__name__ == 'ufunc' and type(thing).__module__ == 'numpy'
 
 
-def ready_of(kind: str, ufunc: Any) -> Tuple[str, str]:
+def ready_of(kind: str, ufunc: 'numpy.ufunc') -> Tuple[str, str]:
     """The kind and the name of the built-in operator that a function of numpy is: of a kind, or of
     the kind of its operands where that one has none. TypeError where no built-in operator has its
     meaning for all words."""
@@ -105,7 +108,7 @@ _FOLDS = {'sum': 'plus', 'max': 'max', 'amax': 'max', 'min': 'min', 'amin': 'min
           'argmax': 'argmax', 'argmin': 'argmin', 'ptp': 'peak_to_peak'}
 
 
-def fold_of(function: Any) -> str:
+def fold_of(function: object) -> str:
     """The fold that a function of many numbers stands for; nothing of other functions. `max` and
     `min` of Python take two as well."""
     is_known = function is sum or (

@@ -95,7 +95,7 @@ class SessionLock:
             self._leave(sys.exc_info()[0])
             raise
 
-    def __exit__(self, kind: Optional[Type[BaseException]], *_: Any) -> None:
+    def __exit__(self, kind: Optional[Type[BaseException]], *_: object) -> None:
         connection = self._connection
         if self._depth > 1:
             self._depth -= 1
@@ -134,7 +134,7 @@ class SessionLock:
         finally:
             self._lets = False
 
-    def _handle_interrupt(self, number: int, frame: Any) -> None:
+    def _handle_interrupt(self, number: int, frame: object) -> None:
         before = self._before
         if before is not None and (self._lets or self._held):
             self._held = self._lets = False

@@ -14,7 +14,7 @@ import support
 import spmat
 import spmat_blocks as blocks
 from spmat import algorithms
-from spmat.backends import names
+from spmat.backends import server as names
 from spmat.algorithms import cached_properties, utils
 
 pytestmark = pytest.mark.slow

@@ -9,7 +9,7 @@ import unittest
 import support
 import spmat
 from spmat.wire import transport
-from spmat.backends import names
+from spmat.backends import server as names
 
 USED_AGAIN = unittest.skipIf(os.environ.get(names.POISONED),
                              'no name is used again, and each is overwritten')

@@ -47,7 +47,7 @@ WITHOUT_EFFECT = {'dup_op', 'missing'}
 class EachKeyword(InSession):
     def outcome(self, format, how):
         """What is made of a text: everything that is known of it, or the error."""
-        frames = mock.patch('spmat.io.graph_formats.import_extra', self.with_a_frame)
+        frames = mock.patch('spmat.io.formats.import_extra', self.with_a_frame)
         try:
             with frames if format == 'parquet' else mock.patch.dict({}):
                 name = {'csv': 'x.csv', 'tsv': 'x.tsv'}.get(format, 'x')

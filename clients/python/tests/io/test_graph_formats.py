@@ -12,7 +12,7 @@ from unittest import mock
 import support
 import spmat
 import spmat_blocks as blocks
-from spmat.io import graph_formats
+from spmat.io import formats
 from spmat.io.edges import Layout
 
 DATA = os.path.join(os.path.dirname(os.path.dirname(os.path.abspath(__file__))), 'data')
@@ -150,7 +150,7 @@ class Files(Case):
                 lines.insert(chance.randrange(len(lines) + 1),
                              chance.choice(('c x', '', 'n 1 s', 'c', 'c\tone')))
             text = '\n'.join(['c', 'p %s %d %d' % (kind, n, len(edges)), *lines])
-            read = graph_formats.read_dimacs('f', text.encode(), Layout())
+            read = formats.read_dimacs('f', text.encode(), Layout())
             self.assertEqual(list(zip(read.sources.tolist(), read.targets.tolist())), list(edges))
             self.assertEqual(None if read.values is None else read.values.tolist(),
                              list(edges.values()) if kind == 'sp' else None)

@@ -20,7 +20,7 @@ import support
 import spmat
 from model import signed
 from ready_meanings import quotient
-from spmat.operators import c as from_c, clang
+from spmat.operators import c as from_c
 
 FOLDER = os.path.join(os.path.dirname(os.path.abspath(__file__)), 'c')
 PAGE = os.path.join(support.TOP, 'docs', 'operators.md')
@@ -89,7 +89,7 @@ def read(name):
 
 def has_clang():
     try:
-        return bool(clang.find())
+        return bool(from_c.find())
     except spmat.CompileError:
         return False
 
@@ -315,7 +315,7 @@ class Refusals(unittest.TestCase):
         """Front parts of an object file, and ones with other bytes and bits, are an operator or end
         in CompileError alone."""
         source = read('gcd.c')
-        data = clang.compile_source(source, clang.find())
+        data = from_c.compile_source(source, from_c.find())
         self.assertEqual(from_c.operator_of(data, source).kind, 'binary')
         dice, refused = random.Random(5), 0
         for number in range(600):
@@ -347,7 +347,7 @@ class Refusals(unittest.TestCase):
     def test_sizes_of_code_that_are_cut(self):
         """A function whose size is no number of slots, or beyond its section."""
         source = 'int64_t f(int64_t x) { return x + 1; }'
-        data = clang.compile_source(source, clang.find())
+        data = from_c.compile_source(source, from_c.find())
         code = from_c.operator_of(data, source).code
         # of a global function's symbol: 0x12 0, its section, its place (0), its size
         found = re.search(rb'\x12\x00..\x00{8}' + re.escape(struct.pack('<Q', len(code))), data,

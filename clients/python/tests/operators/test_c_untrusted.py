@@ -9,7 +9,7 @@ from unittest import mock
 
 import support
 import spmat
-from spmat.operators import c as from_c, clang
+from spmat.operators import c as from_c
 
 SECRET = 86753099                                  # eight bytes, as an instruction has
 IDENTITY = 'int64_t f(int64_t x) { return x; }'
@@ -86,9 +86,9 @@ FINE = [
 def compilers():
     """Every clang that is installed here, oldest first."""
     found = []
-    for number in range(clang.OLDEST, clang.NEWEST + 1):
+    for number in range(from_c.OLDEST, from_c.NEWEST + 1):
         try:
-            found.append(clang.find('clang-%d' % number))
+            found.append(from_c.find('clang-%d' % number))
         except spmat.CompileError:
             pass
     return found
@@ -109,7 +109,7 @@ class Guarded(unittest.TestCase):
     def leaks(self, source, compiler):
         """Whether the secret comes out by a source that is compiled without the guard."""
         try:
-            made = clang.compile_source(source, compiler)
+            made = from_c.compile_source(source, compiler)
             if str(SECRET).encode() in made:
                 return True
             code = from_c.operator_of(made, source).code
@@ -179,7 +179,7 @@ class Limits(unittest.TestCase):
         """The bomb ends clang, soon, in a CompileError, and no clang of ours is left."""
         name = 'UNTRUSTED' if more else 'TRUSTED'
         start = time.monotonic()
-        with mock.patch.object(clang, name, limits), \
+        with mock.patch.object(from_c, name, limits), \
                 self.assertRaisesRegex(spmat.CompileError, words):
             spmat.c(BOMB, **more)
         self.assertLess(time.monotonic() - start, 60)
@@ -188,22 +188,22 @@ class Limits(unittest.TestCase):
         self.assertNotIn('clang', left)
 
     def test_time(self):
-        self.ends(clang.Limits(seconds=2), 'clang took more than 2 seconds')
-        self.ends(clang.Limits(seconds=2, processor=60), 'clang took more than 2 seconds',
+        self.ends(from_c.Limits(seconds=2), 'clang took more than 2 seconds')
+        self.ends(from_c.Limits(seconds=2, processor=60), 'clang took more than 2 seconds',
                   untrusted=True)
 
     def test_processor(self):
-        self.ends(clang.Limits(seconds=60, processor=1), 'clang refused it', untrusted=True)
+        self.ends(from_c.Limits(seconds=60, processor=1), 'clang refused it', untrusted=True)
 
     def test_memory(self):
-        self.ends(clang.Limits(seconds=60, processor=30, memory=150 << 10), 'clang refused it',
+        self.ends(from_c.Limits(seconds=60, processor=30, memory=150 << 10), 'clang refused it',
                   untrusted=True)
 
     def test_what_is_set(self):
         """The limits of a command are those that are asked for."""
-        words = clang.Limits(seconds=9, processor=7, memory=1 << 20, file=100).words()
+        words = from_c.Limits(seconds=9, processor=7, memory=1 << 20, file=100).words()
         said = subprocess.run([*words, 'sh', '-c', 'ulimit -t; ulimit -v; ulimit -f'],
                               stdout=subprocess.PIPE, universal_newlines=True, check=True).stdout
         self.assertEqual(said.split(), ['7', str(1 << 20), '200'])
-        self.assertEqual((clang.UNTRUSTED.processor, clang.UNTRUSTED.seconds,
-                          clang.TRUSTED.seconds), (10, 20, 300))
+        self.assertEqual((from_c.UNTRUSTED.processor, from_c.UNTRUSTED.seconds,
+                          from_c.TRUSTED.seconds), (10, 20, 300))

@@ -6,14 +6,14 @@ import unittest
 
 import support
 import spmat
-from spmat.operators import c as from_c, clang as compiling
+from spmat.operators import c as from_c
 from operator_model import EDGES, signed
 
 WORDS = 1 << 64
 
 CLANGS = [name
           for name in ('clang-%d' % number
-                       for number in range(compiling.OLDEST, compiling.NEWEST + 1))
+                       for number in range(from_c.OLDEST, from_c.NEWEST + 1))
           if shutil.which(name)]
 # What older clangs have no code of their own for, what they unroll, and what wraps: a function
 # each, with what it means.
@@ -102,16 +102,16 @@ class EachClang(unittest.TestCase):
                                        random_.randrange(-300, 300), 1 << random_.randrange(63)))
         cls.pairs = [(x, y) for x in EDGES for y in EDGES] + [(word(), word()) for _ in range(400)]
 
-    @unittest.skipUnless(CLANGS, 'no clang-14 to clang-%d' % compiling.NEWEST)
+    @unittest.skipUnless(CLANGS, 'no clang-14 to clang-%d' % from_c.NEWEST)
     def test_values(self):
         with spmat.Session(program=support.program()) as s:
             X, Y = (s.from_coo([0] * len(self.pairs), range(len(self.pairs)), list(part), 1,
                                len(self.pairs)) for part in zip(*self.pairs))
             for clang in CLANGS:
-                compiler = compiling.find(clang)
-                made = compiling.compile_source(EACH, compiler)
+                compiler = from_c.find(clang)
+                made = from_c.compile_source(EACH, compiler)
                 for name, meaning in EACH_MEANS.items():
-                    if name == 'behind' and compiler.version >= compiling.SIGNED:
+                    if name == 'behind' and compiler.version >= from_c.SIGNED:
                         with self.assertRaisesRegex(spmat.CompileError, 'to a table'):
                             from_c.operator_of(made, EACH, name)
                         continue
@@ -120,7 +120,7 @@ class EachClang(unittest.TestCase):
                         self.assertEqual(X.ewise_mult(Y, op).to_list(),
                                          [signed(meaning(x, y)) for x, y in self.pairs])
 
-    @unittest.skipUnless(CLANGS, 'no clang-14 to clang-%d' % compiling.NEWEST)
+    @unittest.skipUnless(CLANGS, 'no clang-14 to clang-%d' % from_c.NEWEST)
     def test_what_the_machine_lacks(self):
         """It is named by its line, also where the line is divided by functions that stand in for
         it."""
@@ -141,7 +141,7 @@ class EachClang(unittest.TestCase):
                 'scope: !1)\n')
         with self.assertRaisesRegex(spmat.CompileError,
                                     r'clang 16 has no code for a signed division \(line 12\)'):
-            compiling.check_lowered(compiling.lower(text), 16)
+            from_c.check_lowered(from_c.lower(text), 16)
 
     def test_no_text(self):
         with self.assertRaisesRegex(TypeError,

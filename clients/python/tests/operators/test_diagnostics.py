@@ -9,7 +9,7 @@ import operator_functions as functions
 import support
 import spmat
 from reference_code import code_of
-from spmat.operators import dataflow
+from spmat.operators import diagnostics as dataflow
 from spmat.operators.c import FromC
 
 pytestmark = pytest.mark.slow

@@ -26,8 +26,7 @@ from ..assembly import wrap
 from ..evaluation import evaluate
 from ..integer_functions import Operand, whole
 from ..other_names import READY_BY_CHECKSUM
-from .cache import text_of
-from .compile_function import NAMES, find_positional, name_of
+from .compile_function import NAMES, find_positional, name_of, text_of_function
 from .exploration import call
 
 
@@ -43,7 +42,7 @@ class FromFunction(Operator):
         super().__init__(kind, text=text, name=name)
         vars(self).update(function=function)
 
-    def __call__(self, *operands: Any) -> Any:
+    def __call__(self, *operands: object) -> Any:
         numbers = [None if isinstance(each, Operand) else whole(each) for each in operands]
         if None in numbers or len(numbers) != len(NAMES[self.kind]):
             return call(self.function, operands)
@@ -69,7 +68,7 @@ def operator_of(kind: str, function: Callable[..., Any], name: Optional[str] = N
         return function
     if not callable(function):
         raise TypeError('expected a function, got %r' % (function,))
-    text = text_of(kind, function, name, check)
+    text = text_of_function(kind, function, name, check)
     called = name or (None if name_of(function) == '<lambda>' else name_of(function))
     ready = _find_ready(kind, text)
     if ready is not None:                          # what is known of it is known of this one, too

@@ -43,7 +43,7 @@ class Impure(BaseException):
 
 # -- the function at work
 
-def call(function: Callable[..., Any], operands: Sequence[Any]) -> Any:
+def call(function: Callable[..., Any], operands: Sequence[object]) -> Any:
     """Calls the function. Frames above this one are its own."""
     return function(*operands)
 

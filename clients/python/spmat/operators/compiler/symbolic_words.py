@@ -11,7 +11,7 @@ import operator
 from typing import Any, Callable, Dict, NoReturn, Optional, Tuple
 
 from ..assembly import wrap
-from ..integer_functions import Operand, cdiv, cmod, rsh, udiv, ult, where, whole
+from ..integer_functions import Operand, Whole, cdiv, cmod, rsh, udiv, ult, where, whole
 from .exploration import MOST_VALUES, Path
 from .expressions import Condition, LEAST, MOST, Node, text_of
 
@@ -51,7 +51,7 @@ def _comparison(name: str) -> Any:
 
 
 def _refused(text: str) -> Any:
-    def method(self: 'Word', *_: Any) -> NoReturn:
+    def method(self: 'Word', *_: object) -> NoReturn:
         raise self.path.fault(text)
     return method
 
@@ -59,7 +59,7 @@ def _refused(text: str) -> Any:
 class Word(Operand):
     """A 64-bit word on one way through a function."""
     __slots__ = ('path', 'node')
-    __array_ufunc__ = None                         # numpy's numbers leave operations to this class
+    __array_ufunc__: None = None                   # numpy's numbers leave operations to this class
 
     def __init__(self, path: Path, node: Node) -> None:
         self.path, self.node = path, node
@@ -113,13 +113,13 @@ class Word(Operand):
     def __abs__(self) -> Any:
         return where(self < 0, -self, self)
 
-    def __divmod__(self, other: Any) -> Any:
+    def __divmod__(self, other: Whole) -> Any:
         return self // other, self % other
 
-    def __rdivmod__(self, other: Any) -> Any:
+    def __rdivmod__(self, other: Whole) -> Any:
         return other // self, other % self
 
-    def __pow__(self, power: Any, modulus: Any = None) -> Any:
+    def __pow__(self, power: Whole, modulus: Optional[Word] = None) -> Any:
         number = None if isinstance(power, Word) else whole(power)
         if number is None or number < 0 or modulus is not None:
             raise self.path.fault(POWER)
@@ -157,7 +157,7 @@ class Word(Operand):
         x = (x & 0x3333333333333333) + (rsh(x, 2) & 0x3333333333333333)
         return rsh((x + rsh(x, 4) & 0x0f0f0f0f0f0f0f0f) * 0x0101010101010101, 56)
 
-    def operate(self, name: str, a: Any, b: Any) -> Any:
+    def operate(self, name: str, a: Whole, b: Whole) -> Any:
         if any(not isinstance(each, (Word, int, float, complex, str)) and whole(each) is None
                for each in (a, b)):
             return NotImplemented
@@ -191,7 +191,7 @@ class Word(Operand):
 
     # -- comparisons and choices
 
-    def comparable(self, name: str, other: Any) -> Any:
+    def comparable(self, name: str, other: object) -> Any:
         """What a word is compared with: of another kind of number that is whole the int, so that
         77 is Decimal(77) here, too. What holds several values is refused: Python would call it
         unequal without a word."""
@@ -202,10 +202,10 @@ class Word(Operand):
             raise self.path.fault(NO_SEVERAL % (type(other).__name__, name))
         if isinstance(other, decimal.Decimal) and other.is_finite():
             other = fractions.Fraction(other)
-        is_whole = isinstance(other, fractions.Fraction) and other.denominator == 1
-        return int(other) if is_whole else other
+        return (other.numerator if isinstance(other, fractions.Fraction) and other.denominator == 1
+                else other)
 
-    def compare(self, name: str, other: Any) -> Any:
+    def compare(self, name: str, other: object) -> Any:
         """A comparison with another word or a number: 1 or 0."""
         number = 0 if isinstance(other, Word) else whole(other)
         if number is None and (other is None or not isinstance(other, (str, float))):
@@ -219,7 +219,7 @@ class Word(Operand):
         c, sense = path.graph.condition('eq' if name in ('eq', 'ne') else 'slt', left, right)
         return flag(path, (c, sense != (name in ('le', 'ge', 'ne'))))
 
-    def choose(self, condition: Any, a: Any, b: Any) -> Any:
+    def choose(self, condition: Whole, a: Whole, b: Whole) -> Any:
         path = self.path
         c, yes, no = node_of(path, condition), node_of(path, a), node_of(path, b)
         known = path.truth(c.args[0]) if c.op == 'select' else None
@@ -227,7 +227,7 @@ class Word(Operand):
         return Word(path, path.graph.test(tested, yes, no))
 
 
-def no_number(value: Any, called: str = '') -> str:
+def no_number(value: object, called: str = '') -> str:
     """What is said of a value that is no whole number."""
     if not isinstance(value, (float, complex)):
         return '%s is no whole number: %.40r' % (type(value).__name__, value)
@@ -238,7 +238,7 @@ def no_number(value: Any, called: str = '') -> str:
         called or repr(value), fix)
 
 
-def node_of(path: Path, value: Any, op: str = 'result') -> Node:
+def node_of(path: Path, value: object, op: str = 'result') -> Node:
     """The node of a word or a number."""
     if isinstance(value, Word):
         if value.path is not path:
@@ -267,7 +267,7 @@ def flag(path: Path, condition: Condition) -> Word:
 
 # -- Python's operations by the machine's
 
-def _operate(op: str, x: Word, y: Any) -> Word:
+def _operate(op: str, x: Word, y: Word) -> Word:
     """The machine's operation, as it is."""
     return Word(x.path, x.path.graph.make(op, x.node, node_of(x.path, y)))
 

@@ -14,7 +14,7 @@ import numpy
 
 import support
 from spmat import CompileError
-from spmat.operators.compiler import cache
+from spmat.operators.compiler import compile_function as cache
 
 TOLL = 5
 

@@ -18,7 +18,7 @@ import support
 import spmat
 from ready_meanings import MEANINGS
 from operator_model import EDGES, READY, SIGNLESS, Plain, differences, meaning, operands_of, signed
-from spmat.operators.compiler import cache
+from spmat.operators.compiler import compile_function as cache
 
 TIMES = 120
 
@@ -311,10 +311,10 @@ class Objects(unittest.TestCase):
         """Once for each function and kind, in whatever thread; and it is forgotten with the
         function."""
         function = lambda x, y=5: x + 2 * y
-        first = cache.text_of('unary', function)
-        self.assertIs(cache.text_of('unary', function), first)
-        self.assertNotEqual(cache.text_of('binary', function), first)
-        self.assertIs(cache.text_of('unary', function), first)
+        first = cache.text_of_function('unary', function)
+        self.assertIs(cache.text_of_function('unary', function), first)
+        self.assertNotEqual(cache.text_of_function('binary', function), first)
+        self.assertIs(cache.text_of_function('unary', function), first)
         gone = weakref.ref(function)
         del function
         gc.collect()
