@@ -17,7 +17,7 @@ from typing import Any, Dict, List, Optional, Sequence
 
 import numpy
 
-from .display import count_in_groups, pictures
+from .display import pictures
 from .display.pictures import Look
 from .display.pictures import INK, WARM, Path, Target
 from .extras import import_extra
@@ -108,7 +108,7 @@ def raster(A: Matrix, rows: int = RASTER, columns: int = RASTER) -> Matrix:
     """
     cells = [coo.whole(many, what) for many, what in ((rows, 'number of rows'),
                                                       (columns, 'number of columns'))]
-    return count_in_groups(A, *(numpy.arange(side) * min(many, side) // max(1, side)
+    return pictures.count_in_groups(A, *(numpy.arange(side) * min(many, side) // max(1, side)
                                 for side, many in zip(A.shape, cells)))
 
 

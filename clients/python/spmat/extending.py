@@ -32,7 +32,8 @@ from .io.matrix_market import (Kind as MarketKind, Line as MarketLine, Reader as
 from .io.matrix_text import (BANNER, HEAD_LINES, PATTERN as PATTERN_BANNER, Triples, as_arrays,
                              head_of as head_of_text, read_lines, read as read_text, start_of_line,
                              write as write_text)
-from .metadata import BY_POSITIONS, Metadata, NOTHING, Nodes, as_constant, axis_of
+from .matrix_base import as_constant
+from .metadata import BY_POSITIONS, Metadata, NOTHING, Nodes, axis_of
 from .operators import Op, find
 from .operators.diagnostics import Check
 from .scale import of_read as unit_of_read

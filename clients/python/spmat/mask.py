@@ -3,7 +3,6 @@ from __future__ import annotations
 
 from typing import Any, NamedTuple, NoReturn, Optional, Union
 
-from .display import html
 from .errors import MaskWarning, refusal, warn_user
 from .matrix_base import MatrixBase, common_session
 
@@ -180,6 +179,7 @@ class Mask(NamedTuple):
         return '%s%r.%s' % ('~' if self.complement else '', self.matrix, 'V' if self.value else 'S')
 
     def _repr_html_(self) -> str:
+        from .display import html                  # which knows matrices, and is seldom needed
         return html.mask(self)
 
 

@@ -576,7 +576,8 @@ class Matrix(Signs, metaclass=MatrixType):
         >>> A.rescale(1000).unit, A.rescale(1000)[0, 0]
         (1000, 1.25)
         """
-        return scales.rescaled(self, unit, exact)  # type: ignore[no-any-return]
+        from .alignment import rescaled            # which takes matrices
+        return cast(Self, rescaled(self, unit, exact))
 
     def index(self, node: Vertex, axis: int = 0) -> int:
         """The row of a vertex, or with `axis=1` the column.

@@ -3,7 +3,7 @@ from __future__ import annotations
 
 from typing import TYPE_CHECKING, Any, Dict, Tuple, TypeVar
 
-from .metadata import NOTHING, Metadata
+from .metadata import ALIKE, NOTHING, Metadata
 
 if TYPE_CHECKING:
     from .backends.protocol import Handle
@@ -112,3 +112,25 @@ def not_a_matrix(operand: object) -> TypeError:
     instead = (': A.session.from_dense(x) makes one of it' if isinstance(operand, (list, tuple))
                or hasattr(operand, '__array__') else '')
     return TypeError('expected a matrix, got %s%s' % (type(operand).__name__, instead))
+
+
+# -- which names and which scale a matrix has
+
+def without_names(matrix: H) -> H:
+    """A matrix that was made by indexes, as one that the client makes for itself: it goes with any
+    names."""
+    matrix.notes = NOTHING
+    return matrix
+
+
+def as_constant(matrix: H) -> H:
+    """A constant, which goes with any names; where it is square, its rows and columns are the same
+    vertices, and it is symmetric."""
+    nrows, ncols = matrix.shape
+    matrix.notes = ALIKE._replace(directed=False) if nrows == ncols > 1 else NOTHING
+    return matrix
+
+
+def with_unit(matrix: H, unit: int) -> H:
+    """A matrix with the same stored numbers, of another scale: no job."""
+    return matrix if matrix.notes.unit == unit else alias(matrix, matrix.notes._replace(unit=unit))

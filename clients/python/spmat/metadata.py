@@ -18,17 +18,13 @@ import re
 from collections import Counter
 from collections.abc import KeysView, Mapping, Set
 from typing import (TYPE_CHECKING, Any, Collection, Dict, Iterable, Iterator, List, NamedTuple,
-                    Optional, Sequence, Tuple, TypeVar, cast)
+                    Optional, Sequence, Tuple, cast)
 
 import numpy
 
 from .errors import NamesDiffer
 from .types import NodesLike, Vertex
 
-if TYPE_CHECKING:
-    from .matrix_base import MatrixBase
-
-N = TypeVar('N', bound='MatrixBase')
 FEW_NAMES = 6                                      # so many names are listed where one isn't found
 FEW_NEAR, LIKE = 2, .7                             # so many names that are so much alike
 TRUTHS = (bool, numpy.bool_)
@@ -416,21 +412,6 @@ def new_kind() -> int:
 NOTHING = Metadata()
 ALIKE = Metadata(unnamed_rows=Unnamed.ALIKE, unnamed_columns=Unnamed.ALIKE)
 BY_POSITIONS = Metadata(unnamed_rows=Unnamed.POSITIONS, unnamed_columns=Unnamed.POSITIONS)
-
-
-def without_names(matrix: N) -> N:
-    """A matrix that was made by indexes, as one that the client makes for itself: it goes with any
-    names."""
-    matrix.notes = NOTHING
-    return matrix
-
-
-def as_constant(matrix: N) -> N:
-    """A constant, which goes with any names; where it is square, its rows and columns are the same
-    vertices, and it is symmetric."""
-    nrows, ncols = matrix.shape
-    matrix.notes = ALIKE._replace(directed=False) if nrows == ncols > 1 else NOTHING
-    return matrix
 
 
 SHOWN_NAMES = 3                                    # of two lists that differ

@@ -8,6 +8,7 @@ from typing import TYPE_CHECKING, Any, Callable, Dict, NamedTuple, NoReturn, Opt
 from . import scale as scales
 from .io.coo import MOST
 from .mask import Mask, MaskLike, as_mask
+from .matrix_base import with_unit
 from .metadata import VertexUnit
 from .operators import binary, find
 
@@ -127,7 +128,7 @@ def _check_numbers(matrix: 'Matrix') -> None:
 def _means(matrix: 'Matrix', axis: int, where: Optional[Mask], name: Optional[str]) -> Any:
     """Means as parts of a unit, each the nearest."""
     _check_numbers(matrix)
-    stored = scales.with_unit(matrix, 1)
+    stored = with_unit(matrix, 1)
     sums, high, counts = (fold_axis(made, 'plus', axis, where)
                           for made in (stored, stored.apply('arsh', right=HALF),
                                        stored.apply('one')))
@@ -163,7 +164,7 @@ def aggregate_all(matrix: 'Matrix', op: str, raw: bool) -> Any:
     if op in ('mean', 'peak_to_peak'):
         _check_numbers(matrix)
     if op == 'mean':
-        stored = scales.with_unit(matrix, 1)
+        stored = with_unit(matrix, 1)
         low, high = stored.reduce_scalar('plus'), stored.apply('arsh',
                                                                right=HALF).reduce_scalar('plus')
         count = matrix.nvals

@@ -17,8 +17,7 @@ import functools
 import math
 import operator
 from fractions import Fraction
-from typing import (TYPE_CHECKING, Any, Callable, Dict, FrozenSet, List, NoReturn, Optional, Tuple,
-                    Union)
+from typing import Any, Callable, Dict, FrozenSet, List, NoReturn, Optional, Tuple, Union
 
 import numpy
 
@@ -26,13 +25,9 @@ from .errors import UnitsDiffer, about, warn_user
 from .io.coo import LEAST, MOST, shown
 from .io.matrix_text import is_array
 from .io.values import LONG_UNITS, UNITS, nanoseconds
-from .matrix_base import alias
 from .metadata import VertexUnit, abbreviate_names, names_differ, place_of, suggest_names
 from .operators import READY, Op, Operator, find
 from .types import Array, DType, Exact
-
-if TYPE_CHECKING:
-    from .matrix import Matrix
 
 EXACT = 1 << 53                                    # floats hold every whole number below it
 # both values have one scale, and so has the result; or it is a number that says how they compare
@@ -113,11 +108,6 @@ def describe_unit(unit: int) -> str:
     if isinstance(unit, TimeUnit):
         return 'times in %s' % unit
     return 'parts of 1/%s' % shown(unit)
-
-
-def with_unit(matrix: 'Matrix', unit: int) -> Any:
-    """A matrix with the same stored numbers, of another scale: no job."""
-    return matrix if matrix.notes.unit == unit else alias(matrix, matrix.notes._replace(unit=unit))
 
 
 # -- numbers beside stored ones
@@ -441,69 +431,3 @@ def refuse_vertices(what: str) -> NoReturn:
     raise UnitsDiffer('%s: values that are vertices are compared by "eq" and "ne", with a vertex\' '
                       'name beside them; B = A.dup(); B.unit = 1 has the places of the vertices as '
                       'numbers' % what)
-
-
-# -- another scale
-
-def rescaled(matrix: 'Matrix', unit: object, exact: bool) -> Any:
-    """A matrix with the same numbers in another scale; see `Matrix.rescale`."""
-    before, wanted = matrix.unit, as_unit(unit)
-    if isinstance(before, VertexUnit):
-        refuse_vertices('vertices have no other unit')
-    factor = Fraction(wanted, before)
-    if isinstance(wanted, TimeUnit):
-        if not isinstance(before, TimeUnit):
-            raise ValueError('the values are no times yet, so that they have no other unit of '
-                             'times: A.unit = %r says that they are' % wanted)
-        factor = Fraction(before.size, wanted.size)
-    if factor == 1:
-        return with_unit(matrix, wanted)
-    made, (more, less) = with_unit(matrix, 1), factor.as_integer_ratio()
-    if exact and less != 1:
-        _check_digits(made, less, before, wanted)
-    _check_fits(made, factor, wanted)
-    if less != 1 and (exact or isinstance(wanted, TimeUnit)):
-        made = made.apply('floordiv', right=less)
-    elif less != 1:
-        made, more = made.apply(_rounding(more, less)), 1
-    if more != 1:
-        made = made.apply('times', right=more)
-    made.notes = matrix.notes._replace(source='', unit=wanted)
-    return made
-
-
-def _check_digits(stored: 'Matrix', less: int, before: int, wanted: int) -> None:
-    """ValueError where a stored value is no multiple of a divisor."""
-    left = stored.apply('cmod', right=less).select('nonzero')
-    if left.nvals:
-        some = stored.dup(mask=left.S).reduce_scalar('any', raw=True)
-        how = 'cuts them down' if isinstance(wanted, TimeUnit) else 'rounds them'
-        raise ValueError('%d of %d values would lose digits as %s, such as %s: exact=False %s' % (
-            left.nvals, stored.nvals, describe_unit(wanted), to_text(some, before), how))
-
-
-def _check_fits(stored: 'Matrix', factor: Fraction, wanted: int) -> None:
-    """ValueError where a stored value times a factor is beyond 64 bits."""
-    ends = (('valuelt', math.ceil(LEAST / factor)), ('valuegt', math.floor(MOST / factor)))
-    # both wait, so that one run makes them
-    outside = [stored.select(op, end) for op, end in ends if LEAST < end < MOST]
-    many = sum(part.nvals for part in outside)
-    if many:
-        raise ValueError('%d of %d values are beyond 64 bits in %s: a coarser unit holds them'
-                         % (many, stored.nvals, describe_unit(wanted)))
-
-
-def _rounding(more: int, less: int) -> Operator:
-    """x times more / less, rounded to the nearest, halves to the even one. ValueError where this
-    takes more than 64 bits."""
-    if more * less >= 1 << 62:
-        raise ValueError('a factor of %d/%d can not be rounded in 64 bits: rescale in two steps'
-                         % (more, less))
-
-    def nearest(x: int) -> int:
-        whole = x // less
-        over = (x - whole * less) * more
-        found = whole * more + over // less
-        rest = (over - over // less * less) * 2
-        return found + ((rest > less) | ((rest == less) & (found & 1)))
-    return READY['unary'](nearest, name='rescale')

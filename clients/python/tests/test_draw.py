@@ -15,7 +15,7 @@ import support
 import spmat
 from spmat import algorithms, draw
 from spmat.algorithms.registry import ALGORITHMS, required
-from spmat.display import count_in_groups, pictures
+from spmat.display import pictures
 
 
 def ink(path, colour):
@@ -150,7 +150,7 @@ class Pictures(unittest.TestCase):
             at = {i: level for (i, _), level in found.to_dict().items()}
             want = collections.Counter((at[i], at[j]) for i, j in graph.edges)
             levels = numpy.array([at[i] for i in range(G.nrows)])
-            self.assertEqual(count_in_groups(G, levels, levels).to_dict(), want)
+            self.assertEqual(pictures.count_in_groups(G, levels, levels).to_dict(), want)
             self.drawn(draw.levels, G, found)
             self.drawn(draw.degree_histogram, G)
 

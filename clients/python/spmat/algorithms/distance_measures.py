@@ -16,7 +16,7 @@ import numpy
 from ..limits import MOST_SIDE
 from ..loops import Loop, State, empty
 from ..matrix import Matrix
-from ..metadata import without_names
+from ..matrix_base import without_names
 from ..matrix_base import is_same
 from ..operators import Semiring, asm, binary
 from .bfs import NONE, Search, run_search

@@ -6,11 +6,10 @@ from typing import List, NamedTuple, Optional, Tuple, Union
 
 import numpy
 
-from .. import scale as scales
 from ..errors import about
 from ..io.coo import shown
 from ..matrix import Matrix
-from ..metadata import without_names
+from ..matrix_base import with_unit, without_names
 from ..operators import Semiring, asm, binary
 from .all_pairs_lengths import lengths_from, reach_of
 from .cached_properties import extremes, is_both_ways, is_transpose, transpose_of
@@ -338,8 +337,8 @@ def closeness(G: Matrix, GT: Optional[Matrix] = None, scale: int = CLOSENESS_SCA
     if not 1 <= scale <= 1 << 52:
         raise ValueError('a scale is 1 to 2^52, not %s' % shown(scale))
     unit = unit_of(G, GT) if weighted else 1
-    stored = scales.with_unit(G, 1)
-    G, GT = stored, stored if GT is G else None if GT is None else scales.with_unit(GT, 1)
+    stored = with_unit(G, 1)
+    G, GT = stored, stored if GT is G else None if GT is None else with_unit(GT, 1)
     reach = _sum_lengths(G, GT, progress, check) if weighted else _sum_edges(G, GT, progress, check)
     found = [r ** 2 * unit * scale // (d * max(1, count - 1)) if d else 0
              for r, d in zip(reach.others.tolist(), reach.total.tolist())]

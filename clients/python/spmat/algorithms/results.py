@@ -11,6 +11,7 @@ from typing import TYPE_CHECKING, Any, Callable, Dict, Iterator, Mapping, Option
 from .. import scale as scales
 from ..errors import BudgetExceeded, SpmatError
 from ..matrix import Matrix
+from ..matrix_base import with_unit
 from ..metadata import ROWS, VertexUnit
 from ..types import Exact
 from .utils import column as column_of
@@ -200,7 +201,7 @@ def in_unit(algorithm: 'Algorithm', given: inspect.BoundArguments) -> Any:
     views: Dict[int, Any] = {}
     for name, one in some.items():
         if isinstance(one, Matrix):
-            some[name] = views.setdefault(id(one), scales.with_unit(one, 1))
+            some[name] = views.setdefault(id(one), with_unit(one, 1))
     found = algorithm.function(*given.args, **given.kwargs)
     if not counts or not algorithm.lengths or isinstance(unit, scales.TimeUnit):
         return found                               # a sum of times is no time

@@ -12,6 +12,7 @@ from ..errors import NotSettled
 from ..io.matrix_text import Triples
 from ..job_operators import Ring
 from ..matrix import Matrix
+from ..matrix_base import without_names
 from ..matrix_base import common_session
 from .cached_properties import found
 from ..types import Array, Place, Vertex, Vertices
@@ -127,7 +128,7 @@ def name_rows(graph: Matrix, result: Matrix, rows: List[Place]) -> Matrix:
 def mark_rows(like: Matrix, at: List[Place], value: int) -> Matrix:
     """A matrix with a row for each of some vertices, which has one entry, at the vertex."""
     made = like.session.from_coo(range(len(at)), list(map(int, at)), value, len(at), like.nrows)
-    return metadata.without_names(made)
+    return without_names(made)
 
 
 # -- columns

@@ -12,7 +12,8 @@ from ..errors import about
 from ..io.coo import shown, whole
 from ..matrix import Matrix
 from ..operators import Operator, Semiring, asm, binary
-from ..scale import exact_number, with_unit
+from ..matrix_base import with_unit
+from ..scale import exact_number
 from .cached_properties import check_weights
 from .registry import algorithm
 from .results import CHANGE, RESIDUAL, Centrality, as_centrality, keep_partial, unit_of

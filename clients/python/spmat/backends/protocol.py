@@ -14,7 +14,7 @@ import itertools
 import weakref
 from typing import TYPE_CHECKING, Any, Dict, Iterator, List, NamedTuple, Optional, Tuple, Type
 
-from ..display import html
+from ..display import table
 from ..errors import NotMade
 from ..io import matrix_text
 from ..io.matrix_text import Triples
@@ -28,6 +28,7 @@ if TYPE_CHECKING:
 # steps that clients of one server don't take from one another within a day
 AMPLE = 1 << 56
 serial = itertools.count()
+UNBOUNDED = 1 << 62                                # steps that no session spends
 _PLACES = {name: form.places for name, form in FORMS.items()}
 # members of an enum take long to find
 _ROWS, _TERMS, _ANY = Places.ROWS, Places.TERMS, Places.ANY
@@ -54,7 +55,16 @@ class Budget(NamedTuple):
     spent: int
 
     def _repr_html_(self) -> str:
-        return html.budget(self)
+        """The budget, with a bar of what is spent and reserved."""
+        whole = max(1, sum(self))
+        if whole >= UNBOUNDED:
+            return '<div><b>Budget</b> without a limit, %s spent</div>' % format(self.spent, ',')
+        bar = ''.join('<span style="display:inline-block;height:8px;width:%.1fpx;'
+                      'background:%s"></span>' % (240 * part / whole, colour)
+                      for part, colour in ((self.spent, '#1f4e79'), (self.reserved, '#b5651d'),
+                                           (self.left, '#c9d3dd')))
+        return '<div><b>Budget</b> %s left, %s reserved, %s spent<div>%s</div></div>' % (
+            *(format(number, ',') for number in (self.left, self.reserved, self.spent)), bar)
 
 
 class JobResult(NamedTuple):
@@ -81,7 +91,17 @@ class Run(List[JobResult]):
     """The jobs that a run settled, in order."""
 
     def _repr_html_(self) -> str:
-        return html.runs(self)
+        """The jobs of a run: of each its result, its price and its steps."""
+        rows = [[at, job.form, _size_of(job.matrix), format(job.price, ','), format(job.steps, ',')]
+                for at, job in enumerate(self, 1)]
+        total = format(sum(job.steps for job in self), ',')
+        return '<div><b>Run</b> of %d jobs, %s steps%s</div>' % (
+            len(self), total, table(['', 'form', 'result', 'price', 'steps'], rows))
+
+
+def _size_of(made: Optional['Matrix']) -> str:
+    return ('held by nobody' if made is None else '%dx%d, %s entries'
+            % (*made.shape, format(made.nvals, ',')))
 
 
 class Handle:

@@ -21,6 +21,7 @@ from .. import algorithms, draw as pictures, scale as scales
 from ..algorithms.registry import ALGORITHMS, Algorithm
 from ..errors import parameters_of
 from ..matrix import Matrix
+from ..matrix_base import with_unit
 from ..metadata import abbreviate_names, suggest_names
 from . import output
 from .options import (Command, Option, check_graph, choose_values, graph_options,
@@ -244,7 +245,7 @@ def format_result(name: str, algorithm: Algorithm, result: Any,
     if isinstance(result, list):
         return output.format_lines(options, output.Result(algorithm.fields, result))
     if options.mtx:
-        shown = (scales.with_unit(result, 1).apply('plus', right=1) if algorithm.are_vertices
+        shown = (with_unit(result, 1).apply('plus', right=1) if algorithm.are_vertices
                  else result)
         return [shown.to_text().decode()]
     return output.format_lines(options, output.list_entries(options, result, called,

@@ -1,44 +1,41 @@
-"""Matrices, operators and sessions as notebooks show them, and what pictures of `spmat.draw` are
-made of."""
+"""What notebooks and pictures show: here tables and programs in HTML without scripts, of which each
+class makes what it shows of itself."""
 from __future__ import annotations
 
-from typing import TYPE_CHECKING
+from html import escape
+from typing import Sequence
 
-import numpy
-
-from ..metadata import without_names
-from ..types import Array
-
-if TYPE_CHECKING:
-    from ..matrix import Matrix
+CELL = 'text-align:right;padding:1px 6px;white-space:nowrap;border:1px solid #ddd'
+HEAD = 'text-align:right;padding:1px 6px;color:#5a6672;font-weight:normal;border:1px solid #ddd'
 
 
-def count_in_groups(A: Matrix, rows: Array, columns: Array) -> Matrix:
-    """Count the entries of a matrix in each group of rows and group of columns.
+def text_of(thing: object) -> str:
+    """Anything as text in HTML."""
+    return escape(str(thing))
 
-    Parameters
-    ----------
-    A : Matrix
-        Any matrix.
-    rows, columns : numpy.ndarray
-        The number of the group of each row, and of each column; -1 if it is in none.
 
-    Returns
-    -------
-    Matrix
-        A row for each group of rows, and a column for each group of columns.
+def table(heads: Sequence[object], rows: Sequence[Sequence[object]]) -> str:
+    """A table; the first cell of each row is its name."""
+    top = ''.join('<th style="%s">%s</th>' % (HEAD, text_of(head)) for head in heads)
+    body = ''.join('<tr><th style="%s">%s</th>%s</tr>' % (HEAD, text_of(row[0]), ''.join(
+        '<td style="%s">%s</td>' % (CELL, text_of(cell)) for cell in row[1:])) for row in rows)
+    style = 'border-collapse:collapse;font-size:90%;font-family:monospace'
+    return '<table style="%s"><tr>%s</tr>%s</table>' % (style, top, body)
 
-    Notes
-    -----
-    2 jobs in 2 runs: P A Q over plus, with P and Q that gather rows and columns.
-    """
-    gathering = []
-    for groups in (rows, columns):
-        members = numpy.flatnonzero(groups >= 0)
-        count = int(numpy.max(groups, initial=-1)) + 1
-        gathering.append((groups[members], members, count, len(groups)))
-    groups, members, count, side = gathering[0]
-    P = without_names(A.session.from_coo(groups, members, 1, count, side))
-    groups, members, count, side = gathering[1]
-    Q = without_names(A.session.from_coo(members, groups, 1, side, count))
-    return P.mxm(A, 'plus_pair').mxm(Q, 'plus_first')
+
+def headed(kind: str, about: Sequence[str], rest: str) -> str:
+    """A line about a matrix, and what stands below it."""
+    return '<div><div style="margin-bottom:4px"><b>%s</b> %s</div>%s</div>' % (
+        kind, ', '.join(about), rest)
+
+
+def beside(*parts: str) -> str:
+    """Parts side by side."""
+    return '<div style="display:flex;gap:16px;align-items:flex-start">%s</div>' % ''.join(parts)
+
+
+def code(text: str) -> str:
+    """Lines of a program."""
+    return ('<pre style="margin:4px '
+            '0;text-align:left;white-space:pre-wrap;overflow-wrap:anywhere">%s</pre>'
+            % text_of(text.strip('\n')))

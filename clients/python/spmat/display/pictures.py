@@ -12,10 +12,10 @@ import numpy
 from ..errors import refusal
 from ..extras import import_extra
 from ..matrix import Matrix
+from ..matrix_base import without_names
 from ..metadata import vertices_of
 from ..scale import TimeUnit, to_decimal, to_text
 from ..types import Array, Axes, Vertex
-from . import count_in_groups
 
 Path = Union[str, os.PathLike[str]]
 Look = Union[str, float, Mapping[Vertex, Any], Sequence[Any], Matrix, None]
@@ -616,3 +616,36 @@ def draw_chain(names: List[str], values: Sequence[Any], target: Target) -> Any:
     ax.set_ylim(-rows - .5, .5)
     ax.set_axis_off()
     return ax
+
+
+# -- pictures of many entries
+
+def count_in_groups(A: Matrix, rows: Array, columns: Array) -> Matrix:
+    """Count the entries of a matrix in each group of rows and group of columns.
+
+    Parameters
+    ----------
+    A : Matrix
+        Any matrix.
+    rows, columns : numpy.ndarray
+        The number of the group of each row, and of each column; -1 if it is in none.
+
+    Returns
+    -------
+    Matrix
+        A row for each group of rows, and a column for each group of columns.
+
+    Notes
+    -----
+    2 jobs in 2 runs: P A Q over plus, with P and Q that gather rows and columns.
+    """
+    gathering = []
+    for groups in (rows, columns):
+        members = numpy.flatnonzero(groups >= 0)
+        count = int(numpy.max(groups, initial=-1)) + 1
+        gathering.append((groups[members], members, count, len(groups)))
+    groups, members, count, side = gathering[0]
+    P = without_names(A.session.from_coo(groups, members, 1, count, side))
+    groups, members, count, side = gathering[1]
+    Q = without_names(A.session.from_coo(members, groups, 1, side, count))
+    return P.mxm(A, 'plus_pair').mxm(Q, 'plus_first')

@@ -14,7 +14,6 @@ from ..metadata import Nodes, check_names
 from ..types import DataFrame, Series
 
 if TYPE_CHECKING:
-    from ..matrix_base import MatrixBase
     Array = numpy.ndarray[Any, Any]
 else:
     Array = numpy.ndarray
@@ -104,8 +103,7 @@ def _is_masked(thing: object) -> bool:
 def _check_column(many: object, what: str) -> None:
     """TypeError where this isn't a column of numbers but something else that can be gone
     through."""
-    from ..matrix_base import MatrixBase
-    if isinstance(many, MatrixBase):
+    if hasattr(type(many), 'mxm'):
         _refuse(what, 'a matrix', 'write A.to_list() of a column, or A.to_coo()')
     if hasattr(many, 'tocoo'):
         _refuse(what, 'a matrix of scipy.sparse', 'from_scipy_sparse takes it')
@@ -185,8 +183,7 @@ def _check_labels(frame: DataFrame) -> None:
 
 def _check_table(thing: object) -> None:
     """TypeError where this is something else than a table."""
-    from ..matrix_base import MatrixBase
-    if isinstance(thing, MatrixBase):
+    if hasattr(type(thing), 'mxm'):
         raise TypeError(
             'expected a table, not a matrix: A.dup() copies it, s.adopt(A) takes one of another '
             'session')

@@ -8,8 +8,8 @@ from .. import limits, scale as scales
 from ..backends.server import ServerBackend
 from ..errors import Refused, TextRefused, about, refusal
 from ..matrix import Matrix
-from ..metadata import BY_POSITIONS, NOTHING, as_constant
-from ..matrix_base import alias
+from ..metadata import BY_POSITIONS, NOTHING
+from ..matrix_base import alias, as_constant
 from ..types import Source
 from . import coo, matrix_market, matrix_text
 from .edges import Layout

@@ -14,6 +14,7 @@ import os
 from dataclasses import dataclass
 from typing import Any, Callable, Dict, Iterator, List, Optional, Tuple, Union, cast, overload
 
+from ..display import table, text_of
 from . import other_names
 from .operator import KINDS, Operator, asm, code
 
@@ -56,8 +57,13 @@ class Semiring:
         return '<semiring %s_%s>' % (self.add.name or '?', self.mul.name or '?')
 
     def _repr_html_(self) -> str:
-        from ..display import html
-        return html.semiring(self)
+        """Its two operators, with their instructions."""
+        rows = [[part, op.name or 'of its own', ' ; '.join(line for _, line in op.slots())
+                 if op.text is not None else '%d slots of code' % (len(op.code or b'') // 8)]
+                for part, op in (('add', self.add), ('mul', self.mul))]
+        return '<div><b>Semiring</b> %s%s</div>' % (
+            text_of('%s_%s' % (self.add.name or '?', self.mul.name or '?')),
+            table(['', 'operator', 'instructions'], rows))
 
 
 class BuiltIns:
@@ -218,8 +224,8 @@ class Semirings:
         return '<semirings of any two binary operators, joined by _: %s, ..>' % ', '.join(USES)
 
     def _repr_html_(self) -> str:
-        from ..display import html
-        return html.semirings(USES)
+        return '<div><b>Semirings</b> of any two binary operators, joined by _%s</div>' % table(
+            ['', 'what a product tells'], list(USES.items()))
 
     def __call__(self, add: Op, mul: Op) -> Semiring:
         """Make a semiring of two binary operators.

@@ -11,6 +11,7 @@ import re
 from dataclasses import dataclass
 from typing import Any, Dict, List, NamedTuple, Optional, Tuple
 
+from .. import display as html
 from ..errors import OperatorRefused
 from . import KINDS, READY, Op, Operator, assembly, find
 
@@ -196,8 +197,7 @@ class Check:
     __repr__ = __str__
 
     def _repr_html_(self) -> str:
-        from ..display import html
-        return html.check(self)
+        return show_check(self)
 
 
 def table(rows: List[List[str]]) -> List[str]:
@@ -362,8 +362,7 @@ class Listing:
     __repr__ = __str__
 
     def _repr_html_(self) -> str:
-        from ..display import html
-        return html.listing(self)
+        return show_listing(self)
 
 
 def find_operator(op: Op, kind: Optional[str] = None) -> Operator:
@@ -498,3 +497,43 @@ def list_operator(op: Operator) -> Any:
         return code_of(op)
     except (ValueError, IndexError, KeyError):
         return None
+
+
+# -- in notebooks
+
+def show_operator(op: Operator) -> str:
+    """An operator that no server was asked about: its source beside its instructions."""
+    shown = list_operator(op)
+    if shown is not None:
+        return show_listing(shown)
+    return '<div><b>%s operator</b> %s%s</div>' % (
+        html.text_of(op.kind), html.text_of(op.name or ''), html.code(op.origin()[1]))
+
+
+def show_listing(shown: Listing) -> str:
+    """An operator's source beside its instructions, with what is known of the registers before
+    each."""
+    heads, *rows = shown.columns()
+    known = '<div>%s%s</div>' % (html.table(heads, rows),
+                                 '<small>%s</small>' % html.text_of(KNOWN))
+    about = '%s<div style="color:#1f4e79">%s</div>' % (html.beside(html.code(shown.source), known),
+                                                       html.text_of(steps(shown.operator)))
+    return '<div><b>%s operator</b> %s <small>from %s</small>%s</div>' % (
+        html.text_of(shown.operator.kind), html.text_of(shown.operator.name or ''),
+        html.text_of(shown.language), about)
+
+
+def show_check(found: Check) -> str:
+    """An operator beside what the verifier knows before each instruction; the one that is refused
+    last."""
+    heads = ['slot', 'instruction'] + ['R%d' % number for number in range(11)]
+    rows = [row if len(row) == len(heads) else [*row[:2], 'no way leads here', *[''] * 10]
+            for row in found.rows]
+    said = ('at most %d steps a call' % found.instructions if found.refusal is None
+            else html.text_of(found.refusal))
+    colour = '#1f4e79' if found.accepted else '#b5651d'
+    return ('<div><b>%s operator</b> %s <span style="color:%s">%s</span>%s<div '
+            'style="color:%s">%s</div></div>' % (
+                html.text_of(found.operator.kind), html.text_of(found.operator.name or ''), colour,
+                'accepted' if found.accepted else 'refused',
+                html.table(heads, rows) if rows else '', colour, said))

@@ -61,8 +61,8 @@ class Operator:
         return '<%s operator %s>' % (self.kind, self.name or unnamed)
 
     def _repr_html_(self) -> str:
-        from ..display import html                 # which knows operators, and is seldom needed
-        return html.operator(self)
+        from .diagnostics import show_operator     # which knows operators, and is seldom needed
+        return show_operator(self)
 
     @property
     def body(self) -> bytes:

@@ -195,11 +195,6 @@ class Connection:
         server's session."""
         return self._channel.process.pid if isinstance(self._channel, Child) else None
 
-    @property
-    def awaits(self) -> bool:
-        """Whether a command was begun whose reply isn't there yet."""
-        return self._amid
-
     def usable(self) -> bool:
         """Whether a command can be sent, as far as can be seen without sending one: the session
         goes on, in this process, and the program that was started for it has not ended."""
