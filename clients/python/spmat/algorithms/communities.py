@@ -3,7 +3,7 @@ from __future__ import annotations
 
 from fractions import Fraction
 from typing import (Any, Dict, Hashable, Iterable, List, Mapping, NamedTuple, Sequence, Tuple,
-                    Union)
+                    Union, cast)
 
 import numpy
 
@@ -234,7 +234,7 @@ def number_communities(graph: Matrix, partition: Partition) -> Tuple[Array, int]
     a vertex has none, or several, or isn't one of the graph's; TypeError for what has none of the
     forms."""
     if hasattr(partition, 'to_coo') and hasattr(partition, 'nodes'):
-        rows, values = _read_column(graph, partition)
+        rows, values = _read_column(graph, cast(Matrix, partition))
         if numpy.array_equal(rows, numpy.arange(graph.nrows)):
             return number_labels(values)
         members: Iterable[Tuple[int, Any]] = zip(rows, values.tolist())
