@@ -29,7 +29,7 @@ if TYPE_CHECKING:
                          ResultLost, SpmatError, TextRefused, ThreadUnavailable, TooLarge,
                          UnitsDiffer)
     from .loops import Loop, empty, loop, steady
-    from .loops.traced_loop import fixpoint
+    from .loops.fixpoint import fixpoint
     from .mask import Mask
     from .matrix import Matrix
     from .operators import (Operator, Semiring, asm, binary, code, indexunary, select, semiring,
@@ -85,7 +85,7 @@ _PLACES: Dict[str, str] = {name: module for module, names in {
     'operators.integer_functions': 'cdiv cmod rsh udiv ult umod where',
     'operators.diagnostics': 'code_of explain',
     'prices': 'price',
-    'loops.traced_loop': 'fixpoint',
+    'loops.fixpoint': 'fixpoint',
     'algorithms.temporal_paths': 'events',
     'session': 'Session',
     'vector': 'Vector',

@@ -21,6 +21,20 @@ def made(*words):
                           stderr=subprocess.STDOUT, text=True, timeout=60)
 
 
+class First(unittest.TestCase):
+    def test_each_module_may_be_the_first_that_a_program_asks_for(self):
+        """Names are imported when they are asked for, so modules that name one another in a circle
+        fail for some orders alone."""
+        places = spmat._PLACES                         # pylint: disable=protected-access
+        first = {module: name for name, module in places.items()}
+        for module, name in first.items():
+            with self.subTest(module=module):
+                done = subprocess.run([sys.executable, '-c', 'import spmat; spmat.' + name],
+                                      env={**os.environ, 'PYTHONPATH': support.CLIENT},
+                                      stderr=subprocess.PIPE, text=True, check=False, timeout=100)
+                self.assertEqual((done.returncode, done.stderr), (0, ''))
+
+
 class Page(unittest.TestCase):
     @classmethod
     def setUpClass(cls):
