@@ -21,7 +21,8 @@ class Algorithms(unittest.TestCase):
 
     def each(self, many_graphs, *functions):
         for count in (2, 5):
-            with spmat.Session() as one, blocks.Sessions(count) as many:
+            # with steps that are counted: else the client keeps the edges of one small graph
+            with spmat.Session(steps=10**9) as one, blocks.Sessions(count) as many:
                 for graph in many_graphs:
                     for function in functions:
                         both = graph.matrix(one), graph.matrix(many)
