@@ -32,9 +32,9 @@ push_fault l p =
     else if nat_le limit (length l.entries) then Some TooManyEntries
     else None
 
--- why there is no matrix: some position has two entries, or memory was refused
+-- why there is no matrix: some position has two entries, or none has and memory was refused
 abbrev pub IsRefusalOf : List Entry → StoreError → Type 0
 IsRefusalOf es IndexOutOfRange = ⊥
 IsRefusalOf es PositionGivenTwice = NoneTwice es → ⊥
 IsRefusalOf es TooManyEntries = ⊥
-IsRefusalOf es Memory = Unit {0}
+IsRefusalOf es Memory = NoneTwice es

@@ -6,6 +6,7 @@ ghost use Rattle.csr_store.specs.Grid.{IsGrid, IsInside, limit, row_cells, row_o
 ghost use Rattle.csr_store.specs.ByRows.{by_rows};
 ghost use Rattle.csr_store.specs.inner.ByRows.{Closes, Starts, Within};
 
+use crate::growth::{self, RefusedGrowth};
 use crate::matrix::{Cell, Matrix};
 use crate::row::{cells_between, value_at};
 use crate::starts::RowStarts;
@@ -113,7 +114,7 @@ impl Filler {
 
     /// Adds an entry, where it lies behind all others; says whether it did.
     #[inline(always)]
-    pub fn add(&mut self, row: u64, column: u64, word: u64) -> Result<bool, AllocError>
+    pub fn add(&mut self, row: u64, column: u64, word: u64) -> Result<bool, RefusedGrowth>
         requires { IsInside self.old (row, column) × (map.len self.old.cells < limit) }
         ensures added { IfOk result (λ b. b ≡ true
             → self.new ≡ record self.old { cells = map.insert self.old.cells (row, column) word }) }
@@ -125,7 +126,7 @@ impl Filler {
             return Ok(false);
         }
         close(&mut self.ends, row, self.cells.len() as u64)?;
-        self.cells.push((column, word))?;
+        growth::push(&mut self.cells, (column, word))?;
         self.next = column + 1;
         Ok(true)
     }
@@ -167,29 +168,29 @@ fn comes_behind(open_row: u64, next: u64, row: u64, column: u64) -> bool
 
 /// Closes rows with no more entries, until `row` is the open one.
 #[inline(always)]
-pub(crate) fn close(ends: &mut Vec<u64>, row: u64, end: u64) -> Result<(), AllocError>
+pub(crate) fn close(ends: &mut Vec<u64>, row: u64, end: u64) -> Result<(), RefusedGrowth>
     requires { length ends.old.items ≤ row }
     ensures closes { Closes ends.old.items end ends.new.items }
     ensures upto { length ends.new.items ≤ row }
     ensures reached { OnOk result (length ends.new.items ≡ row) }
 {
     for _ in ends.len() as u64..row {
-        ends.push(end)?;
+        growth::push(ends, end)?;
     }
     Ok(())
 }
 
 /// Closes the rows that are left, and puts the start of the first row before the ends.
-pub(crate) fn start_rows(ends: &mut Vec<u64>, rows: u64, end: u64) -> Result<(), AllocError>
+pub(crate) fn start_rows(ends: &mut Vec<u64>, rows: u64, end: u64) -> Result<(), RefusedGrowth>
     requires left { length ends.old.items ≤ rows }
     requires small { rows ≤ limit }
     ensures started { OnOk result (Starts ends.old.items end rows ends.new.items) }
     ensures closed { OnErr result (Closes ends.old.items end ends.new.items × (length ends.new.items ≤ rows)) }
 {
     let len = ends.len();
-    ends.reserve_exact(rows as usize + 1 - len)?;
+    growth::reserve(ends, rows as usize + 1 - len)?;
     close(ends, rows, end)?;
-    ends.insert(0, 0).map_err(|_| AllocError)
+    growth::put_first(ends, 0)
 }
 
 /// The starts of all rows, or the ends back where there is no memory for them, with those of some

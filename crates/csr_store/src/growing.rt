@@ -90,15 +90,22 @@ impl<'m> Growing<'m> {
             ..
         } = self;
         match so_far {
-            SoFar::Listed(starts) => RowStarts::new(alloc, starts),
+            SoFar::Listed(starts) => shared_starts(alloc, starts),
             SoFar::Alike(count) => {
                 if count == like.starts().len() {
                     return like.share_starts();
                 }
-                RowStarts::new(alloc, first_starts(alloc, like, count, count)?)
+                shared_starts(alloc, first_starts(alloc, like, count, count)?)
             }
         }
     }
+}
+
+/// The starts that a list has.
+fn shared_starts(alloc: Global, list: Vec<u64>) -> Result<RowStarts, AllocError>
+    ensures { IfOk result (λ s. s ≡ list.items) }
+{
+    RowStarts::new(alloc, list).map_err(|_| AllocError)
 }
 
 /// The first starts of a matrix, in a list with capacity for more.

@@ -15,7 +15,8 @@
 //!
 //! Read `specs/Grid.antt` and `specs/Refusal.antt` first, then `error`, `builder`, `matrix`, `rows`
 //! and `stack`; below them `cells` (one list of cells, or many), `starts` (where rows start, in a
-//! list that matrices may share), `growing` (where rows start while runs are stacked), `ends`
+//! list that matrices may share), `growing` (where rows start while runs are stacked), `growth`
+//! (memory that is asked for, which tells of a refusal by a value of its own), `ends`
 //! (where the rows of a run end), `moving` (ends counted from another start), `filler` (rows filled
 //! in ascending order), `merging` (those entries and others by position, as one list), `repeat`
 //! (the positions that two or more entries of a list have), `parts` (where positions start in each
@@ -32,6 +33,7 @@ mod entry_list;
 pub mod error;
 mod filler;
 mod growing;
+mod growth;
 mod join;
 mod limits;
 pub mod matrix;
@@ -51,6 +53,7 @@ pub use builder::Builder;
 pub use column::Column;
 pub use entry_list::EntryList;
 pub use error::StoreError;
+pub use growth::RefusedGrowth;
 pub use join::join_rows;
 pub use limits::{MOST_ENTRIES, MOST_SIDE, RUN_ROWS};
 pub use matrix::{Matrix, Version};

@@ -95,7 +95,7 @@ pub fn push_entries(list: &mut EntryList, entries: &[Entry]) -> Result<(), Alloc
     requires few { length entries.now ≤ limit }
     ensures { OnOk result (list.new ≡ record list.old { entries = entries.now }) }
 {
-    list.reserve(entries.len())?;
+    list.reserve(entries.len()).map_err(|_| AllocError)?;
     for entry in entries {
         push_entry(list, *entry)?;
     }

@@ -2,6 +2,7 @@
 //! share.
 ghost use Rattle.std.specs.Prelude.{◌≡◌, IfOk, IfErr, IfSome, OnOk};
 
+use crate::growth::{self, RefusedGrowth};
 use std::alloc::{AllocError, Global};
 use std::marker::Model;
 use std::sync::Arc;
@@ -27,10 +28,10 @@ impl Model for RowStarts {
 
 impl RowStarts {
     /// The starts that a list has.
-    pub(crate) fn new(alloc: Global, list: Vec<u64>) -> Result<Self, AllocError>
+    pub(crate) fn new(alloc: Global, list: Vec<u64>) -> Result<Self, RefusedGrowth>
         ensures { IfOk result (λ s. s ≡ list.items) }
     {
-        let list = Arc::new(alloc, list)?;
+        let list = growth::shared(alloc, list)?;
         Ok(RowStarts { list })
     }
 

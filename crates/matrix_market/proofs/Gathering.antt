@@ -1,13 +1,12 @@
 -- Entry lines in a list, and what a text with them has.
 use Rattle.std.proofs.Common.{◌≡◌, ◌≤◌, ◌<◌, ◌+◌, ◌-◌, ◌^◌, ◌%◌, ℕ, zero, suc, List, [], ◌∷◌, ◌++◌, Bool, true, false, not, cond, ◌||◌, ◌*◌, Option, None, Some, Ok, Err, nat_lt, nat_eq, is_some, length, drop, refl, sym, ap, ◌∙◌, subst, arith, append_assoc, append-nil, length-append}
-use Rattle.std.specs.Prelude.{nat_le}
-use Rattle.std.proofs.lemmas.Bool.{le-ltb, lt-ltb}
+use Rattle.std.proofs.lemmas.Bool.{le-ltb}
 use Rattle.std.proofs.lemmas.Bool.Decides.{nat_tests}
 use Rattle.std.specs.Str.Lines.{lines}
 use Rattle.std.specs.FinMap as fin
 use Rattle.csr_store.specs.Grid.{Grid, Position, Entry, pos_cmp, limit}
 use Rattle.csr_store.specs.ByRows.{grid}
-use Rattle.csr_store.specs.Listed.{Listed, NoneTwice, push_fault}
+use Rattle.csr_store.specs.Listed.{Listed, NoneTwice}
 use Rattle.csr_store.proofs.Listing.{once_front, once_others, absent_others, map_with_entry}
 use Rattle.matrix_market.specs.declared.kinds.Banner.{Banner}
 use Rattle.matrix_market.specs.declared.kinds.Size.{Size}
@@ -236,12 +235,6 @@ adds_filled text h start l end last given begun few a once =
     (subst (λ (i : ℕ). Filled text h.banner h.size (grid h.size.rows i l.entries) end last given) (sym a.columns_same) there)
 
 -- ---- room for entries
-
-not_full : (n : ℕ) → n < 16777216 → nat_le 16777216 n ≡ false
-not_full n l = grind (arith, nat_tests)
-
-pub no_fault : (l : Listed) (p : Position) → p.0 < l.rows → p.1 < l.columns → length l.entries < limit → push_fault l p ≡ None
-no_fault l p r c n = rw (lt-ltb p.0 l.rows r, lt-ltb p.1 l.columns c, not_full (length l.entries) n) refl
 
 pub width_some : (symmetric : Bool) → 1 ≤ width symmetric * 1
 width_some true = omega arith

@@ -8,7 +8,8 @@ use Rattle.csr_store.specs.Listed.{Listed, NoneTwice}
 use Rattle.matrix_market.specs.declared.kinds.Header.{Header}
 use Rattle.matrix_market.specs.declared.cursor.Cursor.{Cursor}
 use Rattle.matrix_market.specs.declared.rule.MarketError.{MarketError}
-use Rattle.matrix_market.specs.declared.rule.MarketError.TheVariants.{Memory}
+use Rattle.matrix_market.specs.declared.rule.MarketError.TheVariants.{NoRoom, Memory}
+use Rattle.csr_store.specs.declared.growth.RefusedGrowth.{RefusedGrowth}
 use Rattle.matrix_market.specs.Market.{IsTextOf}
 use Rattle.matrix_market.specs.inner.Gathering.{Adds, IsAnswer, IsEnd, IsFaultAt, Tells, nothing}
 use Rattle.matrix_market.specs.inner.Refusal.{NamesFault}
@@ -27,9 +28,16 @@ tells_end h start cursor l given o a all f text begun once =
 
 -- ---- answers
 
-pub answers_memory : (h : Header) (start : Cursor) (e : MarketError) → e ≡ Memory → IsAnswer h start (Err e)
-answers_memory h start e m text begun =
-    subst (λ (x : MarketError). NamesFault text x) (sym m) (has_sizes text h.banner h.size (record { rows = h.size.rows; columns = h.size.columns; cells = fin.empty }) start.rest.now start.at 0 begun)
+pub answers_no_room : (h : Header) (start : Cursor) (refused : RefusedGrowth) → IsAnswer h start (Err (NoRoom refused))
+answers_no_room h start refused text begun =
+    has_sizes text h.banner h.size (record { rows = h.size.rows; columns = h.size.columns; cells = fin.empty }) start.rest.now start.at 0 begun
+
+pub answers_memory : (h : Header) (start : Cursor) (l : Listed) (o : Option MarketError) (refused : RefusedGrowth) → Tells h start l o → o ≡ None → NoneTwice l.entries
+    → IsAnswer h start (Err (Memory refused))
+answers_memory h start l o refused t n once text begun = (
+  grid l.rows l.columns l.entries,
+  subst (λ (x : Option MarketError). MatchOption x (IsTextOf text (grid l.rows l.columns l.entries)) (NamesFault text)) n (t text begun once),
+)
 
 pub answers_matrix : (h : Header) (start : Cursor) (l : Listed) (o : Option MarketError) (m : Grid) → Tells h start l o → o ≡ None → NoneTwice l.entries → m ≡ grid l.rows l.columns l.entries → IsAnswer h start (Ok m)
 answers_matrix h start l o m t n once e text begun =

@@ -8,7 +8,7 @@ use Rattle.matrix_market.specs.declared.kinds.Banner.{Banner}
 use Rattle.matrix_market.specs.declared.kinds.Size.{Size}
 use Rattle.std.specs.Prelude.{Result, Ok, Err, IfOk, IfErr}
 use Rattle.matrix_market.specs.declared.rule.MarketError.{MarketError}
-use Rattle.matrix_market.specs.declared.rule.MarketError.TheVariants.{Fault, Memory}
+use Rattle.matrix_market.specs.declared.rule.MarketError.TheVariants.{Fault, NoRoom, Memory}
 use Rattle.matrix_market.specs.Refusal.{IsOnlyMatrix, ExplainsRefusal}
 use Rattle.matrix_market.specs.inner.Refusal.{NamesFault}
 use Rattle.matrix_market.specs.Market.{IsFault, IsTextOf, tail, content, banner_of, size_of, words_at, entries_of, at_most, first_rule}
@@ -64,4 +64,5 @@ only_matrix text (Err e) t = tt
 pub refusal_explained : (text : List ℕ) (r : Result Grid MarketError) → IfErr r (λ e. NamesFault text e) → IfErr r (ExplainsRefusal text)
 refusal_explained text (Ok m) t = tt
 refusal_explained text (Err (Fault rule line)) t = (t, λ g h. never_both text g line rule h t)
-refusal_explained text (Err Memory) t = t
+refusal_explained text (Err (NoRoom refused)) t = t
+refusal_explained text (Err (Memory refused)) t = t

@@ -1,7 +1,6 @@
 //! Entries gathered in any order, up to the first line that breaks a rule; a position that is given
 //! again doesn't count as breaking one.
-ghost use Rattle.std.specs.Prelude.{◌≡◌, ◌<◌, ◌≤◌, ◌+◌, ◌++◌, ◌∷◌, [], None, length, drop, IfErr, IfOk, OnErr, OnOk};
-ghost use Rattle.csr_store.specs.Listed.{push_fault};
+ghost use Rattle.std.specs.Prelude.{◌≡◌, ◌<◌, ◌≤◌, ◌+◌, [], length, drop, IfErr, IfOk, OnErr, OnOk};
 ghost use Rattle.matrix_market.specs.inner.Gathering.{Adds, HasRoom, IsEnd, IsFaultAt, IsRead, Takes, Tells};
 
 use crate::cursor::Cursor;
@@ -9,8 +8,8 @@ use crate::kinds::{Found, Header, read_entry};
 use crate::lines::{Content, next_content};
 use crate::rule::{MarketError, MarketRule};
 use crate::usual::{behind_feeds, entry_line, feed_before};
-use csr_store::{EntryList, StoreError};
-use std::alloc::{AllocError, Global};
+use csr_store::{EntryList, RefusedGrowth};
+use std::alloc::Global;
 
 /// The entries of a text in their order, and its first fault, apart from positions that are given
 /// again.
@@ -28,7 +27,7 @@ struct Run {
 }
 
 /// Gathers as many entries as the size line declares.
-pub fn gather(alloc: Global, header: Header, start: Cursor<'_>) -> Result<Gathering, AllocError>
+pub fn gather(alloc: Global, header: Header, start: Cursor<'_>) -> Result<Gathering, RefusedGrowth>
     ensures read { IfOk result (λ g. IsRead header start.entry g.list) }
     ensures reported { IfOk result (λ g. Tells header start.entry g.list g.fault) }
 {
@@ -59,7 +58,7 @@ fn gather_lines(
     list: &mut EntryList,
     header: Header,
     start: Cursor<'_>,
-) -> Result<Option<MarketError>, AllocError>
+) -> Result<Option<MarketError>, RefusedGrowth>
     requires { list.old ≡ record { rows = header.size.rows; columns = header.size.columns; entries = [] } }
     ensures read { OnOk result (IsRead header start.entry list.new) }
     ensures reported { IfOk result (Tells header start.entry list.new) }
@@ -109,7 +108,7 @@ fn gather_run(
     rest: &[u8],
     behind: usize,
     most: u64,
-) -> Result<Run, AllocError>
+) -> Result<Run, RefusedGrowth>
     requires { HasRoom header list.old most }
     ensures added { IfOk result (λ r. Adds header list.old list.new rest.now 0 r.given (drop r.next rest.now) r.given) }
     ensures few { IfOk result (λ r. r.given ≤ most) }
@@ -150,7 +149,7 @@ fn gather_line<'a>(
     list: &mut EntryList,
     header: Header,
     cursor: Cursor<'a>,
-) -> Result<Result<Cursor<'a>, MarketError>, AllocError>
+) -> Result<Result<Cursor<'a>, MarketError>, RefusedGrowth>
     requires { HasRoom header list.old 1 }
     ensures added { IfOk result (λ r. IfOk r (λ p.
         Adds header list.old list.new cursor.entry.rest.now cursor.entry.at 1 p.rest.now p.at)) }
@@ -183,37 +182,18 @@ fn gather_line<'a>(
 
 /// Adds an entry and, in a symmetric matrix, its mirror.
 #[inline(always)]
-fn push_entry(list: &mut EntryList, header: Header, found: Found) -> Result<(), AllocError>
+fn push_entry(list: &mut EntryList, header: Header, found: Found) -> Result<(), RefusedGrowth>
     requires capacity { HasRoom header list.old 1 }
     requires row { found.row < header.size.rows }
     requires column { found.column < header.size.columns }
     ensures { OnOk result (Takes list.old header.banner.symmetric found list.new) }
 {
-    push_word(list, found.row, found.column, found.word)?;
+    list.add(found.row, found.column, found.word)?;
     // An entry on the diagonal is its own mirror.
     if header.banner.symmetric && found.row != found.column {
-        push_word(list, found.column, found.row, found.word)?;
+        list.add(found.column, found.row, found.word)?;
     }
     Ok(())
-}
-
-/// Appends a word at a position inside the sizes of a list that isn't full. Only memory can be
-/// refused.
-#[inline(always)]
-fn push_word(list: &mut EntryList, row: u64, column: u64, word: u64) -> Result<(), AllocError>
-    requires { push_fault list.old (row, column) ≡ None }
-    ensures { OnOk result (list.new ≡ record list.old { entries = list.old.entries ++ ((row, column), word) ∷ [] }) }
-{
-    match list.push(row, column, word) {
-        Ok(()) => Ok(()),
-        Err(StoreError::Memory) => Err(AllocError),
-        // Indices and counts were checked, and a list doesn't look for positions given twice.
-        Err(
-            StoreError::IndexOutOfRange
-            | StoreError::PositionGivenTwice
-            | StoreError::TooManyEntries,
-        ) => unreachable!(),
-    }
 }
 
 /// The fault of what follows the last entry, if it has one.

@@ -19,8 +19,8 @@ use text_words::first_line;
 /// The matrix that a text denotes.
 ///
 /// A text that breaks a rule is refused with the rule and the number of the first line that breaks
-/// one; on that line `LineTooLong` is checked first, and then the rules in their order. `Memory` is
-/// returned if an allocation was refused.
+/// one; on that line `LineTooLong` is checked first, and then the rules in their order. `NoRoom` and
+/// `Memory` each have a refused request for memory, `Memory` only of a text that breaks no rule.
 pub fn read(alloc: Global, text: &[u8]) -> Result<Matrix, MarketError>
     ensures text { IfOk result (λ m. IsTextOf text.now m) }
     ensures only { IfOk result (λ m. IsOnlyMatrix text.now m) }
@@ -92,7 +92,10 @@ fn read_header(text: &[u8]) -> Result<(Header, Cursor<'_>), MarketError>
 fn read_entries(alloc: Global, header: Header, start: Cursor<'_>) -> Result<Matrix, MarketError>
     ensures { IsAnswer header start.entry result }
 {
-    let Gathering { list, fault } = gather(alloc, header, start)?;
+    let Gathering { list, fault } = match gather(alloc, header, start) {
+        Ok(gathering) => gathering,
+        Err(refused) => return Err(MarketError::NoRoom(refused)),
+    };
     match fault {
         // The entries before the fault are in the list. If a position repeats among them, that line
         // comes first.
@@ -101,9 +104,10 @@ fn read_entries(alloc: Global, header: Header, start: Cursor<'_>) -> Result<Matr
             None => Err(fault),
         },
         // No other fault, so the list may take memory to become a matrix.
-        None => match list.settle()? {
-            Ok(matrix) => Ok(matrix),
-            Err(repeats) => Err(fault_of_repeat(header, start, repeats)),
+        None => match list.settle() {
+            Ok(Ok(matrix)) => Ok(matrix),
+            Ok(Err(repeats)) => Err(fault_of_repeat(header, start, repeats)),
+            Err(refused) => Err(MarketError::Memory(refused)),
         },
     }
 }

@@ -1,8 +1,7 @@
 //! The rules for the text of a matrix.
 ghost use Rattle.std.specs.Prelude.{◌≡◌};
-ghost use Rattle.matrix_market.specs.declared.rule.MarketError.TheVariants.{Memory};
 
-use std::alloc::AllocError;
+use csr_store::RefusedGrowth;
 use std::fmt;
 use thiserror::Error;
 
@@ -79,15 +78,10 @@ pub enum MarketError {
     /// The rule that the text breaks, and the number of the first line that breaks one, from 1.
     #[error("line {line}: {rule}")]
     Fault { rule: MarketRule, line: u64 },
-    /// There was no memory for the matrix.
+    /// There was no room for the entries, so lines may be left that weren't read.
     #[error("no memory for the matrix")]
-    Memory,
-}
-
-impl From<AllocError> for MarketError {
-    ghost from_gives = { λ _ e. e ≡ Memory };
-
-    fn from(_refused: AllocError) -> MarketError {
-        MarketError::Memory
-    }
+    NoRoom(RefusedGrowth),
+    /// There was no memory for the matrix of a text that breaks no rule.
+    #[error("no memory for the matrix")]
+    Memory(RefusedGrowth),
 }

@@ -1,4 +1,5 @@
 //! How errors of reading are shown. What is read and written is seen in sessions of the program.
+use csr_store::{EntryList, RefusedGrowth};
 use matrix_market::{MarketError, MarketRule, read};
 use std::alloc::Global;
 use std::process::Abort;
@@ -15,6 +16,15 @@ fn assert_shown(
     Ok(())
 }
 
+/// What a list tells that asks for more room than a block of memory can have.
+fn refused_growth(rt: &impl Abort, alloc: Global) -> RefusedGrowth {
+    let mut list = EntryList::new(alloc, 1, 1);
+    match list.reserve(usize::MAX) {
+        Ok(()) => panic!(rt; "room for {} entries", usize::MAX),
+        Err(refused) => refused,
+    }
+}
+
 #[test]
 fn errors_are_shown_with_their_line(rt: HostRuntime) -> Result<(), Fail> {
     match read(
@@ -24,12 +34,10 @@ fn errors_are_shown_with_their_line(rt: HostRuntime) -> Result<(), Fail> {
         Ok(_) => panic!(rt; "a size line of two numbers"),
         Err(error) => assert_shown(&rt, rt.alloc(), error, "line 2: M3")?,
     }
-    assert_shown(
-        &rt,
-        rt.alloc(),
-        MarketError::Memory,
-        "no memory for the matrix",
-    )?;
+    let refused = refused_growth(&rt, rt.alloc());
+    for error in &[MarketError::NoRoom(refused), MarketError::Memory(refused)] {
+        assert_shown(&rt, rt.alloc(), *error, "no memory for the matrix")?;
+    }
     let late = MarketError::Fault {
         rule: MarketRule::LineAfterLastEntry,
         line: 7,
@@ -43,11 +51,12 @@ fn errors_are_shown_with_their_line(rt: HostRuntime) -> Result<(), Fail> {
 const LATE_FAULT: &[u8] =
     b"%%MatrixMarket matrix coordinate integer general\n2 2 3\n1 1 5\n2 2 x\n1 2 7\n";
 
-/// What reading a text is refused for, asked for once more where memory was refused.
+/// What reading a text is refused for, asked for once more where the room of its entries was
+/// refused.
 fn refusal_of(alloc: Global, text: &[u8]) -> Option<MarketError> {
     match read(alloc, text) {
         Ok(_) => None,
-        Err(MarketError::Memory) => read(alloc, text).err(),
+        Err(MarketError::NoRoom(_)) => read(alloc, text).err(),
         Err(error) => Some(error),
     }
 }

@@ -35,7 +35,9 @@ pub fn matrix(alloc: Global, workspace: &mut Workspace, name: &[u8], body: &[u8]
             }
         }
         Err(MarketError::Fault { rule, line }) => refuse(reply, Refusal::Market { rule, line }),
-        Err(MarketError::Memory) => refuse(reply, Refusal::Memory),
+        Err(MarketError::NoRoom(_)) => refuse(reply, Refusal::Memory),
+        // The text breaks no rule.
+        Err(MarketError::Memory(_)) => refuse(reply, Refusal::Memory),
     }
 }
 

@@ -9,7 +9,7 @@ loop-init c =
 
 pub loop-preserved : goal.loop-preserved
 loop-preserved c = record {
-  closes = closes_more _ _ _ _ c.loop.invariant.closes c.in_ok-push.ensures.items;
-  reached = ap length c.in_ok-push.ensures.items ∙ (length-append c.loop.ends.items (c.args.end ∷ []) ∙ ap (λ n. n + 1) c.loop.invariant.reached);
+  closes = closes_more _ _ _ _ c.loop.invariant.closes c.in_ok-push.ensures.pushed;
+  reached = ap length c.in_ok-push.ensures.pushed ∙ (length-append c.loop.ends.items (c.args.end ∷ []) ∙ ap (λ n. n + 1) c.loop.invariant.reached);
   upto = omega arith;
 }

@@ -1,21 +1,37 @@
 use Rattle.std.proofs.Common.{length, ap, ◌∙◌, arith, length-append}
 use Rattle.csr_store.specs.Listed.{Listed}
-use Rattle.matrix_market.proofs.Gathering.{no_fault, width_two, width_some}
+use Rattle.matrix_market.proofs.Gathering.{width_two, width_some}
 use Rattle.matrix_market.proofs.gather.push_entry.Goals as goal
 
-pub push_word-requires : goal.push_word-requires
-push_word-requires c =
-    let r = c.requires.capacity in
-    let s = width_some c.args.header.banner.symmetric in
-    no_fault c.args.list.now (c.args.found.row, c.args.found.column) (let a = r.rows_same in omega arith) (let a = r.columns_same in omega arith) (let a = r.capacity in omega (arith, a, s))
+pub add-requires-clause-row : goal.add-requires-clause-row
+add-requires-clause-row c = let same = c.requires.capacity.rows_same in let row = c.requires.row in omega arith
 
-pub push_word-requires-then-found : goal.push_word-requires-then-found
-push_word-requires-then-found c =
-    let r = c.requires.capacity in
-    let e = c.in_ok-push_word.ensures in
-    let w = width_two c.args.header.banner.symmetric (cc) in
+pub add-requires-clause-column : goal.add-requires-clause-column
+add-requires-clause-column c = let same = c.requires.capacity.columns_same in let column = c.requires.column in omega arith
+
+pub add-requires-clause-few : goal.add-requires-clause-few
+add-requires-clause-few c =
+    let some = width_some c.args.header.banner.symmetric in
+    let capacity = c.requires.capacity.capacity in
+    omega (arith, capacity, some)
+
+pub add-requires-then-found-clause-row : goal.add-requires-then-found-clause-row
+add-requires-then-found-clause-row c =
+    let same = ap (λ (l : Listed). l.rows) c.in_ok-add.ensures.added ∙ c.requires.capacity.rows_same in
     let square = c.args.header.square (cc) in
-    let rows = ap (λ (l : Listed). l.rows) e in
-    let columns = ap (λ (l : Listed). l.columns) e in
-    let many = ap (λ (l : Listed). length l.entries) e ∙ length-append c.args.list.now.entries _ in
-    no_fault c.push_word.new.list (c.args.found.column, c.args.found.row) (let a = r.rows_same in omega arith) (let a = r.columns_same in omega arith) (let a = r.capacity in omega (arith, a, w, many))
+    let column = c.requires.column in
+    omega (arith, same, square, column)
+
+pub add-requires-then-found-clause-column : goal.add-requires-then-found-clause-column
+add-requires-then-found-clause-column c =
+    let same = ap (λ (l : Listed). l.columns) c.in_ok-add.ensures.added ∙ c.requires.capacity.columns_same in
+    let square = c.args.header.square (cc) in
+    let row = c.requires.row in
+    omega (arith, same, square, row)
+
+pub add-requires-then-found-clause-few : goal.add-requires-then-found-clause-few
+add-requires-then-found-clause-few c =
+    let two = width_two c.args.header.banner.symmetric (cc) in
+    let capacity = c.requires.capacity.capacity in
+    let many = ap (λ (l : Listed). length l.entries) c.in_ok-add.ensures.added ∙ length-append c.args.list.now.entries _ in
+    omega (arith, capacity, two, many)

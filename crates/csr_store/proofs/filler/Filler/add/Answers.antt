@@ -20,13 +20,13 @@ returns-in_err-close-clause-unchanged c =
 pub invariant_of-self-in_err-push : goal.invariant_of-self-in_err-push
 invariant_of-self-in_err-push c =
     let r = ap (λ (g : Grid). g.rows) c.self.view_is in let l = c.requires.0.0 in
-    rw c.in_err-push.ensures.items
+    rw c.in_err-push.ensures.unchanged
     (closed_filling c.self.inside.rows c.self.inside.columns c.self.inside.ends.items c.close.new.ends.items c.self.inside.cells.items c.self.inside.next c.len.result c.args.row c.self.invariant c.in_ok-close.ensures.closes
     (c.len.ensures ∙ c.self.inside.cells.ok.0) c.in_ok-close.ensures.upto (omega arith))
 
 pub returns-in_err-push-clause-unchanged : goal.returns-in_err-push-clause-unchanged
 returns-in_err-push-clause-unchanged c =
-    on_err c.from_residual-in_err-push.result (ap (λ (cs : List Cell). grid_of c.self.inside.rows c.self.inside.columns c.close.new.ends.items cs) c.in_err-push.ensures.items
+    on_err c.from_residual-in_err-push.result (ap (λ (cs : List Cell). grid_of c.self.inside.rows c.self.inside.columns c.close.new.ends.items cs) c.in_err-push.ensures.unchanged
     ∙ closed_same c.self.inside.rows c.self.inside.columns c.self.inside.ends.items c.close.new.ends.items c.self.inside.cells.items c.self.inside.next c.len.result c.args.self.now c.self.invariant c.in_ok-close.ensures.closes
     (c.len.ensures ∙ c.self.inside.cells.ok.0) c.self.view_is)
 
@@ -54,9 +54,9 @@ fits : (c : goal.After-self-1) → c.args.word < 2 ^ 64
 fits c = let f = c.ranges.word.fits in omega arith
 
 pub invariant_of-self-2 : goal.invariant_of-self-2
-invariant_of-self-2 c = joined_filling _ _ _ _ _ _ _ _ c.args.row c.args.column c.args.word c.push.new.self.items (joined c) (row_in c) (column_in c) (capacity c) (fits c) c.in_ok-push.ensures.items
+invariant_of-self-2 c = joined_filling _ _ _ _ _ _ _ _ c.args.row c.args.column c.args.word c.push.new.list.items (joined c) (row_in c) (column_in c) (capacity c) (fits c) c.in_ok-push.ensures.pushed
 
 pub returns-clause-added : goal.returns-clause-added
 returns-clause-added c =
-    λ t. joined_added _ _ _ _ _ _ _ _ c.args.row c.args.column c.args.word c.push.new.self.items (joined c) (row_in c) (column_in c) (capacity c) (fits c) c.in_ok-push.ensures.items
+    λ t. joined_added _ _ _ _ _ _ _ _ c.args.row c.args.column c.args.word c.push.new.list.items (joined c) (row_in c) (column_in c) (capacity c) (fits c) c.in_ok-push.ensures.pushed
     ∙ ap (λ (g : Grid). let h : Grid = record { rows = g.rows; columns = g.columns; cells = insert g.cells (c.args.row, c.args.column) c.args.word } in h) c.self.view_is
