@@ -3,7 +3,7 @@ ghost use Rattle.std.specs.Prelude.{◌≡◌};
 ghost use Rattle.wire.specs.Devices.{IsNewCount};
 ghost use Rattle.step_purse.specs.Passes.{IsPassOf};
 ghost use Rattle.session.specs.Sessions.{full_session};
-ghost use Rattle.session.specs.Talk.{Outcome};
+ghost use Rattle.session.specs.Talk.{MayAskWhenAnswered, Outcome};
 ghost use Rattle.metered_session.specs.Limits.{IsWithin, Meters};
 ghost use Rattle.listener.specs.inner.Speaking.{IsGivenBy, IsServedOver, beginning};
 
@@ -20,7 +20,7 @@ use std::sync::Wait;
 use std::sync::ledger::{Blank, Ledger};
 use std::thread::Threads;
 use step_purse::Pass;
-use wire::{FromRead, Sink, Source, ToWrite};
+use wire::{Asked, FromRead, Sink, ToWrite};
 
 /// How a session went that was served over the two sides of a connection: its end and its steps,
 /// and what a log has of these; and for contracts alone the stream, the pass that it was given, and
@@ -68,7 +68,7 @@ impl Attended {
 
 /// Serves a session of a server over these devices: by a pass of its purse, in the memory of each
 /// of its sessions, and within the limits of its terms.
-fn serve_sides<I: Source, O: Sink, H: Threads + Wait, L: Ledger>(
+fn serve_sides<I: Asked<O>, O: Sink, H: Threads + Wait, L: Ledger>(
     rt: &H,
     server: &ServerState<'_, L>,
     given: Given<'_>,
@@ -76,6 +76,7 @@ fn serve_sides<I: Source, O: Sink, H: Threads + Wait, L: Ledger>(
     sink: &mut O,
 ) -> Served
     requires given { IsGivenBy server.now.purse.now server.now.terms given }
+    requires asked { MayAskWhenAnswered I.may_ask server.now.terms.workers (I.state source.old) (O.state sink.old) }
     ensures said { Outcome Meters (full_session server.now.terms.workers)
         (record {
           budget = beginning given.entry.pass server.now.terms.limits;

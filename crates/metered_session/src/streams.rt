@@ -4,7 +4,7 @@ ghost use Rattle.step_budget.specs.Drawing.{Draws};
 ghost use Rattle.step_purse.specs.Histories.{own_calls};
 ghost use Rattle.step_purse.specs.Passes.{IsPassOf};
 ghost use Rattle.step_purse.specs.declared.dealings.Dealing.{Dealing};
-ghost use Rattle.session.specs.Talk.{Outcome};
+ghost use Rattle.session.specs.Talk.{MayAskWhenAnswered, Outcome};
 ghost use Rattle.metered_session.specs.Limits.{IsWithin, Meters, unbounded};
 ghost use Rattle.metered_session.specs.Metering.{told_steps, spent_by};
 
@@ -16,7 +16,7 @@ use std::sync::Wait;
 use std::thread::Threads;
 use step_budget::Wallet;
 use step_purse::{Pass, Purse};
-use wire::{Sink, Source};
+use wire::{Asked, Sink};
 
 /// What a session leaves.
 #[derive(Drop)]
@@ -49,7 +49,7 @@ pub struct Given<'w> {
 /// The outcome is an error where a device failed, or more reads were needed than this session
 /// may make. On each end and each fault every reservation that is still held is settled with
 /// 0.
-pub fn serve_within<I: Source, O: Sink, H: Threads + Wait>(
+pub fn serve_within<I: Asked<O>, O: Sink, H: Threads + Wait>(
     rt: &H,
     given: Given<'_>,
     source: &mut I,
@@ -58,6 +58,7 @@ pub fn serve_within<I: Source, O: Sink, H: Threads + Wait>(
 ) -> Served
     requires own { IsPassOf purse.now given.pass }
     requires within { IsWithin (record { pass = given.pass; spent = 0; limits = given.limits }) }
+    requires asked { MayAskWhenAnswered I.may_ask given.session.workers (I.state source.old) (O.state sink.old) }
     ensures said { Outcome Meters given.entry.session
         (record {
           budget = record { pass = given.entry.pass; spent = 0; limits = given.entry.limits };
@@ -101,7 +102,7 @@ pub fn serve_within<I: Source, O: Sink, H: Threads + Wait>(
 /// # Errors
 ///
 /// As those of `serve_pass`.
-pub fn serve_unlimited<I: Source, O: Sink, H: Threads + Wait>(
+pub fn serve_unlimited<I: Asked<O>, O: Sink, H: Threads + Wait>(
     rt: &H,
     given: Given<'_>,
     source: &mut I,
@@ -110,6 +111,7 @@ pub fn serve_unlimited<I: Source, O: Sink, H: Threads + Wait>(
 ) -> Served
     requires own { IsPassOf purse.now given.pass }
     requires unlimited { given.limits ≡ unbounded }
+    requires asked { MayAskWhenAnswered I.may_ask given.session.workers (I.state source.old) (O.state sink.old) }
     ensures said { Outcome Draws given.entry.session
         (record { budget = given.entry.pass; source = I.state source.old; sink = O.state sink.old })
         (record { budget = result.pass; source = I.state source.new; sink = O.state sink.new }) result.outcome }
@@ -128,7 +130,7 @@ pub fn serve_unlimited<I: Source, O: Sink, H: Threads + Wait>(
 /// The outcome is an error where a device failed, or more reads were needed than this session
 /// may make. On each end and each fault every reservation that is still held is settled with
 /// 0.
-pub fn serve_pass<I: Source, O: Sink, H: Threads + Wait>(
+pub fn serve_pass<I: Asked<O>, O: Sink, H: Threads + Wait>(
     rt: &H,
     session: Session,
     source: &mut I,
@@ -137,6 +139,7 @@ pub fn serve_pass<I: Source, O: Sink, H: Threads + Wait>(
     pass: Pass,
 ) -> Served
     requires own { IsPassOf purse.now pass }
+    requires asked { MayAskWhenAnswered I.may_ask session.workers (I.state source.old) (O.state sink.old) }
     ensures said { Outcome Draws session
         (record { budget = pass; source = I.state source.old; sink = O.state sink.old })
         (record { budget = result.pass; source = I.state source.new; sink = O.state sink.new }) result.outcome }

@@ -40,7 +40,7 @@ body_there ended head len bytes body rest e n =
     rw (long, front, back) refl
 
 -- less than a body is there
-cut_short : (ended : Bool) (head : Header) (len : ℕ) (bytes : List ℕ) → length bytes < len
+pub cut_short : (ended : Bool) (head : Header) (len : ℕ) (bytes : List ℕ) → length bytes < len
     → next_body ended head len bytes ≡ (if ended then refused InputEndsInBody else Waits)
 cut_short ended head len bytes short =
     let few : nat_lt (length bytes) len ≡ true = grind (arith, nat_tests) in

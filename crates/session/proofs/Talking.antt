@@ -1,12 +1,14 @@
 -- What was said so far, and whatever comes.
 use Rattle.std.proofs.Common.{◌≡◌, ◌+◌, ◌&&◌, ◌||◌, not, ℕ, Bool, true, false, List, [], ◌∷◌, ◌++◌, map, Option, None, Some, Result, Ok, Err, refl, sym, ap, ◌∙◌, subst, append_assoc, arith}
-use Rattle.std.specs.Io.KnownBytes.{Consumes, IsAtEnd}
+use Rattle.std.specs.Io.KnownBytes.{Consumes, Appends, IsAtEnd}
+use Rattle.wire.specs.Devices.{SourceState, SinkState}
 use Rattle.wire.specs.Prefixes.{IsPrefixOf}
 use Rattle.wire.specs.Sending.{Sent, IsWritten, failed_writes}
 use Rattle.wire.proofs.Sending.{sent_nothing, sent_then}
 use Rattle.wire.specs.Fetching.{Follows}
 use Rattle.wire.proofs.Known.{append_nil, consumes_nothing, consumes_more}
 use Rattle.wire.proofs.Fetching.{follows_more}
+use Rattle.session.proofs.Asking.{open_follows}
 use Rattle.step_purse.specs.declared.dealings.Dealing.{Dealing}
 use Rattle.step_budget.specs.Budget.{Deals, amounts_taken, amounts_settled}
 use Rattle.job_plan.specs.Price.{price_of}
@@ -14,9 +16,9 @@ use Rattle.workspace.specs.State.{State, empty}
 use Rattle.workspace.specs.Turn.{released}
 use Rattle.session.specs.NextCommand.{next}
 use Rattle.session.specs.Sessions.{SessionState}
-use Rattle.session.specs.Talk.{Talk, leave, wait, finish, stop, go, Outside, Said, SaidAll, Counts, Outcome}
+use Rattle.session.specs.Talk.{Talk, leave, wait, finish, stop, go, Outside, Said, SaidAll, Counts, Outcome, MayAskWhenAnswered}
 use Rattle.session.specs.Exchange.{IsLast, waiting, ending, stopping, going, leaving, Scene, Went, Final, FinalWhole, Exchanged}
-use Rattle.session.specs.inner.Exchange.{Spoken, SpokenWhole, Conversed}
+use Rattle.session.specs.inner.Exchange.{Spoken, SpokenWhole, Conversed, MayAwaitNext}
 use Rattle.session.specs.declared.end.End.{End}
 use Rattle.session.specs.declared.end.ServeFault.{ServeFault}
 use Rattle.session.specs.declared.end.ServeFault.TheVariants.{Read, Write, Turns, Memory}
@@ -124,6 +126,26 @@ module _ {S : Type 0} (leads : S → Dealing → S → Type 0) where
               (subst (λ fs. Talk cut (empty old.touched.state.workers) (so.read ++ (got ++ more)) e fs ((so.text ++ w.reply) ++ text) end last) (sym (append_assoc so.dealings w.dealings es))
               (subst (λ xs. Talk cut (empty old.touched.state.workers) (so.read ++ (got ++ more)) e (so.dealings ++ (w.dealings ++ es)) xs end last) (sym (append_assoc so.text w.reply text)) all));
         }
+
+    -- where nothing waits and no command is whole, all that was read is answered
+    pub so_far_asked : (may : SourceState → SinkState → Type 0) → old.touched.out.waits ≡ []
+        → MayAskWhenAnswered may old.touched.state.workers old.stream.source old.touched.out.sink → MayAwaitNext may next now
+    so_far_asked may fresh asked = λ p emptied source got going consumed failures waits.
+        let s = now.touched.state in
+        let h = now.stream.held in
+        let sent = sent_then true so.text [] old.touched.out now.touched.out p so.sent emptied.0 in
+        asked source p.sink (record {
+          read = so.read ++ got;
+          text = so.text ++ [];
+          dealings = so.dealings ++ [];
+          held = s;
+          consumed = consumes_more old.stream.source.remaining now.stream.source.remaining source.remaining so.read got so.consumed consumed;
+          appended = subst (λ xs. Appends old.touched.out.sink.contents p.sink.contents xs)
+              (all_written old.touched.out.waits (so.text ++ []) sent.written p.waits fresh emptied.1 sent.is_written) sent.appended;
+          failed_reads = failures ∙ so.no_failed_read;
+          failed_writes = let none = sent.failures in omega arith;
+          talk = so.goes_on false got false [] [] None s (open_follows h.ended got going) (wait false s (h.bytes ++ got) false waits);
+        })
 
     -- the last exchange was made
     spoken_last : (fresh : old.touched.out.waits ≡ []) (cut : Bool) (m : ℕ) (well : Bool) (end : Option End)

@@ -79,3 +79,21 @@ Outcome leads session old new (Err faults.Turns) =
 Outcome leads session old new (Err faults.Write) =
     ((end : Option End) × Said session.workers true leads old new end) × Counts session.reads 0 1 old new
 Outcome leads session old new (Err faults.Memory) = new ≡ old
+
+-- All that was read is answered: what was written is the reply text of the complete commands in what was read, and no call of a
+-- device has failed.
+pub record IsAnswered (workers : ℕ) (source : SourceState) (sink : SinkState) (now : SourceState) (out : SinkState) : Type 0 where
+  pub read : List ℕ
+  pub text : List ℕ
+  pub dealings : List Dealing
+  pub held : State
+  pub consumed : Consumes source.remaining now.remaining read
+  pub appended : Appends sink.contents out.contents text
+  pub failed_reads : now.failures ≡ source.failures
+  pub failed_writes : out.failures ≡ sink.failures
+  pub talk : Talk false (empty workers) read false dealings text None held
+
+-- A session of so many workers may ask its source for more bytes wherever all that it has read is answered.
+abbrev pub MayAskWhenAnswered : (may_ask : SourceState → SinkState → Type 0) (workers : ℕ) → SourceState → SinkState → Type 0
+MayAskWhenAnswered may_ask workers source sink =
+    (now : SourceState) (out : SinkState) → IsAnswered workers source sink now out → may_ask now out

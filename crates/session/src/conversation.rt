@@ -5,11 +5,11 @@ ghost use Rattle.job_plan.specs.Price.{total_price};
 ghost use Rattle.workspace.specs.State.{empty};
 ghost use Rattle.workspace.specs.Workspace.{state_of};
 ghost use Rattle.session.specs.Exchange.{Exchanged, behind};
-ghost use Rattle.session.specs.inner.Exchange.{Conversed};
+ghost use Rattle.session.specs.inner.Exchange.{Conversed, MayAwaitNext};
 ghost use Rattle.session.specs.inner.Standing.{scene_at};
 ghost use Rattle.session.specs.NextCommand.{next};
 ghost use Rattle.session.specs.Sessions.{full_session};
-ghost use Rattle.session.specs.Talk.{Outcome};
+ghost use Rattle.session.specs.Talk.{MayAskWhenAnswered, Outcome};
 
 use crate::answering::respond_and_say;
 use crate::desk::Desk;
@@ -21,11 +21,11 @@ use std::marker::Model;
 use std::sync::Wait;
 use std::thread::Threads;
 use step_budget::Steps;
-use wire::{Lined, Sink, Source};
+use wire::{Asked, Lined, Sink, Source};
 use workspace::release;
 
 /// Reads what a line asks for to its end, answers it, and says the reply.
-fn answer_line<R: Source, W: Sink, T: Steps, H: Threads + Wait>(
+fn answer_line<R: Asked<W>, W: Sink, T: Steps, H: Threads + Wait>(
     rt: &H,
     alloc: Global,
     desk: &mut Desk,
@@ -34,6 +34,8 @@ fn answer_line<R: Source, W: Sink, T: Steps, H: Threads + Wait>(
     steps: &mut T,
 ) -> Result<Option<End>, ServeFault>
     requires owed { total_price (state_of desk.old.bench.workspace).queue ≤ T.owes steps.old }
+    requires asked { MayAwaitNext R.may_ask (behind desk.old.line.items)
+        (scene_at desk.old (R.state reader.old) (W.state writer.old) steps.old) }
     ensures exchanged { Exchanged (behind desk.old.line.items) T.leads
         (scene_at desk.old (R.state reader.old) (W.state writer.old) steps.old)
         (scene_at desk.new (R.state reader.new) (W.state writer.new) steps.new) result }
@@ -50,7 +52,7 @@ fn answer_line<R: Source, W: Sink, T: Steps, H: Threads + Wait>(
 
 /// Reads one command, answers it, and says the reply. Tells how the session ends, if it does: then
 /// all that was said is written.
-fn exchange<R: Source, W: Sink, T: Steps, H: Threads + Wait>(
+fn exchange<R: Asked<W>, W: Sink, T: Steps, H: Threads + Wait>(
     rt: &H,
     alloc: Global,
     desk: &mut Desk,
@@ -59,6 +61,8 @@ fn exchange<R: Source, W: Sink, T: Steps, H: Threads + Wait>(
     steps: &mut T,
 ) -> Result<Option<End>, ServeFault>
     requires owed { total_price (state_of desk.old.bench.workspace).queue ≤ T.owes steps.old }
+    requires asked { MayAwaitNext R.may_ask next
+        (scene_at desk.old (R.state reader.old) (W.state writer.old) steps.old) }
     ensures exchanged { Exchanged next T.leads
         (scene_at desk.old (R.state reader.old) (W.state writer.old) steps.old)
         (scene_at desk.new (R.state reader.new) (W.state writer.new) steps.new) result }
@@ -82,7 +86,7 @@ fn exchange<R: Source, W: Sink, T: Steps, H: Threads + Wait>(
 }
 
 /// Makes exchanges until the session ends or breaks off.
-fn converse<R: Source, W: Sink, T: Steps, H: Threads + Wait>(
+fn converse<R: Asked<W>, W: Sink, T: Steps, H: Threads + Wait>(
     rt: &H,
     alloc: Global,
     desk: &mut Desk,
@@ -93,6 +97,8 @@ fn converse<R: Source, W: Sink, T: Steps, H: Threads + Wait>(
     requires input { (desk.old.input.bytes ≡ []) × (desk.old.input.ended ≡ false) }
     requires output { desk.old.bench.output ≡ [] }
     requires state { state_of desk.old.bench.workspace ≡ empty (state_of desk.old.bench.workspace).workers }
+    requires asked { MayAskWhenAnswered R.may_ask (state_of desk.old.bench.workspace).workers
+        (R.state reader.old) (W.state writer.old) }
     ensures conversed { Conversed T.leads
         (scene_at desk.old (R.state reader.old) (W.state writer.old) steps.old)
         (scene_at desk.new (R.state reader.new) (W.state writer.new) steps.new) result }
@@ -186,13 +192,14 @@ impl Session {
     /// Serves the session, as `serve` does, and tells how many commands were taken, each of which
     /// has a reply: command lines with their bodies, and a line that was too long. No contract
     /// speaks of that number.
-    pub fn serve_counting<R: Source, W: Sink, T: Steps, H: Threads + Wait>(
+    pub fn serve_counting<R: Asked<W>, W: Sink, T: Steps, H: Threads + Wait>(
         self,
         rt: &H,
         reader: &mut R,
         writer: &mut W,
         steps: &mut T,
     ) -> (Result<End, ServeFault>, u64)
+        requires { MayAskWhenAnswered R.may_ask self.workers (R.state reader.old) (W.state writer.old) }
         ensures said { Outcome T.leads self
             (record { budget = steps.old; source = R.state reader.old; sink = W.state writer.old })
             (record { budget = steps.new; source = R.state reader.new; sink = W.state writer.new }) result.0 }

@@ -1,18 +1,20 @@
 //! What a session receives: a command with its body, when it is all there. What was said before is
 //! written before more input is asked for, and before a command that may take long.
-ghost use Rattle.std.specs.Prelude.{◌≡◌, ◌<◌, ◌≤◌, [], true, Ok, OnOk, is_ok, vec_capacity};
+ghost use Rattle.std.specs.Prelude.{◌≡◌, ◌<◌, ◌≤◌, [], true, false, Ok, OnOk, is_ok, vec_capacity};
 ghost use Rattle.command_text.specs.Readings.{request_of};
 ghost use Rattle.wire.specs.Fetching.{reach};
+ghost use Rattle.wire.specs.Lines as lines;
 ghost use Rattle.wire.specs.Sending.{Sent};
 ghost use Rattle.workspace.specs.Workspace.{state_of};
-ghost use Rattle.session.specs.inner.Exchange.{Awaited, IsReceivedOf, IsLineOf, LacksBody, LacksLine};
+ghost use Rattle.session.specs.NextCommand.{Waits, next_request};
+ghost use Rattle.session.specs.inner.Exchange.{Awaited, MayAwait, IsReceivedOf, IsLineOf, LacksBody, LacksLine};
 
 use crate::desk::Bench;
 use crate::end::ServeFault;
 use command_text::{Command, FatalRule, Header, Request};
 use std::alloc::Global;
 use wire::{
-    Body, Input, Lined, Output, ReadFault, Sink, Source, WriteFailed, line_held, next_line,
+    Asked, Body, Input, Lined, Output, ReadFault, Sink, WriteFailed, line_held, next_line,
     read_body,
 };
 use workspace::takes_long;
@@ -57,7 +59,7 @@ fn fault_of(fault: ReadFault) -> ServeFault
 ///
 /// What waited could not be written; or a read failed, or no more reads are allowed, before the
 /// line was there.
-pub fn receive_line<R: Source, W: Sink>(
+pub fn receive_line<R: Asked<W>, W: Sink>(
     input: &mut Input,
     line: &mut Vec<u8>,
     output: &mut Output,
@@ -65,6 +67,9 @@ pub fn receive_line<R: Source, W: Sink>(
     writer: &mut W,
 ) -> Result<Lined, ServeFault>
     requires capacity { 1026 ≤ vec_capacity line.old }
+    requires asked { MayAwait R.may_ask
+        (record { source = R.state reader.old; held = input.old })
+        (record { sink = W.state writer.old; waits = output.old }) (λ bytes. lines.first false bytes ≡ lines.Partial) }
     ensures received { Awaited result (IsLineOf line.new.items input.new) (LacksLine input.new)
         (record { source = R.state reader.old; held = input.old })
         (record { source = R.state reader.new; held = input.new })
@@ -79,7 +84,7 @@ pub fn receive_line<R: Source, W: Sink>(
     let Ok(()) = output.flush(writer) else {
         return Err(ServeFault::Write);
     };
-    match next_line(input, reader, line) {
+    match next_line(input, reader, writer, line) {
         Ok(lined) => Ok(lined),
         Err(fault) => Err(fault_of(fault)),
     }
@@ -101,7 +106,7 @@ fn flush_where<W: Sink>(due: bool, output: &mut Output, writer: &mut W) -> Resul
 ///
 /// What waited could not be written; or a read failed, or no more reads are allowed, before the
 /// body was there.
-pub fn receive<'a, R: Source, W: Sink>(
+pub fn receive<'a, R: Asked<W>, W: Sink>(
     alloc: Global,
     request: Request<'a>,
     input: &mut Input,
@@ -109,6 +114,10 @@ pub fn receive<'a, R: Source, W: Sink>(
     reader: &mut R,
     writer: &mut W,
 ) -> Result<Received<'a>, ServeFault>
+    requires { MayAwait R.may_ask
+        (record { source = R.state reader.old; held = input.old })
+        (record { sink = W.state writer.old; waits = bench.old.output })
+        (λ bytes. next_request false (request_of request) bytes ≡ Waits) }
     ensures received { Awaited result (IsReceivedOf (request_of request.entry) input.new)
         (LacksBody (request_of request.entry) input.new)
         (record { source = R.state reader.old; held = input.old })
@@ -133,7 +142,7 @@ pub fn receive<'a, R: Source, W: Sink>(
             let Ok(()) = flush_where(missing, &mut bench.output, writer) else {
                 return Err(ServeFault::Write);
             };
-            match read_body(alloc, input, reader, length) {
+            match read_body(alloc, input, reader, writer, length) {
                 Ok(Body::Whole(body)) => Ok(Received::Whole { header, body }),
                 Ok(Body::Dropped) => Ok(Received::Dropped { header }),
                 Ok(Body::Cut) => Ok(Received::Stopped(FatalRule::InputEndsInBody)),

@@ -1,5 +1,5 @@
 -- How the contracts of a session on two devices follow from one another.
-use Rattle.std.proofs.Common.{ℕ, ◌≡◌, ◌≢◌, List, [], ◌++◌, ◌∙◌, refl, sym, ap, subst, Option, Result, Ok, Err}
+use Rattle.std.proofs.Common.{ℕ, ◌≡◌, ◌≢◌, List, [], ◌++◌, ◌∙◌, refl, sym, ap, subst, Option, Result, Ok, Err, IfOk}
 use Rattle.wire.specs.Devices.{SourceState, SinkState}
 use Rattle.step_budget.specs.Drawing.{Draws}
 use Rattle.step_purse.specs.Histories.{newcomer, own_calls}
@@ -27,7 +27,7 @@ use Rattle.spmat.specs.declared.serving.Server.{Server}
 use Rattle.spmat.specs.declared.serving.Sessions.{Sessions}
 use Rattle.spmat.specs.inner.Address.{IsLocal}
 use Rattle.spmat.specs.inner.Serving.{AreSessionsOf, HasTerms, IsServedAs, IsServerOf}
-use Rattle.spmat.specs.inner.Running.{Devices, Spoke, Ran, IsRunOf, IsServed, IsVersionTold, IsRefused, IsAnswer, IsOfSession, MayEnd, explained}
+use Rattle.spmat.specs.inner.Running.{Devices, Spoke, Ran, IsRunOf, IsServed, IsVersionTold, IsRefused, IsAnswer, IsOfSession, MayAskFor, MayEnd, explained}
 
 module _ (steps workers : ℕ) (session : SessionState) (first last : PassState) (src src' : SourceState) (snk snk' : SinkState) (spent : ℕ)
     (is_full : session ≡ full_session workers) (allowance : first.allowance ≡ steps) (unused : first.known ≡ newcomer [] whole)
@@ -58,6 +58,12 @@ module _ (steps workers : ℕ) (session : SessionState) (first last : PassState)
   ran_from (Err Write) begun said = spoke (Err Write) said
   ran_from (Err Turns) begun said = spoke (Err Turns) said
   ran_from (Err Memory) begun said = absurd (begun refl)
+
+-- a source that may always be asked is no bound on what the command line asks for
+pub asked_always : (asked : Result Settings SettingsFault) (old : Devices) → IfOk asked (λ settings. MayAskFor (λ source sink. Unit {0}) settings old)
+asked_always (Ok (Run steps workers idle log log_format log_every)) old = λ now out answered. tt
+asked_always (Ok (Serve port steps workers sessions idle session_seconds min_rate session_steps session_reserve log log_format log_every)) old = tt
+asked_always (Err fault) old = tt
 
 -- the devices may be left out of what became of an answer
 of_session : (steps workers : ℕ) (old new : Devices) (outcome : Result Ended Failure) → IsRunOf steps workers old new outcome → IsOfSession outcome

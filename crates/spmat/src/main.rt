@@ -17,7 +17,7 @@ ghost use Rattle.std.specs.Process.{exit_status};
 ghost use Rattle.wire.specs.Devices.{IsNewCount};
 ghost use Rattle.command_line.specs.Endings.{code_of, status_of};
 ghost use Rattle.command_line.specs.InRange.{HasRoom, IsInRange};
-ghost use Rattle.spmat.specs.inner.Running.{IsAccounted, IsAnswer, IsDoneAs, IsVersionTold, MayEnd, idle_in, told_as};
+ghost use Rattle.spmat.specs.inner.Running.{IsAccounted, IsAnswer, IsDoneAs, IsVersionTold, MayAskFor, MayEnd, idle_in, told_as};
 
 mod ended;
 mod logged;
@@ -41,7 +41,7 @@ use std::sync::ledger::{Blank, Ledger};
 use std::thread::Threads;
 use std::time::Clock;
 use std::{env, io};
-use wire::{FromRead, Sink, Source, ToWrite};
+use wire::{Asked, FromRead, Sink, ToWrite};
 
 const NOT_TEXT: &str = "error: the command line is not text\n";
 
@@ -71,7 +71,7 @@ fn tell_version<H: Print>(rt: &H) -> Result<Ended, Failure>
 /// Does what settings ask for: one session on these devices; or a server's, which is reported on the
 /// sink.
 #[tactic(auto, using(crate::proofs::Running::served_of))]
-fn perform<I: Source, O: Sink, H>(
+fn perform<I: Asked<O>, O: Sink, H>(
     rt: &H,
     settings: Settings,
     source: &mut I,
@@ -87,7 +87,8 @@ where
         + Wait
         + Sync
         + AllocGlobal,
-    requires { IsInRange settings }
+    requires range { IsInRange settings }
+    requires asked { MayAskFor I.may_ask settings (record { source = I.state source.old; sink = O.state sink.old }) }
     ensures { IsDoneAs settings (record { source = I.state source.old; sink = O.state sink.old })
         (record { source = I.state source.new; sink = O.state sink.new }) result }
 {
@@ -109,7 +110,7 @@ where
 
 /// Does what the words of the command line ask for. The devices are for a session, if they ask for
 /// one, and the sink for the line that reports a server.
-fn answer<I: Source, O: Sink, H>(
+fn answer<I: Asked<O>, O: Sink, H>(
     rt: &H,
     asked: Result<Settings, SettingsFault>,
     source: &mut I,
@@ -125,7 +126,8 @@ where
         + Wait
         + Sync
         + AllocGlobal,
-    requires { IfOk asked (λ s. IsInRange s) }
+    requires range { IfOk asked (λ s. IsInRange s) }
+    requires asked { IfOk asked (λ s. MayAskFor I.may_ask s (record { source = I.state source.old; sink = O.state sink.old })) }
     ensures { IsAnswer asked (record { source = I.state source.old; sink = O.state sink.old })
         (record { source = I.state source.new; sink = O.state sink.new }) result }
 {

@@ -5,6 +5,7 @@ ghost use Rattle.step_purse.specs.Passes.{IsPassOf};
 ghost use Rattle.step_purse.specs.Histories.{newcomer};
 ghost use Rattle.step_purse.specs.Shares.{whole};
 ghost use Rattle.session.specs.Sessions.{full_session};
+ghost use Rattle.session.specs.Talk.{MayAskWhenAnswered};
 ghost use Rattle.spmat.specs.inner.Running.{Ran};
 
 use metered_session::{Given, Limits, serve_unlimited};
@@ -14,7 +15,7 @@ use std::alloc::{AllocError, Global};
 use std::sync::Wait;
 use std::thread::Threads;
 use step_purse::{Pass, Purse};
-use wire::{Sink, Source};
+use wire::{Asked, Sink};
 
 /// What a session works with: a purse, its one pass, and its memory.
 #[derive(Drop)]
@@ -102,7 +103,7 @@ fn prepare(alloc: Global, steps: u64, workers: u64) -> Result<Prepared, AllocErr
 ///
 /// The outcome is an error where there was no memory for the purse or the session, and then nothing
 /// was read or written; where a device failed; or where more than 4,294,967,296 reads were needed.
-pub fn run<I: Source, O: Sink, H: Threads + Wait + AllocGlobal>(
+pub fn run<I: Asked<O>, O: Sink, H: Threads + Wait + AllocGlobal>(
     rt: &H,
     source: &mut I,
     sink: &mut O,
@@ -110,7 +111,8 @@ pub fn run<I: Source, O: Sink, H: Threads + Wait + AllocGlobal>(
     workers: u64,
     watch: Option<Watch<'_>>,
 ) -> Spoken
-    requires { HasRoom steps workers }
+    requires capacity { HasRoom steps workers }
+    requires asked { MayAskWhenAnswered I.may_ask workers (I.state source.old) (O.state sink.old) }
     ensures { Ran steps workers (record { source = I.state source.old; sink = O.state sink.old })
         (record { source = I.state source.new; sink = O.state sink.new }) result.spent result.outcome }
 {

@@ -4,3 +4,4 @@ pub mod Gathering
 pub mod Carriage
 pub mod Sending
 pub mod Stays
+pub mod Asking

@@ -1,9 +1,9 @@
 -- How what is sent adds up.
-use Rattle.std.proofs.Common.{◌≡◌, ◌+◌, ℕ, Bool, true, false, List, [], ◌++◌, refl, sym, ap, ◌∙◌, subst, append_assoc, arith}
+use Rattle.std.proofs.Common.{◌≡◌, ◌+◌, ℕ, Bool, true, false, List, [], ◌++◌, sym, ap, ◌∙◌, append_assoc, arith}
 use Rattle.std.specs.Io.KnownBytes.{Appends}
 use Rattle.wire.specs.Devices.{SinkState}
 use Rattle.wire.specs.Prefixes.{IsPrefixOf}
-use Rattle.wire.specs.Sending.{Outgoing, Sent, IsWritten, failed_writes}
+use Rattle.wire.specs.Sending.{Outgoing, Sent, IsWritten}
 use Rattle.wire.proofs.Known.{append_nil, appends_nothing, appends_more}
 
 -- one text was said, and then another

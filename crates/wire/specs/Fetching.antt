@@ -3,6 +3,7 @@
 use Rattle.std.specs.Prelude.{ℕ, ◌≡◌, ◌<◌, ◌≤◌, ◌+◌, ◌*◌, ◌&&◌, ◌||◌, not, Bool, true, false}
 use Rattle.std.specs.Prelude.{List, [], ◌++◌, length, take, drop, Result, Ok, Err, OnOk, IfOk}
 use Rattle.std.specs.Io.KnownBytes.{Consumes, IsAtEnd}
+use Rattle.wire.specs.Devices.{SourceState, SinkState}
 use Rattle.wire.specs.InputState.{InputState, Stream}
 use Rattle.wire.specs.Lines as lines
 use Rattle.wire.specs.declared.fault.ReadFault.{ReadFault}
@@ -11,6 +12,17 @@ use Rattle.wire.specs.declared.fetch.Lined.{Lined}
 use Rattle.wire.specs.declared.fetch.Lined.TheVariants.{Whole, Over, Nothing}
 use Rattle.wire.specs.declared.fetch.Body.{Body}
 use Rattle.wire.specs.declared.fetch.Body.TheVariants as bodies
+
+-- A source may be asked beside this sink wherever it has given some more bytes by reads that went well, the end was not held
+-- before, and P holds of all bytes that are then held.
+abbrev pub MayAsk : (may_ask : SourceState → SinkState → Type 0) → Stream → SinkState → (P : List ℕ → Type 0) → Type 0
+MayAsk may_ask old sink P =
+    (source : SourceState) (got : List ℕ) → old.held.ended ≡ false → Consumes old.source.remaining source.remaining got
+    → source.failures ≡ old.source.failures → P (old.held.bytes ++ got) → may_ask source sink
+
+-- so many bytes are not there yet
+abbrev pub LacksBytes : ℕ → List ℕ → Type 0
+LacksBytes len bytes = length bytes < len
 
 -- what may still come where the stream is known to have ended, or not
 abbrev pub Follows : Bool → List ℕ → Bool → Type 0

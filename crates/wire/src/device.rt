@@ -21,6 +21,35 @@ pub trait Source {
         ensures counted { IsRead (length buf.new) result (state self.old) (state self.new) };
 }
 
+/// A source that is asked for bytes beside the sink that the replies to them go to. Whoever asks has
+/// to show that this is a moment at which it may be asked. Code over any such source knows no more of
+/// these moments than its contract requires. So it asks at no others.
+pub trait Asked<W: Sink> {
+    // The bytes that are left, and the counts.
+    ghost state: { Self → SourceState };
+    // The moments at which it may be asked.
+    ghost may_ask: { SourceState → SinkState → Type 0 };
+
+    /// Reads into `buf` as `Source::read` does.
+    fn ask(&mut self, buf: &mut [u8], sink: &W) -> io::Result<usize>
+        requires { may_ask (state self.old) (W.state sink.now) }
+        ensures bound { ReadsAtMost result buf.new }
+        ensures bytes { ReadConsumes (state self.old).remaining (state self.new).remaining result buf.new }
+        ensures counted { IsRead (length buf.new) result (state self.old) (state self.new) };
+}
+
+/// Any source may be asked at any moment.
+impl<R: Source, W: Sink> Asked<W> for R {
+    ghost state = { λ r. R.state r };
+
+    ghost may_ask = { λ source sink. Unit {0} };
+
+    fn ask(&mut self, buf: &mut [u8], sink: &W) -> io::Result<usize> {
+        let _ = sink;
+        self.read(buf)
+    }
+}
+
 /// Where bytes go to: a writer whose writes and failed writes are counted, for contracts alone. A
 /// write that takes none of some bytes has failed too.
 pub trait Sink {

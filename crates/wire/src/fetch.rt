@@ -1,10 +1,11 @@
 //! Reading until a line or a body is complete.
-ghost use Rattle.std.specs.Prelude.{ℕ, ◌≡◌, ◌<◌, ◌≤◌, ◌++◌, OnOk, [], take, vec_capacity, vec_len, IfOk, IfNone, IfSome, Ok, Some};
+ghost use Rattle.std.specs.Prelude.{ℕ, ◌≡◌, false, ◌<◌, ◌≤◌, ◌++◌, OnOk, [], take, vec_capacity, vec_len, IfOk, IfNone, IfSome, Ok, Some};
 ghost use Rattle.wire.specs.Devices.{SourceState};
-ghost use Rattle.wire.specs.Fetching.{Fetched, IsLined, IsBody, failed_reads, reach};
+ghost use Rattle.wire.specs.Fetching.{MayAsk, LacksBytes, Fetched, IsLined, IsBody, failed_reads, reach};
+ghost use Rattle.wire.specs.Lines as lines;
 ghost use Rattle.wire.specs.inner.Keeping.{IsKept, IsSkipped};
 
-use crate::device::Source;
+use crate::device::{Asked, Sink};
 use crate::fault::ReadFault;
 use crate::input::Input;
 use crate::lines::{Found, find_first};
@@ -61,12 +62,15 @@ pub fn line_held(input: &mut Input, line: &mut Vec<u8>) -> Option<Lined>
 ///
 /// A read failed, or no more reads are allowed, before a line was complete. The bytes that arrived
 /// stay in the input.
-pub fn next_line<R: Source>(
+pub fn next_line<R: Asked<W>, W: Sink>(
     input: &mut Input,
     reader: &mut R,
+    sink: &W,
     line: &mut Vec<u8>,
 ) -> Result<Lined, ReadFault>
     requires capacity { 1026 ≤ vec_capacity line.old }
+    requires asked { MayAsk R.may_ask (record { source = R.state reader.old; held = input.old }) (W.state sink.now)
+        (λ bytes. lines.first false bytes ≡ lines.Partial) }
     ensures fetched { Fetched (failed_reads result)
         (record { source = R.state reader.old; held = input.old })
         (record { source = R.state reader.new; held = input.new })
@@ -78,7 +82,7 @@ pub fn next_line<R: Source>(
     'reading: loop {
         match find_first(input.bytes(), input.has_ended()) {
             // Only as much as one read gives: the line may end in it.
-            Found::Partial => match input.fill(reader) {
+            Found::Partial => match input.fill(reader, sink) {
                 Ok(()) => {}
                 Err(fault) => return Err(fault),
             },
@@ -156,12 +160,15 @@ enum Received {
 ///
 /// A read failed, or no more reads are allowed, before the body was complete. What arrived of it is
 /// dropped.
-fn keep<R: Source>(
+fn keep<R: Asked<W>, W: Sink>(
     input: &mut Input,
     reader: &mut R,
+    sink: &W,
     first: Vec<u8>,
     length: usize,
 ) -> Result<Received, ReadFault>
+    requires asked { MayAsk R.may_ask (record { source = R.state reader.old; held = input.old }) (W.state sink.now)
+        (λ bytes. LacksBytes length (first.items ++ bytes)) }
     requires within { vec_len first ≤ length }
     requires next { vec_len first < length → input.old.bytes ≡ [] }
     ensures fetched { Fetched (failed_reads result)
@@ -185,7 +192,7 @@ fn keep<R: Source>(
             Err(_) => return Ok(Received::Full(came)),
         }
         // Straight into the body's memory, without a copy in the buffer.
-        match input.fill_behind(reader, &mut body, came) {
+        match input.fill_behind(reader, sink, &mut body, came) {
             Ok(n) => came += n,
             Err(fault) => return Err(fault),
         }
@@ -197,7 +204,14 @@ fn keep<R: Source>(
 /// # Errors
 ///
 /// A read failed, or no more reads are allowed, before they arrived.
-fn skip<R: Source>(input: &mut Input, reader: &mut R, count: u64) -> Result<Body, ReadFault>
+fn skip<R: Asked<W>, W: Sink>(
+    input: &mut Input,
+    reader: &mut R,
+    sink: &W,
+    count: u64,
+) -> Result<Body, ReadFault>
+    requires { MayAsk R.may_ask (record { source = R.state reader.old; held = input.old }) (W.state sink.now)
+        (LacksBytes count) }
     ensures fetched { Fetched (failed_reads result)
         (record { source = R.state reader.old; held = input.old })
         (record { source = R.state reader.new; held = input.new }) (IsSkipped count result input.new) }
@@ -217,7 +231,7 @@ fn skip<R: Source>(input: &mut Input, reader: &mut R, count: u64) -> Result<Body
         if input.has_ended() {
             return Ok(Body::Cut);
         }
-        match input.fill(reader) {
+        match input.fill(reader, sink) {
             Ok(()) => {}
             Err(fault) => return Err(fault),
         }
@@ -231,12 +245,15 @@ fn skip<R: Source>(input: &mut Input, reader: &mut R, count: u64) -> Result<Body
 ///
 /// A read failed, or no more reads are allowed, before the body was complete. What arrived of it is
 /// dropped.
-fn read_rest<R: Source>(
+fn read_rest<R: Asked<W>, W: Sink>(
     input: &mut Input,
     reader: &mut R,
+    sink: &W,
     first: Vec<u8>,
     length: u64,
 ) -> Result<Body, ReadFault>
+    requires asked { MayAsk R.may_ask (record { source = R.state reader.old; held = input.old }) (W.state sink.now)
+        (λ bytes. LacksBytes length (first.items ++ bytes)) }
     requires within { vec_len first ≤ length }
     requires next { vec_len first < length → input.old.bytes ≡ [] }
     ensures fetched { Fetched (failed_reads result)
@@ -245,11 +262,11 @@ fn read_rest<R: Source>(
         (λ bytes. IsBody length result input.new (first.items ++ bytes)) }
     ensures bounded { reach input.new ≤ reach input.old }
 {
-    match keep(input, reader, first, length as usize) {
+    match keep(input, reader, sink, first, length as usize) {
         Ok(Received::Whole(body)) => Ok(Body::Whole(body)),
         Ok(Received::Cut) => Ok(Body::Cut),
         // Only what didn't arrive yet has to be skipped.
-        Ok(Received::Full(came)) => skip(input, reader, length - came as u64),
+        Ok(Received::Full(came)) => skip(input, reader, sink, length - came as u64),
         Err(fault) => Err(fault),
     }
 }
@@ -261,12 +278,15 @@ fn read_rest<R: Source>(
 ///
 /// A read failed, or no more reads are allowed, before the body was complete. What arrived of it is
 /// dropped.
-pub fn read_body<R: Source>(
+pub fn read_body<R: Asked<W>, W: Sink>(
     alloc: Global,
     input: &mut Input,
     reader: &mut R,
+    sink: &W,
     length: u64,
 ) -> Result<Body, ReadFault>
+    requires { MayAsk R.may_ask (record { source = R.state reader.old; held = input.old }) (W.state sink.now)
+        (LacksBytes length) }
     ensures fetched { Fetched (failed_reads result)
         (record { source = R.state reader.old; held = input.old })
         (record { source = R.state reader.new; held = input.new }) (IsBody length result input.new) }
@@ -277,7 +297,7 @@ pub fn read_body<R: Source>(
     // Taken even if memory was refused: the body is skipped then.
     input.take(part);
     match begun {
-        Ok(first) => read_rest(input, reader, first, length),
-        Err(_) => skip(input, reader, length - part as u64),
+        Ok(first) => read_rest(input, reader, sink, first, length),
+        Err(_) => skip(input, reader, sink, length - part as u64),
     }
 }

@@ -7,7 +7,7 @@ ghost use Rattle.wire.specs.Fetching.{Fetched, IsFilled, IsReadBehind, IsPut, Is
 ghost use Rattle.wire.specs.Lines.{MayBeLine};
 ghost use Rattle.wire.specs.inner.InputState.{IsGot, IsCounted};
 
-use crate::device::Source;
+use crate::device::{Asked, Sink};
 use crate::fault::ReadFault;
 use std::alloc::{AllocError, Global};
 use std::io;
@@ -44,13 +44,19 @@ impl Model for Input {
 
 /// Reads into the part of a buffer from an index on. In the counts, a read into one byte is as good
 /// as any.
-fn read_behind<S: Source>(source: &mut S, buffer: &mut [u8], at: usize) -> io::Result<usize>
-    requires { at < length buffer.old }
+fn read_behind<S: Asked<W>, W: Sink>(
+    source: &mut S,
+    sink: &W,
+    buffer: &mut [u8],
+    at: usize,
+) -> io::Result<usize>
+    requires within { at < length buffer.old }
+    requires asked { S.may_ask (S.state source.old) (W.state sink.now) }
     ensures put { IsPut at result buffer.old buffer.new }
     ensures bytes { ReadConsumes (S.state source.old).remaining (S.state source.new).remaining result (drop at buffer.new) }
     ensures counted { IsRead 1 result (S.state source.old) (S.state source.new) }
 {
-    source.read(&mut buffer[at..])
+    source.ask(&mut buffer[at..], sink)
 }
 
 impl Input {
@@ -97,8 +103,9 @@ impl Input {
     }
 
     /// Reads some more bytes, by one read of the source.
-    fn read_some<S: Source>(&mut self, source: &mut S) -> io::Result<()>
-        requires { MayFill self.old }
+    fn read_some<S: Asked<W>, W: Sink>(&mut self, source: &mut S, sink: &W) -> io::Result<()>
+        requires room { MayFill self.old }
+        requires asked { S.may_ask (S.state source.old) (W.state sink.now) }
         ensures got { IsGot result
             (record { source = S.state source.old; held = self.old })
             (record { source = S.state source.new; held = self.new }) }
@@ -112,7 +119,7 @@ impl Input {
         self.to -= self.from;
         self.from = 0;
         // A failed read leaves the bytes that are left.
-        let n = read_behind(source, &mut self.buffer, self.to)?;
+        let n = read_behind(source, sink, &mut self.buffer, self.to)?;
         self.to += n;
         // The buffer wasn't full, so 0 bytes are the end of the stream.
         if n == 0 {
@@ -145,8 +152,9 @@ impl Input {
     /// # Errors
     ///
     /// No more reads are allowed, or the source failed. The bytes are then as before.
-    pub fn fill<S: Source>(&mut self, source: &mut S) -> Result<(), ReadFault>
-        requires { MayFill self.old }
+    pub fn fill<S: Asked<W>, W: Sink>(&mut self, source: &mut S, sink: &W) -> Result<(), ReadFault>
+        requires room { MayFill self.old }
+        requires asked { S.may_ask (S.state source.old) (W.state sink.now) }
         ensures fetched { Fetched (failed_reads result)
             (record { source = S.state source.old; held = self.old })
             (record { source = S.state source.new; held = self.new }) (IsFilled result self.old self.new) }
@@ -155,7 +163,7 @@ impl Input {
     {
         // Before the read, as a read that fails counts as well.
         self.count_read()?;
-        match self.read_some(source) {
+        match self.read_some(source, sink) {
             Ok(()) => Ok(()),
             // Contracts speak of the failed call alone. A device may note its cause.
             Err(_) => Err(ReadFault::Failed),
@@ -169,14 +177,16 @@ impl Input {
     /// # Errors
     ///
     /// No more reads are allowed, or the source failed.
-    pub fn fill_behind<S: Source>(
+    pub fn fill_behind<S: Asked<W>, W: Sink>(
         &mut self,
         source: &mut S,
+        sink: &W,
         buffer: &mut [u8],
         at: usize,
     ) -> Result<usize, ReadFault>
         requires open { (self.old.bytes ≡ []) × (self.old.ended ≡ false) }
         requires within { at < length buffer.old }
+        requires asked { S.may_ask (S.state source.old) (W.state sink.now) }
         ensures fetched { Fetched (failed_reads result)
             (record { source = S.state source.old; held = self.old })
             (record { source = S.state source.new; held = self.new }) (IsReadBehind result buffer.new at self.old self.new) }
@@ -184,7 +194,7 @@ impl Input {
         ensures spent { IsSpent result self.old self.new }
     {
         self.count_read()?;
-        let Ok(n) = read_behind(source, buffer, at) else {
+        let Ok(n) = read_behind(source, sink, buffer, at) else {
             return Err(ReadFault::Failed);
         };
         if n == 0 {

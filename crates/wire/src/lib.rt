@@ -22,7 +22,7 @@ mod output;
 mod tests;
 mod wrap;
 
-pub use device::{Sink, Source, WriteFailed, put};
+pub use device::{Asked, Sink, Source, WriteFailed, put};
 pub use fault::ReadFault;
 pub use fetch::{Body, Lined, line_held, next_line, read_body};
 pub use input::Input;

@@ -58,20 +58,24 @@ fn lines_are_found(rt: HostRuntime) {
 }
 
 /// Reads a line and then a body of so many bytes, and answers both with a `|` between them.
-fn line_and_body<S: Source>(
+fn line_and_body<S: Source, W: Sink>(
     alloc: Global,
     source: &mut S,
+    sink: &W,
     reads: u64,
     length: u64,
 ) -> Result<Vec<u8>, Fail> {
     let mut input = Input::new(alloc, reads)?;
     let mut line = Vec::with_capacity(alloc, 1026)?;
-    if !matches!(next_line(&mut input, source, &mut line), Ok(Lined::Whole)) {
+    if !matches!(
+        next_line(&mut input, source, sink, &mut line),
+        Ok(Lined::Whole)
+    ) {
         return Err(Fail::from("no line"));
     }
     let mut both = Vec::from_slice(alloc, &line)?;
     both.push(b'|')?;
-    match read_body(alloc, &mut input, source, length) {
+    match read_body(alloc, &mut input, source, sink, length) {
         Ok(Body::Whole(body)) => both.extend_from_slice(&body)?,
         Ok(Body::Dropped) => return Err(Fail::from("dropped")),
         Ok(Body::Cut) => both.extend_from_slice(b"cut")?,
@@ -81,18 +85,20 @@ fn line_and_body<S: Source>(
     Ok(both)
 }
 
-fn read_from<C: Ledger, F: Ledger>(
+fn read_from<C: Ledger, F: Ledger, W: Ledger, D: Ledger>(
     alloc: Global,
     pieces: Pieces<'_>,
-    counts: (Blank, Blank),
+    counts: (Blank, Blank, Blank, Blank),
     reads: u64,
     length: u64,
 ) -> Result<Vec<u8>, Fail>
-    requires reads { IsNewCount counts.0 C.name C.parts }
-    requires failures { IsNewCount counts.1 F.name F.parts }
+    requires reads { IsNewCount counts.0 C.name C.parts × IsNewCount counts.1 F.name F.parts }
+    requires writes { IsNewCount counts.2 W.name W.parts × IsNewCount counts.3 D.name D.parts }
 {
     let mut source = FromRead::<Pieces, C, F>::new(pieces, counts.0, counts.1);
-    line_and_body(alloc, &mut source, reads, length)
+    let mut nothing = [0; 0];
+    let sink = ToWrite::<&mut [u8], W, D>::new(&mut nothing, counts.2, counts.3);
+    line_and_body(alloc, &mut source, &sink, reads, length)
 }
 
 #[test]
@@ -112,8 +118,14 @@ fn a_line_and_a_body_come_in_pieces(rt: HostRuntime) -> Result<(), Fail> {
                 size,
                 torn,
             };
-            let counts = (Blank::new(1), Blank::new(1));
-            let got = read_from::<Brand, Brand>(rt.alloc(), pieces, counts, reads, length)?;
+            let counts = (Blank::new(1), Blank::new(1), Blank::new(1), Blank::new(1));
+            let got = read_from::<Brand, Brand, Brand, Brand>(
+                rt.alloc(),
+                pieces,
+                counts,
+                reads,
+                length,
+            )?;
             assert!(rt; got.as_slice() == want);
         }
     }
@@ -122,8 +134,8 @@ fn a_line_and_a_body_come_in_pieces(rt: HostRuntime) -> Result<(), Fail> {
         size: 1,
         torn: false,
     };
-    let counts = (Blank::new(1), Blank::new(1));
-    let got = read_from::<Brand, Brand>(rt.alloc(), pieces, counts, 9, 4)?;
+    let counts = (Blank::new(1), Blank::new(1), Blank::new(1), Blank::new(1));
+    let got = read_from::<Brand, Brand, Brand, Brand>(rt.alloc(), pieces, counts, 9, 4)?;
     assert!(rt; got.as_slice() == b"line|out of reads".as_slice());
     Ok(())
 }
@@ -146,8 +158,8 @@ fn a_large_body_is_kept_whole(rt: HostRuntime) -> Result<(), Fail> {
         size: 5_000,
         torn: false,
     };
-    let counts = (Blank::new(1), Blank::new(1));
-    let got = read_from::<Brand, Brand>(alloc, pieces, counts, 100, 300_000)?;
+    let counts = (Blank::new(1), Blank::new(1), Blank::new(1), Blank::new(1));
+    let got = read_from::<Brand, Brand, Brand, Brand>(alloc, pieces, counts, 100, 300_000)?;
     assert!(rt; got.as_slice() == with_large_body(alloc, b"line|")?.as_slice());
     Ok(())
 }

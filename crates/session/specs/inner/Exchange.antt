@@ -3,7 +3,8 @@ use Rattle.std.specs.Prelude.{ℕ, ◌≡◌, ◌+◌, ◌||◌, Bool, true, fal
 use Rattle.std.specs.Prelude.{Option, None, Some, [], Result, Ok, Err}
 use Rattle.std.specs.Io.KnownBytes.{Consumes, Appends, IsAtEnd}
 use Rattle.wire.specs.InputState.{InputState, Stream}
-use Rattle.wire.specs.Fetching.{Fetched, IsLined}
+use Rattle.wire.specs.Devices.{SourceState, SinkState}
+use Rattle.wire.specs.Fetching.{Fetched, IsLined, MayAsk}
 use Rattle.wire.specs.Lines as lines
 use Rattle.wire.specs.Prefixes.{IsPrefixOf}
 use Rattle.wire.specs.Sending.{Outgoing, Sent}
@@ -22,7 +23,7 @@ use Rattle.session.specs.declared.end.ServeFault.{ServeFault}
 use Rattle.session.specs.declared.end.ServeFault.TheVariants.{Read, Write, Turns, Memory}
 use Rattle.session.specs.declared.receiving.Received.{Received}
 use Rattle.session.specs.declared.receiving.Received.TheVariants as h
-use Rattle.session.specs.Exchange.{Touched, Scene}
+use Rattle.session.specs.Exchange.{Touched, Scene, Ahead}
 
 -- what was heard stands next, before the rest
 abbrev pub Receives : Received → List ℕ → NextCommand → Type 0
@@ -43,6 +44,13 @@ Responds old received dealings reply new (Some end) =
 -- All that waited is written.
 abbrev pub IsEmptied : Outgoing → Outgoing → Type 0
 IsEmptied old new = Sent true [] old new × (new.waits ≡ [])
+
+-- Once all that waits is written, the source may be asked wherever the bytes lack what is waited for, and the end is not held.
+abbrev pub MayAwait : (may_ask : SourceState → SinkState → Type 0) → Stream → Outgoing → (lacks : List ℕ → Type 0) → Type 0
+MayAwait may_ask s o lacks = (p : Outgoing) → IsEmptied o p → MayAsk may_ask s p.sink lacks
+
+abbrev pub MayAwaitNext : {S : Type 0} → (may_ask : SourceState → SinkState → Type 0) → Ahead → Scene S → Type 0
+MayAwaitNext may_ask ahead now = MayAwait may_ask now.stream now.touched.out (λ bytes. ahead false bytes ≡ Waits)
 
 -- What was waited for came, and what was said before it may wait on. Or it isn't there, after a fault: all that was said is
 -- written, but for where a write failed.

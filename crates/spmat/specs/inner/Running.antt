@@ -6,7 +6,7 @@ use Rattle.step_purse.specs.Histories.{newcomer, own_calls}
 use Rattle.step_purse.specs.Passes.{PassState}
 use Rattle.step_purse.specs.Shares.{whole}
 use Rattle.session.specs.Sessions.{full_session}
-use Rattle.session.specs.Talk.{Outcome}
+use Rattle.session.specs.Talk.{MayAskWhenAnswered, Outcome}
 use Rattle.session.specs.declared.end.End.{End}
 use Rattle.session.specs.declared.end.ServeFault.{ServeFault}
 use Rattle.session.specs.declared.end.ServeFault.TheVariants.{Read, Write, Turns, Memory}
@@ -57,6 +57,12 @@ Ran steps workers old new spent (Err Read) = Spoke steps workers old new spent (
 Ran steps workers old new spent (Err Write) = Spoke steps workers old new spent (Err Write)
 Ran steps workers old new spent (Err Turns) = Spoke steps workers old new spent (Err Turns)
 Ran steps workers old new spent (Err Memory) = (new ≡ old) × (spent ≡ 0)
+
+-- The source may be asked as a session of these settings asks it. For a server it is not known that it may be asked at all.
+abbrev pub MayAskFor : (may_ask : SourceState → SinkState → Type 0) → Settings → Devices → Type 0
+MayAskFor may_ask (Run steps workers idle log log_format log_every) old = MayAskWhenAnswered may_ask workers old.source old.sink
+MayAskFor may_ask (Serve port steps workers sessions idle session_seconds min_rate session_steps session_reserve
+    log log_format log_every) old = Unit {0}
 
 -- How the one session of `run` went, over these two devices.
 abbrev pub IsRunOf : (steps workers : ℕ) → Devices → Devices → Result Ended Failure → Type 0

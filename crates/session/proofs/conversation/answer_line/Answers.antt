@@ -1,11 +1,13 @@
-use Rattle.std.proofs.Common.{sym, ap, ◌∙◌}
+use Rattle.std.proofs.Common.{◌≡◌, false, sym, ap, ◌∙◌, subst}
 use Rattle.text_words.specs.Words.{words}
 use Rattle.command_text.specs.Requests.{request}
 use Rattle.command_text.specs.Readings.{request_of}
-use Rattle.session.specs.NextCommand.{next_request}
 use Rattle.session.specs.Exchange.{behind}
-use Rattle.session.specs.inner.Exchange.{LacksBody}
 use Rattle.session.proofs.Exchanging.{exchanged_answered, exchanged_fault, exchanged_from, heard_behind}
+use Rattle.wire.specs.InputState.{Stream}
+use Rattle.wire.specs.Sending.{Outgoing}
+use Rattle.session.specs.NextCommand.{Waits, next_request}
+use Rattle.session.specs.inner.Exchange.{LacksBody, MayAwait}
 use Rattle.session.proofs.conversation.answer_line.Goals as goal
 
 pub returns-in-Ok-clause-exchanged : goal.returns-in-Ok-clause-exchanged
@@ -25,3 +27,10 @@ returns-in-Err-clause-exchanged g c =
     let same = c.parse.ensures ∙ ap (λ l. request (words l)) c.deref.ensures.value in
     exchanged_fault g.T.Steps.leads (behind line) _ _ _ _ _ _ _ c.receive.ensures.unchanged c.in-Err.fault _ (LacksBody (request_of c.parse.result) new)
     (λ bytes w. ap (λ r. next_request new.ended r bytes) (sym same) ∙ w) c.in-Err.ensures.received
+
+pub receive-requires : goal.receive-requires
+receive-requires g c =
+    let s : Stream = record { source = g.R.Asked.state c.args.reader.now; held = c.args.desk.now.input } in
+    let o : Outgoing = record { sink = g.W.Sink.state c.args.writer.now; waits = c.args.desk.now.bench.output } in
+    let same = c.parse.ensures ∙ ap (λ l. request (words l)) c.deref.ensures.value in
+    subst (λ r. MayAwait g.R.Asked.may_ask s o (λ bytes. next_request false r bytes ≡ Waits)) (sym same) c.requires.asked

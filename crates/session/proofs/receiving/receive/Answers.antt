@@ -1,4 +1,5 @@
-use Rattle.std.proofs.Common.{◌≡◌, Ok, refl, sym, ap, subst}
+use Rattle.std.specs.Prelude.{nat_lt}
+use Rattle.std.proofs.Common.{◌≡◌, length, Ok, refl, sym, ap, subst}
 use Rattle.wire.specs.Fetching.{IsBody}
 use Rattle.wire.proofs.Fetching.{fetched_here, fetched_map}
 use Rattle.wire.proofs.Sending.{sent_nothing}
@@ -8,6 +9,9 @@ use Rattle.session.specs.NextCommand.{next_request, Goes}
 use Rattle.session.specs.inner.Exchange.{IsReceivedOf}
 use Rattle.session.specs.declared.receiving.Received.TheVariants as h
 use Rattle.session.proofs.Bodies.{body_there}
+use Rattle.wire.specs.InputState.{Stream}
+use Rattle.wire.specs.Sending.{Outgoing}
+use Rattle.session.proofs.Asking.{body_asked}
 use Rattle.session.proofs.receiving.receive.Goals as goal
 
 pub returns-in_default-clause-received : goal.returns-in_default-clause-received
@@ -44,3 +48,12 @@ returns-in-Ok-Dropped-clause-received g c =
           (p.0, subst (λ a. next_request new.ended (request_of a) bytes ≡ Goes (with_body (header_of header) p.0) new.bytes) (sym c.in-Body.is) (body_there new.ended (header_of header) len bytes p.0 new.bytes p.1 p.2))),
       c.in-Ok-flush_where.ensures.sent,
     )
+
+pub read_body-requires : goal.read_body-requires
+read_body-requires g c =
+    let s : Stream = record { source = g.R.Asked.state c.args.reader.now; held = c.args.input.now } in
+    let o : Outgoing = record { sink = g.W.Sink.state c.args.writer.now; waits = c.args.bench.now.output } in
+    let p : Outgoing = record { sink = g.W.Sink.state c.flush_where-in-Body.new.writer; waits = c.flush_where-in-Body.new.output } in
+    let len = c.in-Body.length in
+    body_asked g.R.Asked.may_ask s o p (request_of c.args.request) (header_of c.in-Body.header) len (nat_lt (length c.bytes.result.now) len) (ap request_of c.in-Body.is) c.requires
+    c.in-Ok-flush_where.ensures.sent c.in-Ok-flush_where.ensures.none (ap (λ bs. nat_lt (length bs) len) c.bytes.ensures)

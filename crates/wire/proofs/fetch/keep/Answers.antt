@@ -1,11 +1,13 @@
-use Rattle.std.proofs.Common.{◌≡◌, ◌<◌, ◌+◌, List, ℕ, ◌++◌, take, drop, length, take_all, Ok, Err, refl, sym, ap, ◌∙◌, arith}
+use Rattle.std.proofs.Common.{◌≡◌, ◌<◌, ◌+◌, [], List, ℕ, ◌++◌, take, drop, length, length-append, take_all, Ok, Err, refl, sym, ap, ◌∙◌, arith}
 use Rattle.std.proofs.lemmas.List.{take_at}
-use Rattle.wire.specs.Fetching.{IsFilled, IsReadBehind, failed_reads}
+use Rattle.wire.specs.InputState.{Stream}
+use Rattle.wire.specs.Fetching.{IsFilled, IsReadBehind, LacksBytes, failed_reads}
 use Rattle.wire.specs.inner.Keeping.{IsKept}
 use Rattle.wire.specs.declared.fault.ReadFault.{ReadFault}
 use Rattle.wire.specs.declared.fault.ReadFault.TheVariants.{Failed, OutOfReads}
 use Rattle.wire.specs.declared.fetch.Received.{Received}
 use Rattle.wire.specs.declared.fetch.Received.TheVariants.{Whole, Full, Cut}
+use Rattle.wire.proofs.Asking.{ask_here, ask_on}
 use Rattle.wire.proofs.Fetching.{fetched_here, fetched_on, fetched_map, fetched_as}
 use Rattle.wire.proofs.Gathering.{IsKeeping, keeping_whole, keeping_count, keeping_short, keeping_more}
 use Rattle.wire.proofs.fetch.keep.Goals as goal
@@ -107,3 +109,28 @@ reading-preserved g c =
       none = λ h. more.holds.1;
       bounded = let less = c.in-Ok-fill_behind.ensures.spent.1 in let before = l.invariant.bounded in let empty = ap (λ (xs : List ℕ). length xs) more.holds.1 in omega arith;
     }
+
+-- more of a body is missing, where so much of it came and nothing is held behind it
+keeping_lacks : (len came : ℕ) (first bytes behind more : List ℕ) → length (first ++ bytes) ≡ came → came + length (behind ++ more) < len → behind ≡ [] → length (first ++ (bytes ++ more)) < len
+keeping_lacks len came first bytes behind more count short none =
+    omega (arith, length-append first bytes, length-append bytes more, length-append first (bytes ++ more), length-append behind more)
+
+pub fill_behind-requires-clause-asked : goal.fill_behind-requires-clause-asked
+fill_behind-requires-clause-asked g c =
+    let l = c.reading in
+    let first = c.args.first.items in
+    let buffer = l.body.items in
+    let len = c.args.length in
+    let count = l.body.ok.0 in
+    let came = l.invariant.came in
+    let within = l.invariant.within in
+    let some = c.if-came-length.false in
+    let short : l.came < len = omega arith in
+    let none = l.invariant.none short in
+    let lacks = λ (bytes : List ℕ). l.came + length bytes < len in
+    let at : Stream = record { source = g.R.Asked.state l.reader; held = l.input } in
+    ask_here g.R.Asked.may_ask at _ lacks
+    (ask_on g.R.Asked.may_ask _ at _ (λ bytes. LacksBytes len (first ++ bytes)) (IsKeeping first l.came buffer l.input.bytes) lacks l.invariant.fetched c.requires.asked
+    (λ bytes more k less. keeping_lacks len l.came first bytes l.input.bytes more (keeping_count first bytes buffer l.input.bytes l.came k (omega arith) none) less none))
+    (sym c.has_ended.ensures ∙ c.if-has_ended.false)
+    (let empty = ap (λ (xs : List ℕ). length xs) none in omega arith)

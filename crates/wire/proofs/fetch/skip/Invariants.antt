@@ -5,7 +5,7 @@ use Rattle.wire.proofs.fetch.skip.Given as goal
 
 abbrev pub invariant-reading : goal.invariant-reading
 invariant-reading g l = record {
-  fetched : Fetched 0 (record { source = g.R.Source.state l.fn.reader; held = l.fn.input }) (record { source = g.R.Source.state l.reader; held = l.input }) (IsPart l.count l.missing l.input.bytes);
+  fetched : Fetched 0 (record { source = g.R.Asked.state l.fn.reader; held = l.fn.input }) (record { source = g.R.Asked.state l.reader; held = l.input }) (IsPart l.count l.missing l.input.bytes);
   bounded : reach l.input ≤ reach l.fn.input;
 }
 
