@@ -8,7 +8,7 @@ use Rattle.matrix_market.specs.declared.rule.MarketRule.TheVariants.{MalformedEn
 use Rattle.matrix_market.specs.declared.rule.MarketRule.TheVariants.{PositionGivenTwice, TooFewEntries, LineAfterLastEntry}
 use Rattle.matrix_market.specs.declared.rule.MarketRule.TheVariants.{LineTooLong, SymmetricNotSquare}
 use Rattle.matrix_market.specs.declared.rule.MarketError.{MarketError}
-use Rattle.matrix_market.specs.declared.rule.MarketError.TheVariants.{Fault, Memory}
+use Rattle.matrix_market.specs.declared.rule.MarketError.TheVariants.{Fault, NoRoom, Memory}
 use Rattle.matrix_market.specs.Market.{IsTextOf}
 use Rattle.matrix_market.specs.Refusal.{ExplainsRefusal, IsOnlyMatrix}
 use Rattle.spmat_lib.specs.declared.answer.Answer.{Answer}
@@ -33,7 +33,8 @@ number_of SymmetricNotSquare = 12
 abbrev pub answer_of : Result Grid MarketError → Answer
 answer_of (Ok m) = record { rule = 0; line = 0; rows = m.rows; columns = m.columns; entries = fin.len m.cells }
 answer_of (Err (Fault rule line)) = record { rule = number_of rule; line = line; rows = 0; columns = 0; entries = 0 }
-answer_of (Err Memory) = record { rule = 13; line = 0; rows = 0; columns = 0; entries = 0 }
+answer_of (Err (NoRoom refused)) = record { rule = 13; line = 0; rows = 0; columns = 0; entries = 0 }
+answer_of (Err (Memory refused)) = record { rule = 13; line = 0; rows = 0; columns = 0; entries = 0 }
 
 abbrev pub part_of : Part → Entry → ℕ
 part_of Row e = e.0.0

@@ -1,3 +1,5 @@
 pub mod Answer
+pub mod Calls
 pub mod Lines
+pub mod Verdict
 pub mod inner

@@ -1,1 +1,2 @@
+pub mod Arity
 pub mod LineEnd

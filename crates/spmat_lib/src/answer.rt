@@ -37,7 +37,7 @@ pub fn refused(error: MarketError) -> Answer
 {
     let (rule, line) = match error {
         MarketError::Fault { rule, line } => (number(rule), line),
-        MarketError::Memory => (13, 0),
+        MarketError::NoRoom(_) | MarketError::Memory(_) => (13, 0),
     };
     Answer {
         rule,
