@@ -108,11 +108,10 @@ def split_range(store: Store, part: Range, market: Market, cut: Cut, path: str) 
     """The lines of a range of a file by blocks, in another file where a path is given; and last how
     many lines of the file they are, `UNUSUAL` where these are to be read one by one."""
     body = read_lines(part)
-    lines = body.count(b'\n')
-    triples = (read_market_lines(market.kind, body, lines, market.nrows, market.ncols)
-               if body else None)
+    triples = read_market_lines(market.kind, body, market.nrows, market.ncols)
     if triples is None:
-        return [Stored(b'')] * cut.blocks + [UNUSUAL if body else 0]
+        return [Stored(b'')] * cut.blocks + [UNUSUAL]
+    lines = len(triples.rows)
     triples = mirrored(triples, market.kind.symmetry)
     return [*_write_lines(triples, market.kind.is_bare, cut, path), lines]
 

@@ -123,7 +123,8 @@ class Files(unittest.TestCase):
                     with self.subTest(name=name, text=text):
                         self.assertEqual(self.refused_or_read(s), self.refused_or_read(self.one))
         self.assertEqual({name for number, name in enumerate(bodies)
-                          if any(self.by_workers[3 * number:3 * number + 3])}, {'sign', 'long row'})
+                          if any(self.by_workers[3 * number:3 * number + 3])},
+                         {'blank line', 'sign', 'long row'})
 
     def test_a_cut_that_is_asked_for(self):
         self.write(a_text(random.Random(1), n=20))
