@@ -5,29 +5,29 @@ verified programs.
         A = s.from_triples([(0, 1, 5), (1, 2, 7)], 3, 3)
         print(A.mxm(A).to_triples())
 
-See `Session` and `Matrix`; `unary`, `binary` and `indexunary` make operators of functions and hold
-the built-in ones, as `semiring` does; `asm`, `code` and `c` make operators of assembly text, code
-and C; `algorithms` has those of LAGraph, `draw` pictures; `errors` says what is raised.
+Begin with `Session` and `Matrix`. `unary`, `binary` and `indexunary` make operators of functions
+and hold the built-in ones, as `semiring` does. `asm`, `code` and `c` make operators of assembly
+text, code and C. `algorithms` has those of LAGraph, and `draw` pictures. `errors` says what is
+raised.
 """
 from __future__ import annotations
 
 import importlib
 import importlib.util
-import os
+import pathlib
 import sys
 from typing import TYPE_CHECKING, Any, Dict, List
+
+from .errors import (BudgetExceeded, Busy, Closed, CompileError, DimensionMismatch, DomainMismatch,
+                     HeaderUnclear, MaskWarning, NamesDiffer, NoThread, NotMade, NotSettled,
+                     OperatorRefused, OutOfMemory, ProtocolError, ReadError, Refused, ResultLost,
+                     SpmatError, TextRefused, ThreadUnavailable, TooLarge, UnitsDiffer)
 
 if TYPE_CHECKING:
     from . import algorithms, draw
     from .algorithms.temporal_paths import events
     from .alignment import align
     from .backends.protocol import Budget, JobResult
-    from .errors import (BudgetExceeded, Busy, Closed, CompileError,
-                         DimensionMismatch, DomainMismatch, HeaderUnclear, MaskWarning,
-                         NamesDiffer, NoThread, NotMade, NotSettled, OperatorRefused,
-                         OutOfMemory, ProtocolError, ReadError, Refused,
-                         ResultLost, SpmatError, TextRefused, ThreadUnavailable, TooLarge,
-                         UnitsDiffer)
     from .loops import Loop, empty, loop, steady
     from .loops.fixpoint import fixpoint
     from .mask import Mask
@@ -42,22 +42,13 @@ if TYPE_CHECKING:
     from .submatrices import bipartite, concat
     from .vector import Vector
 
-
 if importlib.util.find_spec('numpy') is None:
     raise ImportError(
         'spmat needs numpy (1.22 or newer), and %s has none. To have it: pip install numpy; or '
         'on Debian apt install python3-numpy, which is for /usr/bin/python3' % sys.executable)
 
-
-def _version() -> str:
-    """The version, which stands in the file VERSION: at the top of the repository, and in what is
-    installed beside this module."""
-    with open(os.path.join(os.path.dirname(os.path.abspath(__file__)), 'VERSION'),
-              encoding='ascii') as file:
-        return file.read().strip()
-
-
-__version__ = _version()
+# of the repository, or of what is installed
+__version__ = pathlib.Path(__file__).with_name('VERSION').read_text('ascii').strip()
 __all__ = ['Budget', 'BudgetExceeded', 'Busy', 'Closed', 'CompileError',
            'DimensionMismatch', 'DomainMismatch', 'HeaderUnclear', 'JobResult', 'Loop', 'Mask',
            'MaskWarning', 'Matrix', 'NamesDiffer', 'NoThread', 'NotMade', 'NotSettled', 'Operator',
@@ -73,10 +64,6 @@ __all__ = ['Budget', 'BudgetExceeded', 'Busy', 'Closed', 'CompileError',
 _PLACES: Dict[str, str] = {name: module for module, names in {
     'alignment': 'align',
     'operators.c': 'c',
-    'errors': 'BudgetExceeded Busy Closed CompileError DimensionMismatch '
-    'DomainMismatch HeaderUnclear MaskWarning NamesDiffer NoThread NotMade NotSettled '
-    'OperatorRefused OutOfMemory ProtocolError ReadError Refused '
-    'ResultLost SpmatError TextRefused ThreadUnavailable TooLarge UnitsDiffer',
     'backends.protocol': 'Budget JobResult',
     'loops': 'Loop empty loop steady',
     'mask': 'Mask',

@@ -1,23 +1,17 @@
-"""Matrices with different names for their vertices, brought to the same ones; and matrices brought
-to another scale."""
+"""Matrices with different names for their vertices, brought to the same ones."""
 from __future__ import annotations
 
 import itertools
-import math
-from fractions import Fraction
 from typing import Any, Dict, List, NamedTuple, Sequence, Set, Tuple, TypeVar, cast
 
 import numpy
 
 from .errors import NamesDiffer, refusal
-from .io.coo import LEAST, MOST
 from .limits import MOST_SIDE
 from .matrix import Matrix
-from .matrix_base import alias, with_unit
+from .matrix_base import alias
 from .metadata import (COLUMNS, ONE_KIND, POSITIONS, ROWS, Axis, Nodes, VertexUnit, check_names,
                        vertices_of)
-from .operators import READY, Operator
-from .scale import TimeUnit, as_unit, describe_unit, refuse_vertices, to_text
 from .types import Vertex
 
 M = TypeVar('M', bound=Matrix)
@@ -132,7 +126,9 @@ def _groups(matrices: Sequence[Matrix]) -> List[List[Tuple[int, int]]]:
     """Which rows (0) and columns (1) are to be called the same, beside the numbers of their
     matrices. ValueError for graphs beside matrices of two kinds of vertices."""
     vectors = [1 in matrix.shape and matrix.shape != (1, 1) for matrix in matrices]
-    squares = [_is_square(matrix) and not vector for matrix, vector in zip(matrices, vectors)]
+    # graphs, or what may be one, whose rows and columns are the same vertices
+    squares = [matrix.nrows == matrix.ncols and vertices_of(matrix.notes) is not None and not vector
+               for matrix, vector in zip(matrices, vectors)]
     if all(vector or square for vector, square in zip(vectors, squares)):
         rows, columns = ([(number, axis) for number, matrix in enumerate(matrices)
                           if not vectors[number] or matrix.shape[axis] != 1
@@ -154,12 +150,6 @@ def _was_read(matrix: Matrix, axis: int) -> bool:
     """Whether the one row, or column, of a matrix is a vertex of a kind of its own."""
     names = matrix.notes.names(axis)
     return names is not None and not names.is_cut
-
-
-def _is_square(matrix: Matrix) -> bool:
-    """Whether a matrix is that of a graph, or may be one, whose rows and columns are the same
-    vertices."""
-    return matrix.nrows == matrix.ncols and vertices_of(matrix.notes) is not None
 
 
 def _common(sides: Sequence[_Target], how: str) -> _Target:
@@ -239,69 +229,3 @@ def _find_places(old: _Target, new: _Target) -> Any:
     found = numpy.fromiter((places.get(name, -1) for name in old.axis.listed(old.size)),
                            numpy.int64, old.size)
     return None if old.size == new.size and (found == at).all() else found
-
-
-# -- another scale
-
-def rescaled(matrix: Matrix, unit: object, exact: bool) -> Any:
-    """A matrix with the same numbers in another scale; see `Matrix.rescale`."""
-    before, wanted = matrix.unit, as_unit(unit)
-    if isinstance(before, VertexUnit):
-        refuse_vertices('vertices have no other unit')
-    factor = Fraction(wanted, before)
-    if isinstance(wanted, TimeUnit):
-        if not isinstance(before, TimeUnit):
-            raise ValueError('the values are no times yet, so that they have no other unit of '
-                             'times: A.unit = %r says that they are' % wanted)
-        factor = Fraction(before.size, wanted.size)
-    if factor == 1:
-        return with_unit(matrix, wanted)
-    made, (more, less) = with_unit(matrix, 1), factor.as_integer_ratio()
-    if exact and less != 1:
-        _check_digits(made, less, before, wanted)
-    _check_fits(made, factor, wanted)
-    if less != 1 and (exact or isinstance(wanted, TimeUnit)):
-        made = made.apply('floordiv', right=less)
-    elif less != 1:
-        made, more = made.apply(_rounding(more, less)), 1
-    if more != 1:
-        made = made.apply('times', right=more)
-    made.notes = matrix.notes._replace(source='', unit=wanted)
-    return made
-
-
-def _check_digits(stored: Matrix, less: int, before: int, wanted: int) -> None:
-    """ValueError where a stored value is no multiple of a divisor."""
-    left = stored.apply('cmod', right=less).select('nonzero')
-    if left.nvals:
-        some = stored.dup(mask=left.S).reduce_scalar('any', raw=True)
-        how = 'cuts them down' if isinstance(wanted, TimeUnit) else 'rounds them'
-        raise ValueError('%d of %d values would lose digits as %s, such as %s: exact=False %s' % (
-            left.nvals, stored.nvals, describe_unit(wanted), to_text(some, before), how))
-
-
-def _check_fits(stored: Matrix, factor: Fraction, wanted: int) -> None:
-    """ValueError where a stored value times a factor is beyond 64 bits."""
-    ends = (('valuelt', math.ceil(LEAST / factor)), ('valuegt', math.floor(MOST / factor)))
-    # both wait, so that one run makes them
-    outside = [stored.select(op, end) for op, end in ends if LEAST < end < MOST]
-    many = sum(part.nvals for part in outside)
-    if many:
-        raise ValueError('%d of %d values are beyond 64 bits in %s: a coarser unit holds them'
-                         % (many, stored.nvals, describe_unit(wanted)))
-
-
-def _rounding(more: int, less: int) -> Operator:
-    """x times more / less, rounded to the nearest, halves to the even one. ValueError where this
-    takes more than 64 bits."""
-    if more * less >= 1 << 62:
-        raise ValueError('a factor of %d/%d can not be rounded in 64 bits: rescale in two steps'
-                         % (more, less))
-
-    def nearest(x: int) -> int:
-        whole = x // less
-        over = (x - whole * less) * more
-        found = whole * more + over // less
-        rest = (over - over // less * less) * 2
-        return found + ((rest > less) | ((rest == less) & (found & 1)))
-    return READY['unary'](nearest, name='rescale')

@@ -1,5 +1,5 @@
-"""What distributions that are built on spmat import of it beside what users do: backends of their
-own, and readers that see a part of a file.
+"""What distributions that are built on spmat import beside what users do. They have backends of
+their own, and readers that see a part of a file.
 
 - A backend takes jobs and holds their results: `Backend`, with `Job`, `Handle`, `Run` and kin.
 - A matrix is three arrays, `Triples`, and a Matrix Market text: `read_text`, `write_text`.
@@ -13,9 +13,10 @@ from .algorithms.traversal import Vector, put_column, read_column, read_row, vec
 from .prices import stop_estimate
 from .backends.server import without_frames
 from .backends.protocol import AMPLE, Backend, Budget, Handle, Job, JobResult, Run, most_of
-from .io.coo import (DUP_OP, LEAST, MOST, checked as check_entries, indices as check_indices, side
-                     as check_size, whole as check_whole, word as check_word, columns_of, full as
-                     full_entries, repeated as refuse_repeated, shown)
+from .io.arrays import (DUP_OP, checked as check_entries, columns_of, full as full_entries, indices
+                        as check_indices, repeated as refuse_repeated)
+from .io.coo import (LEAST, MOST, side as check_size, whole as check_whole, word as check_word,
+                     shown)
 from .io.edge_lists import (Form as ListForm, Table as ListTable, as_text as decode_list, lay_out as
                             lay_out_list, read_edges as read_list)
 from .io.edges import (FOLDS, Edges, How, Layout, LeftOut, check_direction, choose_value_column,
@@ -27,11 +28,10 @@ from .io.formats import (OF_LISTS as LIST_FORMATS, PARTED as SEPARATORS, Request
 from .io.importers import DupOp, Sources
 from .io.matrix_market import (Kind as MarketKind, Line as MarketLine, Reader as MarketReader,
                                Values as MarketValues, find_repeated as find_repeated_line, is_plain
-                               as is_plain_market, lowered as lower_triangle, mirrored, read_quickly
-                               as read_market_lines)
+                               as is_plain_market, read_lines as read_market_lines)
 from .io.matrix_text import (BANNER, HEAD_LINES, PATTERN as PATTERN_BANNER, Triples, as_arrays,
-                             head_of as head_of_text, read_lines, read as read_text, start_of_line,
-                             write as write_text)
+                             head_of as head_of_text, lowered as lower_triangle, mirrored,
+                             read_lines, read as read_text, start_of_line, write as write_text)
 from .matrix_base import as_constant
 from .metadata import BY_POSITIONS, Metadata, NOTHING, Nodes, axis_of
 from .operators import Op, find

@@ -8,26 +8,23 @@ from __future__ import annotations
 import collections
 import operator
 from collections.abc import Iterator, KeysView, Set, ValuesView
-from typing import (TYPE_CHECKING, Any, List, NamedTuple, NoReturn, Optional, SupportsFloat,
-                    SupportsIndex, Union, cast)
+from typing import (Any, Dict, List, NamedTuple, NoReturn, Optional, SupportsFloat, SupportsIndex,
+                    Union, cast)
 
 import numpy
 
 from .io.coo import shown
 from .mask import Mask
 from .matrix_base import MatrixBase
-from .metadata import Nodes, joined
-from .types import Many, Series
-
-if TYPE_CHECKING:
-    from .matrix import Matrix
+from .metadata import (TRUTHS, Nodes, abbreviate_names, joined, place_of, suggest_names)
+from .types import Many, Series, Vertex
 
 WHAT = ('row', 'column')
 TWO = ('an index is two: G[i, j], G[i, :], G[:, j], G[rows, columns], or a mask: G[M.S]; '
        'G.by_node()[i] is one value of a column')
 # what has no order of its own, or is read once
 COLLECTIONS = (Set, dict, Iterator, KeysView, ValuesView)
-TRUTHS, FLOATS = (bool, numpy.bool_), (float, numpy.floating)
+FLOATS = (float, numpy.floating)
 
 
 class Chosen(NamedTuple):
@@ -36,15 +33,20 @@ class Chosen(NamedTuple):
     places: Optional[List[int]]
     one: bool = False
 
+    @property
+    def twice(self) -> Optional[int]:
+        """A number that is asked for twice; None where each is once."""
+        places = self.places or ()
+        return None if len(set(places)) == len(places) else next(
+            place for place, count in collections.Counter(places).items() if count > 1)
 
-def check_once(matrix: 'Matrix', chosen: Chosen, axis: int) -> None:
+
+def check_once(matrix: MatrixBase, chosen: Chosen, axis: int) -> None:
     """ValueError where a row (or column) that has a name is asked for twice: of a result no two
     have one name, as those of pandas may."""
-    places = chosen.places
-    if places is None or len(set(places)) == len(places) or not matrix.notes.axis(axis).has_names:
+    if chosen.twice is None or not matrix.notes.axis(axis).has_names:
         return
-    twice = next(place for place, count in collections.Counter(places).items() if count > 1)
-    name, what = matrix.notes.axis(axis).listed(matrix.shape[axis])[twice], WHAT[axis]
+    name, what = matrix.notes.axis(axis).listed(matrix.shape[axis])[chosen.twice], WHAT[axis]
     raise ValueError(
         'the %s %r is asked for twice, and no two %ss have one name: list(dict.fromkeys(names)) '
         'takes each once; to repeat %ss, take the names off first, B = A.dup(); B.%s_nodes = '
@@ -79,7 +81,7 @@ def _is_boolean_table(at: object) -> bool:
             and all(kind == bool for kind in getattr(at, 'dtypes', [getattr(at, 'dtype', None)])))
 
 
-def choose_places(matrix: 'Matrix', index: object, axis: int) -> Chosen:
+def choose_places(matrix: MatrixBase, index: object, axis: int) -> Chosen:
     """The rows (or columns) that an index means: by names where they have some, else by position.
     ValueError where one isn't there, IndexError where a filter has another length, TypeError for
     what is no index."""
@@ -97,7 +99,7 @@ def choose_places(matrix: 'Matrix', index: object, axis: int) -> Chosen:
     return Chosen([locate(matrix, index, axis)], one=True)
 
 
-def locate(matrix: 'Matrix', index: object, axis: int) -> int:
+def locate(matrix: MatrixBase, index: object, axis: int) -> int:
     """The place of one row (or column). A number that is no whole one, and a truth value, are names
     alone, where names are such."""
     names = matrix.notes.names(axis)
@@ -110,7 +112,26 @@ def locate(matrix: 'Matrix', index: object, axis: int) -> int:
         raise ValueError(
             'no vertex %s: they are 0 to %d; negative numbers count from the end in slices '
             'alone, G[-2:, :]' % (shown(index), matrix.shape[axis] - 1))
-    return matrix.index(index, axis)
+    return find_place(matrix, index, axis)
+
+
+def find_place(matrix: MatrixBase, node: Vertex, axis: int) -> int:
+    """The row (or column) of a vertex, by its name, or by its number where numbers are no names.
+    ValueError where there is none."""
+    names, count = matrix.notes.names(axis), matrix.shape[axis]
+    if names is not None:
+        place = place_of(names, node)
+        if place is not None:
+            return place
+        if names.numbered or not hasattr(node, '__index__'):
+            words = suggest_names(node, names) or 'they are ' + abbreviate_names(names)
+            raise ValueError('no vertex %s: %s' % (shown(node), words))
+    place = (None if isinstance(node, TRUTHS) or not hasattr(node, '__index__')
+             else operator.index(cast(SupportsIndex, node)))
+    if place is None or not 0 <= place < count:
+        raise ValueError('no vertex %s: %s' % (shown(node), 'they are 0 to %d' % (count - 1)
+                                               if count else 'there is no vertex'))
+    return place
 
 
 def _refuse_kind(index: SupportsFloat, axis: int, kind: type) -> NoReturn:
@@ -136,7 +157,7 @@ def _is_boolean(many: Many) -> bool:
     return len(many) > 0 and all(isinstance(one, TRUTHS) for one in many)
 
 
-def _of_slice(matrix: 'Matrix', index: slice, axis: int) -> Chosen:
+def _of_slice(matrix: MatrixBase, index: slice, axis: int) -> Chosen:
     """The places of a slice: names count at both ends, as in pandas; positions from the first to
     before the last, as in numpy. A number could be either where numbers are names: ValueError."""
     start, stop, step = index.start, index.stop, index.step
@@ -159,14 +180,14 @@ def _of_slice(matrix: 'Matrix', index: slice, axis: int) -> Chosen:
     backward = step is not None and step < 0
     # an end that is no number is a name
     if start is not None and not hasattr(start, '__index__'):
-        start = matrix.index(start, axis)
+        start = find_place(matrix, start, axis)
     if stop is not None and not hasattr(stop, '__index__'):
-        last = matrix.index(stop, axis)
+        last = find_place(matrix, stop, axis)
         stop = last + 1 if not backward else last - 1 if last else None
     return Chosen(list(range(*slice(start, stop, step).indices(matrix.shape[axis]))))
 
 
-def _of_list(matrix: 'Matrix', many: Any, axis: int) -> List[int]:
+def _of_list(matrix: MatrixBase, many: Any, axis: int) -> List[int]:
     """The places that a list, an array or a column of pandas names, or filters."""
     if getattr(many, 'ndim', 1) != 1:
         raise IndexError('%ss are chosen by an array of one dimension, not of %d'
@@ -185,14 +206,20 @@ def _of_list(matrix: 'Matrix', many: Any, axis: int) -> List[int]:
     return [locate(matrix, one, axis) for one in plain]
 
 
-def _filtered(matrix: 'Matrix', many: Many, axis: int) -> List[int]:
+def _filtered(matrix: MatrixBase, many: Many, axis: int) -> List[int]:
     count = matrix.shape[axis]
     if len(many) != count:
         raise IndexError('a filter of %d values for %d %ss' % (len(many), count, WHAT[axis]))
     return [place for place, chosen in enumerate(many) if chosen]
 
 
-def _of_series(matrix: 'Matrix', series: Series, axis: int) -> List[int]:
+def _by_label(matrix: MatrixBase, by_label: Dict[Any, Any], axis: int) -> List[int]:
+    """The places whose names are filtered in."""
+    names = matrix.notes.axis(axis).listed(matrix.shape[axis])
+    return [place for place, name in enumerate(names) if by_label[name]]
+
+
+def _of_series(matrix: MatrixBase, series: Series, axis: int) -> List[int]:
     """The places of a column of pandas that filters: by its labels where they name the rows, else
     by position."""
     names, labels = matrix.notes.names(axis), series.index.tolist()
@@ -201,7 +228,7 @@ def _of_series(matrix: 'Matrix', series: Series, axis: int) -> List[int]:
     if len(by_label) == len(labels) and all(name in by_label for name in wanted):
         if names is None and len(labels) != len(wanted):
             return _filtered(matrix, series, axis)
-        return [place for place, name in enumerate(wanted) if by_label[name]]
+        return _by_label(matrix, by_label, axis)
     if labels == list(range(len(labels))) and (names is None or not names.numbered):
         return _filtered(matrix, series.tolist(), axis)
     lacking = next((name for name in wanted if name not in by_label), None)
@@ -211,7 +238,7 @@ def _of_series(matrix: 'Matrix', series: Series, axis: int) -> List[int]:
             WHAT[axis], 'some stand twice' if lacking is None else 'there is none %r' % (lacking,)))
 
 
-def _of_column(matrix: 'Matrix', mask: Union[Mask, MatrixBase], axis: int) -> List[int]:
+def _of_column(matrix: MatrixBase, mask: Union[Mask, MatrixBase], axis: int) -> List[int]:
     """The places of a mask of a column (or row); aligned by names where both have some. TypeError
     for the column itself."""
     if not isinstance(mask, Mask):
@@ -223,23 +250,21 @@ def _of_column(matrix: 'Matrix', mask: Union[Mask, MatrixBase], axis: int) -> Li
     if 1 not in values.shape:
         raise TypeError('%ss are filtered by a column or a row, not by a matrix of %dx%d'
                         % (WHAT[axis], *values.shape))
-    length = values.nrows if values.ncols == 1 else values.ncols
     rows, columns, numbers = values.entries(arrays=False)
-    at = rows if values.ncols == 1 else columns
-    stored = {place for place, number in zip(at, numbers) if number or not mask.value}
-    inside = not mask.complement
     side = 0 if values.ncols == 1 else 1
+    stored = {place for place, number in zip((rows, columns)[side], numbers)
+              if number or not mask.value}
+    flags = [(place in stored) is not mask.complement for place in range(values.shape[side])]
     own, whole = values.notes.axis(side), matrix.notes.axis(axis)
     are_named = own.has_names and whole.has_names and not own.is_other_kind(whole)
     if are_named and not own.agrees(whole):
-        known, names = Nodes(own.listed(length)).places, whole.listed(matrix.shape[axis])
-        unknown = next((name for name in names if name not in known), None)
+        by_label = dict(zip(own.listed(len(flags)), flags))
+        unknown = next((name for name in whole.listed(matrix.shape[axis]) if name not in by_label),
+                       None)
         if unknown is not None:
             raise IndexError('the filter has no vertex %r' % (unknown,))
-        return [place for place, name in enumerate(names) if (known[name] in stored) is inside]
-    if length != matrix.shape[axis]:
-        raise IndexError('a filter of %d values for %d %ss' % (length, matrix.shape[axis],
-                                                               WHAT[axis]))
+        return _by_label(matrix, by_label, axis)
+    places = _filtered(matrix, flags, axis)
     joined(values.notes, matrix.notes,
            ((side, axis, 'the filter and the %ss that it filters' % WHAT[axis]),))
-    return [place for place in range(length) if (place in stored) is inside]
+    return places

@@ -3,7 +3,7 @@ from __future__ import annotations
 
 import datetime
 import functools
-from typing import Dict, FrozenSet, NamedTuple, Optional, Tuple, Union
+from typing import Dict, FrozenSet, Optional, Tuple, Union
 
 import numpy
 
@@ -12,32 +12,22 @@ from .io import coo
 from .metadata import VertexUnit
 from .operators import READY, Op, Operator, Semiring, find, find_semiring
 from .operators.other_names import is_ufunc
-from .scale import (COMPARE, FIRST, KEEP, MEET, OVER, SECOND, TIMES, UNDER, TimeUnit, chooses,
-                    compared, exact_number, is_whole, meaning_of, name_of, of_both, of_vertex,
-                    refuse, tells_apart, to_stored)
+from .scale import (COMPARE, KEEP, MEET, OVER, TIMES, UNDER, TimeUnit, chooses, compared,
+                    exact_number, is_whole, meaning_of, name_of, of_both, of_vertex, refuse,
+                    tells_apart, to_stored)
 from .types import Number
 from .wire.commands import FORMS
 
 DATES = (datetime.date, numpy.datetime64)
 Ring = Union[str, Semiring, Tuple[Op, Op]]
-
-
-class Applied(NamedTuple):
-    """The operator and thunk that `apply` sends, whether its answers are the same at each row and
-    column, and their unit; which operator that is before the number is bound, and on which side it
-    is."""
-    op: Operator
-    thunk: Optional[int]
-    even: bool
-    unit: int
-    by: Operator
-    is_left: bool = False
-
+Applied = Tuple[Operator, Optional[int], int, bool]
+"""An operator, the whole number that is sent beside it, the scale of its result, and whether its
+answers are the same at each row and column."""
 
 # What is found by names of built-in operators: of one by its kind, of the two of a product by their
 # joined name, of `apply` where there is no number nor a unit. Other names may get another meaning.
 _BY_NAME: Dict[Tuple[str, str], Operator] = {}
-_RINGS: Dict[str, Tuple[Operator, Operator]] = {}
+RINGS: Dict[str, Tuple[Operator, Operator]] = {}
 _APPLIED: Dict[str, Applied] = {}
 
 
@@ -68,12 +58,12 @@ def of_form(form: str, op: Op) -> Operator:
 
 def ring_of(op: Ring) -> Tuple[Operator, Operator]:
     """The two operators of a semiring as a product takes them."""
-    found = _RINGS.get(op) if type(op) is str else None
+    found = RINGS.get(op) if type(op) is str else None
     if found is None:
         ring = find_semiring(op)
         found = of_form('product', ring.add), of_form('product', ring.mul)
         if type(op) is str and _ready_names('binary').issuperset(op.split('_')):
-            _RINGS[op] = found
+            RINGS[op] = found
     return found
 
 
@@ -87,14 +77,12 @@ def applied(op: Op, right: Optional[Number], left: Optional[Number], unit: int) 
     found = op if isinstance(op, Operator) else _find(_kind_of(op, bound), op)
     number = left if left is not None else right if right is not None else 0
     if found.kind == 'index' and left is None:
-        by, stored, unit = of_index(found, number, unit, 'right=')
-        return Applied(by, stored, False, unit, by)
+        return (*of_index(found, number, unit, 'right='), False)
     if found.kind == 'binary' and bound:
         by, stored, unit = of_bound(found, number, left is not None, unit)
-        sent = by.bind_right() if right is not None else by.bind_left()
-        return Applied(sent, stored, True, unit, by, left is not None)
+        return by.bind_right() if right is not None else by.bind_left(), stored, unit, True
     if found.kind == 'unary' and not bound:
-        alone = Applied(found, None, True, of_unary(found, unit), found)
+        alone = found, None, of_unary(found, unit), True
         if unit == 1 and type(op) is str and op in _ready_names('unary'):
             _APPLIED[op] = alone
         return alone
@@ -128,10 +116,6 @@ def _is_function(op: Operator) -> bool:
     return hasattr(op, 'function')
 
 
-Bound = Tuple[Operator, int, int]
-"""An operator, the whole number that is sent beside it, and the scale of its result."""
-
-
 def of_unary(op: Operator, unit: int) -> int:
     """The scale of a unary operator's result."""
     if isinstance(unit, VertexUnit):
@@ -143,8 +127,8 @@ def of_unary(op: Operator, unit: int) -> int:
 
 
 def of_index(op: Operator, thunk: Number, unit: int,
-             what: str = 'the number beside the operator') -> Bound:
-    """The same of an index operator, with the number beside it: a value stands for itself, what the
+             what: str = 'the number beside the operator') -> Tuple[Operator, int, int]:
+    """What an index operator does, with the number beside it: a value stands for itself, what the
     caller's own operators get is a stored number."""
     if unit == 1 and type(thunk) is int and _is_stored(thunk):
         return op, thunk, 1
@@ -154,12 +138,13 @@ def of_index(op: Operator, thunk: Number, unit: int,
         of_vertex(op)
         return op, _whole(thunk, what, 'is'), 1
     meaning = meaning_of(op)
-    if meaning == COMPARE and not _is_function(op):
+    if meaning in COMPARE and not _is_function(op):
         return (*compared(op, thunk, unit), 1)
     return op, _whole(thunk, what, 'is'), unit if meaning == KEEP else 1
 
 
-def of_bound(op: Operator, number: Number, is_left: bool, unit: int) -> Bound:
+def of_bound(op: Operator, number: Number, is_left: bool,
+             unit: int) -> Tuple[Operator, int, int]:
     """The same of a binary operator, one of whose operands is a number: where it meets the values
     it is one of these, by times and division it is a factor."""
     if unit == 1 and type(number) is int and _is_stored(number):
@@ -171,8 +156,8 @@ def of_bound(op: Operator, number: Number, is_left: bool, unit: int) -> Bound:
     if isinstance(unit, VertexUnit):
         chosen = chooses(op) or tells_apart(op)
     else:
-        chosen = meaning in (MEET, FIRST, SECOND) and not _is_function(op)
-        if meaning == COMPARE and not _is_function(op):
+        chosen = (meaning == MEET or chooses(op)) and not _is_function(op)
+        if meaning in COMPARE and not _is_function(op):
             return (*compared(op, number, unit, is_left), 1)
     found = of_both(op, beside, unit) if is_left else of_both(op, unit, beside)
     if chosen:

@@ -26,8 +26,8 @@ class Mask(NamedTuple):
     -----
     The server knows `A.S` alone; what the others take stands at `Matrix.S` and `Matrix.V`.
 
-    `A.S & B.S`, `|`, `^` and `-` are masks, too: of 1 job, and 5 and 3 runs where entries of one
-    alone are wanted (`without`), and 1 job and 1 run more for each mask by value. In
+    `A.S & B.S`, `|`, `^` and `-` are masks, too. Each costs 1 job, or 5 jobs and 3 runs where
+    entries of one alone are wanted (`without`). A mask by value costs 1 job and 1 run more. In
     python-graphblas the same signs.
 
     `and`, `or` and `not` of a mask raise TypeError, and so does == of masks of two matrices. The
@@ -177,10 +177,6 @@ class Mask(NamedTuple):
 
     def __repr__(self) -> str:
         return '%s%r.%s' % ('~' if self.complement else '', self.matrix, 'V' if self.value else 'S')
-
-    def _repr_html_(self) -> str:
-        from .display import html                  # which knows matrices, and is seldom needed
-        return html.mask(self)
 
 
 def structure(mask: Mask) -> Any:

@@ -10,33 +10,32 @@ from __future__ import annotations
 import functools
 import heapq
 import itertools
-import operator
+import math
 import os
-from typing import (TYPE_CHECKING, Any, Dict, Iterable, Iterator, List, Optional, Sequence, Set,
-                    SupportsIndex, Tuple, Type, TypeVar, Union, cast)
+import weakref
+from fractions import Fraction
+from typing import (TYPE_CHECKING, Any, Dict, Iterable, Iterator, List, Mapping, Optional, Sequence,
+                    Set, Tuple, Type, TypeVar, Union, cast)
 
 import numpy
 
-from . import oversized_jobs, result_metadata, scale as scales, submatrices
-from .backends.protocol import Handle, Job, OneVisit
-from .display import html
-from .errors import BudgetExceeded, TooLarge, refusal, warn_user
+from . import display, oversized_jobs, result_metadata, scale as scales, submatrices
+from .backends.protocol import Backend, Handle, Job, OneVisit
+from .errors import BudgetExceeded, SpmatError, TooLarge, refusal, warn_user
 from .extras import import_extra
-from .greatest_entries import find_first, find_greatest
-from .indexing import check_once, choose_places, pair_of
+from .indexing import WHAT, check_once, choose_places, find_place, pair_of
 from .io import coo, files, writers
-from .io.arrays import dense
-from .job_operators import (Ring, applied, kind_of_function, of_form, of_index, ring_of)
+from .io.arrays import by_columns, dense, to_compressed, to_dicts
+from .job_operators import (RINGS, Ring, applied, kind_of_function, of_form, of_index, ring_of)
 from .limits import MOST_SIDE
 from .mask import Mask, MaskLike, as_mask, structure
-from .matrix_base import MatrixBase, alias, common_session, not_a_matrix
-from .metadata import (BY_POSITIONS, COLUMNS, ELEMENTWISE, NOTHING, ROWS, TRUTHS, Axis, Metadata,
-                       Nodes, Unnamed, VertexUnit, abbreviate_names, along, check_one_kind,
-                       even, given_axis, hint_of, is_line, joined, list_of_names, of_copy, place_of,
-                       suggest_names, vertices_of)
+from .matrix_base import MatrixBase, alias, common_session, not_a_matrix, with_unit
+from .metadata import (BY_POSITIONS, COLUMNS, ELEMENTWISE, NOTHING, ROWS, Axis, Metadata, Nodes,
+                       Unnamed, VertexUnit, abbreviate_names, along, check_one_kind, even,
+                       given_axis, hint_of, is_line, joined, list_of_names, of_copy, vertices_of)
 from .operators import Op, Operator, Semiring, binary, indexunary, unary
 from .reductions import aggregate, aggregate_all, is_aggregator
-from .submatrices import BOTH, move, take, value_at, value_of
+from .submatrices import (BOTH, find_first, find_greatest, move, take, value_at, value_of)
 from .types import Array, DType, Exact, NodesLike, Number, Path, Source, Target, Vertex
 from .unsupported_syntax import Signs, refusing
 
@@ -70,7 +69,7 @@ class MatrixType(type):
         raise AttributeError('type object %r has no attribute %r' % (cls.__name__, name))
 
 
-class Matrix(Signs, metaclass=MatrixType):
+class Matrix(Signs, MatrixBase, metaclass=MatrixType):
     """A matrix that the session holds, or the result of a job that waits. Sessions make them;
     nothing changes one.
 
@@ -89,12 +88,12 @@ class Matrix(Signs, metaclass=MatrixType):
     -----
     Vectors are matrices of one column.
 
-    Each method that takes an operator queues one job, unless it says otherwise, and answers at once
-    with the matrix that it will be; it costs no run. Where an operand or the mask is itself a job's
-    result that waits, the queue runs first; so it does where a result's entries, their number, or a
-    mask other than A.S are asked for. Every `mask=` takes A.S, A.V, ~A.S, ~A.V or a mask of these
-    (a matrix is A.S, with a MaskWarning); those but A.S cost more jobs, as `S`, `V` and `without`
-    say. Operators are Operators, built-in names, or functions.
+    Each method that takes an operator queues one job, unless it says otherwise. It answers at once
+    with the matrix that it will be, and costs no run. Where an operand or the mask is itself a
+    job's result that waits, the queue runs first. So it does where a result's entries, their
+    number, or a mask other than A.S are asked for. Every `mask=` takes A.S, A.V, ~A.S, ~A.V or a
+    mask of these; a matrix is A.S, with a MaskWarning. All but A.S cost more jobs, as `S`, `V` and
+    `without` say. Operators are Operators, built-in names, or functions.
 
     A stored whole number x stands for x / `unit`, 1 unless the matrix was read with `scale=`;
     results have units. UnitsDiffer where two that differ meet: `rescale` gives one matrix the
@@ -103,6 +102,8 @@ class Matrix(Signs, metaclass=MatrixType):
     Refusals are raised where the method is called: DimensionMismatch (J5, J9), DomainMismatch (J4),
     OperatorRefused, BudgetExceeded, TooLarge (J7, J8), OutOfMemory. Wrong shapes and kinds are
     found here, before anything is sent."""
+
+    session: 'Session'
 
     # -- what it is
 
@@ -115,7 +116,7 @@ class Matrix(Signs, metaclass=MatrixType):
         self.notes = NOTHING
         self.kept = handle.facts                   # what algorithms found out about its entries
         self.name = name or ('at the client' if handle.is_deferred else handle.key)
-        handle.add_matrix(self)
+        handle.holders.append(weakref.ref(self))
 
     def __reduce__(self) -> Any:
         raise TypeError(
@@ -130,7 +131,30 @@ class Matrix(Signs, metaclass=MatrixType):
                                         self.nrows, self.ncols, state, self._describe_values())
 
     def _repr_html_(self) -> str:
-        return html.matrix(self)
+        """What a notebook shows: sizes, what is known of it, and a corner with values. A matrix
+        that waits is run for it. Of many entries the server is asked for the corner."""
+        about = ['%s &times; %s' % tuple(format(side, ',') for side in self.shape)]
+        are_vertices = self.notes.value_names is not None
+        facts = {'directed': self.directed is True, 'undirected': self.directed is False,
+                 'unit %s' % self.unit: self.unit != 1 and not are_vertices,
+                 'values are vertices': are_vertices,
+                 'named': self.row_nodes is not None or self.column_nodes is not None}
+        known = [fact for fact, is_so in facts.items() if is_so]
+        try:
+            about.append('%s entries' % format(self.nvals, ','))
+            held = self if self.nvals <= display.FEW else submatrices.take_cells(
+                self, *(range(min(side, display.CORNER)) for side in self.shape))
+            cells = {(i, j): self._describe_value(value) for i, j, value in held.to_triples()
+                     if max(i, j) < display.CORNER}
+        except SpmatError as fault:
+            return display.headed('Matrix', about + known, display.text_of(fault))
+        return display.headed('Matrix', about + known, display.corner(
+            self.row_nodes or range(self.nrows), self.column_nodes or range(self.ncols), cells))
+
+    def _describe_value(self, stored: int) -> str:
+        """What a stored number stands for, with six digits."""
+        value = scales.to_decimal(stored, self.unit)
+        return '%.6g' % value if isinstance(value, float) else scales.to_text(stored, self.unit)
 
     def _describe_values(self) -> str:
         """What `repr` says of the values, and of the file that the matrix was read from."""
@@ -369,9 +393,9 @@ class Matrix(Signs, metaclass=MatrixType):
     def nodes(self) -> Optional[Sequence[Any]]:
         """The names of the vertices.
 
-        They are those of the rows of a column, of the columns of a row, and of the rows of a square
-        matrix whose columns have the same. Results carry the names of what they are made of. They
-        can be set: `G.nodes = names`.
+        A column has those of its rows, and a row those of its columns. A square matrix has them
+        where its rows and columns have the same. Results carry the names of what they are made of.
+        They can be set: `G.nodes = names`.
 
         Returns
         -------
@@ -477,9 +501,9 @@ class Matrix(Signs, metaclass=MatrixType):
         Returns
         -------
         bool or None
-            False where the matrix is known to be that of an undirected graph, whose entries stand
-            both ways with one value; True where it was read as a directed one; None where nothing
-            is known. Set it where you know more than the matrix does.
+            False where the graph is known to be undirected, so that entries stand both ways with
+            one value. True where it was read as a directed one, None where nothing is known. Set it
+            where you know more than the matrix does.
 
         See Also
         --------
@@ -576,8 +600,29 @@ class Matrix(Signs, metaclass=MatrixType):
         >>> A.rescale(1000).unit, A.rescale(1000)[0, 0]
         (1000, 1.25)
         """
-        from .alignment import rescaled            # which takes matrices
-        return cast(Self, rescaled(self, unit, exact))
+        before, wanted = self.unit, scales.as_unit(unit)
+        if isinstance(before, VertexUnit):
+            scales.refuse_vertices('vertices have no other unit')
+        factor = Fraction(wanted, before)
+        if isinstance(wanted, scales.TimeUnit):
+            if not isinstance(before, scales.TimeUnit):
+                raise ValueError('the values are no times yet, so that they have no other unit of '
+                                 'times: A.unit = %r says that they are' % wanted)
+            factor = Fraction(before.size, wanted.size)
+        if factor == 1:
+            return with_unit(self, wanted)
+        (more, less), made = factor.as_integer_ratio(), cast(Any, with_unit(self, 1))
+        if exact and less != 1:
+            _check_digits(made, less, before, wanted)
+        _check_fits(made, factor, wanted)
+        if less != 1 and (exact or isinstance(wanted, scales.TimeUnit)):
+            made = made.apply('floordiv', right=less)
+        elif less != 1:
+            made, more = made.apply(_rounding(more, less)), 1
+        if more != 1:
+            made = made.apply('times', right=more)
+        made.notes = self.notes._replace(source='', unit=wanted)
+        return cast(Self, made)
 
     def index(self, node: Vertex, axis: int = 0) -> int:
         """The row of a vertex, or with `axis=1` the column.
@@ -617,20 +662,7 @@ class Matrix(Signs, metaclass=MatrixType):
         """
         if axis not in (0, 1):
             raise ValueError('axis is 0 for a row or 1 for a column, not %s' % coo.shown(axis))
-        names, count = self.notes.names(axis), self.shape[int(axis)]
-        if names is not None:
-            place = place_of(names, node)
-            if place is not None:
-                return place
-            if names.numbered or not hasattr(node, '__index__'):
-                words = suggest_names(node, names) or 'they are ' + abbreviate_names(names)
-                raise ValueError('no vertex %s: %s' % (coo.shown(node), words))
-        place = (None if isinstance(node, TRUTHS) or not hasattr(node, '__index__')
-                 else operator.index(cast(SupportsIndex, node)))
-        if place is None or not 0 <= place < count:
-            raise ValueError('no vertex %s: %s' % (coo.shown(node), 'they are 0 to %d' % (count - 1)
-                                                   if count else 'there is no vertex'))
-        return place
+        return find_place(self, node, int(axis))
 
     # -- products
 
@@ -648,14 +680,14 @@ class Matrix(Signs, metaclass=MatrixType):
             As many rows as this one has columns.
         op : str, Semiring or pair, default 'plus_times'
             Any two binary operators: by name "min_plus", of one's own a pair (add, mul) or
-            `semiring(add, mul)`. By name also "any_secondi", whose terms are positions: "firsti",
-            "firstj", "secondi" and "secondj" of A(i, k) and B(k, j), from 1 with a "1" behind; 1
-            job and 1 run more.
+            `semiring(add, mul)`. In "any_secondi" the terms are positions: "firsti", "firstj",
+            "secondi" and "secondj" of A(i, k) and B(k, j). They count from 1 with a "1" behind the
+            name, and take 1 job and 1 run more.
         mask : Mask, optional
             Where the result may have entries.
         parts : bool, default False
-            Whether a product that is too large is made by halves of this matrix's rows, their
-            halves, and so on: 2 jobs and 2 runs more for each halving.
+            Whether a product that is too large is made by halves of this matrix's rows, and their
+            halves. Each halving takes 2 jobs and 2 runs more.
         associative : bool, optional
             The caller's word that ADD is associative. Row blocks then send `other` block by block;
             see `spmat_blocks.BlockMatrix`.
@@ -702,10 +734,12 @@ class Matrix(Signs, metaclass=MatrixType):
         [('Ann', 'Cid', -2)]
         """
         self._check_shape('product', other, (self.ncols, None))
-        if is_positional(op):
-            return cast('Matrix', multiply_positions(self, other, op, mask, name, parts=parts,
-                                                     associative=associative))
-        operators = ring_of(op)
+        operators = RINGS.get(op) if type(op) is str else None
+        if operators is None:
+            if is_positional(op):
+                return cast('Matrix', multiply_positions(self, other, op, mask, name, parts=parts,
+                                                         associative=associative))
+            operators = ring_of(op)
         notes = self._derive('product', operators, other)
         job = Job('product', operators, (self.handle, other.handle), (self.nrows, other.ncols),
                   None, None, parts, associative)
@@ -1187,9 +1221,9 @@ class Matrix(Signs, metaclass=MatrixType):
         names are asked for once each. Lists, arrays and columns of pandas that have True and False
         alone filter, as do masks of columns: those with names are aligned by these. A column itself
         is refused, as it could be a list of rows as well. A slice of names takes both ends, as in
-        pandas; one of positions leaves out the second and counts from the end below 0, as in numpy.
-        Where numbers are names, but for 0 to n - 1, a number in a slice could be either and is
-        refused.
+        pandas. One of positions leaves out the second end and counts from the end below 0, as in
+        numpy. Where numbers are names, but for 0 to n - 1, a number in a slice could be either and
+        is refused.
 
         Parameters
         ----------
@@ -1351,8 +1385,8 @@ class Matrix(Signs, metaclass=MatrixType):
 
         Notes
         -----
-        Costs are without an accumulator 9 jobs and 5 runs for some rows, 2 and 2 more for some
-        columns as well; with one 2 to 3 jobs. A mask adds what `update` takes in jobs. In the
+        Without an accumulator some rows cost 9 jobs and 5 runs, and columns as well cost 2 jobs and
+        2 runs more. With one it costs 2 to 3 jobs. A mask adds what `update` takes in jobs. In the
         GraphBLAS GrB_assign, in python-graphblas `C(mask, accum)[rows, columns] << what`.
 
         Examples
@@ -1368,9 +1402,8 @@ class Matrix(Signs, metaclass=MatrixType):
         for other in (what, None if where is None else where.matrix):
             if isinstance(other, Matrix):
                 common_session(matrix.session, other.session)
-        if where is not None and where.matrix.shape != matrix.shape:
-            raise refusal('J9', detail='the matrix is %dx%d, the mask %dx%d'
-                          % (*matrix.shape, *where.matrix.shape))
+        if where is not None:
+            result_metadata.check_mask(where, matrix.shape, matrix.notes)
         part = [submatrices.choose_once(matrix, index, axis)
                 for axis, index in enumerate((rows, columns))]
         is_whole = all(one.places is None for one in part)
@@ -1442,9 +1475,9 @@ class Matrix(Signs, metaclass=MatrixType):
 
         Notes
         -----
-        Costs are without a mask 1 job, no run. With one 7 jobs and 4 runs, with `replace` 1 and
-        none (5 and 3 for a complement); `accum` is 1 job more, A.V 1 and 1; and where an operand or
-        the mask waits, 1 run.
+        Without a mask it costs 1 job and no run. With one it costs 7 jobs and 4 runs; with
+        `replace` 1 and none, or 5 and 3 for a complement. `accum` is 1 job more, A.V 1 job and 1
+        run more. Where an operand or the mask waits, add 1 run.
 
         Examples
         --------
@@ -1562,8 +1595,8 @@ class Matrix(Signs, metaclass=MatrixType):
         5 jobs and 3 runs, 1 run more where this matrix or the mask's waits, 1 job and 1 run more
         for `A.V`. 1 job of ~A.S or ~A.V.
 
-        It makes ones for the entries here and zeros for the mask's; their union by `zero` is 1 only
-        where this matrix is alone; a copy under those is the result.
+        It makes ones for the entries here and zeros for the mask's. Their union by `zero` is 1 only
+        where this matrix is alone, and a copy under those is the result.
 
         Examples
         --------
@@ -1607,9 +1640,9 @@ class Matrix(Signs, metaclass=MatrixType):
             f(x, row, column, right).
         right : number, optional
             The number that is bound. Of an index operator it is 0 unless given. Where this matrix
-            has a unit, `right=0.25` is a number that meets its values, and is stored as they are;
-            for times and division it is a whole factor. A date or a length of time beside values
-            that are times, `unit="s"`.
+            has a unit, `right=0.25` meets its values, and is stored as they are. For times and
+            division it is a whole factor. A date or a length of time beside values that are times,
+            `unit="s"`.
         left : number, optional
             The number that is bound on the other side of a binary operator, as `right` has it.
         mask : Mask, optional
@@ -1640,8 +1673,8 @@ class Matrix(Signs, metaclass=MatrixType):
         1 job. A bound binary operator is sent as an index operator of one (right) or two (left)
         more instructions, once for all numbers. In the GraphBLAS GrB_apply.
 
-        An operator of your own gets stored whole numbers, also for `right`, and its result has a
-        unit of 1: set it, as in `B.unit = 100`, where you know another.
+        An operator of your own gets stored whole numbers, also for `right`. Its result has a unit
+        of 1; set another, as in `B.unit = 100`, where you know it.
 
         Examples
         --------
@@ -1655,10 +1688,10 @@ class Matrix(Signs, metaclass=MatrixType):
         >>> A.apply(lambda x: x * x).to_triples()
         [(0, 0, 1), (0, 2, 4), (1, 2, 9)]
         """
-        _warn_of_positions(op, self.notes)
-        sent = applied(op, right, left, self.notes.unit)
-        notes = result_metadata.of_applied(self.notes, sent.op, sent.even, sent.unit)
-        job = Job('apply', (sent.op,), (self.handle,), self.handle.shape, sent.thunk)
+        _check_positions(op, self.notes, {})
+        found, stored, unit, alike = applied(op, right, left, self.notes.unit)
+        notes = result_metadata.of_applied(self.notes, found, unit, alike)
+        job = Job('apply', (found,), (self.handle,), self.handle.shape, stored)
         return self._queue(job, (self,), notes, mask, name)
 
     def select(self, op: Op, thunk: Number = 0, *, mask: MaskLike = None,
@@ -1671,8 +1704,8 @@ class Matrix(Signs, metaclass=MatrixType):
             Its name may be a sign: `A.select(">=", 3)` is `A.select("valuege", 3)`.
         thunk : number, default 0
             What the operator gets beside each entry. A value to compare with is any number, also a
-            fraction beside whole numbers, or infinity, `A.select(">=", 1.5)`; beside times a date
-            or a length of time. An operator of your own gets stored whole numbers.
+            fraction or infinity: `A.select(">=", 1.5)`. Beside times it is a date or a length of
+            time. An operator of your own gets stored whole numbers.
         mask : Mask, optional
             Where the result may have entries.
         name : str, optional
@@ -1686,9 +1719,9 @@ class Matrix(Signs, metaclass=MatrixType):
         Raises
         ------
         ValueError
-            Of NaN, and of "rowle", "rowgt", "colle" and "colgt", which count from 0, where rows or
-            columns have other numbers for names: an Operator, `spmat.indexunary.rowle`, counts all
-            the same.
+            If the thunk is NaN. Also if "rowle", "rowgt", "colle" or "colgt", which count from 0,
+            meet rows or columns with other numbers for names. An Operator,
+            `spmat.indexunary.rowle`, counts all the same.
         DimensionMismatch
             If the mask has another shape.
 
@@ -1714,9 +1747,7 @@ class Matrix(Signs, metaclass=MatrixType):
         >>> A.select(lambda x, row, column: x > row + column).to_triples()
         [(0, 0, 1)]
         """
-        if isinstance(op, str):
-            _check_counts_rows(op, self.notes)
-        _warn_of_positions(op, self.notes)
+        _check_positions(op, self.notes, COUNTING)
         found = of_form('select', op)
         found, stored, _ = of_index(found, thunk, self.notes.unit)
         notes = result_metadata.of_selected(self.notes, found, stored)
@@ -1734,12 +1765,12 @@ class Matrix(Signs, metaclass=MatrixType):
         Parameters
         ----------
         op : Operator, str or callable, default 'plus'
-            A binary operator, or one of python-graphblas' aggregators: "sum", "prod", "last",
-            "any_value"; with 1 to 3 jobs more "count", "count_nonzero", "count_zero", "exists",
-            "all", "first_index", "last_index", "sum_of_squares", "peak_to_peak"; with 4 more, and a
-            value a row that the client sends, "argmin" and "argmax", the first column with the
-            least or greatest value; with 4 more "mean", in millionths that the client makes of sums
-            and counts; no sum wraps then.
+            A binary operator, or one of python-graphblas' aggregators. One job: "sum", "prod",
+            "last", "any_value". With 1 to 3 jobs more: "count", "count_nonzero", "count_zero",
+            "exists", "all", "first_index", "last_index", "sum_of_squares", "peak_to_peak". With 4
+            jobs more, and a value per row that the client sends: "argmin" and "argmax", the first
+            column with the least or greatest value. Also with 4 more: "mean", in millionths that
+            the client makes of sums and counts; no sum wraps then.
         mask : Mask, optional
             Where the result may have entries; a mask of a column.
         name : str, optional
@@ -1906,9 +1937,9 @@ class Matrix(Signs, metaclass=MatrixType):
 
         Notes
         -----
-        No job: the text comes to the client and goes back, so it runs the queue where this matrix
-        waits, and costs as much as reading and writing it. While some transpose is held, asking
-        again costs nothing.
+        No job: the text comes to the client and goes back, which takes the time of reading and
+        writing it. The queue runs first where this matrix waits. While some transpose is held,
+        asking again costs nothing.
 
         Examples
         --------
@@ -2244,42 +2275,9 @@ class Matrix(Signs, metaclass=MatrixType):
                mask: MaskLike, name: Optional[str]) -> 'Matrix':
         """The result of a job, of which `notes` are known without the mask."""
         if mask is not None:
-            where = as_mask(mask)
-            assert where is not None
-            common_session(self.session, where.matrix.session)
-            under = result_metadata.under_mask(where, job.shape, notes)
-            made = (self._visit(job, operands, where, under, name) if where.value
-                    or where.complement else None)
-            if made is not None:
-                return cast('Matrix', made)
-            if where.complement:
-                return self._queue(job, operands, notes, None, None).without(~where, name=name)
-            cut, notes = structure(where), under
-            job, operands = job._replace(mask=cut.handle), (*operands, cut)
-        return self._submit(job, operands, notes, name)
-
-    def _visit(self, job: Job, operands: Sequence[MatrixBase], where: Mask, notes: Metadata,
-               name: Optional[str], method: Tuple[object, ...] = (), **options: object) -> Any:
-        """The result of a method under a mask, of which this job is the last, where one visit to a
-        session makes all of them; else None, and the caller queues them."""
-        if not self.session.backend.fuses(job):
-            return None
-        visit = OneVisit(where.value, where.complement, method, options)
-        job = job._replace(mask=where.matrix.handle, visit=visit)
-        return self._submit(job, (*operands, where.matrix), notes, name)
-
-    def _check_shape(self, form: str, other: object, shape: Tuple[int, Optional[int]]) -> None:
-        if not isinstance(other, Matrix):
-            raise not_a_matrix(other)
-        common_session(self.session, other.session)
-        if other.nrows != shape[0] or shape[1] not in (None, other.ncols):
-            due = ('have %d rows' % shape[0] if shape[1] is None else 'be %dx%s' % shape)
-            raise refusal('J5', command=form, detail='%dx%d and %dx%d: the second has to %s%s' % (
-                *self.shape, *other.shape, due, hint_of(self.notes, other.notes)))
-
-    def _submit(self, job: Job, operands: Sequence[MatrixBase], notes: Metadata,
-                name: Optional[str]) -> 'Matrix':
-        session, is_vector = self.session, False
+            return self._queue_under(job, operands, notes, mask, name)
+        session: Any = self.session
+        is_vector = False
         for operand in operands:
             if operand.session is not session:
                 session = common_session(session, operand.session)
@@ -2292,6 +2290,42 @@ class Matrix(Signs, metaclass=MatrixType):
                 raise
             raise oversized_jobs.explained(fault, job, cast(Any, operands)) from None
         return make_matrix(session, handle, notes, is_vector, name)
+
+    def _queue_under(self, job: Job, operands: Sequence[MatrixBase], notes: Metadata,
+                     mask: MaskLike, name: Optional[str]) -> 'Matrix':
+        """The same under a mask."""
+        where = as_mask(mask)
+        assert where is not None
+        common_session(self.session, where.matrix.session)
+        under = result_metadata.under_mask(where, job.shape, notes)
+        made = (self._visit(job, operands, where, under, name) if where.value
+                or where.complement else None)
+        if made is not None:
+            return cast('Matrix', made)
+        if where.complement:
+            return self._queue(job, operands, notes, None, None).without(~where, name=name)
+        cut = structure(where)
+        return self._queue(job._replace(mask=cut.handle), (*operands, cut), under, None, name)
+
+    def _visit(self, job: Job, operands: Sequence[MatrixBase], where: Mask, notes: Metadata,
+               name: Optional[str], method: Tuple[object, ...] = (), **options: object) -> Any:
+        """The result of a method under a mask, of which this job is the last, where one visit to a
+        session makes all of them; else None, and the caller queues them."""
+        if not self.session.backend.fuses(job):
+            return None
+        visit = OneVisit(where.value, where.complement, method, options)
+        job = job._replace(mask=where.matrix.handle, visit=visit)
+        return self._queue(job, (*operands, where.matrix), notes, None, name)
+
+    def _check_shape(self, form: str, other: object, shape: Tuple[int, Optional[int]]) -> None:
+        if not isinstance(other, Matrix):
+            raise not_a_matrix(other)
+        if other.session is not self.session:
+            common_session(self.session, other.session)
+        if other.nrows != shape[0] or shape[1] not in (None, other.ncols):
+            due = ('have %d rows' % shape[0] if shape[1] is None else 'be %dx%s' % shape)
+            raise refusal('J5', command=form, detail='%dx%d and %dx%d: the second has to %s%s' % (
+                *self.shape, *other.shape, due, hint_of(self.notes, other.notes)))
 
     # -- entries by position
 
@@ -2330,12 +2364,6 @@ class Matrix(Signs, metaclass=MatrixType):
         """The text by pieces."""
         return self.session.backend.texts(self.handle)
 
-    def _read_stored(self, arrays: bool) -> Tuple[Any, Any, Any]:
-        """Rows, columns and stored values."""
-        rows, columns, values = self.session.backend.read(self.handle)[:3]
-        return ((rows, columns, values) if arrays
-                else (rows.tolist(), columns.tolist(), values.tolist()))
-
     def entries(self, *, arrays: Optional[bool] = None,
                 dtype: DType = None) -> Tuple[Any, Any, Any]:
         """Rows, columns and values, as `Matrix.to_coo` has them, also of a vector.
@@ -2365,8 +2393,12 @@ class Matrix(Signs, metaclass=MatrixType):
         >>> A.entries()
         (array([0, 0, 1]), array([0, 2, 2]), array([ 1, -2,  3]))
         """
-        rows, columns, values = self._read_stored(arrays is not False)
-        return rows, columns, self._to_floats(values) if scales.are_decimals(dtype) else values
+        rows, columns, values = self.session.backend.read(self.handle)[:3]
+        if arrays is False:
+            rows, columns, values = rows.tolist(), columns.tolist(), values.tolist()
+        if dtype is not None and scales.are_decimals(dtype):
+            values = self._to_floats(values)
+        return rows, columns, values
 
     def to_coo(self, *, arrays: Optional[bool] = None, dtype: DType = None) -> Tuple[Any, Any, Any]:
         """Rows, columns (from 0) and values, by ascending row and column.
@@ -2428,7 +2460,7 @@ class Matrix(Signs, metaclass=MatrixType):
         >>> A.to_triples()
         [(0, 0, 1), (0, 2, -2), (1, 2, 3)]
         """
-        return list(zip(*self._read_stored(False)))
+        return list(zip(*self.entries(arrays=False)))
 
     def to_dict(self) -> Dict[Tuple[int, int], int]:
         """{(row, column): value} of each entry.
@@ -2453,7 +2485,7 @@ class Matrix(Signs, metaclass=MatrixType):
         >>> A.to_dict()
         {(0, 0): 1, (0, 2): -2, (1, 2): 3}
         """
-        rows, columns, values = self._read_stored(False)
+        rows, columns, values = self.entries(arrays=False)
         return dict(zip(zip(rows, columns), values))
 
     def to_dicts(self, order: str = 'rowwise') -> Dict[int, Dict[int, int]]:
@@ -2490,7 +2522,7 @@ class Matrix(Signs, metaclass=MatrixType):
         >>> A.to_dicts()
         {0: {0: 1, 2: -2}, 1: {2: 3}}
         """
-        return coo.to_dicts(self._read_stored(True), order)
+        return to_dicts(self.entries(), order)
 
     def to_csr(self) -> Tuple[Any, Any, Any]:
         """Compressed rows.
@@ -2519,7 +2551,7 @@ class Matrix(Signs, metaclass=MatrixType):
         >>> indptr.tolist(), columns.tolist(), values.tolist()
         ([0, 2, 3], [0, 2, 2], [1, -2, 3])
         """
-        return coo.to_compressed(self.entries(), self.nrows)
+        return to_compressed(self.entries(), self.nrows)
 
     def to_csc(self) -> Tuple[Any, Any, Any]:
         """Compressed columns.
@@ -2548,7 +2580,7 @@ class Matrix(Signs, metaclass=MatrixType):
         >>> indptr.tolist(), rows.tolist(), values.tolist()
         ([0, 1, 1, 3], [0, 0, 1], [1, -2, 3])
         """
-        return coo.to_compressed(coo.by_columns(self.entries()), self.ncols)
+        return to_compressed(by_columns(self.entries()), self.ncols)
 
     def to_list(self, missing: object = None, dtype: DType = None) -> List[Any]:
         """The values of a column or a row.
@@ -2604,7 +2636,7 @@ class Matrix(Signs, metaclass=MatrixType):
         """An array of numpy of this shape.
 
         One column is an array of shape (n, 1), which refuses to become n x n beside one of shape
-        (n,); a `Vector` gives the latter.
+        (n,). A `Vector` gives the latter.
 
         Parameters
         ----------
@@ -2731,8 +2763,8 @@ class Matrix(Signs, metaclass=MatrixType):
         ----------
         raw : bool, default False
             Whether values are the stored whole numbers. Else they are what stored numbers stand
-            for: floats where there is a unit, and the names of vertices where values are vertices,
-            as those of parents and of components are.
+            for. With a unit these are floats. Where values are vertices, as those of parents and
+            components are, they are the names.
 
         Returns
         -------
@@ -2836,7 +2868,7 @@ class Matrix(Signs, metaclass=MatrixType):
         >>> G.to_edgelist()
         [('Ann', 'Bob', 5), ('Bob', 'Cid', 7)]
         """
-        rows, columns, values = self._read_stored(False)
+        rows, columns, values = self.entries(arrays=False)
         first, second = self.notes.rows, self.notes.columns
         return list(zip(rows if first is None else map(first.__getitem__, rows),
                         columns if second is None else map(second.__getitem__, columns),
@@ -2871,7 +2903,7 @@ class Matrix(Signs, metaclass=MatrixType):
         Notes
         -----
         Of many entries the session finds those from a threshold on, by some 50 small jobs, and
-        these come to the client; all come where the budget has too little left. In pandas
+        these come to the client. Where the budget has too little left, all come. In pandas
         `nlargest`.
 
         Examples
@@ -2963,7 +2995,7 @@ class Matrix(Signs, metaclass=MatrixType):
         graph = (networkx.Graph() if (self.directed if directed is None else directed) is False
                  else networkx.DiGraph())
         graph.add_nodes_from(labels)
-        rows, columns, values = self._read_stored(False)
+        rows, columns, values = self.entries(arrays=False)
         named = ((labels[i], labels[j], value)
                  for i, j, value in zip(rows, columns, self._show_values(values, raw)))
         is_plain = weight is None or self.notes.weighted is False
@@ -2979,7 +3011,7 @@ class Matrix(Signs, metaclass=MatrixType):
         """The names, or the numbers, of the entries of a column or a row, and their stored
         values."""
         self._vector_length('a column or a row')
-        rows, columns, values = self._read_stored(False)
+        rows, columns, values = self.entries(arrays=False)
         axis = along(self.shape, self.notes)
         at, names = (rows, columns)[axis], self.notes.names(axis)
         return (at if names is None else map(names.__getitem__, at)), values
@@ -2996,7 +3028,7 @@ class Matrix(Signs, metaclass=MatrixType):
 
     def _vector_length(self, wanted: str) -> int:
         """The length of a column or a row."""
-        if 1 not in self.shape:
+        if 1 not in (self.nrows, self.ncols):
             raise refusal('J5', detail='expected %s, got %dx%d: to_triples(), to_edgelist() and '
                           'to_dense() take any matrix' % (wanted, *self.shape))
         return self.nrows if self.ncols == 1 else self.ncols
@@ -3040,9 +3072,9 @@ class Matrix(Signs, metaclass=MatrixType):
         Warns
         -----
         UserWarning
-            Of names that come back as others, such as tuples, or '1', which `nodetype=str` reads as
-            text; and of vertices without an edge, which a list doesn't name: `save` keeps them, and
-            `read_graph(.., nodelist=G.nodes)` has them again.
+            If names come back as others, such as tuples, or '1', which `nodetype=str` reads as
+            text. Also if vertices have no edge, since a list doesn't name them. `save` keeps them,
+            and `read_graph(.., nodelist=G.nodes)` has them again.
 
         See Also
         --------
@@ -3391,6 +3423,9 @@ class Matrix(Signs, metaclass=MatrixType):
             target.write(piece)
 
 
+Backend.matrix_type = Matrix
+
+
 @functools.lru_cache(maxsize=None)
 def vector_type(kind: Type[Matrix]) -> Type[Matrix]:
     """The class of vectors that are matrices of a class."""
@@ -3403,38 +3438,73 @@ def make_matrix(session: 'Session', handle: Handle, notes: Metadata, is_vector: 
                 name: Optional[str] = None) -> Matrix:
     """The matrix that callers have of a handle, of the class that its backend wants. `notes` say
     what is known of it beside."""
-    made = (session.backend.matrix_type or Matrix)(session, handle, name)
+    made: Matrix = session.backend.matrix_type(session, handle, name)
     if is_vector:
         made.__class__ = vector_type(type(made))
     made.notes = notes
     return made
 
 
-def _check_counts_rows(op: str, first: Metadata) -> None:
-    """ValueError where a built-in operator counts rows or columns that have other numbers for
-    names."""
-    axis = COUNTING.get(op)
-    names = None if axis is None else first.names(axis)
-    if names is not None and names.numbered and not names.are_counted:
-        what = 'columns' if axis else 'rows'
-        raise ValueError(
-            '"%s" counts %s from 0, and here %s have numbers for names, such as %r: write A[%s] '
-            'with a list of names, or A.select(spmat.indexunary.%s, ..) to count them all the '
-            'same' % (op, what, what, names[0], ':, names' if axis else 'names, :', op))
+def _check_digits(stored: Matrix, less: int, before: int, wanted: int) -> None:
+    """ValueError where a stored value is no multiple of a divisor."""
+    left = stored.apply('cmod', right=less).select('nonzero')
+    if left.nvals:
+        some = stored.dup(mask=left.S).reduce_scalar('any', raw=True)
+        how = 'cuts them down' if isinstance(wanted, scales.TimeUnit) else 'rounds them'
+        raise ValueError('%d of %d values would lose digits as %s, such as %s: exact=False %s' % (
+            left.nvals, stored.nvals, scales.describe_unit(wanted), scales.to_text(some, before),
+            how))
 
 
-def _warn_of_positions(op: Op, first: Metadata) -> None:
-    """Warns where a function gets rows and columns by number, and these have other numbers for
-    names."""
-    if isinstance(op, (str, Operator)) or kind_of_function(op) != 'index':
-        return
-    for axis in BOTH:
+def _check_fits(stored: Matrix, factor: Fraction, wanted: int) -> None:
+    """ValueError where a stored value times a factor is beyond 64 bits."""
+    ends = (('valuelt', math.ceil(coo.LEAST / factor)), ('valuegt', math.floor(coo.MOST / factor)))
+    # both wait, so that one run makes them
+    outside = [stored.select(op, end) for op, end in ends if coo.LEAST < end < coo.MOST]
+    many = sum(part.nvals for part in outside)
+    if many:
+        raise ValueError('%d of %d values are beyond 64 bits in %s: a coarser unit holds them'
+                         % (many, stored.nvals, scales.describe_unit(wanted)))
+
+
+def _rounding(more: int, less: int) -> Operator:
+    """x times more / less, rounded to the nearest, halves to the even one. ValueError where this
+    takes more than 64 bits."""
+    if more * less >= 1 << 62:
+        raise ValueError('a factor of %d/%d can not be rounded in 64 bits: rescale in two steps'
+                         % (more, less))
+
+    def nearest(x: int) -> int:
+        whole = x // less
+        over = (x - whole * less) * more
+        found = whole * more + over // less
+        rest = (over - over // less * less) * 2
+        return found + ((rest > less) | ((rest == less) & (found & 1)))
+    return unary(nearest, name='rescale')
+
+
+def _check_positions(op: Op, first: Metadata, counting: Mapping[str, int]) -> None:
+    """Looks at an operator that gets rows and columns by number, where these have other numbers for
+    names: ValueError for a built-in one that counts them, and a warning for a function."""
+    axes: Sequence[int] = ()
+    if isinstance(op, str):
+        axes = [counting[op]] if op in counting else []
+    elif not isinstance(op, Operator) and kind_of_function(op) == 'index':
+        axes = BOTH
+    for axis in axes:
         names = first.names(axis)
-        if names is not None and names.numbered and not names.are_counted:
-            warn_user('a function gets rows and columns by position, from 0, and here they have '
-                      'numbers for names, such as %r: write A[names, :], or spmat.indexunary(f), '
-                      'which says that positions are meant' % (names[0],), UserWarning)
-            return
+        if names is None or names.are_counted or not names.numbered:
+            continue
+        if isinstance(op, str):
+            raise ValueError(
+                '"{0}" counts {1}s from 0, and here {1}s have numbers for names, such as {2!r}: '
+                'write A[{3}] with a list of names, or A.select(spmat.indexunary.{0}, ..) to count '
+                'them all the same'.format(op, WHAT[axis], names[0],
+                                           ':, names' if axis else 'names, :'))
+        warn_user('a function gets rows and columns by position, from 0, and here they have '
+                  'numbers for names, such as %r: write A[names, :], or spmat.indexunary(f), '
+                  'which says that positions are meant' % (names[0],), UserWarning)
+        return
 
 
 def _check_both_ways(rows: Sequence[int], columns: Sequence[int], values: Sequence[int],
@@ -3451,7 +3521,7 @@ def _check_both_ways(rows: Sequence[int], columns: Sequence[int], values: Sequen
                     labels[i], labels[j], value, other))
 
 
-def _pair_names(first: MatrixBase, second: MatrixBase, axis: int) -> Axis:
+def _pair_names(first: Matrix, second: Matrix, axis: int) -> Axis:
     """Names of pairs of vertices, where both have names."""
     one, other = first.notes.axis(axis), second.notes.axis(axis)
     if one.names is None and other.names is None:

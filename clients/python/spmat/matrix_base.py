@@ -1,20 +1,25 @@
 """What every matrix is, for modules that take matrices and that `matrix` itself is made of."""
 from __future__ import annotations
 
-from typing import TYPE_CHECKING, Any, Dict, Tuple, TypeVar
+from typing import Any, Dict, Protocol, Tuple, TypeVar
 
+from .backends.protocol import Backend, Handle
 from .metadata import ALIKE, NOTHING, Metadata
 
-if TYPE_CHECKING:
-    from .backends.protocol import Handle
-    from .session import Session
+
+class BackedSession(Protocol):
+    """What matrices ask of their session."""
+
+    @property
+    def backend(self) -> Backend:
+        """What takes their jobs."""
 
 
 class MatrixBase:
     """Two sizes, entries that a session holds, and what is known of them beside."""
 
-    session: 'Session'
-    handle: 'Handle'
+    session: BackedSession
+    handle: Handle
     nrows: int
     ncols: int
     kept: Dict[str, Any]
@@ -69,7 +74,10 @@ def is_same(first: 'MatrixBase', second: 'MatrixBase') -> bool:
     return first.kept is second.kept
 
 
-def common_session(first: 'Session', second: 'Session') -> 'Session':
+S = TypeVar('S', bound=BackedSession)
+
+
+def common_session(first: S, second: S) -> S:
     """Find the session whose backend takes a job on matrices of both.
 
     Parameters

@@ -167,12 +167,7 @@ def place_of(names: Nodes, node: Vertex) -> Optional[int]:
         place = names.at(node)
     except KeyError:
         return None
-    return place if _is_alike(names[place], node) else None
-
-
-def _is_alike(name: Vertex, node: Vertex) -> bool:
-    """Whether two equal things are both truth values, or neither is."""
-    return isinstance(name, TRUTHS) == isinstance(node, TRUTHS)
+    return place if isinstance(names[place], TRUTHS) == isinstance(node, TRUTHS) else None
 
 
 def check_names(names: Nodes) -> None:

@@ -15,7 +15,6 @@ from .limits import MOST_PRICE, MOST_SIDE
 from .operators import indexunary
 
 if TYPE_CHECKING:
-    from .matrix_base import MatrixBase
     from .matrix import Matrix
 
 

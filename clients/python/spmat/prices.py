@@ -49,7 +49,7 @@ class Estimate:
         """The handle of a job's result. Whether the server refuses a job that may be too large is
         only known when it is queued."""
         for handle in job.operands if job.mask is None else (*job.operands, job.mask):
-            if handle.lost is not None:
+            if handle.lost is not None and not isinstance(handle, ForeseenHandle):
                 handle.check_made()
         length = sum(map(backend.length_of, job.operators))
         most = most_of(job, length)
@@ -88,6 +88,7 @@ class ForeseenHandle(Handle):
     is known."""
 
     waits = False                                  # for a run: none would make it
+    lost = NotMade('this matrix was never made: spmat.price only foresaw its job')
 
     def __init__(self, backend: Backend, job: Job, most: Most) -> None:
         super().__init__(backend, job.shape, None, most.entries)
@@ -96,7 +97,7 @@ class ForeseenHandle(Handle):
 
     def check_made(self) -> None:
         stop_estimate()
-        raise NotMade('this matrix was never made: spmat.price only foresaw its job')
+        raise NotMade(*self.lost.args)
 
 
 def _find_source(job: Job) -> Optional[Handle]:

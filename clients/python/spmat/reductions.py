@@ -3,7 +3,7 @@ Their names are python-graphblas'."""
 from __future__ import annotations
 
 from fractions import Fraction
-from typing import TYPE_CHECKING, Any, Callable, Dict, NamedTuple, NoReturn, Optional
+from typing import TYPE_CHECKING, Any, Callable, Dict, NoReturn, Optional, Tuple
 
 from . import scale as scales
 from .io.coo import MOST
@@ -18,16 +18,6 @@ if TYPE_CHECKING:
 HALF = 32                                          # bits of a half of a number
 # parts of a mean's unit, or fewer where means are so large that these don't fit
 FINEST = 10 ** 6
-
-# Folds by a built-in operator, of the values or of what an operator makes of them.
-OPERATORS: Dict[str, str] = {'sum': 'plus', 'prod': 'times', 'last': 'second', 'any_value': 'any'}
-
-
-class Fold(NamedTuple):
-    """How the rows (with an axis of 0 the columns) of a matrix are folded: what is made of the
-    matrix, by which operator."""
-    of: Callable[[Any, int], Any]
-    op: str
 
 
 def _index(axis: int) -> str:
@@ -45,22 +35,26 @@ def _extremes(op: str) -> Callable[[Any, int], Any]:
     return found
 
 
-FOLDS: Dict[str, Fold] = {
-    'count': Fold(lambda A, axis: A.apply('one'), 'plus'),
-    'count_nonzero': Fold(lambda A, axis: A.apply('nonzero'), 'plus'),
-    'count_zero': Fold(lambda A, axis: A.apply('lnot'), 'plus'),
-    'exists': Fold(lambda A, axis: A.apply('one'), 'any'),
-    'all': Fold(lambda A, axis: A.apply('nonzero'), 'land'),
-    'sum_of_squares': Fold(lambda A, axis: A.ewise_mult(A, 'times'), 'plus'),
-    'first_index': Fold(lambda A, axis: A.apply(_index(axis)), 'first'),
-    'last_index': Fold(lambda A, axis: A.apply(_index(axis)), 'second'),
-    'argmin': Fold(_extremes('min'), 'first'),
-    'argmax': Fold(_extremes('max'), 'first')}
+# what is made of a matrix to fold its rows (with an axis of 0 its columns), and by which operator
+FOLDS: Dict[str, Tuple[Callable[[Any, int], Any], str]] = {
+    'sum': (lambda A, axis: A, 'plus'),
+    'prod': (lambda A, axis: A, 'times'),
+    'last': (lambda A, axis: A, 'second'),
+    'any_value': (lambda A, axis: A, 'any'),
+    'count': (lambda A, axis: A.apply('one'), 'plus'),
+    'count_nonzero': (lambda A, axis: A.apply('nonzero'), 'plus'),
+    'count_zero': (lambda A, axis: A.apply('lnot'), 'plus'),
+    'exists': (lambda A, axis: A.apply('one'), 'any'),
+    'all': (lambda A, axis: A.apply('nonzero'), 'land'),
+    'sum_of_squares': (lambda A, axis: A.ewise_mult(A, 'times'), 'plus'),
+    'first_index': (lambda A, axis: A.apply(_index(axis)), 'first'),
+    'last_index': (lambda A, axis: A.apply(_index(axis)), 'second'),
+    'argmin': (_extremes('min'), 'first'),
+    'argmax': (_extremes('max'), 'first')}
 # whose results are places of columns, or of rows
 INDEXES = ('argmin', 'argmax', 'first_index', 'last_index')
-NAMES = frozenset((*OPERATORS, *FOLDS, 'mean', 'peak_to_peak'))
-
-
+NAMES = frozenset((*FOLDS, 'mean', 'peak_to_peak'))
+# what pandas has
 STATISTICS = {'median': 'median', 'var': 'var', 'variance': 'var', 'std': 'std', 'stdev': 'std',
               'stddev': 'std', 'std_dev': 'std',
               'quantile': 'quantile', 'nunique': 'nunique', 'count_distinct': 'nunique'}
@@ -104,10 +98,9 @@ def aggregate(matrix: 'Matrix', op: str, axis: int, mask: MaskLike, name: Option
     """The column of an aggregator's results by rows (with an axis of 0 the row of those by
     columns)."""
     where = as_mask(mask)
-    if op in OPERATORS:
-        return fold_axis(matrix, OPERATORS[op], axis, where, name)
     if op in FOLDS:
-        made = fold_axis(FOLDS[op].of(matrix, axis), FOLDS[op].op, axis, where, name)
+        of, fold = FOLDS[op]
+        made = fold_axis(of(matrix, axis), fold, axis, where, name)
         along = matrix.notes.axis(axis)
         if op in INDEXES and along.names is not None:
             # a place is shown by the name that stands there
@@ -174,7 +167,6 @@ def aggregate_all(matrix: 'Matrix', op: str, raw: bool) -> Any:
         most, least = (matrix.reduce_scalar(end, raw=True) for end in ('max', 'min'))
         return (None if most is None or least is None
                 else scales.to_decimal(most - least, 1 if raw else matrix.unit))
-    found, fold = ((matrix, OPERATORS[op]) if op in OPERATORS
-                   else (FOLDS[op].of(matrix, 1), FOLDS[op].op))
-    value = found.reduce_scalar(fold, raw=raw)
+    of, fold = FOLDS[op]
+    value = of(matrix, 1).reduce_scalar(fold, raw=raw)
     return value or 0 if op.startswith('count') else value

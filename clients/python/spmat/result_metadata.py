@@ -52,11 +52,6 @@ class Rule(NamedTuple):
     fold: Optional[int]
     pairs: Pairs = ()
 
-    @property
-    def copies(self) -> bool:
-        """Whether a value that stands alone is copied, and so is of the unit that results have."""
-        return self.term is not None and self.term == self.fold
-
 
 RULES: Dict[str, Rule] = {
     'select': Rule(None, None),
@@ -143,7 +138,7 @@ def _with_names(form: str, first: Metadata, second: Optional[Metadata]) -> Metad
 def _unit_of(rule: Rule, operators: Sequence[Operator], first: int, second: int) -> int:
     if first == 1 and second == 1:
         return 1
-    if rule.copies:
+    if rule.term is not None and rule.term == rule.fold:           # what stands alone is copied
         met = scales.common(operators[0], first, second)
         return (scales.of_fold(operators[0], met) if first == second else
                 scales.of_both(operators[0], first, second))
@@ -171,7 +166,7 @@ def _elementwise(first: Metadata, second: Metadata, pairs: Pairs) -> Metadata:
 
 # -- the forms of one operand, which keep entries where they are
 
-def of_applied(first: Metadata, op: Operator, alike: bool, unit: int) -> Metadata:
+def of_applied(first: Metadata, op: Operator, unit: int, alike: bool) -> Metadata:
     """What is known of the result of `apply`, whose unit is given; `alike` says that the operator
     doesn't look at rows and columns."""
     if (first.directed is None and first.weighted is None and not first.source

@@ -17,32 +17,35 @@ import functools
 import math
 import operator
 from fractions import Fraction
-from typing import Any, Callable, Dict, FrozenSet, List, NoReturn, Optional, Tuple, Union
+from typing import Any, Callable, Dict, List, NoReturn, Optional, Tuple, Union
 
 import numpy
 
 from .errors import UnitsDiffer, about, warn_user
 from .io.coo import LEAST, MOST, shown
 from .io.matrix_text import is_array
-from .io.values import LONG_UNITS, UNITS, nanoseconds
+from .io.values import LONG_UNITS, UNITS, read_moment
 from .metadata import VertexUnit, abbreviate_names, names_differ, place_of, suggest_names
 from .operators import READY, Op, Operator, find
 from .types import Array, DType, Exact
 
 EXACT = 1 << 53                                    # floats hold every whole number below it
-# both values have one scale, and so has the result; or it is a number that says how they compare
-MEET, COMPARE = 'meet', 'compare'
+# both values have one scale, and so has the result, which may be one of them; or it is a number
+# that says which is greater, or whether they are the same
+MEET, CHOOSE, ORDER, EQUAL = 'meet', 'choose', 'order', 'equal'
+COMPARE = (ORDER, EQUAL)
 FIRST, SECOND, TIMES, OVER, UNDER = 'first', 'second', 'times', 'over', 'under'
-KEEP, NUMBER = 'keep', 'number'
+KEEP, NUMBER, CONSTANT = 'keep', 'number', 'constant'
 # the number beside is a row, a column or a distance of these
 PLACE = 'place'
 _KINDS: Dict[str, Dict[str, str]] = {
-    'binary': {MEET: 'plus minus rminus min max any absdiff cmod',
-               COMPARE: 'eq ne lt le gt ge iseq isne', FIRST: 'first', SECOND: 'second',
+    'binary': {MEET: 'plus minus rminus absdiff cmod', CHOOSE: 'min max any',
+               ORDER: 'lt le gt ge', EQUAL: 'eq ne iseq isne', FIRST: 'first', SECOND: 'second',
                TIMES: 'times', OVER: 'floordiv cdiv', UNDER: 'rdiv',
-               NUMBER: 'pair oneb zero land lor lxor lxnor'},
-    'unary': {KEEP: 'identity abs ainv', UNDER: 'minv', NUMBER: 'one zero lnot sgn nonzero'},
-    'index': {COMPARE: 'valueeq valuene valuelt valuele valuegt valuege', KEEP: 'nonzero',
+               CONSTANT: 'pair oneb zero', NUMBER: 'land lor lxor lxnor'},
+    'unary': {KEEP: 'identity abs ainv', UNDER: 'minv', CONSTANT: 'one zero',
+              NUMBER: 'lnot sgn nonzero'},
+    'index': {ORDER: 'valuelt valuele valuegt valuege', EQUAL: 'valueeq valuene', KEEP: 'nonzero',
               PLACE: 'thunk diag offdiag tril triu rowle rowgt colle colgt rowindex colindex '
               'diagindex'}}
 
@@ -150,7 +153,8 @@ def exact_in(number: object, unit: int) -> Fraction:
             raise ValueError('%r has no length that is always the same, or one finer than '
                              'nanoseconds: write it in days, or in a shorter unit' % (number,))
         return Fraction(int(number.astype('int64')) * step * LONG_UNITS[name], unit.size)
-    return Fraction(nanoseconds(number) or 0, unit.size)
+    moment = read_moment(number)
+    return Fraction(0 if moment is None else moment.nanoseconds, unit.size)
 
 
 def to_stored(number: object, unit: int, what: str) -> int:
@@ -297,11 +301,6 @@ def meaning_of(op: Operator) -> Optional[str]:
     return _meanings(op.kind).get(op)
 
 
-@functools.lru_cache(maxsize=None)
-def _named(kind: str, names: str) -> FrozenSet[Operator]:
-    return frozenset(READY[kind][name] for name in names.split())
-
-
 def name_of(op: Union[Operator, str]) -> str:
     return op if isinstance(op, str) else op.name or 'an operator'
 
@@ -331,13 +330,13 @@ def of_both(op: Operator, first: int, second: int) -> int:
             return met if chooses(op) else 1
         return of_vertex(op)
     are_times = isinstance(first, TimeUnit) and isinstance(second, TimeUnit)
-    if meaning in (MEET, COMPARE) or meaning is not None and are_times:
+    if meaning in (MEET, CHOOSE, *COMPARE) or meaning is not None and are_times:
         met = common(op, first, second)
         if are_times and op == READY['binary'].plus:
             raise UnitsDiffer('a sum of times is no time: "min" and "max" have the first and the '
                               'last; B = A.dup(); B.unit = 1 adds up the stored numbers, as of '
                               'lengths of time')
-        return met if meaning == MEET and (not are_times or chooses(op)) else 1
+        return met if meaning == CHOOSE or meaning == MEET and not are_times else 1
     if meaning == TIMES:
         return _of_product(op, first, second)
     if meaning in (OVER, UNDER):
@@ -361,7 +360,7 @@ def of_fold(op: Operator, unit: int) -> int:
     """The scale of a fold, which copies what stands alone. UnitsDiffer where what it makes of two
     values has another one."""
     meaning = meaning_of(op)
-    if unit == 1 or meaning in (MEET, FIRST, SECOND) or isinstance(unit, VertexUnit):
+    if unit == 1 or meaning == MEET or chooses(op) or isinstance(unit, VertexUnit):
         return of_both(op, unit, unit)
     if meaning is None or isinstance(unit, TimeUnit):
         return 1
@@ -405,19 +404,18 @@ def refuse(op: Union[Operator, str], first: int, second: int) -> NoReturn:
 
 def chooses(op: Operator) -> bool:
     """Whether an operator's answer is one of both values, so that of vertices it is a vertex."""
-    return op in _named('binary', 'any first second max min')
+    return meaning_of(op) in (CHOOSE, FIRST, SECOND)
 
 
 def tells_apart(op: Operator) -> bool:
     """Whether an operator says whether two values are the same, which vertices can be."""
-    return op in _named('index', 'valueeq valuene') or op in _named('binary', 'eq ne iseq isne')
+    return meaning_of(op) == EQUAL
 
 
 def of_vertex(op: Operator) -> int:
     """The scale of an operator's answer for a vertex, which is a number: an operator of the
     caller's own gets places. UnitsDiffer for built-in ones that look at values."""
-    if (meaning_of(op) == PLACE or op in _named('unary', 'one zero')
-            or op in _named('binary', 'pair oneb zero')):
+    if meaning_of(op) in (PLACE, CONSTANT):
         return 1
     if meaning_of(op) is not None or op.name in READY[op.kind]:
         refuse_vertices('"%s" of vertices is no vertex, nor a number' % name_of(op))

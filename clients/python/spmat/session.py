@@ -39,9 +39,9 @@ class Session(SessionSources):
         The words that start the program. Without them the variable SPMAT says it, then the program
         that the package carries is taken, then `spmat` on the PATH.
     progress : callable, optional
-        `progress(what, done, of)` is called in long work: what is 'reading' (bytes of a file),
-        'names' (its edges), 'sent' or 'received' (bytes of one matrix text) or 'jobs' (0 of n as a
-        run begins, n of n as it ends). What it raises amid a command ends the session.
+        `progress(what, done, of)` is called in long work. `what` is 'reading' (bytes of a file),
+        'names' (its edges), 'sent' or 'received' (bytes of one matrix text), or 'jobs'. A run tells
+        0 of n jobs as it begins, n of n as it ends. What it raises amid a command ends the session.
 
     Attributes
     ----------
@@ -54,10 +54,10 @@ class Session(SessionSources):
     -----
     Methods of matrices queue jobs; what needs a result runs the queue first. Threads take turns:
     while one thread waits for a reply, others wait for it. Ctrl-C while a reply is awaited leaves
-    the session as it is: the command goes on, and what comes next waits for its end; `close` ends
+    the session as it is: the command goes on, and what comes next waits for its end. `close` ends
     it at once, with the process that was started. Where a command isn't sent whole yet, Ctrl-C
-    comes when it is, and a second one ends the session, with all that it held (`connection.ended`
-    says so). A session belongs to the process that opened it, and can't be pickled; operators can.
+    comes when it is. A second one ends the session, with all that it held (`connection.ended` says
+    so). A session belongs to the process that opened it, and can't be pickled; operators can.
     """
 
     _backend_type: Type[ServerBackend] = ServerBackend
@@ -455,9 +455,9 @@ class Session(SessionSources):
         Returns
         -------
         list of str
-            A line for each instruction: its slot, and for R0 to R10 `u` (unset on some path), `n`
-            (a number), `p` with a distance (a place in the stack), or `m` (set differently). Where
-            no path leads to it, the line is its slot and `-`.
+            A line for each instruction: its slot, and a letter for each of R0 to R10. `u` is unset
+            on some path, `n` a number, `p` with a distance a place in the stack, `m` set
+            differently. Where no path leads to it, the line is its slot and `-`.
 
         Raises
         ------
@@ -493,9 +493,9 @@ class Session(SessionSources):
         Returns
         -------
         Check
-            Whether it is `accepted`; in `rows` the instructions with what R0 to R10 hold before
-            each; and where it is refused the `refusal`, with the rows up to there. Printed, it is a
-            table. It is true where the operator is accepted.
+            `accepted` says whether it is. `rows` has the instructions with what R0 to R10 hold
+            before each. Where it is refused, `refusal` says why, and the rows go up to there.
+            Printed, it is a table. It is true where the operator is accepted.
 
         See Also
         --------
@@ -535,9 +535,9 @@ class Session(SessionSources):
         Returns
         -------
         Run
-            A list of the jobs that were settled, in order. Each says the `matrix` of its result
-            (None where nobody holds it any more), its `form`, its `price` (the most steps that it
-            could have taken) and the `steps` that it took.
+            A list of the jobs that were settled, in order. Each has the `matrix` of its result, or
+            None where nobody holds it any more, and its `form`. It has its `price`, the most steps
+            that it could have taken, and the `steps` that it took.
 
         Raises
         ------

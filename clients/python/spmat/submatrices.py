@@ -9,22 +9,30 @@ from __future__ import annotations
 import functools
 import itertools
 from collections import Counter
+from fractions import Fraction
 from typing import TYPE_CHECKING, Any, List, Optional, Sequence, Tuple, Union
 
 import numpy
 
 from . import result_metadata, scale as scales
+from .backends.protocol import Job
 from .errors import refusal, warn_user
 from .indexing import WHAT, Chosen, choose_places
-from .io.coo import shown, side, whole, whole_list
+from .io.coo import shown, side, whole
 from .io.matrix_text import Triples
+from .io.values import whole_numbers
+from .job_operators import ring_of
 from .matrix_base import MatrixBase
 from .metadata import COLUMNS, NOTHING, ROWS, Axis, Nodes, Unnamed, axis_of, even, joined
+from .operators import Operator, indexunary
 
 if TYPE_CHECKING:
     from .matrix import Matrix
 
 BOTH = (ROWS, COLUMNS)
+# entries that come to the client sooner than they are counted
+FEW = 1 << 14
+SPARE = 4                                          # times as many as are asked for are few enough
 Sizes = Union[int, Sequence[int]]
 
 
@@ -48,8 +56,9 @@ def _put_ones(matrix: 'Matrix', rows: Sequence[int], columns: Sequence[int], sha
     """Ones at places that differ, beside a matrix. They go to the server with the first job that
     wants them."""
     at = numpy.array((rows, columns), numpy.int64)
-    first, second = at[:, numpy.lexsort(at[::-1])]
-    made = matrix.session.backend.keep(Triples(first, second, numpy.ones_like(first), *shape))
+    first, second = at[:, numpy.lexsort(at[::-1])] if len(rows) > 1 else at
+    ones = Triples(first, second, numpy.ones_like(first), *shape)
+    made: Matrix = matrix.session.backend.keep(ones)
     made.notes = NOTHING.with_axes(*axes)
     return made
 
@@ -62,18 +71,90 @@ def take(matrix: 'Matrix', axis: int, places: Sequence[int], name: Optional[str]
                 matrix.notes.axis(axis).part(places, one), name=name)
 
 
+def take_cells(matrix: 'Matrix', rows: Sequence[int], columns: Sequence[int]) -> 'Matrix':
+    """Some rows, in which some columns alone have entries, and stay where they are: 1 job, which
+    makes a call for each of these entries."""
+    count, names = len(rows), (matrix.notes.axis(ROWS), matrix.notes.axis(COLUMNS))
+    first = _put_ones(matrix, range(count), rows, (count, matrix.nrows), (Axis(), names[ROWS]))
+    where = _put_ones(matrix, [i for i in range(count) for _ in columns], [*columns] * count,
+                      (count, matrix.ncols), (Axis(), names[COLUMNS]))
+    return first.mxm(matrix, 'any_second', mask=where.S)
+
+
 def value_at(matrix: 'Matrix', row: int, column: int) -> Any:
-    """What the entry at a place stands for, None where it has none: 1 job."""
-    rows, columns = matrix.notes.axis(ROWS), matrix.notes.axis(COLUMNS)
-    first = _put_ones(matrix, [0], [row], (1, matrix.nrows), (Axis(), rows))
-    where = _put_ones(matrix, [0], [column], (1, matrix.ncols), (Axis(), columns))
-    return value_of(first.mxm(matrix, 'any_second', mask=where.S))
+    """What the entry at a place stands for, None where it has none: 1 job, which takes one trip
+    with the two ones that choose the place."""
+    backend, one = matrix.session.backend, numpy.ones(1, numpy.int64)
+    first, where = (backend.put(Triples(one - 1, place * one, one, 1, size))
+                    for place, size in zip((row, column), matrix.shape))
+    chosen = Job('product', ring_of('any_second'), (first, matrix.handle), (1, matrix.ncols),
+                 mask=where)
+    values = backend.read(backend.submit(chosen)).values.tolist()
+    return scales.to_decimal(values[0], matrix.unit) if values else None
 
 
 def value_of(cell: 'Matrix') -> Any:
     """What the one entry of a matrix stands for, None where it has none."""
     values = cell.entries(arrays=False)[2]
     return scales.to_decimal(values[0], cell.unit) if values else None
+
+
+# -- few entries, which the session finds: it bisects, and few come to the client
+
+def find_greatest(matrix: 'Matrix', k: int) -> 'Matrix':
+    """The k greatest entries, of equals the first, and some others: all entries from a threshold
+    on. This matrix where it has few entries.
+
+    Runs: 4, and 1 for each halving of what lies between the least and the greatest value; of
+    entries of one value 1 for each halving of the rows or columns. Steps: 8 an entry and 4 a row
+    for the ends, and 3 an entry from the last threshold on for each halving."""
+    enough = max(FEW, SPARE * k)
+    if k < 1 or matrix.nvals <= enough:
+        return matrix
+    unit = matrix.unit
+    least, most = (matrix.reduce_scalar('min', raw=True) or 0, matrix.reduce_scalar('max', raw=True)
+                   or 0)
+    above = matrix                                 # all entries from `least` on: more than enough
+    while least < most:
+        middle = least + (most - least + 1) // 2
+        found = above.select('valuege', Fraction(middle) / unit)
+        if found.nvals > enough:
+            above, least = found, middle
+        elif found.nvals >= k:
+            return found
+        else:
+            most = middle - 1
+    more = above.select('valuegt', Fraction(least) / unit)
+    return more.ewise_add(find_first(above.select('valueeq', Fraction(least) / unit),
+                                      k - more.nvals), 'first')
+
+
+def find_first(matrix: 'Matrix', k: int) -> 'Matrix':
+    """The first k entries by row and column, and some others. This matrix where it has few."""
+    if matrix.nvals <= max(FEW, SPARE * k):
+        return matrix
+    rows = _bisect(matrix, k, matrix.nrows, (indexunary.rowle, indexunary.rowgt))
+    if rows[0].nvals <= max(FEW, SPARE * k):
+        return rows[0]
+    before = rows[0].select(indexunary.rowle, rows[1] - 1)
+    last = rows[0].select(indexunary.rowgt, rows[1] - 1)
+    return before.ewise_add(_bisect(last, k - before.nvals, matrix.ncols,
+                                    (indexunary.colle, indexunary.colgt))[0], 'first')
+
+
+def _bisect(matrix: 'Matrix', k: int, count: int,
+            ops: Tuple[Operator, Operator]) -> Tuple['Matrix', int]:
+    """The entries up to the first row, or column, by which there are k of them or more; and that
+    row."""
+    low, high, found = 0, count - 1, matrix
+    while low < high:
+        middle = (low + high) // 2
+        part = found.select(ops[0], middle)
+        if part.nvals >= k:
+            found, high = part, middle
+        else:
+            low = middle + 1
+    return found, high
 
 
 # -- tiles
@@ -93,8 +174,8 @@ def concat(tiles: Sequence[Sequence[Any]], *, name: Optional[str] = None) -> 'Ma
     Returns
     -------
     Matrix
-        A matrix with the names of its tiles, where all have some that differ; else without names on
-        that side, of which a UserWarning tells where some had a list of them.
+        A matrix with the names of its tiles, where all have some that differ. Else it has no names
+        on that side, and a UserWarning says so where some had a list of them.
 
     Raises
     ------
@@ -220,8 +301,8 @@ def bipartite(B: Matrix) -> Matrix:
     -------
     Matrix
         An undirected graph of `B.nrows + B.ncols` vertices: first the rows, then the columns, and
-        each entry of B as an edge both ways. Its names are those of the rows and of the columns, or
-        where some are the same, or there are none, ('row', name) and ('column', name).
+        each entry of B as an edge both ways. Its names are those of the rows and of the columns.
+        Where some are the same, or there are none, they are ('row', name) and ('column', name).
 
     Raises
     ------
@@ -286,7 +367,7 @@ def find_bounds(count: int, sizes: Optional[Sizes], axis: int) -> List[Tuple[int
         if size < 1:
             raise ValueError('a part has 1 %s or more, not %s' % (WHAT[axis], shown(size)))
         return [(first, min(first + size, count)) for first in range(0, count, size)] or [(0, 0)]
-    many = whole_list(sizes, 'size')
+    many = whole_numbers(list(sizes), what='size').tolist()
     if any(size < 0 for size in many) or sum(many) != count:
         raise ValueError('parts of %s %ss are %s together, and there are %d' % (
             ' and '.join(map(shown, many)), WHAT[axis], shown(sum(many)), count))
@@ -317,11 +398,9 @@ def fill_size(matrix: MatrixBase, size: int, other: int) -> int:
 def choose_once(matrix: 'Matrix', index: object, axis: int) -> Chosen:
     """The rows or columns that are set. ValueError where one is given twice."""
     chosen = Chosen(None) if index is None else choose_places(matrix, index, axis)
-    if chosen.places is not None and len(set(chosen.places)) < len(chosen.places):
-        twice = next(place for at, place in enumerate(chosen.places) if place in chosen.places[:at])
-        names = matrix.notes.names(axis)
-        raise ValueError('the %s %r is given twice: each is set once'
-                         % (WHAT[axis], twice if names is None else names[twice]))
+    if chosen.twice is not None:
+        raise ValueError('the %s %r is given twice: each is set once' % (
+            WHAT[axis], matrix.notes.axis(axis).listed(matrix.shape[axis])[chosen.twice]))
     return chosen
 
 

@@ -8,122 +8,109 @@ from __future__ import annotations
 import importlib
 from typing import TYPE_CHECKING, Any, Callable, Dict, Mapping, NoReturn
 
-from .matrix_base import MatrixBase
 from .operators import other_names
 
-_EXTREME = 'A.reduce_scalar("%s"), or A.reduce_rowwise("%s") for each row'
+def _by_name(sentences: Dict[str, str]) -> Dict[str, str]:
+    """What to write for each name; a sentence may repeat it, as {}."""
+    return {name: words.replace('{}', name) for words, names in sentences.items()
+            for name in names.split()}
 
-# of numpy, scipy, pandas and networkx
-MATRIX: Dict[str, str] = {
-    **{name: _EXTREME % (name, name) for name in ('max', 'mean', 'min')},
-    'add': 'A.ewise_add(B)',
-    'build': 's.from_coo(rows, columns, values), as nothing changes a matrix',
-    'clear': 's.from_triples([], nrows, ncols), as nothing changes a matrix',
-    'columns': 'A.column_nodes',
-    'count': 'A.nvals, or A.reduce_rowwise("count") for each row',
-    'density': 'A.nvals / (A.nrows * A.ncols)',
-    'drop': 'A[names, names] with the names that are kept, or A.select("!=", 3)',
-    'dropna': 'A: what is missing has no entry',
-    'fillna': 'A.to_frame(fill=0), or A.to_list(0) of a column',
-    'groupby': 'A.reduce_rowwise("plus") for each row, or A.to_pandas_edgelist().groupby("source")',
-    'iloc': 'A.to_frame().iloc[..], or A[rows, columns]',
-    'isin': 'A.select(f) with a function f, or names in A.nodes',
-    'iterrows': 'for row, column, value in A.to_edgelist()',
-    'itertuples': 'for row, column, value in A.to_edgelist()',
-    'loc': 'A["a", "b"], A["a", :], A[:, names] by names; A.to_frame().loc[..]',
-    'merge': 'A.mxm(B) to join edges, A.ewise_mult(B) for those in both, or '
-    'A.to_pandas_edgelist().merge(..)',
-    'nlargest': 'A.top(3)',
-    'nsmallest': 'A.apply("ainv").top(3)',
-    'removeElement': 'A.without(B), as nothing changes a matrix',
-    'rename': 'A.nodes = names, in the order of A.nodes',
-    'remove_nodes_from': 'A[names, names] with the names that are kept',
-    'remove_node': 'A[names, names] with the names that are kept',
-    'setElement': 'A.assign(3, [i], [j]), as nothing changes a matrix',
-    'sort_values': 'A.top(A.nvals)',
-    'std': 'A.describe()["std"]',
-    'tail': 'A.to_pandas().tail()',
-    'value_counts': 'A.to_pandas_edgelist()["weight"].value_counts()',
-    'argmax': 'A.reduce_rowwise("argmax")',
-    'argmin': 'A.reduce_rowwise("argmin")',
-    'astype': 'A.to_dense(float) for an array of other numbers',
-    'copy': 'A.dup()',
-    'degree': 'spmat.algorithms.degrees(A)',
-    'diagonal': 'A.diag()',
-    'dot': 'A.mxm(B) for a matrix, A.mxv(v) for a column',
-    'edges': 'A.to_edgelist()',
-    'filter': 'A.select(">", 3)',
-    'has_edge': 'A.get(u, v) is not None',
-    'map': 'A.apply(f)',
-    'matmul': 'A.mxm(B)',
-    'multiply': 'A.ewise_mult(B)',
-    'neighbors': 'A[node, :].by_node()',
-    'nnz': 'A.nvals',
-    'number_of_edges': 'A.nvals, in which an undirected edge counts twice',
-    'number_of_nodes': 'A.nrows',
-    'plot': 'spmat.draw.spy(A), or spmat.draw.graph(A)',
-    'predecessors': 'A[:, node].by_node()',
-    'size': 'A.nrows, A.ncols or A.nvals; spmat.Vector(A).size of a column or a row',
-    'subgraph': 'A[nodes, nodes]',
-    'successors': 'A[node, :].by_node()',
-    'sum': 'A.reduce_scalar(), or A.reduce_rowwise() for each row',
-    'to_numpy': 'A.to_dense()',
-    'to_undirected': 'spmat.algorithms.undirected(A)',
-    'toarray': 'A.to_dense()',
-    'tocoo': 'A.to_coo(), or A.to_scipy_sparse()',
-    'tocsr': 'A.to_csr(), or A.to_scipy_sparse()',
-    'todense': 'A.to_dense()',
-    'tolist': 'A.to_list() of a column or a row, A.to_triples() of any matrix',
-    'transpose': 'A.T',
-    'values': 'A.to_dense(), or A.entries()',
-    'vertices': 'A.nodes'}
-SESSION: Dict[str, str] = {
-    'eye': 's.identity(n)',
-    'from_array': 's.from_dense(array)',
-    'from_csv': 's.read_graph(path)',
-    'from_list': 's.from_dense(values)',
-    'from_numpy': 's.from_dense(array)',
-    'from_pandas': 's.from_pandas_edgelist(frame, source, target)',
-    'from_scipy': 's.from_scipy_sparse(M)',
-    'open': 's.read_graph(path)',
-    'read_csv': 's.read_graph(path)',
-    'vector': 's.from_dense(values), which is a column',
-    'zeros': 's.from_triples([], nrows, ncols)'}
+
+# of numpy, scipy, pandas and networkx: what to write, and for which names
+MATRIX = _by_name({
+    'A.T': 'transpose',
+    'A.ewise_add(B)': 'add',
+    'A.ewise_mult(B)': 'multiply',
+    'A.mxm(B) for a matrix, A.mxv(v) for a column': 'dot matmul',
+    'A.mxm(B) to join edges, or A.to_pandas_edgelist().merge(..)': 'merge',
+    'A.reduce_scalar("{}"), or A.reduce_rowwise("{}") for each row': 'max mean min',
+    'A.reduce_scalar(), or A.reduce_rowwise() for each row': 'sum',
+    'A.reduce_rowwise("{}")': 'argmax argmin',
+    'A.reduce_rowwise("plus") for each row, or A.to_pandas_edgelist().groupby("source")': 'groupby',
+    'A.nvals, or A.reduce_rowwise("count") for each row': 'count',
+    'A.nvals, in which an undirected edge counts twice': 'nnz number_of_edges',
+    'A.nvals / (A.nrows * A.ncols)': 'density',
+    'A.nrows, A.ncols or A.nvals; spmat.Vector(A).size of a column or a row': 'size',
+    'A.nrows': 'number_of_nodes',
+    'A.nodes': 'vertices',
+    'A.nodes = names, in the order of A.nodes': 'rename',
+    'A.column_nodes': 'columns',
+    'A.apply(f)': 'map',
+    'A.select(">", 3)': 'filter',
+    'A.select(f) with a function f, or names in A.nodes': 'isin',
+    'A.assign(3, [i], [j]), as nothing changes a matrix': 'setElement',
+    'A.without(B), as nothing changes a matrix': 'removeElement',
+    's.from_coo(rows, columns, values), as nothing changes a matrix': 'build',
+    's.from_triples([], nrows, ncols), as nothing changes a matrix': 'clear',
+    'A.dup()': 'copy',
+    'A.diag()': 'diagonal',
+    'A["a", "b"], A["a", :], A[:, names] by names; A.to_frame().loc[..]': 'loc',
+    'A.to_frame().iloc[..], or A[rows, columns]': 'iloc',
+    'A[names, names] with the names that are kept, or A.select("!=", 3)':
+    'drop remove_node remove_nodes_from',
+    'A[nodes, nodes]': 'subgraph',
+    'A[node, :].by_node()': 'neighbors successors',
+    'A[:, node].by_node()': 'predecessors',
+    'A.get(u, v) is not None': 'has_edge',
+    'A.to_edgelist()': 'edges',
+    'for row, column, value in A.to_edgelist()': 'iterrows itertuples',
+    'A: what is missing has no entry': 'dropna',
+    'A.to_frame(fill=0), or A.to_list(0) of a column': 'fillna',
+    'A.top(3)': 'nlargest',
+    'A.apply("ainv").top(3)': 'nsmallest',
+    'A.top(A.nvals)': 'sort_values',
+    'A.to_pandas().tail()': 'tail',
+    'A.describe()["std"]': 'std',
+    'A.to_pandas_edgelist()["weight"].value_counts()': 'value_counts',
+    'A.to_dense()': 'to_numpy toarray todense',
+    'A.to_dense(), or A.entries()': 'values',
+    'A.to_dense(float) for an array of other numbers': 'astype',
+    'A.to_coo(), A.to_csr(), or A.to_scipy_sparse()': 'tocoo tocsr',
+    'A.to_list() of a column or a row, A.to_triples() of any matrix': 'tolist',
+    'spmat.draw.spy(A), or spmat.draw.graph(A)': 'plot',
+    'spmat.algorithms.degrees(A)': 'degree',
+    'spmat.algorithms.undirected(A)': 'to_undirected'})
+SESSION = _by_name({
+    's.identity(n)': 'eye',
+    's.from_dense(array)': 'from_array from_numpy',
+    's.from_dense(values), which is a column': 'from_list vector',
+    's.from_pandas_edgelist(frame, source, target)': 'from_pandas',
+    's.from_scipy_sparse(M)': 'from_scipy',
+    's.read_graph(path)': 'from_csv open read_csv',
+    's.from_triples([], nrows, ncols)': 'zeros'})
 # of python-graphblas' package
-PACKAGE: Dict[str, str] = {
-    'Graph': 's.from_edgelist(edges) of a session s: a graph is a matrix',
-    'Scalar': 'numbers of Python, which are scalars here',
-    'Sessions': 'spmat_blocks.Sessions(count)',
-    'agg': 'aggregators as names, as in A.reduce_rowwise("count")',
-    'connect': 'spmat.Session.connect(host, port)',
-    'dtypes': 'nothing: all values are whole numbers of 64 bits',
-    'monoid': 'binary operators for folds, as in A.reduce_rowwise("plus")',
-    'op': 'operators as names, as in A.ewise_add(B, "plus")',
-    'replace': 'C.update(B, mask=M.S, replace=True)',
-    'ss': 'spmat.concat(tiles), A.split(sizes) and A.reshape(nrows, ncols)'}
+PACKAGE = _by_name({
+    's.from_edgelist(edges) of a session s: a graph is a matrix': 'Graph',
+    'numbers of Python, which are scalars here': 'Scalar',
+    'spmat_blocks.Sessions(count)': 'Sessions',
+    'aggregators as names, as in A.reduce_rowwise("count")': 'agg',
+    'spmat.Session.connect(host, port)': 'connect',
+    'nothing: all values are whole numbers of 64 bits': 'dtypes',
+    'binary operators for folds, as in A.reduce_rowwise("plus")': 'monoid',
+    'operators as names, as in A.ewise_add(B, "plus")': 'op',
+    'C.update(B, mask=M.S, replace=True)': 'replace',
+    'spmat.concat(tiles), A.split(sizes) and A.reshape(nrows, ncols)': 'ss'})
 # of networkx
-ALGORITHMS: Dict[str, str] = {
-    'average_clustering': 'algorithms.clustering(G).reduce_scalar("mean")',
-    'average_shortest_path_length': 'algorithms.all_pairs(G), and the mean of its lengths',
-    'bellman_ford': 'algorithms.sssp(W, source)',
-    'betweenness_centrality': 'algorithms.betweenness(G)',
-    'density': 'G.nvals / (G.nrows * (G.nrows - 1))',
-    'degree': 'algorithms.degrees(G)',
-    'closeness_centrality': 'algorithms.closeness(G)',
-    'core_number': 'algorithms.core_numbers(G)',
-    'degree_centrality': 'algorithms.degrees(G)',
-    'dijkstra': 'algorithms.sssp(W, source) for lengths, algorithms.shortest_path(W, source, '
-    'target) for a path',
-    'ego_graph': 'algorithms.k_hop(G, radius, [n])',
-    'eigenvector_centrality': 'algorithms.eigenvector(G)',
-    'floyd_warshall': 'algorithms.all_pairs(W)',
-    'louvain_communities': 'algorithms.louvain(G)',
-    'minimum_spanning_tree': 'algorithms.minimum_spanning_forest(W)',
-    'shortest_path_length': 'algorithms.sssp(W, source) by values, algorithms.bfs_levels(G, '
-    'source) by edges',
-    'topological_sort': 'algorithms.topological_levels(G)',
-    'transitivity': 'algorithms.clustering(G), which is local',
-    'weakly_connected_components': 'algorithms.connected_components(G)'}
+ALGORITHMS = _by_name({
+    'algorithms.clustering(G).reduce_scalar("mean")': 'average_clustering',
+    'algorithms.clustering(G), which is local': 'transitivity',
+    'algorithms.all_pairs(G), and the mean of its lengths': 'average_shortest_path_length',
+    'algorithms.all_pairs(W)': 'floyd_warshall',
+    'algorithms.sssp(W, source) for lengths, algorithms.shortest_path(W, source, target) for a '
+    'path': 'bellman_ford dijkstra',
+    'algorithms.sssp(W, source) by values, algorithms.bfs_levels(G, source) by edges':
+    'shortest_path_length',
+    'algorithms.betweenness(G)': 'betweenness_centrality',
+    'algorithms.closeness(G)': 'closeness_centrality',
+    'algorithms.eigenvector(G)': 'eigenvector_centrality',
+    'algorithms.degrees(G)': 'degree degree_centrality',
+    'algorithms.core_numbers(G)': 'core_number',
+    'algorithms.k_hop(G, radius, [n])': 'ego_graph',
+    'algorithms.louvain(G)': 'louvain_communities',
+    'algorithms.minimum_spanning_forest(W)': 'minimum_spanning_tree',
+    'algorithms.topological_levels(G)': 'topological_sort',
+    'algorithms.connected_components(G)': 'weakly_connected_components',
+    'G.nvals / (G.nrows * (G.nrows - 1))': 'density'})
 REFUSED = 'a %s has no %s: write %s'
 RAISES = """Raises
 ------
@@ -194,7 +181,7 @@ _is_unequal = refusing('!=', 'not A.isequal(B), A.select("valuene", 3), A.ewise_
                        'A is not B')
 
 
-class Signs(MatrixBase):
+class Signs:
     """Signs that Python knows and the protocol doesn't: each says what to write."""
 
     # -- between matrices, or a matrix and a number
@@ -241,31 +228,23 @@ class Signs(MatrixBase):
                                         'semiring')
     __add__ = __radd__ = refusing('+', 'A.ewise_add(B), or A.apply("plus", right=3) for a number')
     __sub__ = __rsub__ = refusing(
-        '-', 'A.ewise_union(B, "minus", 0, 0), A.ewise_add(B, "minus") where both have the same '
-        'entries, or A.apply("minus", right=3)')
+        '-', 'A.ewise_union(B, "minus", 0, 0), or A.apply("minus", right=3) for a number')
     __mul__ = __rmul__ = refusing(
-        '*', 'A.ewise_mult(B) entry by entry, A.mxm(B) for the product, or A.apply("times", '
-        'right=3) for a number')
+        '*', 'A.ewise_mult(B), A.mxm(B) for the product, or A.apply("times", right=3)')
     __floordiv__ = __rfloordiv__ = refusing(
         '//', 'A.ewise_mult(B, "floordiv"), or A.apply("floordiv", right=3)')
     __truediv__ = __rtruediv__ = refusing(
         '/', 'A.ewise_mult(B, "cdiv"), or A.apply("cdiv", right=3): values are whole numbers')
     __mod__ = __rmod__ = refusing(
-        '%', 'A.apply(lambda x: x % 3), A.ewise_mult(B, lambda x, y: x % y), or "cmod", which has '
-        'the sign of x')
-    __pow__ = __rpow__ = refusing(
-        '**', 'A.power(2) for the product with itself, or A.apply(lambda x: x ** 2) entry by entry')
+        '%', 'A.apply(lambda x: x % 3), or "cmod", which has the sign of x')
+    __pow__ = __rpow__ = refusing('**', 'A.power(2), or A.apply(lambda x: x ** 2) of each value')
     __divmod__ = __rdivmod__ = refusing(
         'divmod()', 'A.apply("floordiv", right=3) and A.apply(lambda x: x % 3)')
-    __and__ = __rand__ = refusing('&', 'A.ewise_mult(B, "land"), "band" for bits, or A.S & B.S for '
-                                  'masks')
-    __or__ = __ror__ = refusing('|', 'A.ewise_add(B, "lor"), "bor" for bits, or A.S | B.S for '
-                                'masks')
-    __xor__ = __rxor__ = refusing('^', 'A.ewise_add(B, "lxor"), "bxor" for bits, or A.S ^ B.S for '
-                                  'masks')
+    __and__ = __rand__ = refusing('&', 'A.ewise_mult(B, "land"), or A.S & B.S for masks')
+    __or__ = __ror__ = refusing('|', 'A.ewise_add(B, "lor"), or A.S | B.S for masks')
+    __xor__ = __rxor__ = refusing('^', 'A.ewise_add(B, "lxor"), or A.S ^ B.S for masks')
     __lshift__ = __rlshift__ = refusing(
-        '<<', 'C = A.mxm(B) for C << A.mxm(B), C.update(B, accum="plus", mask=M.S) for C(M.S, '
-        'plus) << B, or A.apply("lsh", right=3) for bits')
+        '<<', 'C = A.mxm(B), C.update(B, accum="plus", mask=M.S), or A.apply("lsh", right=3)')
     __rshift__ = __rrshift__ = refusing('>>', 'A.apply("arsh", right=3)')
     __lt__ = refusing('<', 'A.select("<", 3), or A.ewise_mult(B, "lt")')
     __le__ = refusing('<=', 'A.select("<=", 3), or A.ewise_mult(B, "le")')
@@ -276,11 +255,9 @@ class Signs(MatrixBase):
 
     __neg__ = refusing('sign -', 'A.apply("ainv")')
     __pos__ = refusing('sign +', 'A, or A.dup() for a copy')
-    __invert__ = refusing('~', '~A.S or ~A.V for a mask, A.apply("bnot") for bits, or '
-                          'A.apply("lnot") for truth')
+    __invert__ = refusing('~', '~A.S for a mask, A.apply("bnot"), or A.apply("lnot") for truth')
     __abs__ = refusing('abs()', 'A.apply("abs")')
-    __round__ = refusing('round()', 'A: values are whole numbers; A.apply(lambda x: (x + 50) // '
-                         '100 * 100) rounds to hundreds')
+    __round__ = refusing('round()', 'A: values are whole numbers')
     __len__ = refusing('len()', 'A.nrows, A.ncols, or A.nvals for the number of entries')
     __bool__ = refusing('truth value', 'A.nvals > 0 for whether it has entries, A is not None, or '
                         'A.isequal(B)')
@@ -289,8 +266,7 @@ class Signs(MatrixBase):
                             'name, or A.select("==", 3).nvals for a value')
     __setitem__ = refusing('assignment, since nothing changes one',
                            'A = A.assign(B, rows, columns), or B = A.update(C, mask=C.S)')
-    __delitem__ = refusing('del, since nothing changes one',
-                           'A.without(B) or A.select("!=", 3)')
+    __delitem__ = refusing('del, since nothing changes one', 'A.without(B) or A.select("!=", 3)')
 
     # -- other libraries
 

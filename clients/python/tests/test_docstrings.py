@@ -4,14 +4,20 @@ import doctest
 import inspect
 import os
 import re
+import sys
 import tempfile
 import unittest
 
 import spmat
 import spmat_blocks as blocks
+import support
 from spmat import algorithms, draw
 from spmat.algorithms.registry import ALGORITHMS
 from support import needs
+
+sys.path.append(support.TOP)
+
+from tools.prose import sentences                  # noqa: E402
 
 # What numpydoc looks for: sections in their order, each parameter with its type and what it means,
 # a summary of one line, and what is returned.
@@ -121,8 +127,46 @@ class Sections(unittest.TestCase):
                          '    Write A.apply("abs").')
 
 
+MOST_OF_SENTENCE = 25                              # words, as tools/check_documents has it
+HEADED = re.compile(r'[\w*]+(, [\w*]+)*( : .*)?|-{3,}')
+
+
+def prose(text):
+    """A docstring as a page has its prose: without examples, each parameter by itself."""
+    out, section = [], ''
+    lines = text.split('\n')
+    for line, below in zip(lines, lines[1:] + ['']):
+        if line and below == '-' * len(line):
+            section = line
+        is_left_out = section == 'Examples' or section and HEADED.fullmatch(line)
+        out.append('' if is_left_out or line == section else
+                   re.sub('^    ', '', line) if section else line)
+    return '\n'.join(out)
+
+
+class Sentences(unittest.TestCase):
+    def test_a_long_one_is_seen(self):
+        words = ' '.join(['word'] * 26)
+        for text in ('Sum.\n\n%s.' % words,
+                     'Sum.\n\nParameters\n----------\na : int\n    %s.' % words):
+            self.assertEqual([length for _, length in sentences(prose(text))], [1, 26])
+
+    def test_are_short(self):
+        """No sentence that users read is longer than those of the pages."""
+        read = {**public_names(), 'spmat': spmat, 'spmat.errors': spmat.errors,
+                'spmat.algorithms': algorithms, 'spmat.draw': draw, 'spmat_blocks': blocks}
+        for name, one in read.items():
+            if re.search(r'__(?!getitem)\w+__$', name):
+                continue               # a message, with what to write for a sign
+            long = [sentence for sentence, length in sentences(prose(inspect.getdoc(one) or ''))
+                    if length > MOST_OF_SENTENCE]
+            with self.subTest(name=name):
+                self.assertEqual(long, [])
+
+
 # Whose functions, methods and properties have an example each. Python's own names have none.
-WITH_EXAMPLES = re.compile(r'spmat\.(algorithms\.|draw\.|Session\.|Matrix\.|Vector\.)?[a-zA-Z]\w*$')
+WITH_EXAMPLES = re.compile(r'spmat\.((algorithms|draw|Session|Matrix|Vector|Loop|Operator)\.)?'
+                           r'[a-zA-Z]\w*$')
 OPTIONAL = ('matplotlib', 'networkx', 'pandas', 'scipy')
 
 
@@ -146,7 +190,9 @@ class Examples(unittest.TestCase):
         """Each example runs in a new Python, with nothing before it, in an empty folder."""
         runner = doctest.DocTestRunner(verbose=False)
         ran = 0
-        for name, one in public_names().items():
+        called = {'spmat.' + name: type(getattr(spmat, name)).__call__
+                  for name in ('unary', 'semiring')}
+        for name, one in {**public_names(), **called}.items():
             for test in examples_of(name, one):
                 said = []
                 runner.run(test, out=said.append)

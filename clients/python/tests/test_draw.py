@@ -15,7 +15,6 @@ import support
 import spmat
 from spmat import algorithms, draw
 from spmat.algorithms.registry import ALGORITHMS, required
-from spmat.display import pictures
 
 
 def ink(path, colour):
@@ -101,7 +100,7 @@ class Pictures(unittest.TestCase):
         vertices the path alone is drawn."""
         G = graphs.UNDIRECTED[4].matrix(self.session)
         short, long = (ink(self.drawn(draw.route, G, algorithms.shortest_path(G, 0, end)),
-                           pictures.WARM) for end in (1, 41))
+                           draw.WARM) for end in (1, 41))
         self.assertGreater(short, 0)
         self.assertGreater(long, 3 * short)
         many = self.session.from_coo(range(199), range(1, 200), range(199), 200, 200)
@@ -118,17 +117,17 @@ class Pictures(unittest.TestCase):
         """Twice the entries have twice the ink."""
         half = self.session.full(40, 40).select('tril', -1)
         whole = half.ewise_add(half.T, 'first')
-        less, more = (ink(self.drawn(draw.spy, A), pictures.INK) for A in (half, whole))
+        less, more = (ink(self.drawn(draw.spy, A), draw.INK) for A in (half, whole))
         self.assertAlmostEqual(more / less, 2, delta=.05)
         self.assertGreater(more, .3)
         self.assertEqual(ink(self.drawn(draw.spy, self.session.from_coo([], [], [], 40, 40)),
-                             pictures.INK), 0)
+                             draw.INK), 0)
 
     def test_vectors(self):
         """A result of an algorithm is a vector, and is drawn as its column."""
         G = graphs.UNDIRECTED[4].matrix(self.session)
         found = algorithms.core_numbers(G)
-        self.assertGreater(ink(self.drawn(draw.spy, found), pictures.INK), 0)
+        self.assertGreater(ink(self.drawn(draw.spy, found), draw.INK), 0)
         self.drawn(draw.degree_histogram, found)
 
     def test_raster(self):
@@ -140,7 +139,7 @@ class Pictures(unittest.TestCase):
         self.drawn(draw.spy, A)
 
     def test_large_graphs(self):
-        """Circles for few levels, a line for many."""
+        """A bar for each level."""
         tree = graphs.undirected('tree', 3280, [(i, (i - 1) // 3) for i in range(1, 3280)])
         pairs = [(i, i + 1) for i in range(900) if i % 30 < 29] + [(i, i + 30) for i in range(870)]
         grid = graphs.undirected('grid', 900, pairs)
@@ -148,9 +147,12 @@ class Pictures(unittest.TestCase):
             G = graph.matrix(self.session)
             found = algorithms.bfs_levels(G, 0, G)
             at = {i: level for (i, _), level in found.to_dict().items()}
-            want = collections.Counter((at[i], at[j]) for i, j in graph.edges)
-            levels = numpy.array([at[i] for i in range(G.nrows)])
-            self.assertEqual(pictures.count_in_groups(G, levels, levels).to_dict(), want)
+            want = collections.Counter(at.values())
+            ax = draw.levels(G, found)
+            self.assertEqual({round(bar.get_x() + bar.get_width() / 2): bar.get_height()
+                              for bar in ax.patches}, want)
+            self.assertEqual(ax.get_title(), '%s vertices, %s entries, %d levels' % (
+                format(G.nrows, ','), format(G.nvals, ','), len(want)))
             self.drawn(draw.levels, G, found)
             self.drawn(draw.degree_histogram, G)
 
@@ -167,7 +169,7 @@ class Pictures(unittest.TestCase):
             draw.spy(A, self.path)
             draw.spy(A, self.path, first=1)
         self.assertEqual(seen, [(-.5, 1.5, 2.5, -.5), (.5, 2.5, 3.5, .5)])
-        self.assertGreater(ink(self.path, pictures.INK), .2)
+        self.assertGreater(ink(self.path, draw.INK), .2)
 
     def texts(self, axes):
         """The words of a picture's texts and ticks, once it is drawn."""
@@ -216,15 +218,16 @@ class Pictures(unittest.TestCase):
             self.drawn(draw.graph, graph.matrix(self.session))
         sides = [(i, j) for part in (0, 10) for i in range(part, part + 10)
                  for j in range(part, i)] + [(0, 10)]
-        at = pictures.lay_out(20, set(sides))
-        self.assertEqual(at.tolist(), pictures.lay_out(20, set(sides)).tolist())
+        G = self.session.from_edgelist(sides, directed=False)
+        at, again = (draw.graph(G).collections[-1].get_offsets() for _ in range(2))
+        self.assertEqual(at.tolist(), again.tolist())
         self.assertLessEqual(abs(at).max(), 1)
         within, across = (sum(abs(at[i] - at[j]).sum() for i, j in pairs) / len(pairs)
                           for pairs in (sides[:-1],
                                         [(i, j) for i in range(10) for j in range(10, 20)]))
         self.assertLess(2 * within, across)
         many = self.session.from_coo(range(900), [i // 2 for i in range(900)], 1, 900, 900)
-        self.assertGreater(ink(self.drawn(draw.graph, many), pictures.INK), 0)
+        self.assertGreater(ink(self.drawn(draw.graph, many), draw.INK), 0)
         with self.assertRaisesRegex(ValueError,
                                     'up to 1,000 vertices and 5,000 edges, and this has 1,001 '
                                     'and 0'):
@@ -279,6 +282,15 @@ class Pictures(unittest.TestCase):
         bar = next(one for one in ax.figure.axes if one is not ax)
         self.assertTrue(all(float(at).is_integer() for at in bar.get_yticks()))
 
+    def test_round_numbers(self):
+        """Of many degrees the axes have 1, 2 and 5 times the powers of ten, in digits."""
+        star = self.session.from_coo([0] * 1200, range(1200), 1, 1200, 1200)
+        told = self.texts(draw.degree_histogram(star.ewise_add(self.session.from_coo(
+            range(1, 61), range(1, 61), 1, 1200, 1200), 'first')))
+        for word in ('1', '10', '100', '1,000'):
+            self.assertIn(word, told)
+        self.assertTrue(any(text == 'mean 1.1' for text in told))
+
     def test_check(self):
         draw.check(self.path)
         draw.check('picture')                          # matplotlib's own ending is added
@@ -332,7 +344,7 @@ class Pictures(unittest.TestCase):
             if figure is not None:
                 self.assertIs(axes.figure, figure)
             pyplot.savefig(self.path)
-            self.assertGreater(ink(self.path, pictures.INK), 0)
+            self.assertGreater(ink(self.path, draw.INK), 0)
             pyplot.close('all')
         # nothing is drawn over a picture
         first, second = draw.spy(G), draw.degree_histogram(G)
@@ -401,7 +413,7 @@ class Looks(support.InSession):
         from matplotlib.colors import to_rgba
         draw.graph(self.G, color={'Ann': 3}, ax=self.ax)
         self.assertEqual(list(self.legend()), ['3', 'no value'])
-        self.assertEqual(self.dots()[0][1:], [list(to_rgba(pictures.PALE))] * 3)
+        self.assertEqual(self.dots()[0][1:], [list(to_rgba(draw.PALE))] * 3)
 
     def test_one_colour_and_one_size(self):
         from matplotlib.colors import to_rgba
@@ -412,9 +424,9 @@ class Looks(support.InSession):
     def test_sizes_grow_with_values(self):
         draw.graph(self.G, size={'Ann': 0, 'Bob': 1, 'Cid': 2}, ax=self.ax)
         sizes = self.dots()[1]
-        self.assertEqual((sizes[0], sizes[3]), (pictures.LEAST_AREA, pictures.LEAST_AREA))
+        self.assertEqual((sizes[0], sizes[3]), (draw.LEAST_AREA, draw.LEAST_AREA))
         self.assertAlmostEqual(sizes[1] - sizes[0], sizes[2] - sizes[1])
-        self.assertEqual(sizes[2], pictures.MOST_AREA)
+        self.assertEqual(sizes[2], draw.MOST_AREA)
 
     def test_texts(self):
         for labels, want in ((None, {'Ann', 'Bob', 'Cid', 'Dora'}), (False, set()),
@@ -468,14 +480,6 @@ class Names(unittest.TestCase):
                 'in sys.modules)')
         self.assertEqual(subprocess.run([sys.executable, '-c', code], stdout=subprocess.PIPE,
                                         text=True, check=True).stdout, 'False False\n')
-
-
-class RoundNumbers(unittest.TestCase):
-    def test_round_numbers(self):
-        for least, most, want in ((1, 8, [1, 2, 5]), (3, 4, [3, 4]), (1, 1, [1]),
-                                  (1, 300, [1, 2, 5, 10, 20, 50, 100, 200]),
-                                  (2, 100000, [10, 100, 1000, 10000, 100000])):
-            self.assertEqual(pictures.choose_round_numbers(least, most), want)
 
 
 class WithoutMatplotlib(unittest.TestCase):

@@ -11,7 +11,7 @@ import unittest
 
 import support
 import spmat
-from spmat import errors, refusal_rules
+from spmat import errors
 from spmat.io.edges import Layout
 
 
@@ -44,25 +44,25 @@ def documented():
 class Sentences(unittest.TestCase):
     def test_as_the_documents_have_them(self):
         sentences, mends = documented()
-        sentences.setdefault('busy', refusal_rules.SENTENCES['busy'])
+        sentences.setdefault('busy', errors.SENTENCES['busy'])
         self.maxDiff = None
-        self.assertEqual({rule: said for rule, said in refusal_rules.SENTENCES.items()
-                          if rule not in refusal_rules.OF_GATEWAY}, sentences)
-        self.assertEqual(refusal_rules.MENDS, mends)
+        self.assertEqual({rule: said for rule, said in errors.SENTENCES.items()
+                          if rule not in errors.OF_GATEWAY}, sentences)
+        self.assertEqual(errors.MENDS, mends)
 
     def test_of_a_gateway(self):
         """docs/service.md has a row, or a sentence, for each refusal that only a gateway gives."""
         with open(os.path.join(support.TOP, 'docs', 'service.md'), encoding='utf-8') as file:
             page = file.read()
-        for rule in refusal_rules.OF_GATEWAY:
+        for rule in errors.OF_GATEWAY:
             with self.subTest(rule=rule):
                 self.assertIn('`no %s' % rule, page)
-                self.assertIn(rule, refusal_rules.SENTENCES)
+                self.assertIn(rule, errors.SENTENCES)
                 self.assertTrue(issubclass(errors.class_of(rule), spmat.Refused))
 
     def test_each_rule_has_a_class(self):
-        self.assertEqual({rule: errors.class_of(rule.split()[0]) for rule in refusal_rules.SENTENCES
-                          if rule not in refusal_rules.OF_GATEWAY}, {
+        self.assertEqual({rule: errors.class_of(rule.split()[0]) for rule in errors.SENTENCES
+                          if rule not in errors.OF_GATEWAY}, {
                               **{'S%d' % k: spmat.Refused for k in (1, 2, 3, 4, 5, 6)},
                               'J6': spmat.Refused,
                               **{'A%d' % k: spmat.OperatorRefused for k in range(1, 7)},

@@ -4,7 +4,7 @@ from unittest import mock
 
 import support
 import spmat
-from spmat import greatest_entries
+from spmat import submatrices
 
 
 class Ranking(support.InSession):
@@ -13,8 +13,8 @@ class Ranking(support.InSession):
         read for it."""
         for k in (2, 40):
             want = sorted(entries, key=lambda entry: -entry[-1])[:k]
-            with mock.patch.object(greatest_entries, 'FEW', 16):
-                few = greatest_entries.find_greatest(matrix, k)
+            with mock.patch.object(submatrices, 'FEW', 16):
+                few = submatrices.find_greatest(matrix, k)
                 self.assertEqual(matrix.top(k),
                                  [(entry[0], entry[2]) if matrix.ncols == 1
                                   else (entry[1], entry[2]) if matrix.nrows == 1 else entry
@@ -42,17 +42,17 @@ class Ranking(support.InSession):
     def test_names(self):
         column = self.s.full(30, 1)
         column.nodes = ['v%d' % at for at in range(30)]
-        with mock.patch.object(greatest_entries, 'FEW', 4):
+        with mock.patch.object(submatrices, 'FEW', 4):
             self.assertEqual(column.top(1), [('v0', 1)])
 
     def test_spent_budget(self):
         """Where the budget has too little left, all entries are read."""
-        with spmat.Session(steps=10) as session, mock.patch.object(greatest_entries, 'FEW', 4):
+        with spmat.Session(steps=10) as session, mock.patch.object(submatrices, 'FEW', 4):
             self.assertEqual(session.from_coo(range(9), [0] * 9, range(9)).top(2), [(8, 8), (7, 7)])
 
     def test_blocks(self):
         import spmat_blocks as blocks
-        with blocks.Sessions(2) as sessions, mock.patch.object(greatest_entries, 'FEW', 16):
+        with blocks.Sessions(2) as sessions, mock.patch.object(submatrices, 'FEW', 16):
             entries = [(i, i * 7 % 40, i * 31 % 17) for i in range(200)]
             want = sorted(entries, key=lambda entry: -entry[-1])[:5]
             self.assertEqual(sessions.from_triples(entries, 200, 40).top(5), want)

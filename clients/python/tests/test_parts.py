@@ -10,7 +10,7 @@ import pytest
 import graphs
 import support
 from spmat import algorithms
-from spmat.algorithms import spanning_forest
+from spmat.algorithms import components
 
 try:
     import networkx
@@ -83,7 +83,7 @@ class Parts(graphs.OnGraphs):
                 found = algorithms.minimum_spanning_forest(W)
                 # the client takes over amid the rounds, and when all is done
                 for most in (len(edges) // 3, 0):
-                    with mock.patch.object(spanning_forest, 'AT_ONCE', most):
+                    with mock.patch.object(components, 'AT_ONCE', most):
                         self.assertEqual(algorithms.minimum_spanning_forest(W).to_triples(),
                                          found.to_triples())
                 forest = found.to_dict()
@@ -171,7 +171,7 @@ class Parts(graphs.OnGraphs):
 
     def test_betweenness_in_batches(self):
         graph = graphs.DIRECTED[2]
-        with mock.patch('spmat.algorithms.path_centralities.MOST_AT_ONCE',
+        with mock.patch('spmat.algorithms.distances.MOST_AT_ONCE',
                         7 * len(graph.edges)):
             told = []
             got = algorithms.betweenness(graph.matrix(self.session),

@@ -206,7 +206,6 @@ class Acts(Case):
         shown = self.cents._repr_html_()
         self.assertIn('>1.25<', shown)
         self.assertNotIn('>125<', shown)
-        self.assertIn('>1<', self.cents.S._repr_html_())
 
     def test_loops_keep_a_unit(self):
         loop = spmat.loop(lambda x: {'far': x.far.ewise_add(x.far.mxm(self.cents, 'min_plus'),

@@ -17,7 +17,8 @@ class Signs(InSession):
         A = self.s.from_triples([(0, 1, 5), (1, 0, -2)], 2, 2)
         signs = {
             '==': (lambda: A == A.dup(),
-                   r'A\.isequal\(B\).*A\.select\("valueeq", 3\).*A\.ewise_mult\(B, "eq"\)'),
+                   r'A\.isequal\(B\) for all.*A\.select\("valueeq", 3\) for some.*'
+                   r'A\.ewise_mult\(B, "eq"\) entry by entry'),
             '!=': (lambda: A != 3, r'A\.isequal\(B\)'), '@': (lambda: A @ A, r'A\.mxm\(B\)'),
             '+': (lambda: A + A, r'A\.ewise_add\(B\)'),
             '+ left': (lambda: 1 + A, r'A\.ewise_add'), '-': (lambda: A - 1, 'minus'),

@@ -258,7 +258,7 @@ class Test(support.InSession):
         text = (
             'from typing import Hashable, List\nfrom spmat import Matrix\nfrom spmat.algorithms '
             'import bfs_levels, k_hop, sssp\n'
-            'from spmat.algorithms.bfs import Search\nfrom spmat.types import Place\n'
+            'from spmat.algorithms.searches import Search\nfrom spmat.types import Place\n'
             'def f(G: Matrix, row: Place, rows: List[Place], name: Hashable) -> None:\n'
             '    bfs_levels(G, name)\n    bfs_levels(G, [name, 3])\n    Search([row])\n    '
             'sssp(G, 3, target="a")\n'

@@ -9,7 +9,7 @@ Each docstring has a line on the cost. A *step* is one instruction of an operato
 pays for steps; a *run* is a round trip to the server. `spmat.price(lambda: pagerank(G))` tells what
 a call on your graph costs.
 
-Searches, cores and components keep a number for each vertex at the client, and ask the server only
+Searches, cores and components keep a number for each vertex at the client. They ask the server only
 for the edges of the vertices that changed. So a round costs what these edges cost. While many
 vertices change at a time, the server does it all.
 
@@ -29,25 +29,15 @@ answer with the matrix. A ValueError says what to do; `check=False` leaves the c
 from typing import TYPE_CHECKING, NoReturn
 
 from ..unsupported_syntax import ALGORITHMS as FOREIGN_NAMES, missing_attribute
-from .all_pairs_lengths import *
-from .bfs import *
+from .centralities import *
 from .communities import *
 from .components import *
-from .core_decomposition import *
-from .distance_measures import *
-from .independent_set import *
-from .neighbour_similarity import *
-from .page_rank import *
-from .path_centralities import *
+from .distances import *
+from .neighbours import *
 from .registry import ALGORITHMS, table
 from .results import *
-from .shortest_path_trees import *
-from .single_source_paths import *
-from .spanning_forest import *
-from .topological_order import *
-from .triangle_counts import *
+from .searches import *
 from .utils import *
-from .vector_centralities import *
 
 TYPES = ('Bounds', 'Centrality', 'Communities', 'CycleError', 'NoPath', 'Path', 'PathTree',
          'Progress')

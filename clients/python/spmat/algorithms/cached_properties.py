@@ -43,7 +43,9 @@ _WITH_VALUE = 'mul64 r0, r4\nxor64 r0, r1\nmul64 r0, r4\nmov64 r5, r0\nrsh64 r5,
 # A number of each entry's place, or of its place and value; and the same of the transpose's entry.
 _PLACES = asm('index', _HASH % ''), asm('index', _TURN + _HASH % '')
 _VALUES = asm('index', _HASH % _WITH_VALUE), asm('index', _TURN + _HASH % _WITH_VALUE)
-UNDIRECTED = ('algorithms.undirected(G) is the graph without directions, weights and loops; '
+ONE_WAY = 'expected an undirected graph, but an edge leads one way alone'
+LOOPS = 'expected a graph without loops, but there is an edge from a vertex to itself'
+UNDIRECTED = (': algorithms.undirected(G) is the graph without directions, weights and loops; '
               'check=False leaves this check out')
 
 
@@ -95,17 +97,13 @@ def check_weights(graph: Matrix, bits: int = 62) -> None:
                          '%d' % (bits, least, most))
 
 
-def check_undirected(graph: Matrix, check: bool, loops: bool = False) -> None:
-    """A ValueError where an edge leads one way alone, or, unless they are allowed, from a vertex to
+def check_undirected(graph: Matrix, loops: bool) -> None:
+    """ValueError where an edge leads one way alone, or, unless they are allowed, from a vertex to
     itself."""
-    if not check:
-        return
     if not is_both_ways(graph):
-        raise ValueError('expected an undirected graph, but an edge leads one way alone: '
-                         + UNDIRECTED)
+        raise ValueError(ONE_WAY + UNDIRECTED)
     if not loops and has_loops(graph):
-        raise ValueError('expected a graph without loops, but there is an edge from a vertex to '
-                         'itself: ' + UNDIRECTED)
+        raise ValueError(LOOPS + UNDIRECTED)
 
 
 def is_transpose(graph: Matrix, other: Matrix, values: bool = False) -> bool:

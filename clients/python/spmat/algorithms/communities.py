@@ -1,27 +1,28 @@
-"""Communities: their modularity, label propagation, and the Louvain method."""
+"""Communities and dense parts: modularity, label propagation, the Louvain method, and cores, in
+which each vertex has so many neighbours."""
 from __future__ import annotations
 
 from fractions import Fraction
-from typing import (Any, Dict, Hashable, Iterable, List, Mapping, NamedTuple, Sequence, Tuple,
-                    Union, cast)
+from typing import (Any, Dict, Hashable, Iterable, Iterator, List, Mapping, NamedTuple, Optional,
+                    Sequence, Set, Tuple, Union, cast)
 
 import numpy
 
-from ..errors import about
-from ..io.coo import shown, whole
+from ..io.coo import shown
 from ..io.matrix_text import Triples
 from ..matrix import Matrix
-from ..metadata import VERTICES, joined
-from ..operators import asm
-from .cached_properties import check_undirected, check_weights, extremes, has_loops, is_both_ways
-from .independent_set import Seed, draw_on_paper, generator_of
-from .registry import BOTH_WAYS, algorithm
-from .results import Communities, as_result, keep_partial
+from ..metadata import Nodes, VERTICES, joined
+from ..operators import Semiring, asm, binary
 from ..types import Array, Place
-from .traversal import held_edges, is_ample, is_small, keep, put_all, read_column
-from .utils import Progress, beside, contract, find_place, name_of, order, product, tell
+from .cached_properties import check_weights, extremes, has_loops, is_both_ways
+from .components import Seed, draw_on_paper, generator_of, label_components
+from .registry import BOTH_WAYS, WITHOUT_LOOPS, algorithm
+from .results import Communities, Result, as_result, keep_partial
+from .traversal import (Edges, Vector, find_traversal, held_edges, is_ample, is_small, is_whole,
+                        keep, load_edges, put_all, put_column, put_known, read_column, spread)
+from .utils import Progress, beside, contract, count_edges, find_place, name_of, product, tell
 
-__all__ = ['label_propagation', 'louvain', 'modularity']
+__all__ = ['core_numbers', 'k_core', 'label_propagation', 'louvain', 'modularity']
 
 ROUNDS = 10                            # of label propagation
 MOST_SUM = 1 << 62                     # of all edges: loops count twice
@@ -37,7 +38,8 @@ SWEEPS = 20                            # of one level, at most
 FLOAT_BITS = 53                        # of all weights together, which are compared as floats
 
 
-@algorithm('communities, by a vertex of each', are_vertices=True, wanted=BOTH_WAYS)
+@algorithm('communities, by a vertex of each', are_vertices=True, wanted=BOTH_WAYS,
+           ranges={'rounds': (1, None)})
 def label_propagation(G: Matrix, rounds: int = ROUNDS, progress: Progress = None, *,
                       check: bool = True) -> Matrix:
     """The community of each vertex of an undirected graph, as a column of labels.
@@ -75,8 +77,8 @@ def label_propagation(G: Matrix, rounds: int = ROUNDS, progress: Progress = None
 
     Notes
     -----
-    Cost: up to 5 steps per edge and 9 per distinct label among the neighbours of each vertex, per
-    round, with 3 runs per round; 4 steps per edge once.
+    Cost: per round, up to 5 steps per edge and 9 per distinct label among a vertex's neighbours, in
+    3 runs. 4 steps per edge once.
 
     GraphBLAS: G times a matrix with a one at each vertex's label; then the greatest of each row.
     LAGraph: `LAGraph_cdlp`, as LDBC Graphalytics defines it. networkx:
@@ -91,10 +93,7 @@ def label_propagation(G: Matrix, rounds: int = ROUNDS, progress: Progress = None
     >>> label_propagation(G).to_list()
     [0, 0, 0, 2, 2, 2]
     """
-    count, rounds = order(G), whole(rounds, 'number of rounds')
-    if rounds < 1:
-        raise about(ValueError('expected 1 round or more, not %s' % shown(rounds)), 'rounds')
-    check_undirected(G, check, loops=True)
+    count = G.nrows
     graph, own = G.select('offdiag', 0), numpy.arange(count)
     # how many have a label, and of those with as many the least label, in one number
     best = asm('index', 'mov64 r0, r1\nmul64 r0, %d\nadd64 r0, %d\nsub64 r0, r3\nexit\n'
@@ -138,8 +137,8 @@ def modularity(G: Matrix, labels: Partition, resolution: float = 1.0, *,
                weighted: bool = False) -> float:
     """The modularity of communities.
 
-    That is the share of edges inside communities, minus `resolution` times the share expected if
-    edges were drawn at random between vertices of the same degrees.
+    That is the share of edges inside communities, minus `resolution` times an expected share. The
+    latter is that of edges drawn at random between vertices of the same degrees.
 
     Parameters
     ----------
@@ -186,7 +185,6 @@ def modularity(G: Matrix, labels: Partition, resolution: float = 1.0, *,
     >>> round(modularity(G, [{0, 1, 2}, {3, 4, 5}]), 3)
     0.357
     """
-    order(G)
     numbers, many = number_communities(G, labels)
     least, most = extremes(G) if weighted else (1, 1)
     if max(most, -least) * max(1, G.nvals) >= MOST_SUM:
@@ -470,8 +468,7 @@ def louvain(G: Matrix, resolution: float = 1.0, seed: Seed = 0, progress: Progre
     >>> louvain(G).sets()
     [{0, 1, 2}, {3, 4, 5}]
     """
-    count = order(G)
-    check_undirected(G, check, loops=True)
+    count = G.nrows
     if weighted:
         check_weights(G, FLOAT_BITS)
     graph, chance = double_loops(G, weighted), generator_of(seed)
@@ -488,3 +485,217 @@ def louvain(G: Matrix, resolution: float = 1.0, seed: Seed = 0, progress: Progre
             graph = contract(graph, (numpy.arange(len(numbers)), numbers), many, 'plus')
             level = _Level(graph, resolution)
     return now.communities(G)
+
+
+# -- cores
+
+COUNTS = Semiring(binary.plus, binary.first)
+GONE = UNKNOWN = -1
+MOST_READ = 1 << 22                            # edges that are read where all vertices fall
+SPARSE = 16                                    # so many vertices for an edge are many
+
+
+class Peeling:
+    """The vertices that are left of a graph, with their degrees there. Where the client has the
+    edges it looks at those of the vertices that fall. Else these push one each along their edges:
+    their neighbours lose so much, and nobody else is looked at."""
+
+    def __init__(self, G: Matrix, progress: Progress, edges: Optional[Edges]) -> None:
+        self.lines, self.edges = find_traversal(G, G, False), edges
+        self.progress, self.number = progress, 0
+        self.left = (spread(read_column(count_edges(G)), G.nrows) if edges is None
+                     else numpy.diff(edges.starts))
+        self.alive = numpy.flatnonzero(self.left)
+
+    def least(self) -> Optional[int]:
+        """The least degree among those that are left, None where nobody is. Vertices of degree 0
+        aren't counted."""
+        self.alive = self.rest()
+        return int(self.left[self.alive].min()) if len(self.alive) else None
+
+    def rest(self) -> Array:
+        """Those that are left, and have a neighbour."""
+        rest: Array = self.alive[self.left[self.alive] > 0]
+        return rest
+
+    def peel(self, k: int) -> Iterator[Array]:
+        """Takes away those with fewer than k neighbours, until none is left; who they were, by
+        rounds. A vertex whose last neighbour falls is left with degree 0, and falls, too."""
+        had = self.left[self.alive]
+        fallen, many = self.alive[(had > 0) & (had < k)], int((had > 0).sum())
+        while len(fallen):
+            self.left[fallen] = GONE
+            many -= len(fallen)
+            yield fallen
+            # nobody looks at the edges of the last ones
+            fallen = self._lose(fallen, k) if many else fallen[:0]
+            self.number += 1
+            tell(self.progress, 'round', self.number)
+
+    def _lose(self, fallen: Array, k: int) -> Array:
+        """The neighbours of those that fall lose them; who falls by it."""
+        at, lost = self._count(fallen)
+        stays = self.left[at] != GONE
+        at = at[stays]
+        self.left[at] -= lost[stays]
+        falls: Array = at[self.left[at] < k]
+        return falls
+
+    def _count(self, fallen: Array) -> Vector:
+        """The vertices to which those that fall have edges, and how many."""
+        if self.edges is None:
+            return self.lines.push(Vector(fallen, numpy.ones_like(fallen)), COUNTS)
+        heads = self.edges.heads[self.edges.leaving(fallen)[1]]
+        heads = heads[self.left[heads] != GONE]
+        if SPARSE * len(heads) > len(self.left):
+            counts = numpy.bincount(heads, minlength=len(self.left))
+            at = numpy.flatnonzero(counts)
+            return Vector(at, counts[at])
+        heads.sort()
+        firsts = numpy.flatnonzero(numpy.diff(heads, prepend=-1))
+        return Vector(heads[firsts], numpy.diff(firsts, append=len(heads)))
+
+
+class Core(Result):
+    """The vertices of a core: a column with the number of neighbours that each has there. It is a
+    matrix, but for `sets()`."""
+
+    graph: Any
+
+    def sets(self) -> List[Set[Any]]:
+        """The connected components of the core, as sets of vertices, by their names where the graph
+        has any, the largest first. Costs: those of `connected_components` of the core, and 2
+        runs."""
+        at = self.to_coo()[0]
+        part = _among(self.graph, at)
+        labels = label_components(part, part, None, False)
+        names = self.nodes
+        labels.nodes = Nodes(at.tolist() if names is None else [names[vertex] for vertex in at])
+        found: List[Set[Any]] = labels.sets()
+        return found
+
+
+@algorithm('vertices with k neighbours or more', wanted=WITHOUT_LOOPS, ranked=True,
+           runs=lambda g: 3 * g.rounds + 3, ranges={'k': (0, None)})
+def k_core(G: Matrix, k: int, progress: Progress = None, *, check: bool = True) -> Core:
+    """The vertices of the largest part of a graph in which each has at least k neighbours.
+
+    Parameters
+    ----------
+    G : Matrix
+        An undirected graph without loops.
+    k : int
+        The least number of neighbours in the core; with 0, all vertices are left.
+    progress : callable, optional
+        `progress('round', i, 0)` is called after each round.
+    check : bool, default True
+        Whether to check that the graph is undirected and has no loops: once, 18 steps per edge and
+        5 per vertex.
+
+    Returns
+    -------
+    Core
+        A column with the numbers of neighbours in the core; `.sets()` has the core's components.
+
+    Raises
+    ------
+    ValueError
+        If k is below 0, the graph has loops, or the graph is directed.
+
+    See Also
+    --------
+    core_numbers : The greatest k of each vertex.
+    k_truss : The same with triangles.
+
+    Notes
+    -----
+    Each round removes vertices with too few neighbours, and looks at their neighbours alone.
+
+    Cost: up to 5 steps per edge, and 1 run per round. A graph of up to 65,536 edges takes 1 run:
+    the client reads it.
+
+    GraphBLAS: `vxm` over plus and first. LAGraph: `LAGraph_KCore`. networkx: `k_core`.
+
+    Examples
+    --------
+    >>> import spmat
+    >>> from spmat.algorithms import k_core
+    >>> G = spmat.Session().from_edgelist(
+    ...     [(0, 1), (0, 2), (1, 2), (2, 3), (3, 4), (3, 5), (4, 5)], directed=False)
+    >>> k_core(G, 2).by_node()
+    {0: 2, 1: 2, 2: 3, 3: 3, 4: 2, 5: 2}
+    """
+    peeling = Peeling(G, progress, held_edges(G) if is_small(G) else None)
+    for _ in peeling.peel(k):
+        pass
+    at = numpy.flatnonzero(peeling.left >= k)
+    return as_result(Core, beside(G, put_column(G, Vector(at, peeling.left[at]))), graph=G)
+
+
+@algorithm('the greatest k of a core with each vertex', wanted=WITHOUT_LOOPS, ranked=True,
+           runs=lambda g: 3 * g.rounds + 3)
+def core_numbers(G: Matrix, progress: Progress = None, *, check: bool = True) -> Matrix:
+    """The core number of each vertex, as a column: the greatest k whose k-core contains it.
+
+    Parameters
+    ----------
+    G : Matrix
+        An undirected graph without loops.
+    progress : callable, optional
+        `progress('round', i, 0)` is called after each round.
+    check : bool, default True
+        As for `k_core`.
+
+    Returns
+    -------
+    Matrix
+        A column; 0 for a vertex without neighbours.
+
+    Raises
+    ------
+    ValueError
+        If the graph has loops, or the graph is directed.
+    BudgetExceeded
+        If the budget runs out; `partial` has an entry for each vertex whose number is known.
+
+    See Also
+    --------
+    k_core : The core for one k.
+    degrees : The number of neighbours.
+
+    Notes
+    -----
+    The graph is peeled once, for all k, by the client, which reads the edges.
+
+    Cost: no step, and 1 run; on a graph of more than 4,194,304 edges up to 10 steps per edge, and 1
+    run per round.
+
+    LAGraph: `LAGraph_KCore` for all k. networkx: `core_number`. igraph: `coreness`.
+
+    Examples
+    --------
+    >>> import spmat
+    >>> from spmat.algorithms import core_numbers
+    >>> G = spmat.Session().from_edgelist(
+    ...     [(0, 1), (0, 2), (1, 2), (2, 3), (3, 4), (3, 5), (4, 5)], directed=False)
+    >>> core_numbers(G).to_list()
+    [2, 2, 2, 2, 2, 2]
+    """
+    is_read = is_whole(G) and G.nvals <= MOST_READ
+    peeling = Peeling(G, progress, held_edges(G) if is_small(G)
+                      else load_edges(G) if is_read else None)
+    cores: Array = numpy.zeros(G.nrows, numpy.int64)
+    cores[peeling.alive] = UNKNOWN
+    with keep_partial(lambda: beside(G, put_known(G, cores, UNKNOWN))):
+        k = peeling.least()
+        while k is not None:
+            for fallen in peeling.peel(k + 1):
+                cores[fallen] = k
+            k = peeling.least()
+    return beside(G, put_all(G, cores))
+
+
+def _among(graph: Matrix, at: Array) -> Matrix:
+    """The graph of some vertices alone, which have the numbers from 0 on."""
+    many = len(at)
+    return graph if many == graph.nrows else contract(graph, (at, numpy.arange(many)), many, 'any')

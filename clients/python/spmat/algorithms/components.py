@@ -1,31 +1,35 @@
-"""Connected components, the two sides of a bipartite graph, and strong components."""
+"""Components, orders and trees: components, the two sides of a bipartite graph, independent sets,
+what must come before what, and minimum spanning forests."""
 from __future__ import annotations
 
-from typing import Dict, Iterator, List, Optional, Tuple
+import random
+from typing import Any, Callable, Dict, Iterator, List, NamedTuple, Optional, Tuple, Union
 
 import numpy
 
 from ..io.matrix_text import Triples
 from ..loops import Loop, State, empty
+from ..loops.trips import Round
 from ..matrix import Matrix
 from ..matrix_base import is_same
+from ..metadata import of_copy
 from ..operators import Semiring, asm, binary
-from .bfs import NONE, Search, run_search
-from .cached_properties import check_undirected, found, is_both_ways, transpose_of
-from .independent_set import draw_numbers
-from .registry import algorithm
-from .topological_order import find_topological_levels
-from .traversal import (Columns, Traversal, Vector, find_traversal, find_vectors, is_ample, keep,
-                        put_all, put_column, read_column, read_edges, read_row, read_values,
-                        spread, vector_of)
 from ..types import Array, Place
-from .utils import (Progress, as_many, beside, column, iterate, loops, mark_rows, name_of, nothing,
-                    order, product, rows_of, settle, tell)
+from .cached_properties import (check_undirected, extremes, found, is_both_ways, is_transpose,
+                                transpose_of)
+from .registry import BOTH_WAYS, algorithm
+from .searches import LEAST, MOST, NONE, WRAPS, Search, run_search
+from .traversal import (Columns, Traversal, Vector, find_traversal, find_vectors, is_ample, keep,
+                        put_all, put_column, read_column, read_edges, read_row, read_values, spread,
+                        vector_of)
+from .utils import (Progress, beside, column, contract, hear, loops, mark_rows, name_of, nothing,
+                    product, rows_of, tell)
 
-__all__ = ['bipartite_sides', 'connected_components', 'strongly_connected_components']
+__all__ = ['bipartite_sides', 'connected_components', 'CycleError', 'longest_paths',
+           'maximal_independent_set', 'minimum_spanning_forest', 'strongly_connected_components',
+           'topological_levels']
 
 GREATEST = Semiring(binary.max, binary.first)
-LEAST = Semiring(binary.min, binary.first)
 # Of so many vertices on it pays to see how many are left before greatest neighbours are asked for.
 LARGE = 1 << 14
 FEW_OTHERS = 8                                     # few are left where that is one of so many
@@ -108,7 +112,8 @@ class Neighbours:
     def __init__(self, graph: Matrix, transpose: Optional[Matrix], check: bool) -> None:
         self.ways: List[Traversal] = [Columns(graph)]
         if transpose is not None and is_same(transpose, graph):
-            check_undirected(graph, check, loops=True)
+            if check:
+                check_undirected(graph, loops=True)
         elif not is_both_ways(graph):
             self.ways.append(find_vectors(graph, transpose, check))
 
@@ -211,8 +216,8 @@ def connected_components(G: Matrix, GT: Optional[Matrix] = None, progress: Progr
     halves the number of components. So the number of rounds is at most the logarithm of the number
     of vertices, however long the paths are.
 
-    Cost: up to 10 steps per edge and 6 per vertex in the first round, and 20 per edge outside the
-    greatest component later; 2 runs per round.
+    Cost: up to 10 steps per edge and 6 per vertex in the first round, in 2 runs. Later rounds take
+    20 steps per edge outside the greatest component, in 2 runs.
 
     A directed graph takes 10 more steps per edge. Whether the graph is undirected is checked once:
     13 steps per edge and 5 per vertex.
@@ -234,7 +239,7 @@ def connected_components(G: Matrix, GT: Optional[Matrix] = None, progress: Progr
 
 def label_components(G: Matrix, GT: Optional[Matrix], progress: Progress, check: bool) -> Matrix:
     """The least vertex of each one's component, as a column."""
-    count = order(G, GT)
+    count = G.nrows
     near, labels, number = Neighbours(G, GT, check), Labels(count), 1
     for each in near.all():
         _join(each, labels)
@@ -299,7 +304,7 @@ def bipartite_sides(G: Matrix, GT: Optional[Matrix] = None, progress: Progress =
     >>> bipartite_sides(W).to_list()
     [0, 1, 0, 1]
     """
-    count = order(G, GT)
+    count = G.nrows
     if count == 0:
         return nothing(G)
     back = transpose_of(G, GT, check)
@@ -406,7 +411,6 @@ def strongly_connected_components(G: Matrix, GT: Optional[Matrix] = None, progre
     [0, 1, 2, 3]
     """
     if GT is not None:
-        order(G, GT)
         transpose_of(G, GT, check)
     return label_strong_components(G, GT, progress)
 
@@ -414,7 +418,7 @@ def strongly_connected_components(G: Matrix, GT: Optional[Matrix] = None, progre
 def label_strong_components(G: Matrix, GT: Optional[Matrix] = None,
                             progress: Progress = None) -> Matrix:
     """The least vertex of each one's strong component, as a column."""
-    count = order(G)
+    count = G.nrows
     if count == 0:
         return nothing(G)
     if G.nvals > AT_ONCE and G.directed is not True and is_both_ways(G):
@@ -513,15 +517,16 @@ def _close_ends(near: Matrix, back: Matrix, parts: Parts) -> None:
 
 def _close_colours(near: Matrix, back: Matrix, parts: Parts, seed: int) -> None:
     """The components of those vertices whose score is the least of all that reach them."""
+    from ..loops.fixpoint import fixpoint          # which needs a module of this package
     at = numpy.flatnonzero(parts.part != DONE)
     own = draw_numbers(put_column(near, Vector(at, numpy.ones_like(at))), seed)
     taken = back.ewise_add(loops(back, 1), 'first')
-    colour = settle(lambda score: taken.mxv(score, 'min_second'), own)
+    colour = fixpoint(own, lambda score: taken.mxv(score, 'min_second'))
     first = colour.ewise_mult(own, 'eq').select('nonzero')
     colours = colour.diag()
     there = product(near, colours, 'any_second')
     same = product(colours, near, 'any_first').ewise_mult(there, 'eq').select('nonzero')
-    reached = iterate(first, lambda had: had.ewise_add(same.mxv(had, 'any_pair'), 'first'), as_many)
+    reached = fixpoint(first, lambda had: had.ewise_add(same.mxv(had, 'any_pair'), 'first'))
     at, values = read_column(colour.ewise_mult(reached, 'first'))
     # rows ascend: the first with a value is the least
     _, where, which = numpy.unique(values, return_index=True, return_inverse=True)
@@ -617,3 +622,549 @@ def _tarjan(first: Array, second: Array, count: int) -> List[int]:
             elif low[at] < low[path[-1]]:
                 low[path[-1]] = low[at]
     return out
+
+
+# -- independent sets, by Luby's algorithm; and numbers that a seed draws for all vertices
+
+THERE = Semiring(binary.first, binary.zero)        # "one of them is a neighbour", marked 0
+# Of place p in a row or a column the number p + 1, three times multiplied by an odd number and
+# folded: within 32 bits each of these steps can be taken back, and makes 0 of 0 alone. So no two
+# places have the same number, and none has 0.
+FACTOR, HALF = 739982445, (1 << 32) - 1
+_MIXED = asm('index', f'''mov64 r0, r2
+add64 r0, r3
+add64 r0, 1
+mul32 r0, r4
+mov64 r5, r0
+rsh64 r5, 16
+xor64 r0, r5
+rsh64 r4, 32
+or64 r4, 1
+mul32 r0, r4
+mov64 r5, r0
+rsh64 r5, 15
+xor64 r0, r5
+mul32 r0, {FACTOR}
+mov64 r5, r0
+rsh64 r5, 16
+xor64 r0, r5
+exit
+''', 'drawn')
+
+
+Seed = Union[None, int, random.Random, Any]
+"""As networkx has it: a whole number, None for another draw at each call, a `random.Random`, or a
+`RandomState` or `Generator` of numpy."""
+
+
+def generator_of(seed: Seed) -> random.Random:
+    """What a seed draws from. TypeError for what is no seed."""
+    if isinstance(seed, random.Random):
+        return seed
+    if seed is None or (hasattr(seed, '__index__') and not isinstance(seed, bool)):
+        return random.Random(None if seed is None else int(seed))
+    # of numpy, new and old
+    draw: Optional[Any] = getattr(seed, 'integers', None) or getattr(seed, 'randint', None)
+    if draw is None:
+        raise TypeError('a seed is a whole number, None, a random.Random, or a generator of numpy, '
+                        'not %r' % (seed,))
+    return random.Random(int(draw(1 << 62)))
+
+
+def draw_numbers(vector: Matrix, seed: Seed) -> Matrix:
+    """A number from 1 to 2^32 - 1 in place of each value of a row or a column, by the seed and its
+    place, made by the session. No two places have the same. 1 job, 18 steps an entry."""
+    return vector.apply(_MIXED, right=generator_of(seed).getrandbits(62) | 1)
+
+
+def draw_on_paper(count: int, seed: int) -> Array:
+    """The same numbers, made by the client."""
+    thunk = generator_of(seed).getrandbits(62) | 1
+    drawn = numpy.arange(1, count + 1, dtype=numpy.uint32)
+    for factor, bits in ((thunk & HALF, 16), (thunk >> 32 | 1, 15), (FACTOR, 16)):
+        drawn *= numpy.uint32(factor)
+        drawn ^= drawn >> numpy.uint32(bits)
+    return drawn.astype(numpy.int64)
+
+
+@algorithm('vertices of which no two are neighbours', wanted=BOTH_WAYS,
+           runs=lambda g: 7 * g.rounds + 3)
+def maximal_independent_set(G: Matrix, seed: Seed = 0, progress: Progress = None, *,
+                            check: bool = True) -> Matrix:
+    """Vertices of which no two are neighbours, and to which none can be added.
+
+    Parameters
+    ----------
+    G : Matrix
+        An undirected graph; loops don't count.
+    seed : int, None, or a generator of random or numpy, default 0
+        Decides which of the possible sets is found. None draws a new one at each call.
+    progress : callable, optional
+        `progress('round', k, 0)` is called after each round.
+    check : bool, default True
+        Whether to check that the graph is undirected: once, 13 steps per edge and 5 per vertex.
+
+    Returns
+    -------
+    Matrix
+        A column of ones.
+
+    Raises
+    ------
+    ValueError
+        If the graph is directed.
+
+    See Also
+    --------
+    bipartite_sides : Two sides without edges inside.
+    louvain : Communities.
+
+    Notes
+    -----
+    Luby's algorithm: a vertex joins the set if its random score is the greatest among its
+    neighbours. The number of rounds is about the logarithm of the number of vertices.
+
+    Cost: up to 10 steps per edge and 16 per vertex, per round, with 7 runs per round.
+
+    Preparation takes 5 steps per edge, 22 per vertex and 3 runs.
+
+    LAGraph: `LAGraph_MaximalIndependentSet`. networkx: `maximal_independent_set`.
+
+    Examples
+    --------
+    >>> import spmat
+    >>> from spmat.algorithms import maximal_independent_set
+    >>> G = spmat.Session().from_edgelist(
+    ...     [(0, 1), (0, 2), (1, 2), (2, 3), (3, 4), (3, 5), (4, 5)], directed=False)
+    >>> maximal_independent_set(G).nvals
+    2
+    """
+    graph = G.select('offdiag', 0)
+    lines = find_vectors(graph, graph, False)
+    left = draw_numbers(lines.fill(1), seed)
+    chosen, number = lines.put(vector_of([], [])), 0
+    while left.nvals:
+        best = lines.step(left, GREATEST, mask=left)
+        # who has no neighbour left keeps its score, which isn't 0
+        won = left.ewise_add(best, 'gt').select('nonzero', 0)
+        near = lines.step(won, THERE, mask=left)
+        chosen = chosen.ewise_add(won, 'first')
+        gone = won.apply('zero').ewise_add(near, 'first')
+        left = left.ewise_add(gone, 'zero').select('nonzero', 0)
+        number += 1
+        tell(progress, 'round', number)
+    at = lines.read(chosen).at
+    return beside(G, put_column(G, Vector(at, numpy.ones_like(at))))
+
+
+# -- levels of a directed graph without cycles, or its cycle
+
+# An edge takes one from what the vertex that it leads to still waits for.
+TAKEN = Semiring(binary.plus, asm('binary', 'mov64 r0, -1\nexit\n', 'minus_one'))
+LEFT = Semiring(binary.any, binary.plus)           # what was taken, and how many there were
+# 1 where a length of 0 or above and that of an edge wrap, else 0: the sum is below 0, and the edge
+# isn't
+WRAPPED = Semiring(binary.max, asm('binary', '''mov64 r0, r1
+add64 r0, r2
+xor64 r2, -1
+and64 r0, r2
+rsh64 r0, 63
+exit
+''', 'wrapped'))
+
+SHOWN = 20                                         # vertices of a cycle in the words of an error
+
+
+class CycleError(ValueError):
+    """A directed graph has a cycle.
+
+    Attributes
+    ----------
+    cycle : list
+        Its vertices in their order, by their names where the graph has any. Each has an edge to the
+        next, and the last to the first.
+    """
+    __module__ = 'spmat.algorithms'
+
+    def __init__(self, cycle: List[Any]) -> None:
+        is_short = len(cycle) <= SHOWN
+        shown = [*map(repr, cycle[:SHOWN]), repr(cycle[0]) if is_short else '..']
+        super().__init__('the graph has a cycle: ' + ' -> '.join(shown))
+        self.cycle = cycle
+
+
+class Order:
+    """Vertices in the order in which no edge leads to them any more from one that isn't taken yet,
+    with a number for each that is taken.
+
+    `front` is the row of those that are to be taken first, `waiting` that of the others that an
+    edge leads to from the front. A step's cost follows the edges that leave the front, and the
+    vertices that wait for more of theirs."""
+
+    def __init__(self, G: Matrix) -> None:
+        self.graph = G
+        incoming = G.session.ones(G.nrows).mxm(G, 'plus_pair')
+        self.waits_for = incoming.diag()
+        every = G.session.ones(G.nrows).apply('zero').ewise_add(incoming, 'second')
+        self.front = every.select('valueeq', 0)
+        self.numbers: Array = numpy.full(G.nrows, NONE)
+        self.numbers[self.front.to_coo()[1]] = 0
+
+    def take(self, s: State) -> Tuple[Matrix, Matrix, Matrix]:
+        """Takes the front away: the next one, those that have edges left, of the vertices that an
+        edge led to, and how many."""
+        taken = s.waiting.ewise_add(s.front.mxm(self.graph, TAKEN), 'plus')
+        left = taken.mxm(self.waits_for, LEFT)
+        still = left.select('nonzero')
+        return left.select('valueeq', 0), still, taken.ewise_mult(still, 'first')
+
+    def run(self, step: Callable[[State], Dict[str, Matrix]], more: Dict[str, Matrix],
+            progress: Progress) -> Array:
+        """Makes all rounds, of which each vertex has the number, or its value in `lengths`; NONE
+        where a cycle leads to it."""
+        name = 'lengths' if more else 'front'
+        begin = {'front': self.front, 'waiting': self.front.select('nonzero'), **more}
+        tells = hear(progress, 'level')
+
+        def heard(first: int, rounds: List[Round]) -> None:
+            if any(one.counts.get('wrapped') for one in rounds):
+                raise ValueError(WRAPS)
+            new = loop.shown[name].drain()
+            self.numbers[new.places] = new.values if more else new.rounds
+            tells(first, rounds)
+        if (self.numbers != NONE).any():
+            loop = Loop(step, begin, [name], alike=True)
+            loop.rounds(empty('front'), self.graph.nrows + 1, heard)
+        return self.numbers
+
+
+def find_topological_levels(G: Matrix, progress: Progress = None) -> Array:
+    """The levels of the vertices that no cycle leads to: those without an edge that comes in, those
+    that have one from these alone, and so on. NONE for others."""
+    order_ = Order(G)
+
+    def step(s: State) -> Dict[str, Matrix]:
+        front, _, waiting = order_.take(s)
+        return {'front': front, 'waiting': waiting}
+    return order_.run(step, {}, progress)
+
+
+def _column(G: Matrix, numbers: Array) -> Matrix:
+    """The numbers as a column. CycleError where a vertex has none."""
+    rest = numpy.flatnonzero(numbers == NONE)
+    if len(rest):
+        raise CycleError(_find_cycle(G, rest))
+    return beside(G, put_all(G, numbers))
+
+
+@algorithm('levels of a graph without cycles',
+           runs=lambda g: 6 * min(4 * g.rounds + 12, g.rounds + 128) + 5)
+def topological_levels(G: Matrix, progress: Progress = None) -> Matrix:
+    """The number of edges of the longest path that ends at each vertex, as a column.
+
+    An edge leads from a lower level to a higher one, so vertices by ascending levels are in a
+    topological order.
+
+    Parameters
+    ----------
+    G : Matrix
+        A directed graph without cycles.
+    progress : callable, optional
+        `progress('level', k, 0)` is called after each level.
+
+    Returns
+    -------
+    Matrix
+        A column with the level of each vertex, from 0.
+
+    Raises
+    ------
+    CycleError
+        If there is a cycle; `cycle` shows one. It is a ValueError.
+
+    See Also
+    --------
+    longest_paths : The same with lengths of edges.
+    strongly_connected_components : Where there are cycles.
+
+    Notes
+    -----
+    Levels run as a loop on the server.
+
+    Cost: up to 12 steps per edge and 30 per vertex for all levels; 6 runs per level, and 5.
+
+    GraphBLAS: rows of counts by `vxm` over plus. networkx: `topological_generations`.
+
+    Examples
+    --------
+    >>> import spmat
+    >>> from spmat.algorithms import topological_levels
+    >>> W = spmat.Session().from_triples(
+    ...     [(0, 1, 2), (1, 2, 1), (2, 3, 4), (0, 3, 8)], 4, 4)
+    >>> topological_levels(W).to_list()
+    [0, 1, 2, 3]
+    """
+    if G.nrows == 0:
+        return beside(G, nothing(G))
+    return _column(G, find_topological_levels(G, progress))
+
+
+@algorithm('lengths of longest paths in a graph without cycles', values=True, lengths=True,
+           ranked=True, runs=lambda g: 8 * min(4 * g.rounds + 12, g.rounds + 128) + 9)
+def longest_paths(W: Matrix, progress: Progress = None, *, check: bool = True) -> Matrix:
+    """The length of the longest path that ends at each vertex, as a column.
+
+    Parameters
+    ----------
+    W : Matrix
+        A directed graph without cycles; an entry's value is the length of its edge.
+    progress : callable, optional
+        `progress('level', k, 0)` is called after each level.
+    check : bool, default True
+        Whether to refuse lengths that would pass 2^63 - 1; otherwise they wrap.
+
+    Returns
+    -------
+    Matrix
+        A column. A path may begin anywhere, so no length is below 0.
+
+    Raises
+    ------
+    CycleError
+        If there is a cycle; `cycle` shows one. It is a ValueError.
+    ValueError
+        If a length would wrap.
+
+    See Also
+    --------
+    topological_levels : The same, counted in edges.
+    sssp : Shortest paths.
+
+    Notes
+    -----
+    Cost: up to 32 steps per edge and 60 per vertex for all levels; 8 runs per level, and 9.
+
+    networkx: `dag_longest_path_length` is the greatest of these lengths.
+
+    Examples
+    --------
+    >>> import spmat
+    >>> from spmat.algorithms import longest_paths
+    >>> W = spmat.Session().from_triples(
+    ...     [(0, 1, 2), (1, 2, 1), (2, 3, 4), (0, 3, 8)], 4, 4)
+    >>> longest_paths(W).to_list()
+    [0, 2, 3, 8]
+    """
+    count = W.nrows
+    if count == 0:
+        return beside(W, nothing(W))
+    may_wrap = check and count * extremes(W)[1] > MOST
+    order_ = Order(W)
+
+    def step(s: State) -> Dict[str, Matrix]:
+        best = s.best.ewise_add(s.lengths.mxm(W, 'max_plus'), 'max')
+        front, still, waiting = order_.take(s)
+        out = {'front': front, 'waiting': waiting, 'best': best.ewise_mult(still, 'first'),
+               'lengths': best.ewise_mult(front, 'first').apply('max', right=0)}
+        return {**out, 'wrapped': s.lengths.mxm(W, WRAPPED).select('nonzero')} if may_wrap else out
+    lengths = order_.front.apply('zero')
+    more = {'lengths': lengths, 'best': lengths.select('nonzero')}
+    return _column(W, order_.run(step, more, progress))
+
+
+def _find_cycle(G: Matrix, rest: Array) -> List[Any]:
+    """The names of a cycle among the vertices that have no level. Each of them has an edge from
+    another one: walked back by the least of these they meet one twice."""
+    count = G.nrows
+    left = keep(G, Triples(rest, rest, rest, count, count))
+    sources = G.session.ones(count).apply('zero').mxm(left, 'any_second').mxm(G, 'min_first')
+    _, columns, values = sources.to_coo()
+    before = dict(zip(columns.tolist(), values.tolist()))
+    at, seen = int(rest[0]), {}  # type: int, Dict[int, int]
+    walk: List[int] = []
+    while at not in seen:
+        seen[at] = len(walk)
+        walk.append(at)
+        at = before[at]
+    return [name_of(G, Place(vertex)) for vertex in walk[seen[at]:][::-1]]
+
+
+# -- minimum spanning forests, by Boruvka's algorithm
+
+EVEN = 10 ** 18                                    # below it numbers of edges have as many digits
+
+
+class Code(NamedTuple):
+    """Edges as one number each, which ascends with their weights: (weight - least) * count^2 +
+    i * count + j, where `least` is the least weight or less. It is the same for both directions of
+    an edge."""
+    least: int
+    vertices: int
+
+    def ends(self, words: Array) -> Tuple[Array, Array]:
+        """The two vertices of each edge."""
+        square = self.vertices ** 2
+        places = words - words // square * square  # `%` takes far longer
+        first = places // self.vertices
+        return first, places - first * self.vertices
+
+    def words(self, rows: Array, columns: Array, weights: Array) -> Array:
+        """The number of each edge."""
+        i, j = numpy.minimum(rows, columns), numpy.maximum(rows, columns)
+        numbers: Array = ((weights - self.least) * self.vertices + i) * self.vertices + j
+        return numbers
+
+    def encode(self, W: Matrix) -> Matrix:
+        """The numbers of the edges of a graph."""
+        text = ('wide r5, %d\nsub64 r1, r5\nmov64 r0, r1\nwide r5, %d\nmul64 r0, r5\n'
+                'jsle64 r2, r3, 3\nmov64 r5, r2\nmov64 r2, r3\nmov64 r3, r5\n'
+                'mul64 r2, %d\nadd64 r0, r2\nadd64 r0, r3\nexit\n'
+                % (self.least, self.vertices ** 2, self.vertices))
+        return W.apply(asm('index', text), right=0)
+
+
+class Forest:
+    """The edges that were taken, by their numbers, and the components that they join."""
+
+    def __init__(self, code: Code, progress: Progress) -> None:
+        self.code, self.progress = code, progress
+        self.labels = Labels(code.vertices)
+        self.taken: List[Array] = []
+
+    def take(self, words: Array) -> None:
+        """A round is over, which takes these edges."""
+        self.labels.join(*self.code.ends(words))
+        self.taken.append(words)
+        tell(self.progress, 'round', len(self.taken))
+
+    def shrink(self, left: Matrix) -> Array:
+        """Rounds by jobs on all edges, until few are left: their numbers."""
+        roots: Array = numpy.arange(left.nrows)    # the least vertex of each row's component
+        while left.nvals > AT_ONCE:
+            rows, words = read_column(left.reduce_rowwise('min'))
+            own, chosen = roots[rows], numpy.zeros_like(self.labels.of)
+            chosen[own] = words
+            one = self.labels.of[self.code.ends(words)[0]]
+            # an edge that the components of both its ends chose counts once
+            self.take(words[(own == one) | (chosen[one] != words)])
+            ends, is_root = self.labels.of[own], numpy.zeros(self.code.vertices, bool)
+            is_root[ends] = True
+            roots = numpy.flatnonzero(is_root)
+            numbers = numpy.cumsum(is_root) - 1    # numpy.unique sorts, for six times as long
+            # one vertex for each component, and the lightest edge between each two
+            left = contract(left, (rows, numbers[ends]), len(roots), 'min').select('offdiag', 0)
+        return read_values(left)
+
+    def finish(self, words: Array) -> None:
+        """Rounds by the client on a few edges."""
+        words, lightest = numpy.unique(words), numpy.zeros_like(self.labels.of)
+        first, second = self.code.ends(words)
+        while True:
+            one, other = self.labels.of[first], self.labels.of[second]
+            apart = numpy.flatnonzero(one != other)
+            if not len(apart):
+                return
+            words, first, second = words[apart], first[apart], second[apart]
+            ends = numpy.stack((one[apart], other[apart]), axis=1).ravel()
+            # words ascend, and of several that are assigned the last counts
+            lightest[ends[::-1]] = numpy.arange(len(ends))[::-1] // 2
+            is_lightest = numpy.zeros(len(words), bool)
+            is_lightest[lightest[ends]] = True
+            self.take(words[is_lightest])
+
+    def entries(self) -> Triples:
+        """The edges, both ways."""
+        words, count = numpy.concatenate([numpy.zeros(0, numpy.int64),
+                                          *self.taken]), self.code.vertices
+        (i, j), above = self.code.ends(words), words // count ** 2
+        most = int(above.max(initial=0)) + 1
+        # numbers of places and weights: to sort these takes less time than to rank places
+        numbers = numpy.concatenate([(a * count + b) * most + above for a, b in ((i, j), (j, i))])
+        numbers.sort()
+        places = numbers // most
+        rows, weights = places // count, numbers - places * most + self.code.least
+        return Triples(rows, places - rows * count, weights, count, count)
+
+
+@algorithm('the lightest edges that join what is joined', wanted=BOTH_WAYS, values=True,
+           plot='spy', rows=lambda matrix, _: matrix.select('triu'), lengths=True,
+           says='The edges of a minimum spanning forest of an undirected graph, each once, with '
+           'their weights, which may be negative. Of edges of one weight the one with the lesser '
+           'vertices is taken. Loops don\'t count. --both-ways takes each edge of a list both '
+           'ways.')
+def minimum_spanning_forest(W: Matrix, progress: Progress = None, *, check: bool = True) -> Matrix:
+    """The edges of a minimum spanning forest of an undirected graph, both ways.
+
+    Parameters
+    ----------
+    W : Matrix
+        An undirected graph; values are weights, which may be negative. Loops don't count.
+    progress : callable, optional
+        `progress('round', k, 0)` is called after each round.
+    check : bool, default True
+        Whether to check that each edge leads both ways with one value: once, 55 steps per edge and
+        15 per vertex.
+
+    Returns
+    -------
+    Matrix
+        The edges with their weights. Of edges of equal weight, the one with the lesser vertices is
+        taken.
+
+    Raises
+    ------
+    ValueError
+        If the graph is directed, or the two values of an edge differ. Also if weights and vertices
+        are too many to be told apart in 62 bits. That is where (greatest - least weight + 1) times
+        the square of the number of vertices is above 2^62.
+
+    See Also
+    --------
+    connected_components : The components that its trees span.
+
+    Notes
+    -----
+    Borůvka's algorithm. In each round every component takes its lightest outgoing edge, and the
+    graph shrinks to one vertex per component. So the number of rounds is at most the logarithm of
+    the number of vertices. The client finishes once 32,768 edges or fewer are left.
+
+    Cost: per round, up to 14 steps per edge and 20 per edge of the shrunken graph, in 5 runs. A
+    graph of few edges takes neither.
+
+    LAGraph: `LAGraph_msf`. networkx: `minimum_spanning_edges`.
+
+    Examples
+    --------
+    >>> import spmat
+    >>> from spmat.algorithms import minimum_spanning_forest
+    >>> G = spmat.Session().from_edgelist(
+    ...     [(0, 1), (0, 2), (1, 2), (2, 3), (3, 4), (3, 5), (4, 5)], directed=False)
+    >>> minimum_spanning_forest(G).nvals // 2
+    5
+    """
+    count = W.nrows
+    if check:
+        if not found(W, 'values both ways', lambda: is_transpose(W, W, values=True)):
+            raise ValueError('expected an undirected graph, but an edge has two values: '
+                             'W.ewise_add(W.T, "min") has the lesser; '
+                             'check=False leaves this check out')
+    least, most = extremes(W)
+    span = (most - least + 1) * max(count, 1) ** 2
+    if span > 1 << 62:
+        raise ValueError('weights of %d to %d are too many for %d vertices: divide them'
+                         % (least, most, count))
+    power = 10 ** len(str(span))                   # numbers of as many digits are sooner read
+    if power < EVEN and least > -EVEN:
+        least -= -(-power // max(count, 1) ** 2)
+    code = Code(least, count)
+    forest = Forest(code, progress)
+    if W.nvals > AT_ONCE:
+        words = forest.shrink(code.encode(W.select('offdiag', 0)))
+    else:
+        i, j, weights = W.to_coo()
+        once = i < j if check else i != j          # where an edge may lead one way alone
+        words = code.words(i[once], j[once], weights[once])
+    forest.finish(words)
+    made = keep(W, forest.entries())
+    made.notes = of_copy(W.notes)._replace(directed=False)
+    return made

@@ -18,10 +18,16 @@ from typing import (Any, Callable, Dict, Iterator, List, Mapping, NamedTuple, Op
 
 import numpy
 
+from .. import scale as scales
 from ..errors import BudgetExceeded, about
 from ..io.coo import real, shown, whole
+from ..matrix import Matrix
+from ..matrix_base import with_unit
+from ..types import Exact
 from ..vector import as_matrix, as_vector
-from .results import in_unit, of_vertices, with_zeros
+from .cached_properties import check_undirected
+from .results import of_vertices, with_zeros
+from .utils import check_graph
 
 F = TypeVar('F', bound=Callable[..., Any])
 
@@ -88,6 +94,9 @@ class Algorithm(NamedTuple):
         products aren't made by parts.
     hints : mapping
         What may have been meant by an argument that is wrong, or that it hasn't.
+    ranges : mapping
+        The least and the greatest whole number that a parameter may be. The greatest is a power of
+        two, or None.
     """
     function: Callable[..., Any]
     gives: str
@@ -109,6 +118,7 @@ class Algorithm(NamedTuple):
     command: bool = True
     runs: Optional[Runs] = None
     hints: Mapping[str, str] = {}
+    ranges: Mapping[str, Tuple[int, Optional[int]]] = {}
 
     @property
     def signature(self) -> Mapping[str, inspect.Parameter]:
@@ -150,15 +160,19 @@ def algorithm(gives: str, **more: Any) -> Callable[[F], F]:
         @functools.wraps(function)
         def call(*args: Any, **named: Any) -> Any:
             given = bind(args, named)
+            graph = next(iter(given.arguments.values()))
+            check_graph(graph, given.arguments.get('GT', given.arguments.get('WT')))
             try:
-                found = in_unit(one, given)
+                if one.wanted is not Wanted.ANY and given.arguments.get('check', True):
+                    check_undirected(graph, one.wanted is BOTH_WAYS)
+                found = _in_unit(one, given)
             except BudgetExceeded as fault:
                 if not fault.algorithm and len(fault.numbers) >= 2:
                     fault.name_algorithm(function.__name__)
                 raise
             if one.are_vertices:
                 of_vertices(found)
-            found = with_zeros(found, next(iter(given.arguments.values()))) if one.counts else found
+            found = with_zeros(found, graph) if one.counts else found
             return tuple(map(as_vector, found)) if type(found) is tuple else as_vector(found)
         return cast(F, call)
     return register
@@ -237,6 +251,20 @@ KINDS: Dict[str, Tuple[str, Read]] = {
     'cutoff': ('a number, or a time of a matrix of times', _length)}
 
 
+def _within(kind: Tuple[str, Read], least: int, most: Optional[int]) -> Tuple[str, Read]:
+    """Numbers of a kind within a range."""
+    what, read = kind
+
+    def number(one: Any) -> Any:
+        found = read(one)
+        if found < least or (most is not None and found > most):
+            raise ValueError
+        return found
+    more = (' of %d or more' % least if most is None
+            else ' from %d to 2^%d' % (least, most.bit_length() - 1))
+    return what + more, number
+
+
 def checks_arguments(algorithm: Algorithm) -> Bind:
     """What looks at the arguments of a call of an algorithm.
 
@@ -258,7 +286,8 @@ def checks_arguments(algorithm: Algorithm) -> Bind:
         annotation = str(parameter.annotation).replace('Optional[', '').rstrip(']')
         found = KINDS.get(called, KINDS.get(annotation))
         if found is not None:
-            kinds[called] = found
+            kinds[called] = (_within(found, *algorithm.ranges[called])
+                             if called in algorithm.ranges else found)
     optional = {called for called, parameter in signature.parameters.items()
                 if parameter.default is None}
 
@@ -314,3 +343,58 @@ def _advice(algorithm: Algorithm, called: str, signature: inspect.Signature) -> 
     hint = algorithm.hints.get(called)
     return 'it is called as %s(%s)%s' % (algorithm.function.__name__, words,
                                          '; ' + hint if hint else '')
+
+
+# -- units of values
+
+def _in_unit(algorithm: Algorithm, given: inspect.BoundArguments) -> Any:
+    """What an algorithm gives, which takes graphs of any unit. UnitsDiffer where a graph and its
+    transpose have two, and values count."""
+    some = given.arguments
+    if algorithm.reads_unit or not any(isinstance(one, Matrix) and one.unit != 1
+                                       for one in some.values()):
+        return algorithm.function(*given.args, **given.kwargs)
+    graph = next(iter(some.values()))
+    unit = graph.unit if isinstance(graph, Matrix) else 1
+    counts = algorithm.values or bool(some.get('weighted'))
+    if counts:
+        _check_transpose(algorithm, some, unit)
+    if counts and algorithm.lengths and some.get('cutoff') is not None:
+        some['cutoff'] = _floor(some['cutoff'], unit)
+    # so that a graph that is its own transpose stays so
+    views: Dict[int, Any] = {}
+    for name, one in some.items():
+        if isinstance(one, Matrix):
+            some[name] = views.setdefault(id(one), with_unit(one, 1))
+    found = algorithm.function(*given.args, **given.kwargs)
+    if not counts or not algorithm.lengths or isinstance(unit, scales.TimeUnit):
+        return found                               # a sum of times is no time
+    return _mark_unit(found, unit)
+
+
+def _check_transpose(algorithm: Algorithm, given: Mapping[str, object], unit: int) -> None:
+    for other in (given.get('GT'), given.get('WT')):
+        if isinstance(other, Matrix):
+            scales.common('%s of a graph and its transpose' % algorithm.function.__name__, unit,
+                          other.unit)
+
+
+def _floor(cutoff: Optional[Exact], unit: int) -> Any:
+    """The greatest stored number that is no farther."""
+    try:
+        return math.floor(scales.exact_in(cutoff, unit))
+    except (TypeError, ValueError):                # the algorithm says what is wrong with it
+        return cutoff
+
+
+def _mark_unit(found: object, unit: int) -> Any:
+    """A result whose lengths are in a unit: a matrix, a path, a tree of paths, or a list of these.
+    """
+    if isinstance(found, Matrix):
+        found.unit = unit
+    elif hasattr(found, 'set_unit'):
+        found.set_unit(unit)
+    elif isinstance(found, list):
+        for one in found:
+            _mark_unit(one, unit)
+    return found

@@ -4,20 +4,15 @@ from __future__ import annotations
 
 import contextlib
 import functools
-import inspect
-import math
-from typing import TYPE_CHECKING, Any, Callable, Dict, Iterator, Mapping, Optional, Type, TypeVar
+from typing import TYPE_CHECKING, Any, Callable, Iterator, Optional, Type, TypeVar
 
 from .. import scale as scales
 from ..errors import BudgetExceeded, SpmatError
 from ..matrix import Matrix
-from ..matrix_base import with_unit
 from ..metadata import ROWS, VertexUnit
-from ..types import Exact
 from .utils import column as column_of
 
 if TYPE_CHECKING:
-    from .registry import Algorithm
     Column = Matrix
 else:
     Column = object
@@ -43,9 +38,9 @@ class Centrality(Result):
         What `measure` says.
     measure : str
         With 'error at most' no number is farther from the true one. With 'residual' the error is
-        how far the numbers are from solving their equation, and with 'last change' how far they
-        still moved in the last round: the function says by which measure, and how far the true
-        numbers are isn't known.
+        how far the numbers are from solving their equation. With 'last change' it is how far they
+        still moved in the last round. The function says by which measure; how far the true numbers
+        are isn't known.
     tolerance : float or None
         The one that was kept.
     rounds : int or None
@@ -183,61 +178,8 @@ def keep_partial(find: Callable[[], Any]) -> Iterator[None]:
 
 # -- units
 
-def in_unit(algorithm: 'Algorithm', given: inspect.BoundArguments) -> Any:
-    """What an algorithm gives, which takes graphs of any unit. UnitsDiffer where a graph and its
-    transpose have two, and values count."""
-    some = given.arguments
-    if algorithm.reads_unit or not any(isinstance(one, Matrix) and one.unit != 1
-                                       for one in some.values()):
-        return algorithm.function(*given.args, **given.kwargs)
-    graph = next(iter(some.values()))
-    unit = graph.unit if isinstance(graph, Matrix) else 1
-    counts = algorithm.values or bool(some.get('weighted'))
-    if counts:
-        _check_transpose(algorithm, some, unit)
-    if counts and algorithm.lengths and some.get('cutoff') is not None:
-        some['cutoff'] = _floor(some['cutoff'], unit)
-    # so that a graph that is its own transpose stays so
-    views: Dict[int, Any] = {}
-    for name, one in some.items():
-        if isinstance(one, Matrix):
-            some[name] = views.setdefault(id(one), with_unit(one, 1))
-    found = algorithm.function(*given.args, **given.kwargs)
-    if not counts or not algorithm.lengths or isinstance(unit, scales.TimeUnit):
-        return found                               # a sum of times is no time
-    return _mark_unit(found, unit)
-
-
 def unit_of(graph: Matrix, transpose: Optional[Matrix]) -> int:
     """The unit of the values of a graph. UnitsDiffer where its transpose has another one."""
     if transpose is not None:
         scales.common('a graph and its transpose', graph.unit, transpose.unit)
     return graph.unit
-
-
-def _check_transpose(algorithm: 'Algorithm', given: Mapping[str, object], unit: int) -> None:
-    for other in (given.get('GT'), given.get('WT')):
-        if isinstance(other, Matrix):
-            scales.common('%s of a graph and its transpose' % algorithm.function.__name__, unit,
-                          other.unit)
-
-
-def _floor(cutoff: Optional[Exact], unit: int) -> Any:
-    """The greatest stored number that is no farther."""
-    try:
-        return math.floor(scales.exact_in(cutoff, unit))
-    except (TypeError, ValueError):                # the algorithm says what is wrong with it
-        return cutoff
-
-
-def _mark_unit(found: object, unit: int) -> Any:
-    """A result whose lengths are in a unit: a matrix, a path, a tree of paths, or a list of these.
-    """
-    if isinstance(found, Matrix):
-        found.unit = unit
-    elif hasattr(found, 'set_unit'):
-        found.set_unit(unit)
-    elif isinstance(found, list):
-        for one in found:
-            _mark_unit(one, unit)
-    return found

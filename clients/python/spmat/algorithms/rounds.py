@@ -17,10 +17,9 @@ from ..matrix import Matrix
 from ..operators import Operator, Semiring, asm, binary
 from .cached_properties import is_both_ways, transpose_of
 from .results import keep_partial
-from .server_loops import hear
 from .traversal import Columns, Traversal, Vector, spread
 from ..types import Array
-from .utils import Progress
+from .utils import Progress, hear
 
 MOST_AHEAD = 8                                     # rounds between two looks
 # bits of a factor, and of a number that it multiplies
@@ -66,28 +65,30 @@ class Rounds:
         return self._state if self._loop is None else self._loop.state
 
 
-class Process(Protocol):
-    """What an algorithm has for the engine."""
+class Process:
+    """What an algorithm has for the engine: its rounds, the distance that is enough, and the most
+    rounds."""
 
-    aim: float                                     # the distance that is enough
-    limit: int                                     # the most rounds
-    first: int                                     # rounds before the first look
+    first = 1                                      # rounds before the first look
 
-    @property
-    def rounds(self) -> Rounds:
-        """The rounds."""
+    def __init__(self, rounds: Rounds, aim: float, limit: int) -> None:
+        self.rounds, self.aim, self.limit = rounds, aim, limit
 
     def look(self) -> float:
         """How far the numbers are from the true ones, by the norm of the algorithm."""
+        raise NotImplementedError
 
     def ends(self, distance: float) -> bool:
         """Whether that is enough."""
+        return distance <= self.aim
 
     def choose(self, ahead: int) -> Tuple[Step, int]:
         """The next step, and how many rounds of it, no more than are wanted."""
+        raise NotImplementedError
 
     def describe(self, distance: float) -> str:
         """What is said where the rounds are too few."""
+        return 'too few rounds for %.2g' % distance
 
     def show(self) -> Any:
         """What was found by the last look."""
@@ -183,8 +184,8 @@ class Vectors(Rounds):
     def advance(self, step: Step, count: int) -> None:
         super().advance(step, count)
         read = self.products.read
-        self.before = self.now if count == 1 else read(self.state.before)
-        self.now = read(self.state.now)
+        self.before, self.now = (self.now if count == 1 else read(self.state.before),
+                                 read(self.state.now))
 
     def product(self) -> Array:
         """What comes to each vertex from the numbers of the last round."""

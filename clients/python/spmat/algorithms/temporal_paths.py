@@ -14,19 +14,18 @@ from typing import Any, Dict, Iterable, List, NamedTuple, Optional, Tuple, Union
 import numpy
 
 from ..io import coo
-from ..io.arrays import is_frame, is_gap
-from ..io.coo import MOST
+from ..io.arrays import is_frame
+from ..io.coo import MOST, is_gap
 from ..io.matrix_text import Triples
 from ..loops import Loop, State, empty
 from ..matrix import Matrix
 from ..metadata import Nodes
 from ..operators import Semiring, asm, binary
 from ..session import Session
-from .server_loops import hear
-from .single_source_paths import LESS, NOT_LESS
+from .searches import LESS, NOT_LESS
 from .traversal import Vector, put_column, put_row, vector_of
 from ..types import DataFrame, Many, Number, Place, Vertex, Vertices
-from .utils import Progress, find_place, find_places
+from .utils import Progress, find_place, find_places, hear
 
 # The time at which an event begins, where that isn't before one is there; else the least number
 TAKEN = asm('binary', 'mov64 r0, r2\njsge64 r2, r1, 2\nmov64 r0, 1\nlsh64 r0, 63\nexit\n')
@@ -201,11 +200,11 @@ def events(session: Session, table: DataFrame, source: Vertex = 'source', target
     session
         Where they are kept.
     table
-        (from, to, time), or (from, to, time, duration), for each event; an array of numpy with
-        these as its columns; or a table of pandas, or a dict, with columns by name. Times are whole
+        (from, to, time), or (from, to, time, duration), for each event. Or an array of numpy with
+        these as its columns. Or a table of pandas, or a dict, with columns by name. Times are whole
         numbers, or dates of Python, numpy or pandas, and come back as they were handed in.
-        Durations are 0 or more: numbers in the unit of the times, or
-        timedeltas. Without them an event arrives when it begins.
+        Durations are 0 or more: numbers in the unit of the times, or timedeltas. Without them an
+        event arrives when it begins.
     source, target, time, duration
         What the columns of a table of pandas, or of a dict, are called.
 

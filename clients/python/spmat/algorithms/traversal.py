@@ -37,6 +37,8 @@ MANY_WORKERS, MANY_ENTRIES, MANY_AT_A_VERTEX = 3, 500_000, 3
 # Of fewer vertices all that a front reaches is read in less time than a mask is made.
 SMALL = 1 << 15
 SWAPPED = {binary.first: binary.second, binary.second: binary.first}
+# rounds after which a search is taken for a long one
+LONG = 32
 # edges, or vertices, of a small graph
 AT_ONCE = 1 << 16
 # what numpy has for the operators of pushes: for MUL of the values of a front and of its edges
@@ -83,8 +85,9 @@ class Traversal:
             return False
         return self.count >= SMALL or not is_ample(self.graph)
 
-    def may_loop(self) -> bool:
-        """Whether a long search may go on in a loop at the server."""
+    def may_loop(self, rounds: int) -> bool:       # pylint: disable=unused-argument
+        """Whether a search of so many rounds goes on in a loop at the server: one costs what its
+        front has, and the client nothing."""
         return False
 
     # -- vectors that the session keeps
@@ -147,8 +150,8 @@ class Rows(Traversal):
             return super().push(front, ring)
         return Vector(got.places, got.values)
 
-    def may_loop(self) -> bool:
-        return is_ample(self.graph) and is_both_ways(self.graph)
+    def may_loop(self, rounds: int) -> bool:
+        return rounds >= LONG and is_ample(self.graph) and is_both_ways(self.graph)
 
 
 class Edges(NamedTuple):
@@ -196,7 +199,7 @@ class HeldRows(Rows):
     def pays_scan(self, front: int, part: int = 4) -> bool:
         return False
 
-    def may_loop(self) -> bool:
+    def may_loop(self, rounds: int) -> bool:
         return False
 
 
@@ -334,6 +337,12 @@ def put_row(graph: Matrix, vector: Vector) -> Matrix:
     """A vector as a row beside a graph."""
     zeros = numpy.zeros_like(vector.at)
     return keep(graph, Triples(zeros, vector.at, vector.values, 1, graph.nrows))
+
+
+def put_unsorted(graph: Matrix, at: Array, values: Array) -> Matrix:
+    """A row of vertices in any order, each once."""
+    ranks = numpy.argsort(at, kind='stable')
+    return put_row(graph, Vector(at[ranks], values[ranks]))
 
 
 def put_column(graph: Matrix, vector: Vector) -> Matrix:

@@ -3,7 +3,7 @@ changes."""
 from __future__ import annotations
 
 import warnings
-from typing import Any, Callable, Iterable, List, Optional, Tuple, TypeVar, cast
+from typing import TYPE_CHECKING, Any, Callable, Iterable, List, Optional, Tuple, TypeVar, cast
 
 import numpy
 
@@ -17,6 +17,9 @@ from ..matrix_base import common_session
 from .cached_properties import found
 from ..types import Array, Place, Vertex, Vertices
 
+if TYPE_CHECKING:
+    from ..loops.trips import Round
+
 __all__ = ['Progress']
 
 S = TypeVar('S')
@@ -25,10 +28,9 @@ Progress = Optional[Callable[[str, int, int], None]]
 have ended, and of how many; 0 where that isn't known."""
 
 
-def order(graph: Matrix, transpose: Optional[Matrix] = None) -> int:
-    """The number of vertices. Raises TypeError where the graph is no matrix, ValueError where it
-    isn't square, or its transpose is of another size; NamesDiffer where the transpose has other
-    names."""
+def check_graph(graph: Matrix, transpose: Optional[Matrix] = None) -> None:
+    """TypeError where a graph is no matrix, ValueError where it isn't square, or its transpose is
+    of another size; NamesDiffer where the transpose has other names."""
     if not hasattr(type(graph), 'mxm'):
         raise TypeError('a graph is a matrix of a session, as read_graph, from_edgelist or '
                         'from_networkx makes it, not %s' % type(graph).__name__)
@@ -37,14 +39,13 @@ def order(graph: Matrix, transpose: Optional[Matrix] = None) -> int:
                          'kinds of vertices spmat.bipartite(B) is the graph'
                          % (graph.nrows, graph.ncols))
     metadata.check_one_kind(graph.notes)
-    if transpose is not None and transpose is not graph:
-        common_session(graph.session, transpose.session)
-    if transpose is not None and transpose.shape != graph.shape:
+    if transpose is None or transpose is graph:
+        return
+    common_session(graph.session, transpose.session)
+    if transpose.shape != graph.shape:
         raise ValueError('GT has to be the transpose: it has %d rows and %d columns, and the graph '
                          '%d vertices' % (transpose.nrows, transpose.ncols, graph.nrows))
-    if transpose is not None and transpose is not graph:
-        metadata.joined(graph.notes, transpose.notes, metadata.TRANSPOSE)
-    return graph.nrows
+    metadata.joined(graph.notes, transpose.notes, metadata.TRANSPOSE)
 
 
 # -- vertices
@@ -65,8 +66,7 @@ def find_places(graph: Matrix, vertices: Vertices) -> List[Place]:
 
 def find_sources(graph: Matrix, sources: Optional[Vertices]) -> List[Place]:
     """The rows of the vertices that are meant: all where none are named."""
-    count = order(graph)
-    return list(map(Place, range(count))) if sources is None else find_places(graph, sources)
+    return list(map(Place, range(graph.nrows))) if sources is None else find_places(graph, sources)
 
 
 def warn_of_repeated(graph: Matrix, rows: List[Place]) -> None:
@@ -143,7 +143,8 @@ def column(like: Matrix, value: int) -> Matrix:
 def nothing(like: Matrix) -> Matrix:
     """A column without entries."""
     none = numpy.zeros(0, numpy.int64)
-    return like.session.backend.keep(Triples(none, none, none, like.nrows, 1))
+    made: Matrix = like.session.backend.keep(Triples(none, none, none, like.nrows, 1))
+    return made
 
 
 def count_edges(graph: Matrix) -> Matrix:
@@ -188,6 +189,21 @@ def tell(progress: Progress, word: str, number: int, of: int = 0) -> None:
         progress(word, number, of)
 
 
+Heard = Callable[[int, List['Round']], None]
+"""What is told of the rounds of a trip: the number of the first, and what they came to."""
+
+
+def hear(progress: Progress, word: str, begun: int = 0, of: int = 0,
+         result: Optional[str] = None) -> Heard:
+    """Tells of the rounds of a loop, of which some were made before it: of all, or of those in
+    which a result has entries."""
+    def heard(first: int, rounds: List[Round]) -> None:
+        for number, one in enumerate(rounds, begun + first):
+            if result is None or one.counts[result]:
+                tell(progress, word, number, of)
+    return heard
+
+
 def iterate(start: S, step: Callable[[S], S], ends: Callable[[S, S], bool],
             progress: Progress = None, most: Optional[int] = None) -> S:
     """`step(start)`, `step(step(start))` and so on, up to the first of which `ends(before, now)` is
@@ -204,29 +220,4 @@ def iterate(start: S, step: Callable[[S], S], ends: Callable[[S, S], bool],
         if has_ended:
             return now
         before = now
-    raise NotSettled('did not converge after %d rounds' % number)
-
-
-def as_many(before: Matrix, now: Matrix) -> bool:
-    """The end of a step that only adds entries, or only takes some away: there are as many as there
-    were before."""
-    return now.nvals == before.nvals
-
-
-def settle(step: Callable[[Matrix], Matrix], start: Matrix, most: Optional[int] = None) -> Matrix:
-    """`start`, `step(start)`, `step(step(start))` and so on, until two that follow are the same.
-    Positions may be added on the way, and none may go.
-
-    Runs: 1 a round. Round k and the comparison of rounds k-1 and k-2 stand in one batch, so two
-    rounds too many are made. Raises NotSettled where `most` rounds are too few."""
-    results, number = [start], 0                   # the last three results
-    differ: Optional[Matrix] = None
-    while most is None or number < most + 3:
-        now, changed = step(results[-1]), None if differ is None else differ.select('nonzero', 0)
-        differ = results[-1].ewise_mult(results[-2], 'ne') if len(results) > 1 else None
-        now.wait()                                 # runs the batch
-        number += 1
-        if changed is not None and not changed.nvals and results[-3].nvals == results[-2].nvals:
-            return results[-2]
-        results = [*results[-2:], now]
     raise NotSettled('did not converge after %d rounds' % number)

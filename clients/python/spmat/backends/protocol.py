@@ -12,7 +12,7 @@ from __future__ import annotations
 import abc
 import itertools
 import weakref
-from typing import TYPE_CHECKING, Any, Dict, Iterator, List, NamedTuple, Optional, Tuple, Type
+from typing import Any, Dict, Iterator, List, NamedTuple, Optional, Tuple, Type
 
 from ..display import table
 from ..errors import NotMade
@@ -21,9 +21,6 @@ from ..io.matrix_text import Triples
 from ..limits import MOST_SIDE
 from ..operators import Operator
 from ..wire.commands import FORMS, Places
-
-if TYPE_CHECKING:
-    from ..matrix import Matrix
 
 # steps that clients of one server don't take from one another within a day
 AMPLE = 1 << 56
@@ -81,7 +78,7 @@ class JobResult(NamedTuple):
     steps : int
         The steps that it took.
     """
-    matrix: Optional['Matrix']
+    matrix: Optional[Any]
     form: str
     price: int
     steps: int
@@ -99,7 +96,7 @@ class Run(List[JobResult]):
             len(self), total, table(['', 'form', 'result', 'price', 'steps'], rows))
 
 
-def _size_of(made: Optional['Matrix']) -> str:
+def _size_of(made: Any) -> str:
     return ('held by nobody' if made is None else '%dx%d, %s entries'
             % (*made.shape, format(made.nvals, ',')))
 
@@ -124,7 +121,8 @@ class Handle:
         self.most = most if nvals is None else nvals
         self.facts: Dict[str, Any] = {}            # what algorithms found out about the entries
         self.serial = next(serial)                 # which of two is older
-        self._matrices: List['weakref.ref[Matrix]'] = []
+        # of the matrices that callers have of this
+        self.holders: List['weakref.ref[Any]'] = []
 
     @property
     def waits(self) -> bool:
@@ -142,15 +140,14 @@ class Handle:
             raise NotMade('this matrix was never made: its run was refused (%s)'
                           % self.lost) from self.lost
 
-    def add_matrix(self, matrix: 'Matrix') -> None:
-        """A matrix that callers have of this, which may be one of several."""
-        if self._matrices:
-            self._matrices = [one for one in self._matrices if one() is not None]
-        self._matrices.append(weakref.ref(matrix))
+    def add_matrix(self, matrix: object) -> None:
+        """One matrix more that callers have of this."""
+        self.holders = [one for one in self.holders if one() is not None]
+        self.holders.append(weakref.ref(matrix))
 
-    def matrices(self) -> List['Matrix']:
+    def matrices(self) -> List[Any]:
         """The matrices that callers have of this."""
-        return [matrix for matrix in (one() for one in self._matrices) if matrix is not None]
+        return [matrix for matrix in (one() for one in self.holders) if matrix is not None]
 
 
 class OneVisit(NamedTuple):
@@ -220,8 +217,8 @@ class Backend(abc.ABC):
     in_one_place = True                            # whether one session has each matrix whole
     # whether it makes a product `is_by_parts` itself by halves of the rows
     halves_products = False
-    # the class of its matrices, where that isn't `Matrix`
-    matrix_type: Optional[Type['Matrix']] = None
+    # the class of its matrices: `matrix` puts its own here, as that knows this module
+    matrix_type: Type[Any]
 
     @abc.abstractmethod
     def submit(self, job: Job, name: Optional[str] = None) -> Handle:
@@ -290,7 +287,6 @@ class Backend(abc.ABC):
     def flush(self, handle: Handle) -> None:
         """Sends what waits to be sent, so that the price of a job is known. No run."""
 
-    def keep(self, entries: Triples) -> 'Matrix':
+    def keep(self, entries: Triples) -> Any:
         """The matrix of `put`."""
-        from ..matrix import Matrix
-        return (self.matrix_type or Matrix)(self.session, self.put(entries))
+        return self.matrix_type(self.session, self.put(entries))

@@ -7,12 +7,13 @@ from __future__ import annotations
 
 import collections
 import copy
+import functools
 import itertools
 import operator
 import os
 import re
 import weakref
-from typing import (TYPE_CHECKING, Any, Deque, Dict, Iterable, Iterator, List, Mapping, NamedTuple,
+from typing import (Any, Deque, Dict, Iterable, Iterator, List, Mapping, NamedTuple,
                     Optional, Set, Tuple)
 
 from ..errors import BudgetExceeded, OperatorRefused, Refused, SpmatError, refusal
@@ -20,14 +21,11 @@ from ..io import matrix_text
 from ..io.matrix_text import Triples
 from ..limits import MOST_OPERATOR, MOST_PRICE, MOST_SIDE, MOST_TEXT, QUEUE
 from ..operators import Operator, diagnostics
-from ..wire.commands import (NOTHING, Command, Limits, Near, Reply, longest_text, raise_fault,
-                             read_shown, sizes_of_text)
+from ..wire.commands import (LONGEST_ENTRY, LONGEST_HEAD, NOTHING, Command, Limits, Near, Reply,
+                             raise_fault, read_shown, sizes_of_text)
 from ..wire.connection import Connection, SessionLock
 from ..prices import ESTIMATES, estimate_here, stop_estimate
 from .protocol import AMPLE, Backend, Budget, Handle, Job, JobResult, Most, Run, most_of, serial
-
-if TYPE_CHECKING:
-    from ..session import Session
 
 
 class Uploaded(NamedTuple):
@@ -39,11 +37,19 @@ class Uploaded(NamedTuple):
 class SentMatrix(Command):
     """The command that sends the entries of a matrix that the client has."""
 
-    __slots__ = ('_handle',)
+    word, matters = 'matrix', True
 
-    def __init__(self, handle: DeferredHandle, text: bytes, sizes: Mapping[str, Limits]) -> None:
-        super().__init__('matrix ' + handle.key, text, within=sizes, matters=True)
+    # the line is one of ours
+    # pylint: disable-next=super-init-not-called
+    def __init__(self, handle: DeferredHandle, text: bytes) -> None:
+        self.line, self.body = 'matrix ' + handle.key, text
         self._handle = handle
+
+    def done(self, reply: Reply) -> None:
+        sizes = [*self._handle.shape, self._handle.nvals]
+        if reply.numbers != sizes:
+            raise_fault(self.line, 'ROWS COLUMNS ENTRIES of ' + ' '.join(map(str, sizes)),
+                        ['ok', *reply.words])
 
     def lost(self, cause: BaseException) -> None:
         self._handle.lost = without_frames(cause)
@@ -53,19 +59,17 @@ class ShownMatrix(Command):
     """The command that gets the text of a matrix, of which `entries` are read. The session ends
     where it is another's."""
 
-    __slots__ = ('_handle', 'entries')
+    word = 'show'
+    entries: Optional[Triples] = None
 
+    # the line is one of ours
+    # pylint: disable-next=super-init-not-called
     def __init__(self, handle: Handle) -> None:
-        super().__init__('show ' + handle.key)
+        self.line = 'show ' + handle.key
+        self.within = {'BYTES': (0, LONGEST_HEAD + min(handle.most, MOST_SIDE) * LONGEST_ENTRY)}
         self._handle = handle
-        self.entries: Optional[Triples] = None
 
-    def limits(self) -> Mapping[str, Limits]:
-        handle = self._handle
-        most = handle.nvals if handle.nvals is not None else min(handle.most, MOST_SIDE)
-        return {'BYTES': (0, longest_text(most))}
-
-    def check(self, reply: Reply) -> None:
+    def done(self, reply: Reply) -> None:
         self.entries = read_shown(self.line, reply.body, self._handle.shape, self._handle.nvals)
 
 
@@ -73,7 +77,7 @@ class ServerBackend(Backend):
     """One session's operators, jobs and matrices at the server. `jobs` counts those that were
     submitted."""
 
-    def __init__(self, session: 'Session', connection: Connection, shared: bool) -> None:
+    def __init__(self, session: object, connection: Connection, shared: bool) -> None:
         self.session, self.connection = session, connection
         self.names = ServerNames()
         self.queue = Queue(connection, shared)
@@ -132,11 +136,8 @@ class ServerBackend(Backend):
             self.poison()
             text = matrix_text.write(entries, ones=True)
             handle.key = self.names.take(handle)
-            sizes = {'ROWS': entries.nrows, 'COLUMNS': entries.ncols, 'ENTRIES': len(entries.rows)}
-            self.connection.put(SentMatrix(handle, text, {name: (size, size)
-                                                          for name, size in sizes.items()}))
             handle.note_size(entries.nrows, len(entries.rows))
-            if self.connection.is_full:
+            if self.connection.put(SentMatrix(handle, text)):
                 self.connection.exchange()
 
     def put_text(self, text: bytes, name: Optional[str] = None) -> Handle:
@@ -156,31 +157,38 @@ class ServerBackend(Backend):
 
     def read_text(self, handle: Handle) -> bytes:
         """The canonical text of a matrix. Runs the queue where it waits."""
-        if isinstance(handle, DeferredHandle):
+        if handle.is_deferred:
+            assert isinstance(handle, DeferredHandle)
             return matrix_text.write(handle.entries)
-        return self._show(handle)[0].body
+        shown = self._show(handle).answer
+        assert isinstance(shown, Reply)
+        return shown.body
 
     def read(self, handle: Handle) -> Triples:
-        if isinstance(handle, DeferredHandle):
+        if handle.is_deferred:
+            assert isinstance(handle, DeferredHandle)
             return matrix_text.as_arrays(handle.entries)
-        return self._show(handle)[1]
+        entries = self._show(handle).entries
+        assert entries is not None
+        return entries
 
-    def _show(self, handle: Handle) -> Tuple[Reply, Triples]:
-        """The reply with a matrix, and its entries. Runs the queue where it waits."""
+    def _show(self, handle: Handle) -> ShownMatrix:
+        """The command that got a matrix, with its reply. Runs the queue where it waits."""
         with self._lock:
-            handle.check_made()
+            if handle.lost is not None:
+                handle.check_made()
+            if self.names.dropped:
+                self.sweep()
+            command, connection = ShownMatrix(handle), self.connection
             if handle.nvals is None:
                 self.queue.run_later()
-            self.sweep()
-            command = ShownMatrix(handle)
             try:
-                reply = self.connection.exchange(command)
+                connection.exchange(command)
             except Refused as refused:
-                raise self.connection.refused or refused
-            if self.connection.refused is not None:
-                raise self.connection.refused
-            assert reply is not None and command.entries is not None
-            return reply, command.entries
+                raise connection.refused or refused
+            if connection.refused is not None:
+                raise connection.refused
+            return command
 
     def wait(self, handle: Handle) -> None:
         """Runs the queue where a matrix waits. Raises Closed where the session has ended, and
@@ -248,7 +256,8 @@ class ServerBackend(Backend):
             queue, mask = self.queue, job.mask
             must_run = len(queue.waiting) >= QUEUE
             for handle in job.operands if mask is None else (*job.operands, mask):
-                handle.check_made()
+                if handle.lost is not None:
+                    handle.check_made()
                 key = handle.key
                 must_run = must_run or key in queue.waiting
                 words.append(key)
@@ -258,7 +267,8 @@ class ServerBackend(Backend):
                 words.insert(-1, 'mask')
             if must_run:
                 queue.run_later()
-            self.poison()
+            if self.names.poisons:
+                self.sweep()
             most = most_of(job, length)
             made = ServerHandle(self, job.shape, None, most.entries, name)
             made.form, made.most_steps, words[1] = job.form, most.steps, made.key
@@ -377,7 +387,7 @@ class ServerNames:
         self._free: Deque[str] = collections.deque()
         # rows and entries of what a name stands for, where that is large
         self._large: Set[str] = set()
-        self._owners: Dict[str, 'weakref.KeyedRef[str, Handle]'] = {}
+        self._owners: Dict[str, 'weakref.ref[Handle]'] = {}
         self._count = 0
 
     def take(self, owner: Handle, wished: Optional[str] = None) -> str:
@@ -393,8 +403,7 @@ class ServerNames:
         else:
             self._count += 1
             name = '_%d' % self._count
-        # the callback gets the reference, whatever typeshed says
-        self._owners[name] = weakref.KeyedRef(owner, self._collected, name)  # type: ignore
+        self._owners[name] = weakref.ref(owner, functools.partial(self._collected, name))
         return name
 
     def named(self) -> Dict[str, Any]:
@@ -409,11 +418,11 @@ class ServerNames:
                     found[matrix.name] = matrix
         return found
 
-    def _collected(self, reference: 'weakref.KeyedRef[str, Handle]') -> None:
+    def _collected(self, name: str, reference: 'weakref.ref[Handle]') -> None:
         # a name that was given back may have another owner by now
-        if self._owners.get(reference.key) is reference:
-            del self._owners[reference.key]
-            self.dropped.append(reference.key)
+        if self._owners.get(name) is reference:
+            del self._owners[name]
+            self.dropped.append(name)
 
     def note_size(self, name: str, size: int) -> None:
         """How many rows and entries a name stands for now."""
@@ -534,12 +543,13 @@ class Queue:
         if not is_sure:
             self._add_now(job, line)
             return False
-        connection = self.connection
-        connection.put(QueuedJob(self, job, line, True))
+        self.waiting[job.key] = job
+        self.left -= job.most_steps
         self.unknown += job.most
-        if not connection.is_full and self.unknown <= MOST_SIDE:
+        is_full = self.connection.put(QueuedJob(self, job, line, True))
+        if not is_full and self.unknown <= MOST_SIDE:
             return False
-        connection.exchange()
+        self.connection.exchange()
         return True
 
     def _add_now(self, job: ServerHandle, line: str) -> None:
@@ -562,15 +572,10 @@ class Queue:
         except BudgetExceeded as fault:
             raise fault.with_advice() from None
 
-    def note_waiting(self, job: ServerHandle) -> None:
-        """A job waits for a run."""
-        self.waiting[job.key] = job
-        self.left -= job.most_steps
-
     def run_later(self) -> None:
         """A run of what waits, not sent yet. What was sent before and interrupted is answered
         first, as it may wait, too."""
-        if self.connection.owes:
+        if self.connection.pending:
             self.connection.settle()
         if self.waiting:
             if ESTIMATES:
@@ -591,32 +596,27 @@ class Queue:
 
 
 class QueuedJob(Command):
-    """The command of a job. It waits for a run from now on, or where it is sent at once, and
-    doesn't `matter` to others, from its reply on."""
-
-    __slots__ = ('queue', 'job')
+    """The command of a job. Where it `matters` to others the job waits for a run already, else from
+    the reply on."""
 
     # the line is one of ours
     # pylint: disable-next=super-init-not-called
     def __init__(self, queue: Queue, job: ServerHandle, line: str, matters: bool = False) -> None:
-        self.line, self.word, self.body, self.near = line, job.form, None, None
-        self.matters, self.runs, self.answer = matters, False, None
+        self.line, self.word, self.matters = line, job.form, matters
         self.queue, self.job = queue, job
-        if matters:
-            queue.note_waiting(job)
-
-    def limits(self) -> Mapping[str, Limits]:
-        """The next position, and the prices that the job can have."""
-        position = self.queue.queued_there + 1
-        return {'POSITION': (position, position),
-                'PRICE': (0, min(self.job.most_steps, MOST_PRICE))}
 
     def done(self, reply: Reply) -> None:
         queue, job = self.queue, self.job
-        queue.queued_there, job.price = reply.numbers
-        if not self.matters:
-            queue.note_waiting(job)
-        queue.left += job.most_steps - job.price
+        (position, price), due = reply.numbers, queue.queued_there + 1
+        if position != due or price > job.most_steps:
+            raise_fault(self.line, 'POSITION of %d and PRICE of 0 to %d'
+                        % (due, min(job.most_steps, MOST_PRICE)), ['ok', *reply.words])
+        queue.queued_there, job.price = position, price
+        if self.matters:
+            queue.left += job.most_steps - price
+        else:
+            queue.waiting[job.key] = job
+            queue.left -= price
         if queue.connection.refused is not None:
             _lose(job, queue.connection.refused)
 
@@ -631,23 +631,39 @@ class QueuedJob(Command):
 class QueuedRun(Command):
     """The command that runs these jobs."""
 
-    __slots__ = ('_queue', '_jobs', '_counts')
+    line = word = 'run'
+    matters = runs = True
 
+    # the line is one of ours
+    # pylint: disable-next=super-init-not-called
     def __init__(self, queue: Queue, jobs: List[ServerHandle]) -> None:
-        super().__init__('run', matters=True)
         self._queue, self._jobs = queue, jobs
-        # of each job that was queued the entries and the steps, as the reply says
-        self._counts: List[Tuple[ServerHandle, int, int]] = []
 
     @property
     def jobs(self) -> int:  # type: ignore[override]
         """How many jobs it runs."""
         return len(self._jobs)
 
-    def check(self, reply: Reply) -> None:
-        """ProtocolError where the lines of a run aren't those of its jobs, or where their steps
-        don't add up to what was spent."""
-        jobs, spent = list(itertools.filterfalse(REFUSED, self._jobs)), 0
+    def done(self, reply: Reply) -> None:
+        queue, counts = self._queue, self._read_counts(reply)
+        self._end()
+        for job, entries, steps in counts:
+            assert job.price is not None
+            queue.left += job.price - steps
+            for limit in queue.limits:
+                limit.spent += steps if limit.counts(job) else 0
+            if job.shape[0] + entries > SMALL:     # a new name stands for what is small
+                job.note_size(job.shape[0], entries)
+            if job.lost is None:
+                job.nvals, job.most, job.steps = entries, entries, steps
+        if queue.report is not None:
+            queue.report[:] = [JobResult(next(iter(job.matrices()), None), job.form, job.price or 0,
+                                         job.steps or 0) for job, _, _ in counts]
+
+    def _read_counts(self, reply: Reply) -> List[Tuple[ServerHandle, int, int]]:
+        """The entries and the steps of each job that was queued. ProtocolError where the lines
+        aren't those of these jobs, or where their steps don't add up to what was spent."""
+        jobs, counts, spent = list(itertools.filterfalse(REFUSED, self._jobs)), [], 0
         if len(reply.lines) != len(jobs):
             raise_fault('run', '%d lines, one for each job' % len(jobs),
                         ['%d lines' % len(reply.lines)])
@@ -659,26 +675,11 @@ class QueuedRun(Command):
             if not (0 <= entries <= most and 0 <= steps <= price):
                 raise_fault('run', '`%sENTRIES STEPS`, of up to %d and %d' % (start, most, price),
                             [line])
-            self._counts.append((job, entries, steps))
+            counts.append((job, entries, steps))
             spent += steps
         if spent != reply.numbers[1]:
             raise_fault('run', 'STEPS of %d, the sum of its lines' % spent, ['ok', *reply.words])
-
-    def done(self, reply: Reply) -> None:
-        queue = self._queue
-        self._end()
-        for job, entries, steps in self._counts:
-            assert job.price is not None
-            queue.left += job.price - steps
-            for limit in queue.limits:
-                limit.spent += steps if limit.counts(job) else 0
-            if job.shape[0] + entries > SMALL:     # a new name stands for what is small
-                job.note_size(job.shape[0], entries)
-            if job.lost is None:
-                job.nvals, job.most, job.steps = entries, entries, steps
-        if queue.report is not None:
-            queue.report[:] = [JobResult(next(iter(job.matrices()), None), job.form, job.price or 0,
-                                         job.steps or 0) for job, _, _ in self._counts]
+        return counts
 
     def lost(self, cause: BaseException) -> None:
         if isinstance(cause, Refused):

@@ -19,7 +19,7 @@ from click.shell_completion import shell_complete
 
 from .. import __version__
 from ..io.formats import READABLE
-from ..io.matrix_market import ENDINGS
+from ..io.files import ENDINGS
 from ..unsupported_syntax import ALGORITHMS as FOREIGN_NAMES
 from .algorithm_commands import COMMANDS, PICTURES, make_command
 from .output import PROGRAM, Status, finish, show_warning

@@ -11,11 +11,12 @@ from typing import TYPE_CHECKING, Any, Callable, Dict, Iterator, List, Optional,
 import click
 
 from ..algorithms import undirected
+from ..algorithms.cached_properties import LOOPS, ONE_WAY, has_loops, is_both_ways
 from ..algorithms.registry import Wanted
 from ..errors import ReadError, about, parameters_of
 from ..io import matrix_market
 from ..io.coo import whole_of_word
-from ..io.files import Loaded
+from ..io.files import Loaded, load
 from ..io.formats import FORMATS, format_of
 from ..io.values import UNITS
 from ..limits import MOST_STEPS, MOST_WORKERS
@@ -190,7 +191,7 @@ def read_graph(session: Session, options: SimpleNamespace, values: bool,
     kinds."""
     file = 'standard input' if options.graph == '-' else options.graph
     with reading(file):
-        text = matrix_market.load(sys.stdin.buffer if options.graph == '-' else options.graph)
+        text = load(sys.stdin.buffer if options.graph == '-' else options.graph)
     if not text.strip():
         raise ReadError(file, None, 'it is empty')
     graph = session.read_graph(Loaded(file, text), **list_arguments(options, text, values))
@@ -247,15 +248,12 @@ def name_vertices(graph: Matrix, first: int) -> None:
 
 
 def check_kind(graph: Matrix, wanted: Wanted) -> None:
-    """Ended if a graph isn't of the wanted kind."""
-    if (wanted is not Wanted.ANY and graph.directed is not False
-            and graph.ewise_mult(graph.T, 'pair').nvals < graph.nvals):
-        raise Ended(Status.FILE, 'expected an undirected graph, but an edge leads one way alone'
-                    + UNDIRECTED + BOTH_WAYS)
-    if wanted is Wanted.WITHOUT_LOOPS and graph.select('diag').nvals:
-        raise Ended(Status.FILE,
-                    'expected a graph without loops, but there is an edge from a vertex to itself'
-                    + UNDIRECTED)
+    """Ended if a graph isn't of the wanted kind. What is found out here is kept with the graph, so
+    that its algorithm asks no more."""
+    if wanted is not Wanted.ANY and not is_both_ways(graph):
+        raise Ended(Status.FILE, ONE_WAY + UNDIRECTED + BOTH_WAYS)
+    if wanted is Wanted.WITHOUT_LOOPS and has_loops(graph):
+        raise Ended(Status.FILE, LOOPS + UNDIRECTED)
 
 
 # -- the session

@@ -6,9 +6,10 @@ Other programs can write and read it, too.
 """
 from __future__ import annotations
 
-import abc
 import collections
 import contextlib
+import datetime
+import importlib
 import io
 import json
 import lzma
@@ -17,20 +18,22 @@ import re
 import struct
 import zipfile
 import zlib
-from typing import Any, Dict, Generic, Iterator, Mapping, Optional, Tuple
+from typing import TYPE_CHECKING, Any, Dict, Iterator, Mapping, Optional, Tuple
+
+import numpy
 
 from ..errors import ReadError, SpmatError, TextRefused, TooLarge
-from ..limits import MOST_TEXT
-from ..matrix import Matrix
+from ..limits import MOST_SIDE, MOST_TEXT
 from ..metadata import COLUMNS, ROWS, Metadata, Nodes, Unnamed, VertexUnit, new_kind
 from ..scale import as_unit
 from ..types import Path
 from . import matrix_market
-from .array_importers import DupOp, Made
-from .files import RATIO, SMALL, name_of, replacing
-from .formats import Request
-from .saved_names import decode_names, encode_names, expect
+from .coo import MOST
+from .files import RATIO, SMALL, replacing
 from .values import UNITS
+
+if TYPE_CHECKING:
+    from ..matrix import Matrix
 
 CONTENTS = 'matrices.json'
 VERSION = 2                                        # 1 has no units, and no values that are vertices
@@ -39,110 +42,10 @@ UNIT = re.compile('[1-9][0-9]{0,99}')
 HEAD = 1 << 16                                     # bytes in which the sizes of a matrix stand
 # bytes of `matrices.json` that may be packed as well as they like
 FEW_CONTENTS = 1 << 22
-
-
-class ArchiveSources(abc.ABC, Generic[Made]):
-    """What saves matrices, and loads them."""
-
-    def save(self, path: Path, **matrices: Made) -> None:
-        """Write matrices with the names of their vertices into one file.
-
-        A file that is there is replaced once the new one is whole.
-
-        Parameters
-        ----------
-        path : path
-            The file to write.
-        **matrices : Matrix
-            The matrices by name, as in ``save(path, G=G, ranks=ranks)``. Without any, all that were
-            made with a `name=` and are still held.
-
-        Raises
-        ------
-        TypeError
-            If a name of a vertex is no text, number or date, or tuple or frozenset of these;
-            nothing is written then.
-        ValueError
-            If there is no matrix to save.
-
-        See Also
-        --------
-        load : Reads the file.
-        Matrix.mmwrite : A file for other programs.
-
-        Notes
-        -----
-        The file is a zip archive of Matrix Market texts and a `matrices.json`. `load` reads it.
-
-        Examples
-        --------
-        >>> import spmat
-        >>> s = spmat.Session()
-        >>> G = s.from_edgelist([("Ann", "Bob", 5), ("Bob", "Cid", 7)])
-        >>> s.save("graphs.spmat", G=G)
-        >>> spmat.Session().load("graphs.spmat")["G"].to_edgelist()
-        [('Ann', 'Bob', 5), ('Bob', 'Cid', 7)]
-        """
-        write(path, choose(self._named(), matrices))
-
-    def load(self, path: Path) -> Dict[str, Made]:
-        """Read the matrices of a file that `save` wrote.
-
-        What the file says is held against the sizes of its matrices before the first of them is
-        made.
-
-        Parameters
-        ----------
-        path : path
-            The file to read.
-
-        Returns
-        -------
-        dict
-            The matrices by name, with the names of their vertices.
-
-        Raises
-        ------
-        ReadError
-            If `save` didn't write the file, or it is damaged.
-
-        See Also
-        --------
-        save : Writes the file.
-        read_graph : Files of other programs.
-
-        Notes
-        -----
-        No job.
-
-        Examples
-        --------
-        >>> import spmat
-        >>> s = spmat.Session()
-        >>> G = s.from_edgelist([("Ann", "Bob", 5), ("Bob", "Cid", 7)])
-        >>> s.save("graphs.spmat", G=G)
-        >>> sorted(spmat.Session().load("graphs.spmat"))
-        ['G']
-        """
-        found = {}
-        for called, text, known in read(path):
-            try:
-                found[called] = self._market('%s of %s' % (called, name_of(path)), text,
-                                             Request('mtx'), None, called)
-            except (TextRefused, TooLarge) as fault:
-                raise ReadError(name_of(path), None,
-                                'the entries of %s: %s' % (called, fault)) from None
-            found[called].notes = known
-        return found
-
-    def _named(self) -> Dict[str, Made]:
-        """The matrices that callers named and hold."""
-        return {}
-
-    @abc.abstractmethod
-    def _market(self, file: str, text: bytes, request: Request, dup_op: DupOp,
-                name: Optional[str]) -> Made:
-        """A matrix of a Matrix Market text."""
+# of names, beside dates, and tuples and frozensets of these
+KINDS = (str, int, float, bool, type(None))
+TIMES = ('date', 'datetime', 'datetime64', 'Timestamp')
+DATETIME64 = re.compile(r'[<>=|]?M8\[\d{0,4}[a-zA-Z]{1,2}\]')
 
 
 def write(path: Path, matrices: Mapping[str, Matrix]) -> None:
@@ -295,15 +198,99 @@ def _check_vertices(matrix: str, text: bytes, count: int) -> None:
                          % (matrix, count))
 
 
-def choose(named: Mapping[str, Matrix],
-           given: Mapping[str, Matrix]) -> Dict[str, Matrix]:
-    """The matrices to be saved: those that are given, or those that have a name. TypeError for what
-    is no matrix, ValueError where there are none."""
-    for name, matrix in given.items():
-        if not isinstance(matrix, Matrix):
-            raise TypeError('%s is no matrix, but %s' % (name, type(matrix).__name__))
-    if not given and not named:
-        raise ValueError(
-            'no matrix has a name: save(path, A=A, B=B) names them here, name="A" where they '
-            'are made')
-    return dict(given or named)
+# -- names of vertices as JSON has them: text, numbers, dates, and tuples and frozensets of these
+
+def expect(thing: object, kind: type, what: str) -> Any:
+    """A thing of the kind that it has to be of. ValueError where it isn't."""
+    if not isinstance(thing, kind):
+        raise ValueError('%s: expected %s, got %.40r' % (what, kind.__name__, thing))
+    return thing
+
+
+def encode_names(names: Optional[Nodes], matrix: str) -> Any:
+    """Names as JSON has them: a tuple as a list; of whole numbers that follow one another the first
+    and their number."""
+    if names is None:
+        return None
+    if len(names) > 1 and type(names[0]) is int and names == list(
+        range(names[0], names[0] + len(names))) and set(map(type, names)) == {int}:
+        return {'first': names[0], 'count': len(names)}
+    return [_encode_name(name, matrix) for name in names]
+
+
+def can_save(name: object) -> bool:
+    """Whether `save` keeps a name of a vertex as it is."""
+    try:
+        _encode_name(name, '')
+    except TypeError:
+        return False
+    return True
+
+
+def _encode_name(name: Any, matrix: str) -> Any:
+    if isinstance(name, tuple):
+        return [_encode_name(part, matrix) for part in name]
+    if isinstance(name, frozenset):
+        return {'frozenset': sorted((_encode_name(part, matrix) for part in name), key=repr)}
+    kind = type(name).__name__
+    if kind in TIMES and type(name).__module__.partition('.')[0] in ('datetime', 'numpy', 'pandas'):
+        if kind == 'datetime64':
+            return {kind: str(name), 'unit': name.dtype.str}
+        zone = next(filter(None, (getattr(getattr(name, 'tz', None), word, None)
+                                  for word in ('key', 'zone'))), None)
+        return {kind: name.isoformat(), **({'zone': zone} if zone else {})}
+    # a number of numpy
+    name = name.item() if isinstance(name, numpy.generic) else name
+    if type(name) not in KINDS:
+        raise TypeError(
+            "the vertex %r of %s can't be saved: names are text, numbers, dates, or tuples and "
+            "frozensets of these; G.nodes = [str(name) "
+            'for name in G.nodes] makes text of them' % (name, matrix))
+    return name
+
+
+def decode_names(names: Any, count: Optional[int],
+                 rows: Optional[Nodes] = None) -> Optional[Nodes]:
+    """Names of so many vertices, or of any number of them; those of the rows where it says so.
+    ValueError where there are others, or one stands twice."""
+    if names == 'rows':
+        if rows is not None and count not in (None, len(rows)):
+            raise ValueError('%d names for %s vertices' % (len(rows), count))
+        return rows
+    if names is None:
+        return None
+    if isinstance(names, dict):
+        first, many = names['first'], names['count']
+        if type(first) is not int or type(many) is not int:
+            raise ValueError('names are counted by whole numbers, not by %.40r' % (names,))
+        if not 0 <= many <= MOST_SIDE or abs(first) > MOST or count not in (None, many):
+            raise ValueError('%d names from %d on, for %s vertices' % (many, first, count))
+        return Nodes(range(first, first + many))
+    if count not in (None, len(expect(names, list, 'names'))):
+        raise ValueError('%d names for %s vertices' % (len(names), count))
+    found = Nodes(map(_decode_name, names))
+    if len(found.places) != len(found):
+        twice = next(name for name, many in collections.Counter(found).items() if many > 1)
+        raise ValueError('the name %r stands twice' % (twice,))
+    return found
+
+
+def _decode_name(name: object) -> Any:
+    if isinstance(name, dict):
+        return (frozenset(map(_decode_name, name['frozenset'])) if 'frozenset' in name
+                else _decode_time(name))
+    return tuple(map(_decode_name, name)) if isinstance(name, list) else name
+
+
+def _decode_time(name: Dict[str, str]) -> Any:
+    """A date or a time of Python, numpy or pandas. ImportError where the module isn't there."""
+    if 'date' in name:
+        return datetime.date.fromisoformat(name['date'])
+    if 'datetime' in name:
+        return datetime.datetime.fromisoformat(name['datetime'])
+    if 'datetime64' in name:
+        if DATETIME64.fullmatch(name['unit']) is None:
+            raise ValueError('no kind of times: %.40r' % name['unit'])
+        return numpy.array([name['datetime64']], name['unit'])[0]
+    time = importlib.import_module('pandas').Timestamp(expect(name['Timestamp'], str, 'Timestamp'))
+    return time.tz_convert(expect(name['zone'], str, 'zone')) if 'zone' in name else time

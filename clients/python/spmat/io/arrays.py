@@ -1,23 +1,30 @@
-"""What numpy, pandas and scipy hand over, as plain arrays and lists: columns by position, tables
-with their labels. What can't be taken for either is refused by what it is. And columns that are
-handed out as arrays of numpy, which don't become squares without a word."""
+"""What numpy, pandas and scipy hand over, as tables with their labels, and as entries, which are
+looked at before anything is sent; and back. What can't be taken is refused by what it is. Columns
+that are handed out as arrays of numpy don't become squares without a word."""
 from __future__ import annotations
 
-import math
+import operator
 import sys
-from typing import (TYPE_CHECKING, Any, Callable, Iterable, Iterator, List, NamedTuple, NoReturn,
-                    Optional, Sequence, Tuple)
+from typing import (TYPE_CHECKING, Any, Callable, Dict, Iterable, Iterator, List, NamedTuple,
+                    NoReturn, Optional, Sequence, Tuple)
 
 import numpy
 
+from ..errors import Refused, about, refusal
 from ..metadata import Nodes, check_names
 from ..types import DataFrame, Series
+from .coo import LEAST, MOST, is_gap, shown, side, whole
+from .matrix_text import Triples
+from .values import Rounding, whole_number, whole_numbers
 
 if TYPE_CHECKING:
     Array = numpy.ndarray[Any, Any]
 else:
     Array = numpy.ndarray
 
+DUP_OP = 'dup_op= folds the values of a position that repeats'
+ORDERS = {'rowwise': True, 'columnwise': False}
+Columns = Tuple[Any, Any, Any]
 # words for the two ends of an edge, as headers and columns of tables have them
 PAIRS = (('source', 'target'), ('from', 'to'), ('src', 'dst'), ('origin', 'destination'),
          ('sender', 'receiver'), ('parent', 'child'))
@@ -138,11 +145,6 @@ def columns_of_frame(frame: DataFrame) -> Tuple[Any, Any, Any]:
     return parts[0], parts[1], parts[2] if len(parts) == 3 else 1
 
 
-def edges_of_frame(frame: DataFrame) -> List[Tuple[Any, ...]]:
-    """The edges of a table of pandas with two or three columns, by position."""
-    return list(zip(*columns_of_frame(frame)[:frame.shape[1]]))
-
-
 def table_of(thing: Any) -> Table:
     """A table: of pandas with its labels as names, an array of numpy, or rows of cells. One
     dimension is a column. TypeError for what is no table, ValueError for more dimensions, and for a
@@ -219,11 +221,266 @@ def _cells_of(frame: DataFrame) -> Any:
             or len(kinds) > 1 else frame.to_numpy())
 
 
-def is_gap(cell: object) -> bool:
-    """Whether a cell stands for a value that is missing: None, NaN, and NA and NaT of pandas."""
-    if cell is None or type(cell).__name__ in ('NAType', 'NaTType'):
-        return True
-    return isinstance(cell, float) and math.isnan(cell)
+# -- entries
+
+def checked(rows: Any, columns: Any, values: Any, nrows: Optional[int] = None,
+            ncols: Optional[int] = None, rounding: Optional[Rounding] = None) -> Triples:
+    """Triples of whole numbers within 64 bits, as arrays, indices within the sizes. Sizes that
+    aren't given are the least that fit. `values` may be one number for all; `rounding` has their
+    scale. TypeError for what is no number, ValueError for lengths that differ, values that aren't
+    whole, and what is out of range; the place is counted from 0."""
+    rows, columns = (whole_numbers(plain_column(many, what), what=what)
+                     for many, what in ((rows, 'row'), (columns, 'column')))
+    if is_many(values):
+        values = whole_numbers(plain_column(values, 'value'), rounding)
+    else:
+        values = numpy.full(len(rows), whole_number(values, rounding), numpy.int64)
+    if not len(rows) == len(columns) == len(values):
+        raise ValueError('%d rows, %d columns and %d values'
+                         % (len(rows), len(columns), len(values)))
+    nrows = side(nrows, max(0, int(rows.max()) + 1) if len(rows) else 0, 'nrows')
+    ncols = side(ncols, max(0, int(columns.max()) + 1) if len(columns) else 0, 'ncols')
+    for what, many, most in (('row', rows, nrows - 1), ('column', columns, ncols - 1)):
+        if len(many) and not (many.min() >= 0 and many.max() <= most):
+            at = int(((many < 0) | (many > most)).argmax())
+            # the least size that fits an index below 0 may be none
+            why = 'below 0' if many[at] < 0 else 'not in 0 to %d' % most
+            raise ValueError('%s %d is %s (entry %d)' % (what, many[at], why, at))
+    return Triples(rows, columns, values, nrows, ncols)
+
+
+def columns_of(triples: Any) -> Columns:
+    """The rows, columns and values of (row, column, value) or (row, column), whose value is 1; or
+    of an array of numpy with these as its columns."""
+    if is_frame(triples):
+        return columns_of_frame(triples)
+    if isinstance(triples, numpy.ndarray) and triples.shape[1:] in ((2,), (3,)):
+        return triples[:, 0], triples[:, 1], triples[:, 2] if triples.shape[1] == 3 else 1
+    many = list(triples)
+    lengths = {len(triple) for triple in many}
+    if not lengths <= {2, 3}:
+        at = next(at for at, triple in enumerate(many) if len(triple) not in (2, 3))
+        raise ValueError(
+            'a triple is (row, column, value), or (row, column) for a value of 1, not %r (entry %d)'
+            % (many[at], at))
+    if lengths == {2, 3}:
+        many = [(*triple, 1) if len(triple) == 2 else triple for triple in many]
+    parts = tuple(zip(*many)) if many else ((), (), ())
+    return parts[0], parts[1], parts[2] if len(parts) == 3 else 1
+
+
+def from_dense(cells: Any, missing: Any = None) -> Triples:
+    """The cells of a table, an array of two dimensions or a list of lists, but for those that are
+    `missing` (None: no cell), and masked ones. ValueError with its row and column for a cell that
+    holds no value."""
+    if not isinstance(cells, numpy.ndarray):
+        cells = _as_objects(cells)
+    hidden: Any = numpy.ma.getmaskarray(cells)  # type: ignore[no-untyped-call]
+    table, chosen = numpy.asarray(cells), ~hidden
+
+    def find(holds: Callable[[Any], bool]) -> Any:
+        """The cells of objects of which something holds."""
+        return numpy.fromiter(map(holds, table.flat), bool, table.size).reshape(table.shape)
+    is_object = table.dtype.kind == 'O'
+    gaps = (find(is_gap) if is_object else numpy.isnan(table) if table.dtype.kind == 'f'
+            else numpy.zeros(table.shape, bool))
+    if missing is not None and is_gap(missing):    # NaN stands for all that is missing
+        chosen &= ~gaps
+    elif missing is not None:
+        chosen &= gaps | ~(find(lambda cell: not is_gap(cell) and bool(cell == missing))
+                           if is_object else table == missing)
+    i, j = numpy.nonzero(chosen)
+    wrong = gaps[i, j]
+    if wrong.any():
+        row, column = int(i[wrong.argmax()]), int(j[wrong.argmax()])
+        cell = table[row, column]
+        raise ValueError(
+            'the cell at row %d, column %d is missing (%s): fill it, or missing=float("nan") '
+            'leaves such cells out' % (row, column, 'nan' if isinstance(cell, float)
+                                       else repr(cell)))
+    return Triples(i, j, table[i, j], *table.shape)
+
+
+def _as_objects(rows: List[List[Any]]) -> Any:
+    """A list of rows as an array of whatever their cells are."""
+    ncols = len(rows[0]) if rows else 0
+    if any(len(row) != ncols for row in rows):
+        raise ValueError('rows of %s cells' % ' and '.join(sorted({str(len(row)) for row in rows})))
+    table = numpy.empty((len(rows), ncols), object)
+    for at, row in enumerate(rows):
+        for column, cell in enumerate(row):        # one by one, as a cell may be a list itself
+            table[at, column] = cell
+    return table
+
+
+def indices(n: int) -> Any:
+    """0 to n - 1."""
+    return numpy.arange(n, dtype=numpy.int64)
+
+
+def full(nrows: int, ncols: int, value: int) -> Triples:
+    """One value everywhere."""
+    at = indices(nrows * ncols)
+    return checked(at // max(ncols, 1), at % max(ncols, 1), value, nrows, ncols)
+
+
+def from_scipy(matrix: Any) -> Tuple[Any, Any, Any, Tuple[int, int]]:
+    """Rows, columns, values and shape of a scipy.sparse matrix or array; entries of one position
+    are added up, as scipy has it."""
+    if not hasattr(matrix, 'tocoo'):
+        raise TypeError('expected a matrix of scipy.sparse, got %s: from_dense takes tables'
+                        % type(matrix).__name__)
+    if len(matrix.shape) != 2:
+        raise ValueError('expected two dimensions, got %d' % len(matrix.shape))
+    coo = matrix.tocoo(copy=True)
+    if coo.data.dtype.kind in 'iu' and coo.data.dtype.itemsize < 8:
+        coo.data = coo.data.astype('int64')        # so that sums of short numbers don't wrap
+    elif coo.data.dtype.kind == 'u':
+        # so that two which are beyond 64 bits don't make one that isn't
+        coo.data = whole_numbers(coo.data)
+    coo.sum_duplicates()
+    return coo.row, coo.col, coo.data, coo.shape
+
+
+def repeated(triples: Triples, at: int, symmetric: bool = False) -> Refused:
+    """The refusal (M8) of entry `at` of triples, whose position an earlier one has; or, where they
+    are `symmetric`, its mirror."""
+    i, j = int(triples.rows[at]), int(triples.columns[at])
+    places = ((i, j), (j, i)) if symmetric else ((i, j),)
+    first = next(k for k, place in enumerate(zip(triples.rows, triples.columns)) if place in places)
+    return about(refusal('M8', detail='row %d, column %d is given as entry %d and as entry %d; %s'
+                         % (i, j, first, at, DUP_OP)), 'dup_op')
+
+
+Fold = Callable[[Triples], Any]
+# what folds compute by numbers without an end, of which those of 64 bits may wrap
+EXACT: Dict[str, Callable[[int, int], int]] = {'plus': operator.add, 'minus': operator.sub,
+                                               'times': operator.mul}
+
+
+def _check_folds(triples: Triples, at: Any, starts: Any, named: str) -> None:
+    """ValueError where values of one position, whose entries begin at some of the places `at`, are
+    folded to a number beyond 64 bits."""
+    sizes = numpy.abs(triples.values[at].astype(float))
+    with numpy.errstate(over='ignore'):
+        most = (numpy.multiply.reduceat(numpy.maximum(sizes, 1), starts) if named == 'times'
+                else numpy.add.reduceat(sizes, starts))
+    ends = numpy.append(starts[1:], len(at))
+    for group in numpy.flatnonzero(most >= 2.0 ** 62).tolist():
+        places = at[starts[group]:ends[group]]
+        values = triples.values[places].tolist()
+        if named == 'times' and 0 in values:
+            continue
+        found = values[0]
+        for value in values[1:]:
+            found = EXACT[named](found, value)
+            if named == 'times' and abs(found) > MOST + 1:
+                break                              # no factor is 0, so it stays there
+        if not LEAST <= found <= MOST:
+            raise about(ValueError(
+                'the values at row %d, column %d make a number beyond 64 bits by dup_op=%r, where '
+                'it would wrap: a smaller scale= may have room' % (
+                    triples.rows[places[0]], triples.columns[places[0]], named)),
+                        'dup_op', 'scale')
+
+
+def unrepeated(triples: Triples, fold: Fold, named: str = '') -> Triples:
+    """Triples in which each position stands once. `fold` gets the values of those that stand
+    several times as a matrix with a row for each such position, its values from column 0 in their
+    order, and answers one value a row. It isn't called where there are none. Those that stand alone
+    come as they do, and behind them those that are folded. ValueError where one of these would wrap
+    at 64 bits, by a fold that is `named` in EXACT."""
+    key = triples.rows * max(triples.ncols, 1) + triples.columns
+    ordered = numpy.sort(key)
+    again = numpy.unique(ordered[1:][ordered[1:] == ordered[:-1]])
+    if not len(again):
+        return triples
+    place = numpy.minimum(numpy.searchsorted(again, key), len(again) - 1)
+    alone = again[place] != key
+    at = numpy.flatnonzero(~alone)
+    at = at[numpy.argsort(place[at], kind='stable')]
+    row = place[at]
+    starts = numpy.flatnonzero(numpy.append(True, row[1:] != row[:-1]))
+    lengths = numpy.diff(numpy.append(starts, len(row)))
+    if named in EXACT:
+        _check_folds(triples, at, starts, named)
+    column = numpy.arange(len(row)) - numpy.repeat(starts, lengths)
+    folded = fold(Triples(row, column, triples.values[at], len(again), int(lengths.max())))
+    first = at[starts]
+    rows, columns, values = (numpy.concatenate(both) for both in (
+        (triples.rows[alone], triples.rows[first]),
+        (triples.columns[alone], triples.columns[first]), (triples.values[alone], folded)))
+    return Triples(rows, columns, values, triples.nrows, triples.ncols)
+
+
+# -- compressed rows, and dicts
+
+def to_compressed(entries: Columns, count: int) -> Columns:
+    """Where the entries of each row begin, and at last how many there are; their columns and
+    values. Rows ascend."""
+    rows, columns, values = entries
+    return numpy.searchsorted(rows, numpy.arange(count + 1)), columns, values
+
+
+def by_columns(entries: Columns) -> Columns:
+    """Entries by ascending column, and each column's by ascending row: columns, rows, values."""
+    rows, columns, values = entries
+    order = numpy.argsort(columns, kind='stable')
+    return columns[order], rows[order], values[order]
+
+
+def expand(indptr: Any, others: Any, given: Optional[int], what: str) -> Tuple[Any, int]:
+    """The row (or column) of each entry, of where the rows begin, and how many rows there are.
+    ValueError where another number is given."""
+    beginnings = whole_numbers(plain_column(indptr, 'beginning'), what='beginning')
+    entries = len(plain_column(others, 'column' if what == 'row' else 'row'))
+    if not len(beginnings) or beginnings[0] != 0 or beginnings[-1] != entries:
+        raise ValueError(
+            'the beginnings of the %ss go from 0 to the number of entries, %d, and not %s' % (
+                what, entries, 'from %d to %d' % (beginnings[0], beginnings[-1])
+                if len(beginnings) else 'over none'))
+    counts = numpy.diff(beginnings)
+    if (counts < 0).any():
+        at = int((counts < 0).argmax())
+        raise ValueError('the beginnings of the %ss ascend, and %d comes after %d (entry %d)'
+                         % (what, beginnings[at + 1], beginnings[at], at + 1))
+    if given is not None and whole(given, 'number of ' + what) != len(counts):
+        raise ValueError('%s %ss are given, and the beginnings are of %d'
+                         % (shown(given), what, len(counts)))
+    return numpy.repeat(indices(len(counts)), counts), len(counts)
+
+
+def to_dicts(entries: Columns, order: str) -> Dict[int, Dict[int, int]]:
+    """A dict of the entries of each row, or column, that has some."""
+    rows, columns, values = (part.tolist()
+                             for part in (entries if _is_rowwise(order) else by_columns(entries)))
+    out: Dict[int, Dict[int, int]] = {}
+    for row, column, value in zip(rows, columns, values):
+        out.setdefault(row, {})[column] = value
+    return out
+
+
+def from_dicts(nested: Any, order: str) -> Columns:
+    """Rows, columns and values of a dict for each row, or column. TypeError for what is no such
+    dict, and for names."""
+    if not isinstance(nested, dict) or not all(isinstance(inner, dict)
+                                               for inner in nested.values()):
+        raise TypeError('expected {row: {column: value}}, got %s' % (
+            'a dict of other things' if isinstance(nested, dict) else type(nested).__name__))
+    triples = [(row, column, value) for row, inner in nested.items()
+               for column, value in inner.items()]
+    if any(not hasattr(end, '__index__') for row, column, _ in triples for end in (row, column)):
+        raise TypeError(
+            'rows and columns are numbers from 0: s.from_edgelist((a, b, x) for a, inner in '
+            'nested.items() for b, x in inner.items()) takes names')
+    rows, columns, values = zip(*triples) if triples else ((), (), ())
+    return (rows, columns, values) if _is_rowwise(order) else (columns, rows, values)
+
+
+def _is_rowwise(order: str) -> bool:
+    if order not in ORDERS:
+        raise ValueError('order is "rowwise" or "columnwise", not %r' % (order,))
+    return ORDERS[order]
 
 
 # -- arrays out

@@ -31,7 +31,7 @@ CALLED = {'\t': 'tabs', ',': 'commas', ';': 'semicolons', '|': 'bars', None: 'bl
 BLANKS = ' \t'
 SAMPLE, LONG = 100, 1 << 20                        # lines, and bytes, that are looked at first
 PIECE = 1 << 20                                    # bytes whose marks are looked at together
-MINUS, PLUS, POINT, ZERO, NINE, EXPONENTS = 45, 43, 46, 48, 57, (69, 101)
+MINUS, PLUS, POINT, ZERO, EXPONENT = b'-+.0e'
 FEW = 20                                           # columns that an error shows of many
 FLOAT = re.compile(r'(?:%s)(?:\.0)?' % WHOLE.pattern)
 FOR_EXCEL = re.compile(rb'"?sep=([,;|\t])"?(?=\r?\n)', re.I)
@@ -111,12 +111,6 @@ class Table(NamedTuple):
                     else _are_even(self.body, self.form.width, sep))
         if not are_even:
             raise self.odd_line()
-
-
-def read(file: str, text: bytes, layout: Layout) -> Edges:
-    """The edges of a list. ReadError, a ValueError, names the file and the line of what is wrong;
-    ImportError where pandas is missing."""
-    return read_edges(lay_out(file, text, layout), layout)
 
 
 # -- comments
@@ -295,8 +289,9 @@ def _choose_separator(file: str, text: bytes, given: Optional[str]) -> Optional[
     for ending in ENDINGS:
         name = name[:-len(ending)] if name.endswith(ending) else name
     sep = SEPARATORS.get(name[-4:])
-    number, line = next(((number, line.decode('utf-8', 'replace').strip(' ')) for number, line in
-                         enumerate(_head_of(text).split(b'\n'), 1) if line.strip()), (1, ''))
+    lines = enumerate(io.BytesIO(_head_of(text)), 1)
+    number, first = next(((number, line) for number, line in lines if line.strip()), (1, b''))
+    line = first.decode('utf-8', 'replace').strip(' \r\n')
     line = re.sub('"[^"]*"', '', line)
     for other in ',;|\t':
         often = line.count(other)
@@ -452,6 +447,21 @@ def _ask_direction(first: List[str], below: List[List[str]]) -> str:
 
 # -- the edges
 
+def read_columns(body: bytes, sep: Optional[str], width: int,
+                 kinds: Optional[Mapping[int, type]] = None,
+                 wanted: Sequence[int] = ()) -> Dict[int, Any]:
+    """Columns of lines by their numbers, all or some, as pandas has them: numbers where each field
+    is one, but for `kinds`. ValueError of a line with more fields, where all are wanted."""
+    # pandas would cut all lines to the length of a first one that is longer
+    first = (sep or ' ').join('0' * width).encode()
+    frame = import_extra('pandas', 'a list of numbers or edges').read_csv(
+        io.BytesIO(b'%s\n%s' % (first, body)), sep=sep or r'\s+', header=None, names=range(width),
+        index_col=False, dtype=kinds, na_filter=False, low_memory=False, engine='c',
+        usecols=wanted if 0 < len(wanted) < width else None, skipinitialspace=sep is not None,
+        quoting=csv.QUOTE_NONE if sep is None else csv.QUOTE_MINIMAL)
+    return {at: frame[at].to_numpy()[1:] for at in wanted or range(width)}
+
+
 def read_edges(table: Table, layout: Layout) -> Edges:
     """The edges of a list whose columns are known."""
     return _Reading(table, layout).edges()
@@ -468,7 +478,7 @@ class _Reading:
     def edges(self) -> Edges:
         """The edges. ReadError names the line of what is wrong."""
         table, layout = self._table, self._layout
-        if not table.body.strip():
+        if not table.body or table.body.isspace():
             none = numpy.zeros(0, numpy.int64)
             return Edges(none, none, None if table.form.value is None else none, self._fault,
                          table.summary, table.left_out, table.question)
@@ -497,18 +507,11 @@ class _Reading:
     def _parse(self, kinds: Mapping[int, type], wanted: Sequence[int] = ()) -> Any:
         """Columns by their numbers, as pandas has them."""
         form = self._table.form
-        pandas = import_extra('pandas', 'a list of edges')
-        wanted = wanted or form.columns
         try:
-            frame = pandas.read_csv(
-                io.BytesIO(self._table.body), sep=form.sep or r'\s+', header=None,
-                names=range(form.width), index_col=False, dtype=kinds, na_filter=False,
-                usecols=wanted if len(wanted) < form.width else None, low_memory=False, engine='c',
-                quoting=csv.QUOTE_NONE if form.sep is None else csv.QUOTE_MINIMAL,
-                skipinitialspace=form.sep is not None)
+            return read_columns(self._table.body, form.sep, form.width, kinds,
+                                wanted or form.columns)
         except (ValueError, OverflowError) as fault:
             raise self._table.odd_line(fault) from None
-        return {at: frame[at].to_numpy() for at in wanted}
 
     def _fault(self, at: int, words: str) -> ReadError:
         """The error of an edge, by its place among those that are kept."""
@@ -652,18 +655,14 @@ def _find_nameless(sources: Names, targets: Names) -> Any:
 def _are_as_written(body: bytes) -> bool:
     """Whether no number begins with 0 or +, but 0 itself: names are numbers where they are written
     as numbers are."""
-    start = 0
-    while start < len(body):
-        end = body.find(b'\n', start + PIECE) + 1 or len(body)
-        marks = numpy.frombuffer(b'\n' + body[start:end] + b'\n', numpy.uint8)
-        zeros = numpy.flatnonzero(marks == ZERO)
-        before, behind = marks[zeros - 1], marks[zeros + 1]
-        begins = ((before < ZERO) | (before > NINE)) & (before != POINT)
-        goes_on = (behind >= ZERO) & (behind <= NINE)
-        if (begins & (goes_on | ((before == MINUS) & (behind != POINT)))).any():
+    for start in range(0, len(body), PIECE):       # each with the bytes before and behind it
+        marks = numpy.frombuffer(b'\n' * (start == 0) + body[max(0, start - 1):start + PIECE + 1]
+                                 + b'\n' * (start + PIECE >= len(body)), numpy.uint8)
+        before, at, behind = marks[:-2], marks[1:-1], marks[2:]
+        is_digit = marks - ZERO < 10               # below 0 bytes begin at 255 again
+        goes_on = is_digit[2:] | ((before == MINUS) & (behind != POINT))
+        if ((at == ZERO) & goes_on & ~is_digit[:-2] & (before != POINT)).any():
             return False
-        pluses = numpy.flatnonzero(marks == PLUS)
-        if len(pluses) and not numpy.isin(marks[pluses - 1], EXPONENTS).all():
+        if ((at == PLUS) & (before | 32 != EXPONENT)).any():
             return False
-        start = end
     return True

@@ -8,10 +8,13 @@ files (`edge_lists`, `formats`), and here from lists, tables of pandas and graph
 from __future__ import annotations
 
 import bisect
+import contextlib
 import itertools
 import operator
+import os
 import re
-from typing import Any, Callable, Dict, Iterable, List, NamedTuple, Optional, Sequence, Tuple, Union
+from typing import (Any, Callable, Dict, Iterable, List, Mapping, NamedTuple, Optional, Sequence,
+                    Tuple, Union)
 
 import numpy
 
@@ -19,11 +22,10 @@ from ..errors import about, parameters_of, refusal, warn_user
 from ..extras import import_extra
 from ..limits import MOST_SIDE
 from ..metadata import Metadata, Nodes, axis_of, list_of_names
-from ..types import Array, DataFrame, NxGraph, Series, Vertex
-from . import coo, matrix_market
-from .arrays import is_frame, is_gap
-from .coo import shown
-from .matrix_text import Triples
+from ..types import Array, DataFrame, NxGraph, Vertex
+from .arrays import columns_of_frame, is_frame, is_series
+from .coo import MOST, is_gap, shown
+from .matrix_text import Triples, lowered
 from .values import RAISE, SKIP, SKIPS, TAKES, Clock, Rounding, is_time, whole_numbers
 
 FOLDS = ('dup_op="plus" adds their values up, "min" or "max" keeps the least or the greatest, '
@@ -190,7 +192,7 @@ def graph_of(edges: Edges, how: How) -> Graph:
     values = numpy.ones(len(rows), numpy.int64) if edges.values is None else edges.values
     triples = Triples(rows, columns, values, len(first), len(second))
     if not how.directed:
-        triples = matrix_market.lowered(triples, 'symmetric')
+        triples = lowered(triples, 'symmetric')
     axis = axis_of(first)
     notes = Metadata(None, None, how.directed, edges.values is not None,
                      edges.left_out.added_to(edges.summary))
@@ -348,27 +350,64 @@ ABSENT = object()                                  # the value of an edge that h
 Neighbours = Dict[Any, Any]
 
 
-def graph_of_list(edges: Iterable[Any], how: How, layout: Layout) -> Graph:
-    """The matrix of (from, to), (from, to, value) or (from, to, {'weight': value}), as networkx
-    gives and takes them."""
-    layout.check()
-    many = coo.list_edges(edges)
+def list_edges(edges: Iterable[Any]) -> List[Any]:
+    """Edges as a list. TypeError for a dict, whose values would be lost, and for what has no order
+    or no hash; ValueError for other lengths."""
+    if isinstance(edges, Mapping):
+        raise TypeError(
+            'edges are a list, and a dict would lose its values: from_edgelist([(*edge, value) '
+            'for edge, value in edges.items()]) takes {(from, to): value}; '
+            'networkx.from_dict_of_lists and from_dict_of_dicts take neighbours, and '
+            'from_networkx the graph')
+    if isinstance(edges, (str, os.PathLike)):
+        raise TypeError('edges are a list of (from, to) or (from, to, value), not %r: '
+                        'read_graph(path) reads a file' % (edges,))
+    many: List[Any] = edges.tolist() if hasattr(edges, 'tolist') else list(edges)
+    for at, edge in enumerate(many):
+        if not hasattr(edge, '__getitem__') or len(edge) not in (2, 3):
+            kind = ValueError if hasattr(edge, '__getitem__') else TypeError
+            raise kind('an edge is (from, to) or (from, to, value), not %r (edge %d)' % (edge, at))
+    return many
+
+
+def edges_of_list(edges: Any, layout: Layout) -> Edges:
+    """The edges (from, to), (from, to, value) or (from, to, {'weight': value}), as networkx gives
+    and takes them; or of a table of pandas with two or three columns, by position."""
+    if is_frame(edges):
+        width = len(edges.columns) if layout.values else 2
+        of_frame = list(columns_of_frame(edges)[:width])
+        if width > 2 and of_frame[2].dtype == object:     # of {'weight': value}, it may be
+            of_frame[2] = [_value_of((None, None, value)) for value in of_frame[2].tolist()]
+        return _edges_of_columns(of_frame, layout, 'edge', range(len(edges)))
+    many = list_edges(edges)
     columns: List[Any] = [[edge[0] for edge in many], [edge[1] for edge in many]]
     if layout.values and any(len(edge) == 3 for edge in many):
         columns.append([_value_of(edge) for edge in many])
-    places, left_out = _complete_edges(columns, layout.missing)
-    columns = (columns if len(places) == len(many)
-               else [[column[at] for at in places] for column in columns])
+    return _edges_of_columns(columns, layout, 'edge', range(len(many)))
 
-    def fault(at: int, words: str) -> ValueError:
-        return ValueError('edge %d: %s' % (places[at], words))
+
+def _edges_of_columns(columns: Sequence[Any], layout: Layout, what: str,
+                      places: Sequence[Any]) -> Edges:
+    """The edges of two columns of names, and perhaps one of values: lists, or columns of pandas.
+    Errors call one by `what` and its place. Those that lack a name or the value are left out."""
+    layout.check()
+    kept, left_out = _find_complete(columns, layout.missing, what, places)
+    if len(kept) < len(places):
+        columns = [column.iloc[kept] if is_series(column) else [column[at] for at in kept.tolist()]
+                   for column in columns]
 
     def wrong(at: int, why: Exception) -> Exception:
-        return about(type(why)('edge %d: %s' % (places[at], why)), *parameters_of(why))
-    values, done = (None, '') if len(columns) < 3 else convert_values(columns[2], layout, wrong)
-    found = Edges(columns[0], columns[1], values, fault, done, left_out)
+        is_span = len(columns) > 2 and getattr(columns[2], 'dtype', None) == 'm8[ns]'
+        return about(type(why)('%s %r: %s%s' % (
+            what, places[kept[at]], why, ': frame[%r].dt.total_seconds() has seconds'
+            % (columns[2].name,) if is_span else '')), *parameters_of(why))
+    values, done = ((None, '') if len(columns) < 3
+                    else convert_values(_list_values(columns[2], layout), layout, wrong))
+    sources, targets = _names_of(columns[:2])
+    found = Edges(sources, targets, values, lambda at, words: wrong(at, ValueError(words)), done,
+                  left_out)
     check_times(layout, found)
-    return graph_of(found, how)
+    return found
 
 
 def check_times(layout: Layout, edges: Edges) -> None:
@@ -416,34 +455,36 @@ def describe_absent(count: int, of: int, what: str = 'value') -> str:
     return '%d of %d edges have no %s and count as 1' % (count, of, what) if count else ''
 
 
-def _complete_edges(columns: Sequence[List[Any]],
-                    missing: Optional[str]) -> Tuple[Sequence[int], LeftOut]:
-    """The places of the edges of which no name and no value is missing, and how many others there
-    are. ValueError where these aren't to be left out; with `missing` None names aren't looked
-    at."""
-    gone = []
-    for some, what in ((columns[:2] if missing is not None else [], 'a name'),
+def _find_complete(columns: Sequence[Any], missing: Optional[str], what: str,
+                   places: Sequence[Any]) -> Tuple[Any, LeftOut]:
+    """The edges of which no name and no value is missing, and how many others there are. ValueError
+    where these aren't to be left out; with `missing` None names aren't looked at."""
+    gone, counts = numpy.zeros(len(places), bool), []
+    for some, part in ((columns[:2] if missing is not None else [], 'a name'),
                        (columns[2:], 'the value')):
-        places = {at for column in some for at in _absent_from(column)}
-        if places and missing != SKIP:
-            name = ', missing=None takes it for a name' if what == 'a name' else ''
-            raise about(ValueError('edge %d: %s is missing: %s%s' % (
-                min(places), what, SKIPS % 'edge', name)), 'missing')
-        gone.append(places)
-    nameless, valueless = gone[0], gone[1] - gone[0]
-    left: Sequence[int] = range(len(columns[0]))
-    if nameless or valueless:
-        left = [at for at in left if at not in nameless and at not in valueless]
-    return left, LeftOut(names=len(nameless), values=len(valueless))
+        gaps = numpy.zeros(len(places), bool)
+        for column in some:
+            gaps |= _gaps_of(column)
+        gaps &= ~gone
+        if gaps.any() and missing != SKIP:
+            name = ', missing=None takes it for a name' if (
+                what, part) == ('edge', 'a name') else ''
+            raise about(ValueError('%s %r: %s is missing: %s%s' % (
+                what, places[int(gaps.argmax())], part, SKIPS % what, name)), 'missing')
+        gone |= gaps
+        counts.append(int(gaps.sum()))
+    return numpy.flatnonzero(~gone), LeftOut(names=counts[0], values=counts[1])
 
 
-def _absent_from(many: Sequence[Any]) -> List[int]:
-    """The places of None, NaN and what pandas and numpy have in their place."""
-    if set(map(type, many)) <= {int, str, tuple, bool}:
-        return []
+def _gaps_of(column: Any) -> Any:
+    """Where a column has None, NaN or what pandas and numpy have in their place."""
+    if is_series(column):
+        return column.isna().to_numpy()
+    if set(map(type, column)) <= {int, str, tuple, bool}:
+        return numpy.zeros(len(column), bool)
     # numpy's NaN of any width and its NaT differ from themselves
-    return [at for at, one in enumerate(many) if is_gap(one)
-            or (hasattr(one, 'dtype') and bool(operator.ne(one, one)))]
+    return numpy.array([is_gap(one) or (hasattr(one, 'dtype') and bool(operator.ne(one, one)))
+                        for one in column], bool)
 
 
 def _value_of(edge: Sequence[Any]) -> Any:
@@ -502,62 +543,39 @@ def edges_of_frame(frame: DataFrame, ends: Tuple[Vertex, Vertex], attribute: Ver
     if not is_frame(frame):
         raise TypeError('expected a table of pandas, got %s: from_edgelist takes a list of edges, '
                         'read_graph a file' % type(frame).__name__)
-    layout.check()
     attribute = choose_value_column(frame.columns, ends, attribute)
-    frame, left_out = _complete_rows(frame, ends, attribute, layout.missing)
-
-    def fault(at: int, words: str) -> ValueError:
-        return ValueError('row %r: %s' % (frame.index[at], words))
-
-    def wrong(at: int, why: Exception) -> Exception:
-        is_span = attribute is not None and frame[attribute].dtype.kind == 'm'
-        return about(type(why)('row %r: %s%s' % (
-            frame.index[at], why, ': frame[%r].dt.total_seconds() has seconds' % (attribute,)
-            if is_span else '')), *parameters_of(why))
-    values, done = None, ''
-    if attribute is not None:
-        values, done = convert_values(_list_values(frame[attribute], layout), layout, wrong)
-    sources, targets = _names_of_columns([frame[column] for column in ends])
-    found = Edges(sources, targets, values, fault, done, left_out)
-    check_times(layout, found)
-    return found
+    columns = [frame[column] for column in (*ends, *(() if attribute is None else (attribute,)))]
+    if layout.missing is None:                     # of which lists alone make a name
+        layout = layout._replace(missing=RAISE)
+    return _edges_of_columns(columns, layout, 'row', frame.index)
 
 
-def _list_values(column: Series, layout: Layout) -> Any:
+def _list_values(column: Any, layout: Layout) -> Any:
     """A column of values: an array of numbers, else a list of whatever it has."""
-    if layout.unit is None and column.dtype.kind in 'ib':
-        return column.to_numpy('int64')
-    return (column.to_numpy() if layout.unit is None and column.dtype == 'float64'
-            else column.tolist())
+    if not is_series(column):
+        return column
+    is_plain = layout.unit is None and (column.dtype.kind in 'ib' or column.dtype == 'float64')
+    return column.to_numpy(None if column.dtype.kind == 'f' else 'int64') if is_plain \
+        else column.tolist()
 
 
-def _complete_rows(frame: DataFrame, ends: Tuple[Vertex, Vertex], attribute: Vertex,
-                   missing: Optional[str]) -> Tuple[Any, LeftOut]:
-    """A table without the rows of which a name or the value is missing, and how many there were.
-    ValueError where these aren't to be left out."""
-    nameless = (frame[ends[0]].isna() | frame[ends[1]].isna()).to_numpy()
-    valueless = (frame[attribute].isna().to_numpy() & ~nameless if attribute is not None
-                 else nameless & False)
-    for gone, what in ((nameless, 'a name is missing'), (valueless, 'the value is missing')):
-        if gone.any() and missing != SKIP:
-            raise about(ValueError('row %r: %s: %s' % (
-                frame.index[int(gone.argmax())], what, SKIPS % 'row')), 'missing')
-    gone = nameless | valueless
-    return (frame[~gone] if gone.any() else frame), LeftOut(names=int(nameless.sum()),
-                                                            values=int(valueless.sum()))
-
-
-def _names_of_columns(columns: Sequence[Series]) -> Tuple[Any, Any]:
-    """Two columns of names: as numbers, where both are whole numbers, else as codes of those that
-    there are."""
+def _names_of(columns: Sequence[Any]) -> Sequence[Any]:
+    """Two columns of names: as numbers, where both of pandas' are whole numbers, else as codes of
+    those that there are; lists as they are."""
+    if not all(map(is_series, columns)):
+        return columns
     if all(column.dtype.kind in 'iu' for column in columns):
-        wide = any(len(column) and int(column.max()) > coo.MOST for column in columns)
+        wide = any(len(column) and int(column.max()) > MOST for column in columns)
         first, second = (column.to_numpy(column.dtype.kind + '8') for column in columns)
         if wide:
             # as Python's numbers, since arrays of int64 would wrap
             return first.tolist(), second.tolist()
         return first.astype('int64', copy=False), second.astype('int64', copy=False)
-    return code_names(*(column.astype(object).to_numpy() for column in columns))
+    # pandas has no code for what is missing, and none for what has no hash
+    if not any(column.isna().any() for column in columns):
+        with contextlib.suppress(TypeError):
+            return code_names(*(column.astype(object).to_numpy() for column in columns))
+    return [column.tolist() for column in columns]
 
 
 # -- graphs of networkx

@@ -26,6 +26,7 @@ from .edge_lists import (WEIGHTS, Form, Table, as_text, blank_comments, choose_c
                          convert_names, describe_columns, read_edges)
 from .edges import (ABSENT, Edges, Graph, How, Layout, check_times, code_names, convert_values,
                     edges_of_frame, graph_of)
+from .files import is_market
 from .matrix_text import line_at, start_of_line
 
 CALLED = {'graphml': 'GraphML', 'gexf': 'GEXF', 'gml': 'GML'}
@@ -120,7 +121,7 @@ def has_dictionaries(text: bytes, layout: Layout) -> bool:
     writes it."""
     if layout.columns is not None:
         return False
-    for line in blank_comments(text[:1 << 16], layout.comments)[0].split(b'\n'):
+    for line in io.BytesIO(blank_comments(text[:1 << 16], layout.comments)[0]):
         if line.strip():
             words = line.decode('utf-8', 'replace')
             return _line_of(layout.sep).fullmatch(words) is not None
@@ -183,7 +184,7 @@ class Problem(NamedTuple):
 
 def is_dimacs(text: bytes) -> bool:
     """Whether a text is one, by its first line that is no comment."""
-    for line in text[:1 << 20].split(b'\n'):
+    for line in io.BytesIO(text[:1 << 20]):
         if line.split()[:1] not in ([], [b'c']):
             return re.match(rb'p\s+[a-z]+\s+\d+\s+\d+\s*$', line) is not None
     return False
@@ -252,8 +253,8 @@ def problem_of(file: str, text: bytes) -> Problem:
 
 # -- which format a file has
 
-PARTED = {'csv': ',', 'tsv': '\t'}
-OF_LISTS = ('edges', 'csv', 'tsv', 'parquet')     # which have columns
+PARTED = {'edges': None, 'csv': ',', 'tsv': '\t'}
+OF_LISTS = (*PARTED, 'parquet')     # which have columns
 START = 1 << 16                                    # bytes that are looked at
 GML = re.compile(rb'(creator\s|version\s|comment\s|directed\s|graph\s*\[)', re.I)
 HTML = re.compile(rb'<!doctype\s+html|<html\b', re.I)
@@ -321,7 +322,7 @@ EXPECTED = 'expected %s or Matrix Market, got ' % READABLE
 def format_of(text: bytes) -> str:
     """Which format a text has, by its beginning: `mtx`, `parquet`, or the first of GRAPH_FORMATS
     that it is like; else `edges`."""
-    if text[:14].lower() == b'%%matrixmarket':
+    if is_market(text):
         return 'mtx'
     if text[:4] == b'PAR1':
         return 'parquet'
@@ -440,10 +441,22 @@ def edges_of(file: str, text: bytes, request: Request) -> Tuple[Edges, How]:
     """The edges of a file, and what becomes of them. ReadError where the caller asks for what the
     file doesn't have."""
     format, layout = check_format(file, text, request.format), request.layout
-    if format in ('edges', 'csv', 'tsv') and has_dictionaries(text, layout):
+    if format in PARTED and has_dictionaries(text, layout):
         format = DICTIONARIES
     check_layout(file, format, request)
-    edges, how = _read_edges(file, text, format, request)
+    how = How(request.directed is not False, request.nodelist, request.bipartite)
+    if format not in GRAPH_FORMATS:
+        edges = LIST_READERS[format](file, text, layout)
+        if edges.question and request.directed is None:
+            raise about(ReadError(file, None, edges.question), 'directed')
+    elif how.bipartite:
+        raise about(ReadError(file, None, '%s has one kind of vertices: bipartite=True is for '
+                              'lists and Matrix Market; leave it out' % format), 'bipartite')
+    else:
+        edges = GRAPH_FORMATS[format].read(file, text, layout)
+        how = how._replace(
+            directed=bool(edges.directed if request.directed is None else request.directed),
+            nodelist=edges.nodes if how.nodelist is None else how.nodelist)
     try:
         check_times(layout, edges)
     except ValueError as fault:
@@ -451,24 +464,12 @@ def edges_of(file: str, text: bytes, request: Request) -> Tuple[Edges, How]:
     return edges, how
 
 
-def _read_edges(file: str, text: bytes, format: str, request: Request) -> Tuple[Edges, How]:
-    """The edges of a file of a format, and what becomes of them."""
-    layout = request.layout
-    how = How(request.directed is not False, request.nodelist, request.bipartite)
-    if format in GRAPH_FORMATS:
-        if how.bipartite:
-            raise about(ReadError(file, None, '%s has one kind of vertices: bipartite=True is for '
-                                  'lists and Matrix Market; leave it out' % format), 'bipartite')
-        edges = GRAPH_FORMATS[format].read(file, text, layout)
-        return edges, how._replace(
-            directed=bool(edges.directed if request.directed is None else request.directed),
-            nodelist=edges.nodes if how.nodelist is None else how.nodelist)
-    if format == 'parquet':
-        return read_table(file, text, layout), how
-    if format == DICTIONARIES:
-        return read_dictionaries(file, text, layout), how
-    sep = layout.sep if layout.sep is not None else PARTED.get(format)
-    edges = edge_lists.read(file, text, layout._replace(sep=sep))
-    if edges.question and request.directed is None:
-        raise about(ReadError(file, None, edges.question), 'directed')
-    return edges, how
+def _read_list(sep: Optional[str], file: str, text: bytes, layout: Layout) -> Edges:
+    """The edges of a list, whose format may say what parts the fields."""
+    layout = layout._replace(sep=sep if layout.sep is None else layout.sep)
+    return edge_lists.read_edges(edge_lists.lay_out(file, text, layout), layout)
+
+
+LIST_READERS: Dict[str, Callable[[str, bytes, Layout], Edges]] = {
+    'parquet': read_table, DICTIONARIES: read_dictionaries,
+    **{name: functools.partial(_read_list, sep) for name, sep in PARTED.items()}}

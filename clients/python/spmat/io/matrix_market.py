@@ -7,10 +7,12 @@ a ValueError), with the line of the file.
 """
 from __future__ import annotations
 
-import decimal
+import functools
 import io
 import itertools
-from typing import Any, Callable, Collection, Dict, Iterator, List, NamedTuple, Optional, Tuple
+import re
+from typing import (Any, Callable, Collection, Dict, Iterator, List, Mapping, NamedTuple, Optional,
+                    Tuple)
 
 import numpy
 
@@ -18,22 +20,22 @@ from ..errors import Refused, about, refusal
 from ..limits import MOST_SIDE
 from ..metadata import BY_POSITIONS, Metadata
 from ..scale import as_unit
-from . import files, matrix_text
-from .coo import DUP_OP, LEAST
-from .matrix_text import Triples, line_at
-from .values import NOT_WHOLE, Rounding, check_scale, is_number, scaled_array, whole_of
+from . import edge_lists, files
+from .arrays import DUP_OP
+from .coo import LEAST
+from .matrix_text import Triples, line_at, lowered
+from .values import BEYOND, Rounding, scaled_array, whole_values
 
 FIELDS = {'integer': 'integer', 'unsigned-integer': 'integer', 'pattern': 'pattern', 'real': 'real',
           'double': 'real', 'complex': 'complex'}
 SYMMETRIES = ('general', 'symmetric', 'skew-symmetric')
-NUMBERS = b'+-0123456789 \t\r\n'
-LF = 10
-# bytes of lines whose fields are counted together
-PIECE = 1 << 20
+# what parts fields beside blanks and tabs, and what no number has, as pandas is to read it
+NEITHER = bytes([0, *range(128, 256)])
+PLAIN = bytes.maketrans(b'\r\v\f' + NEITHER, b'   ' + b'x' * len(NEITHER))
+COMMENT = re.compile(rb'(?m)^[ \t]*%[^\n]*')
 NO_MARKET = (
     'this is no Matrix Market file, which begins with %%MatrixMarket: read_graph reads other '
     'formats, too')
-ENDINGS, load = files.ENDINGS, files.load          # a file, also packed
 COMMAND = 'mmread'                                 # what refusals of a file name as their command
 
 
@@ -78,6 +80,11 @@ class Kind(NamedTuple):
     def width(self) -> int:
         """The fields of an entry's line."""
         return {'pattern': 0, 'complex': 2}.get(self.field, 1) + (0 if self.array else 2)
+
+    @property
+    def wants_digits(self) -> bool:
+        """Whether values are written as whole numbers are."""
+        return self.field == 'integer' and self.values.scale is None
 
     @property
     def is_bare(self) -> bool:
@@ -177,43 +184,59 @@ class Reader:
         """The entries of each piece of about so many bytes, as they stand there; of an `array` all
         at once. Those of the upper triangle are put into the lower one, unless the file is
         `general`. `progress` is told how many bytes were read."""
-        had = done = 0
-        while True:
-            piece = self._file.read(-1 if self.kind.array else size)
-            if not piece:
-                break
+        had, done, size = 0, 0, -1 if self.kind.array else size
+        for piece in iter(functools.partial(self._file.read, size), b''):
             piece += self._file.readline()
-            lines, left = piece.count(b'\n') + (not piece.endswith(b'\n')), self.count - had
-            triples: Optional[Triples] = None
-            if lines == left if self.kind.array else lines <= left:
-                triples = read_quickly(self.kind, piece, lines, self.nrows, self.ncols)
-            if triples is None:
-                triples = self._read_slowly(piece, left)
+            triples = read_lines(self.kind, piece, self.nrows, self.ncols)
+            if triples is None or len(triples.values) > self.count - had:
+                raise self._find_fault(piece, self.count - had)
             had, done = had + len(triples.rows), done + len(piece)
-            self._number += lines
+            self._number += piece.count(b'\n') + (not piece.endswith(b'\n'))
             yield lowered(triples, self.kind.symmetry)
             progress(done)
         if had < self.count:
             raise Line(self._number + 1, b'').refused('M9')
 
-    def _read_slowly(self, piece: bytes, left: int) -> Triples:
-        """Line by line, so that the first that breaks a rule is named."""
-        entries: List[Tuple[int, int, int]] = []
-        places = zip(*_grid(self.kind.symmetry, self.nrows, self.ncols)) if self.kind.array else ()
-        cells = iter(places)
-        for line in itertools.starmap(Line, enumerate(piece.split(b'\n'), self._number + 1)):
-            if not line.fields:
-                continue
-            if len(entries) == left:
-                raise line.refused('M10')
-            if len(line.fields) != self.kind.width:
-                raise line.refused('M5')
-            if self.kind.array:
-                entries.append((*next(cells), _value_of(line, line.fields, self.kind)))
-            else:
-                entries.append(_entry_of(line, self.kind, self.nrows, self.ncols))
-        rows, columns, values = numpy.array(entries, numpy.int64).reshape(-1, 3).T
-        return Triples(rows, columns, values, self.nrows, self.ncols)
+    def _find_fault(self, piece: bytes, left: int) -> Refused:
+        """The refusal of the first line of a piece that breaks a rule, found by halves; of the
+        first line that is too many, where all before it are right."""
+        lines = [line for line in itertools.starmap(Line, enumerate(piece.split(b'\n'),
+                                                                    self._number + 1))
+                 if line.fields]
+
+        def are_right(first: int, end: int) -> bool:
+            part = b'\n'.join(line.text for line in lines[first:end])
+            return read_lines(self.kind, part, self.nrows, self.ncols) is not None
+        first, end = 0, min(left, len(lines))
+        if are_right(first, end):
+            return lines[left].refused('M10')
+        while end - first > 1:
+            middle = (first + end) // 2
+            first, end = (middle, end) if are_right(first, middle) else (first, middle)
+        return self._refusal_of(lines[first])
+
+    def _refusal_of(self, line: Line) -> Refused:
+        """The refusal of a line that can't be read, by the first rule that it breaks."""
+        kind, fields = self.kind, line.fields
+        if len(fields) != kind.width:
+            return line.refused('M5')
+        try:
+            places = [line.number_of(field, 'M5') for field in fields[:0 if kind.array else 2]]
+            if not kind.is_bare:
+                word = fields[len(places)].decode('utf-8', 'replace')
+                if not word.isascii() or (kind.wants_digits
+                                          and re.fullmatch(r'[+-]?\d+', word) is None):
+                    return line.refused('M5')
+                whole_values([word], lambda _, words: line.refused(
+                    'M7' if BEYOND in words else 'M5').of_file(said=words),
+                             Rounding(kind.values.scale))
+        except Refused as fault:
+            return fault
+        if any(not 1 <= place <= size for place, size in zip(places, (self.nrows, self.ncols))):
+            return line.refused('M6')
+        if kind.symmetry == 'skew-symmetric' and places[:1] == places[1:]:
+            return line.refused('M6', 'the diagonal of a skew-symmetric matrix is empty')
+        return line.refused('M7')                  # the least number of a skew-symmetric one
 
 
 def parse(text: bytes, values: Values = Values()) -> Tuple[Triples, str]:
@@ -246,28 +269,7 @@ def find_repeated(file: Any, wanted: Optional[Collection[Tuple[int,
     return None
 
 
-# -- triangles
-
-def mirrored(triples: Triples, symmetry: str) -> Triples:
-    """All entries, from those of the lower triangle."""
-    if symmetry == 'general':
-        return triples
-    sign = -1 if symmetry == 'skew-symmetric' else 1
-    rows, columns, values, nrows, ncols = triples
-    off = rows != columns
-    return Triples(numpy.concatenate((rows, columns[off])), numpy.concatenate((columns, rows[off])),
-                   numpy.concatenate((values, sign * values[off])), nrows, ncols)
-
-
-def lowered(triples: Triples, symmetry: str) -> Triples:
-    """Entries of the upper triangle in the lower one."""
-    if symmetry == 'general':
-        return triples
-    sign = -1 if symmetry == 'skew-symmetric' else 1
-    rows, columns, values, nrows, ncols = triples
-    return Triples(numpy.maximum(rows, columns), numpy.minimum(rows, columns),
-                   numpy.where(rows < columns, sign * values, values), nrows, ncols)
-
+# -- entries
 
 def _count_cells(symmetry: str, nrows: int, ncols: int) -> int:
     return {'general': nrows * ncols, 'symmetric': nrows * (nrows + 1) // 2,
@@ -284,94 +286,43 @@ def _grid(symmetry: str, nrows: int, ncols: int) -> Tuple[Any, Any]:
     return rows, columns
 
 
-# -- entries
+def read_lines(kind: Kind, lines: bytes, nrows: int, ncols: int) -> Optional[Triples]:
+    """The entries of whole lines as they stand there, of an `array` from its first place on. None
+    where a line breaks a rule."""
+    body = lines.translate(PLAIN)
+    body = COMMENT.sub(b'', body) if b'%' in body else body
+    if not body or body.isspace():
+        none = numpy.zeros(0, numpy.int64)
+        return Triples(none, none, none, nrows, ncols)
+    try:
+        columns = edge_lists.read_columns(body, None, kind.width)
+        values = _read_values(kind, body, columns)
+    except (ValueError, OverflowError):            # of what pandas doesn't read, or is no number
+        return None
+    if kind.array:
+        i, j = (end[:len(values)] for end in _grid(kind.symmetry, nrows, ncols))
+    elif columns[0].dtype.kind == columns[1].dtype.kind == 'i':
+        i, j = columns[0] - 1, columns[1] - 1
+    else:
+        return None
+    is_wrong = (i < 0) | (i >= nrows) | (j < 0) | (j >= ncols)
+    if kind.symmetry == 'skew-symmetric':          # the least number has no negative
+        is_wrong |= (i == j) | (values[:len(i)] == LEAST)
+    return None if is_wrong.any() else Triples(i, j, values, nrows, ncols)
 
-def _value_of(line: Line, fields: List[bytes], kind: Kind) -> int:
-    """The value in the fields behind an entry's place: 1 where there are none, or they aren't read;
-    else a whole number within 64 bits."""
+
+def _read_values(kind: Kind, body: bytes, columns: Mapping[int, Any]) -> Any:
+    """The values of lines as whole numbers. ValueError where one isn't."""
+    at, rounding = 0 if kind.array else 2, kind.values.rounding or Rounding(kind.values.scale)
     if kind.is_bare:
-        return 1
-    word = fields[0].decode('ascii', 'replace')
-    try:
-        if '_' in word:
-            raise ValueError
-        exact = decimal.Decimal(int(word) if kind.field == 'integer' and kind.values.scale is None
-                                else word.lower().replace('d', 'e'))
-    except (ValueError, decimal.InvalidOperation):
-        raise line.refused('M5') from None
-    if kind.symmetry == 'skew-symmetric' and exact == LEAST:
-        raise line.refused('M7')
-    return whole_of(exact, word, check_scale(kind.values.scale), lambda words: line.refused(
-        'M5' if NOT_WHOLE in words else 'M7').of_file(said=words), kind.values.rounding)
-
-
-def _entry_of(line: Line, kind: Kind, nrows: int, ncols: int) -> Tuple[int, int, int]:
-    """The row, column and value of an entry's line."""
-    i, j = (line.number_of(field, 'M5') for field in line.fields[:2])
-    value = _value_of(line, line.fields[2:], kind)
-    if not (1 <= i <= nrows and 1 <= j <= ncols):
-        raise line.refused('M6')
-    if kind.symmetry == 'skew-symmetric' and i == j:
-        raise line.refused('M6', 'the diagonal of a skew-symmetric matrix is empty')
-    return i - 1, j - 1, value
-
-
-def read_quickly(kind: Kind, body: bytes, count: int, nrows: int, ncols: int) -> Optional[Triples]:
-    """All lines at once by numpy; None where something is unusual or wrong."""
-    columns = _read_numbers(kind, body)
-    if columns is None or len(columns[0]) != count:
-        return None
-    i, j = (_grid(kind.symmetry, nrows, ncols) if kind.array
-            else (columns[0] - 1, columns[1] - 1))
-    values = (numpy.ones(count, numpy.int64) if kind.is_bare
-              else scaled_array(columns[0 if kind.array else 2],
-                                kind.values.rounding or Rounding(kind.values.scale)))
-    outside = (i < 0) | (i >= nrows) | (j < 0) | (j >= ncols)
-    if values is None or outside.any():
-        return None
-    # the least number has no negative
-    if kind.symmetry == 'skew-symmetric' and ((i == j) | (values == LEAST)).any():
-        return None
-    return Triples(i, j, values, nrows, ncols)
-
-
-def _read_numbers(kind: Kind, body: bytes) -> Optional[List[Any]]:
-    """The fields of all lines: places as whole numbers, and values too where all are written so;
-    else values as floats, which hold small whole numbers alone."""
-    width, places, others = kind.width, 0 if kind.array else 2, body.translate(None, NUMBERS)
-    lines = count_even_lines(body, width)
-    if not lines or others.translate(None, b'.eE' if kind.field in ('real', 'complex') else b''):
-        return None
-    try:
-        numbers = (numpy.fromstring(body, numpy.float64, sep=' ') if others
-                   else matrix_text.read_any_lines(body, width).ravel())
-    except (ValueError, DeprecationWarning):       # of what is no number, as numpy will have it
-        return None
-    # numpy's reader ends amid the last one without a word, at 2 of `2-1`
-    if len(numbers) != width * lines or not is_number(body.rsplit(None, 1)[-1].decode()):
-        return None
-    columns = [numbers[at::width] for at in range(width)]
-    if any((column != numpy.trunc(column)).any() or (numpy.abs(column) > MOST_SIDE).any()
-           for column in columns[:places]):
-        return None
-    return [column.astype(numpy.int64) for column in columns[:places]] + columns[places:]
-
-
-def count_even_lines(body: bytes, width: int) -> Optional[int]:
-    """The number of lines that aren't blank, where each of these has so many fields; else None."""
-    start = count = 0
-    while start < len(body):
-        end = body.find(b'\n', start + PIECE) + 1 or len(body)
-        piece = body[start:end] if body.endswith(b'\n', start, end) else body[start:end] + b'\n'
-        marks = numpy.frombuffer(piece, numpy.uint8)
-        parts = marks > 32                         # the first byte of each field
-        parts[1:] &= marks[:-1] <= 32
-        parts |= marks == LF
-        events = numpy.flatnonzero(parts)
-        ends = numpy.flatnonzero(marks[events] == LF)
-        widths: Any = numpy.diff(ends, prepend=-1) - 1
-        if ((widths != width) & (widths != 0)).any():
-            return None
-        count += numpy.count_nonzero(widths)
-        start = end
-    return count
+        last = columns[kind.width - 1]
+        if last.dtype == object and '' in last:    # which pandas has for what is missing
+            raise ValueError('a line with too few fields')
+        return numpy.ones(len(last), numpy.int64)
+    found = scaled_array(columns[at], rounding)
+    if kind.wants_digits and columns[at].dtype.kind != 'i':
+        raise ValueError('values that are not whole')
+    if found is None:
+        fields = edge_lists.read_columns(body, None, kind.width, {at: object})[at].tolist()
+        return whole_values(fields, lambda _, words: ValueError(words), rounding)
+    return found

@@ -54,7 +54,7 @@ def write(triples: Triples, ones: bool = False, symmetric: bool = False) -> byte
     """The text of triples, in their order. With `ones` a text without values, each of which is 1,
     is written as `pattern`: a third shorter, and sooner read. With `symmetric` an entry off the
     diagonal stands for its mirror, too."""
-    rows, columns, values = (numpy.asarray(many, numpy.int64) for many in triples[:3])
+    rows, columns, values = [numpy.asarray(many, numpy.int64) for many in triples[:3]]
     nrows, ncols = triples[3:]
     bare = ones and len(values) > 0 and bool((values == 1).all())
     head = (PATTERN if bare else BANNER) + b'%d %d %d\n' % (nrows, ncols, len(rows))
@@ -141,6 +141,27 @@ def swapped(text: bytes) -> bytes:
     """The text of the transpose, from a text as the server writes it."""
     rows, columns, values, nrows, ncols = read(text)
     return write(Triples(columns, rows, values, ncols, nrows))
+
+
+def mirrored(triples: Triples, symmetry: str) -> Triples:
+    """All entries, from those of the lower triangle."""
+    if symmetry == 'general':
+        return triples
+    sign = -1 if symmetry == 'skew-symmetric' else 1
+    rows, columns, values, nrows, ncols = triples
+    off = rows != columns
+    return Triples(numpy.concatenate((rows, columns[off])), numpy.concatenate((columns, rows[off])),
+                   numpy.concatenate((values, sign * values[off])), nrows, ncols)
+
+
+def lowered(triples: Triples, symmetry: str) -> Triples:
+    """Entries of the upper triangle in the lower one."""
+    if symmetry == 'general':
+        return triples
+    sign = -1 if symmetry == 'skew-symmetric' else 1
+    rows, columns, values, nrows, ncols = triples
+    return Triples(numpy.maximum(rows, columns), numpy.minimum(rows, columns),
+                   numpy.where(rows < columns, sign * values, values), nrows, ncols)
 
 
 def start_of_line(text: bytes, at: int) -> int:

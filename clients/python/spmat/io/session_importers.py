@@ -2,7 +2,7 @@
 from __future__ import annotations
 
 import io
-from typing import TYPE_CHECKING, Dict, Optional, Tuple, Union, cast
+from typing import Dict, Optional, Tuple, Union
 
 from .. import limits, scale as scales
 from ..backends.server import ServerBackend
@@ -11,16 +11,14 @@ from ..matrix import Matrix
 from ..metadata import BY_POSITIONS, NOTHING
 from ..matrix_base import alias, as_constant
 from ..types import Source
-from . import coo, matrix_market, matrix_text
+from . import arrays, files, matrix_market, matrix_text
+from .coo import side
 from .edges import Layout
 from .files import name_of
 from .formats import Request
 from .importers import DupOp, Sources
 from .matrix_text import Triples
 from .values import Rounding
-
-if TYPE_CHECKING:
-    from ..session import Session
 
 # rows of ones that a session keeps, of one length each
 KEPT_ONES = 4
@@ -80,8 +78,8 @@ class SessionSources(Sources[Matrix]):
 
     def _from_text(self, text: Union[bytes, str], name: Optional[str] = None) -> Matrix:
         text = text.encode() if isinstance(text, str) else bytes(text)
-        kind, handle = self.backend.matrix_type or Matrix, self.backend.put_text(text, name)
-        return kind(cast('Session', self), handle, name)
+        made: Matrix = self.backend.matrix_type(self, self.backend.put_text(text, name), name)
+        return made
 
     def _from(self, triples: Triples, dup_op: DupOp = None, name: Optional[str] = None) -> Matrix:
         return self._of_triples(self._folded(triples, dup_op), False, name)
@@ -95,7 +93,7 @@ class SessionSources(Sources[Matrix]):
         except TextRefused as refused:
             if refused.rule != 'M8' or refused.at is None:
                 raise
-            raise coo.repeated(triples, refused.at - matrix_text.HEAD_LINES - 1,
+            raise arrays.repeated(triples, refused.at - matrix_text.HEAD_LINES - 1,
                                symmetric) from None
 
     def mmread(self, source: Source, *, values: bool = True, scale: Optional[float] = None,
@@ -138,6 +136,8 @@ class SessionSources(Sources[Matrix]):
             no `dup_op` folds it. It is a ValueError.
         TooLarge
             If rows, columns or entries are more than the server takes (M4). It is a ValueError.
+        ImportError
+            If pandas is missing (extra `files`), and the file isn't one that the server reads.
 
         See Also
         --------
@@ -159,7 +159,7 @@ class SessionSources(Sources[Matrix]):
         """
         request = Request('mtx', Layout(values=values, scale=scale))
         scales.of_read(scale, dup_op)
-        return self._market(name_of(source), matrix_market.load(source, max_bytes), request, dup_op,
+        return self._market(name_of(source), files.load(source, max_bytes), request, dup_op,
                             name)
 
     def _market(self, file: str, text: bytes, request: Request, dup_op: DupOp,
@@ -176,7 +176,7 @@ class SessionSources(Sources[Matrix]):
                 found = matrix_market.find_repeated(io.BytesIO(text))
                 raise (found or refused).of_file(file) from None
             said = '' if text.split()[:1] == [b'%%MatrixMarket'] else matrix_market.NO_MARKET
-            told = refused.hinting('M8', coo.DUP_OP).of_file(file,
+            told = refused.hinting('M8', arrays.DUP_OP).of_file(file,
                                                              said if refused.rule == 'M1' else '')
             raise about(told, *(('dup_op',) if refused.rule == 'M8' else ())) from None
         except Refused as refused:
@@ -195,7 +195,7 @@ class SessionSources(Sources[Matrix]):
         triples, symmetry = matrix_market.parse(text, values)
         unit = scales.of_read(values.scale, dup_op)
         folded = self._folded(triples, dup_op)
-        made = self.from_text(matrix_text.write(matrix_market.mirrored(folded, symmetry)), name)
+        made = self.from_text(matrix_text.write(matrix_text.mirrored(folded, symmetry)), name)
         made.notes = made.notes._replace(unit=unit)
         return made, matrix_market.kind_of(text, values)
 
@@ -239,10 +239,10 @@ class SessionSources(Sources[Matrix]):
         >>> s.full(2, 2, 7).to_triples()
         [(0, 0, 7), (0, 1, 7), (1, 0, 7), (1, 1, 7)]
         """
-        nrows, ncols = coo.side(nrows, 0, 'nrows'), coo.side(ncols, 0, 'ncols')
+        nrows, ncols = side(nrows, 0, 'nrows'), side(ncols, 0, 'ncols')
         if nrows * ncols > limits.MOST_SIDE:
             raise refusal('M4', detail='%d entries' % (nrows * ncols))
-        return as_constant(self._from(coo.full(nrows, ncols, value), name=name))
+        return as_constant(self._from(arrays.full(nrows, ncols, value), name=name))
 
     def identity(self, n: int, value: int = 1, *, name: Optional[str] = None) -> Matrix:
         """A square matrix with one value on its diagonal.
@@ -284,8 +284,8 @@ class SessionSources(Sources[Matrix]):
         >>> s.identity(3).to_triples()
         [(0, 0, 1), (1, 1, 1), (2, 2, 1)]
         """
-        at = coo.indices(coo.side(n, 0, 'size'))
-        return as_constant(self._from(coo.checked(at, at, value, n, n), name=name))
+        at = arrays.indices(side(n, 0, 'size'))
+        return as_constant(self._from(arrays.checked(at, at, value, n, n), name=name))
 
     def ones(self, ncols: int) -> Matrix:
         """A row of ones, which folds columns.
@@ -324,7 +324,7 @@ class SessionSources(Sources[Matrix]):
         [(0, 0, 1), (0, 1, 1), (0, 2, 1)]
         """
         with self.backend.lock():
-            ncols = coo.side(ncols, 0, 'ncols')
+            ncols = side(ncols, 0, 'ncols')
             row = self._ones.pop(ncols, None)
             row = self.full(1, ncols) if row is None else row
             if ncols <= LONG and row.handle.backend is self.backend:

@@ -10,13 +10,13 @@ import functools
 import numbers
 import operator
 import re
-from typing import Any, Callable, Dict, Optional, Sequence, Tuple
+from typing import Any, Callable, Dict, NamedTuple, Optional, Sequence
 
 import numpy
 
-from ..errors import about
-from .arrays import is_gap
-from .coo import LEAST, MOST, shown, whole, without_truth, word
+from ..errors import about, parameters_of
+from ..types import Array
+from .coo import LEAST, MOST, is_gap, shown, whole, without_truth, word
 
 # Floats below it are the whole numbers that were written, or none: pandas reads the last bits of
 # long decimals wrong, so that 7358111619511751.0 ends in 0.
@@ -25,7 +25,7 @@ EXACT = float(1 << 48)
 NEAR, HALF = float(1 << 40), 1e-3
 # a product of floats is as near as that to the true one
 SLIP = 2.0 ** -50
-NOT_WHOLE = 'a number that is not whole'
+NOT_WHOLE, BEYOND = 'a number that is not whole', 'beyond 64 bits'
 SCALE = 'scale=1000 takes thousandths (0.125 is 125 then), values=False reads no values'
 # What stands for a value that isn't there: in tables of pandas, R, SQL and spreadsheets.
 MISSING = {'', 'na', 'n/a', '#n/a', '<na>', 'nan', '-nan', 'null', '#null!', 'none', 'nil', '-',
@@ -49,8 +49,6 @@ FAR = ('%s is in the year %d as a count of %s since 1970: date_format="%%Y%%m%%d
 EPOCH = datetime.datetime(1970, 1, 1, tzinfo=datetime.timezone.utc)
 ISO = re.compile(r'\s*(\d{4})-(\d\d)-(\d\d)(?:[T '
                  r']+(\d\d):(\d\d)(?::(\d\d)(?:[.,](\d{1,9}))?)?)?\s*(Z|[+-]\d\d:?\d\d)?\s*', re.I)
-# Columns that are called so have times.
-TIME_COLUMNS = {'timestamp', 'time', 'date', 'datetime', 'ts', 'when', 'day'}
 TAKES = 'unit="s" takes times as seconds since 1970-01-01'
 
 Wrong = Callable[[str], Exception]
@@ -92,7 +90,8 @@ class Rounding:
     weren't whole then, and by how much at most they were changed, in their own units."""
 
     def __init__(self, scale: Optional[float]) -> None:
-        self.scale, self.count, self.rounded, self.most = scale, 0, 0, 0.0
+        self.scale, self.exact = scale, check_scale(scale)
+        self.count, self.rounded, self.most = 0, 0, 0.0
 
     def note(self, count: int, rounded: int, most: float) -> None:
         """Adds some values, of which the one that was changed most was so by `most`, once it was
@@ -113,14 +112,13 @@ def whole_values(fields: Sequence[str], wrong: Callable[[int, str], Exception],
     """Fields as an array of whole numbers. With a scale each is multiplied by it and rounded to the
     nearest, halves to the even one; without one 0.5 is an error, and 2.0 is 2. `rounding` has the
     scale, and notes what it did; `wrong` makes the error of a field, by its number."""
-    if rounding.scale is None and not any('_' in field for field in fields):
+    if rounding.exact is None and not any('_' in field for field in fields):
         with contextlib.suppress(ValueError, OverflowError):     # which are named below
             return numpy.array(list(map(int, fields)), numpy.int64)
-    scale = check_scale(rounding.scale)
     found = []
     for at, field in enumerate(fields):
         fault = functools.partial(wrong, at)
-        found.append(whole_of(_read_decimal(field, fault), field, scale, fault, rounding))
+        found.append(whole_of(_read_decimal(field, fault), field, rounding, fault))
     return numpy.array(found, numpy.int64)
 
 
@@ -143,10 +141,9 @@ def _read_decimal(field: str, wrong: Wrong) -> decimal.Decimal:
                     *(() if is_dressed else ('values',))) from None
 
 
-def whole_of(exact: decimal.Decimal, field: str, scale: Optional[decimal.Decimal], wrong: Wrong,
-             rounding: Optional[Rounding] = None) -> int:
+def whole_of(exact: decimal.Decimal, field: str, rounding: Rounding, wrong: Wrong) -> int:
     """A number as a whole one; `field` is how it was written."""
-    rounded = apart = exact
+    rounded, apart, scale = exact, decimal.Decimal(0), rounding.exact
     is_out = not exact.is_finite() or exact.adjusted() > 40
     if not is_out:
         with decimal.localcontext() as context:
@@ -158,59 +155,66 @@ def whole_of(exact: decimal.Decimal, field: str, scale: Optional[decimal.Decimal
             raise about(wrong('%s is %s: %s' % (field, NOT_WHOLE, SCALE)), 'scale', 'values')
         is_out = not LEAST <= rounded <= MOST
     if is_out:
-        raise wrong('%s%s is beyond 64 bits: values lie in -2^63 to 2^63 - 1' % (
-            field, '' if scale is None else ' times %g' % scale))
-    if rounding is not None:
-        rounding.note(1, bool(apart), float(apart))
+        raise wrong('%s%s is %s: values lie in -2^63 to 2^63 - 1' % (
+            field, '' if scale is None else ' times %g' % scale, BEYOND))
+    rounding.note(1, bool(apart), float(apart))
     return int(rounded)
 
 
-def scaled(values: Any, scale: Optional[float]) -> Tuple[Any, Rounding]:
-    """Numbers of Python or numpy as whole ones: multiplied by a scale and rounded to the nearest,
-    halves to the even one, as they are written in decimals (0.29 times 100 is 29); and what that
-    did. One number is for all. Without a scale they are as they were. TypeError for what is no
-    number, ValueError with its place for what isn't finite or is beyond 64 bits."""
-    rounding, exact = Rounding(scale), check_scale(scale)
-    if exact is None:
-        return values, rounding
-    if not hasattr(values, '__iter__'):
-        return scaled_one(values, exact, rounding, 'value'), rounding
-    found = scaled_array(values, rounding) if isinstance(values, numpy.ndarray) else None
-    return [scaled_one(value, exact, rounding, 'value (entry %d)' % at)
-            for at, value in enumerate(values)] if found is None else found, rounding
-
-
-def whole_numbers(values: Any, rounding: Rounding, wrong: Callable[[int, Exception], Exception],
+def whole_numbers(many: Any, rounding: Optional[Rounding] = None,
+                  wrong: Optional[Callable[[int, Exception], Exception]] = None,
                   what: str = 'value') -> Any:
-    """An array of whole numbers out of a list of numbers, or an array, as `scaled` has it. `wrong`
-    makes the error of one, of its number and of an error that doesn't name it."""
-    exact, found = check_scale(rounding.scale), None
-    if isinstance(values, numpy.ndarray):
-        found = scaled_array(values, rounding)
-    elif exact is None:
+    """Numbers, an array or a list, as an array of whole numbers: multiplied by a scale and rounded
+    to the nearest, halves to the even one, as they are written in decimals (0.29 times 100 is 29);
+    `rounding` has the scale, and notes what it did. TypeError for what is no number, ValueError for
+    what is missing, isn't whole or is beyond 64 bits: `wrong` makes the error of one, of its place
+    and of an error that doesn't name it."""
+    rounding, found = rounding or Rounding(None), None
+    if isinstance(many, numpy.ndarray):
+        found = _whole_at_once(many, what, rounding)
+    elif rounding.exact is None:
         with contextlib.suppress(TypeError, OverflowError):     # which are named below
-            found = numpy.array(list(map(operator.index, without_truth(values))), numpy.int64)
+            found = numpy.array(list(map(operator.index, without_truth(many))), numpy.int64)
     if found is not None:
         return found
     whole_ones = []
-    for at, value in enumerate(values.tolist() if isinstance(values, numpy.ndarray) else values):
+    for at, value in enumerate(many.tolist() if isinstance(many, numpy.ndarray) else many):
         try:
-            whole_ones.append(word(value, what) if exact is None
-                              else scaled_one(value, exact, rounding, what))
+            if wrong is None and is_gap(value):    # who gives `wrong` has looked for them
+                raise ValueError('a %s is missing: it is %r' % (what, value))
+            whole_ones.append(whole_number(value, rounding, what))
         except (TypeError, ValueError) as fault:
-            raise wrong(at, fault) from None
+            raise (wrong or _place)(at, fault) from None
     return numpy.array(whole_ones, numpy.int64)
 
 
-def scaled_one(value: Any, scale: Optional[decimal.Decimal], rounding: Rounding, what: str) -> int:
-    """A number as a whole one: multiplied by a scale, and rounded; see `scaled`."""
+def _place(at: int, fault: Exception) -> Exception:
+    return about(type(fault)('%s (entry %d)' % (fault, at)), *parameters_of(fault))
+
+
+def _whole_at_once(array: Array, what: str, rounding: Rounding) -> Any:
+    """An array of numbers as one of int64; None where they have to be looked at one by one."""
+    if array.ndim != 1:
+        raise ValueError('expected one dimension of %ss, got %d' % (what, array.ndim))
+    if array.dtype.kind not in 'biufO' and len(array):
+        since = (
+            ': .astype("datetime64[s]").astype("int64") makes seconds since 1970-01-01 of times'
+            if array.dtype.kind == 'M' else '')
+        raise TypeError('%ss are whole numbers, not %s%s' % (what, array.dtype, since))
+    return scaled_array(array, rounding)
+
+
+def whole_number(value: Any, rounding: Optional[Rounding] = None, what: str = 'value') -> int:
+    """A number as a whole one of 64 bits; see `whole_numbers`."""
+    if rounding is None or rounding.exact is None:
+        return word(value, what)
     if is_gap(value):
-        raise ValueError('%s is missing: it is %r' % (what, value))
+        raise ValueError('a %s is missing: it is %r' % (what, value))
     if not isinstance(value, (numbers.Real, decimal.Decimal)) and not hasattr(value, '__index__'):
         raise TypeError('a %s is a number, not %r' % (what, value))
     field = shown(value) if isinstance(value, int) else str(value)
-    return whole_of(_decimal_of(value), field, scale,
-                    lambda words: ValueError('%s: %s' % (what, words)), rounding)
+    return whole_of(_decimal_of(value), field, rounding,
+                    lambda words: ValueError('%s: %s' % (what, words)))
 
 
 def _decimal_of(value: Any) -> decimal.Decimal:
@@ -229,7 +233,7 @@ def scaled_array(values: Any, rounding: Rounding) -> Any:
     """An array of numbers as one of int64, as `whole_values` has it; None where they have to be
     looked at one by one."""
     kind, scale = values.dtype.kind, rounding.scale
-    if kind == 'i' and scale is None:
+    if kind in 'bi' and scale is None:
         return values.astype(numpy.int64, copy=False)
     if kind not in 'iuf':
         return None
@@ -274,8 +278,8 @@ class Clock:
             if self._format is not None and isinstance(value, (int, numpy.integer)):
                 value = str(value)                 # as 20240531 is written
             try:
-                exact = nanoseconds(value, self._format)
-                number = (exact // self._size if exact is not None
+                moment = read_moment(value, self._format)
+                number = (moment.nanoseconds // self._size if moment is not None
                           else int(value) if isinstance(value, str) else whole(value))
             except (TypeError, ValueError):
                 how = ('date_format=%r' % self._format if self._format
@@ -283,11 +287,11 @@ class Clock:
                        'as "%d.%m.%Y"')
                 raise about(wrong(at, 'expected a time, got %r: write it %s' % (value, how)),
                             'date_format') from None
-            if exact is None and number * self._size > YEAR_3000:
+            if moment is None and number * self._size > YEAR_3000:
                 raise about(wrong(at, FAR % (value, 1970 + number * self._size // YEAR, self.unit,
                                              self.unit)), 'date_format', 'unit')
-            forms.setdefault(None if exact is None else _has_zone(value, self._format), at)
-            self.cut += exact is not None and exact % self._size != 0
+            forms.setdefault(None if moment is None else moment.has_zone, at)
+            self.cut += moment is not None and moment.nanoseconds % self._size != 0
             if not LEAST <= number <= MOST:
                 raise about(wrong(at, '%s is beyond 64 bits in %s: unit="us" has room'
                                   % (value, self.unit)), 'unit')
@@ -301,33 +305,31 @@ class Clock:
         return numpy.array(found, numpy.int64)
 
 
-def _has_zone(value: Any, date_format: Optional[str]) -> bool:
-    """Whether a time says its zone."""
-    if isinstance(value, str):
-        written = (ISO.fullmatch(value) if date_format is None
-                   else datetime.datetime.strptime(value.strip(), date_format).tzinfo)
-        return bool(written.group(8)) if isinstance(written, re.Match) else written is not None
-    return getattr(value, 'tzinfo', None) is not None
+class Moment(NamedTuple):
+    """A time in nanoseconds since 1970-01-01, where it has no zone in UTC; and whether it has
+    one."""
+    nanoseconds: int
+    has_zone: bool
 
 
-def is_time(value: Any, date_format: Optional[str] = None) -> bool:
+def is_time(value: Any) -> bool:
     """Whether this is a time, and not a number."""
     try:
-        return nanoseconds(value, date_format) is not None
+        return read_moment(value) is not None
     except (TypeError, ValueError):
         return False
 
 
-def nanoseconds(value: Any, date_format: Optional[str] = None) -> Optional[int]:
-    """A time in nanoseconds since 1970-01-01, where it has no zone in UTC; None of a number.
-    ValueError where text is neither."""
+def read_moment(value: Any, date_format: Optional[str] = None) -> Optional[Moment]:
+    """A time of Python, numpy, pandas or in text; None of a number. ValueError where text is
+    neither."""
     if isinstance(value, str):
         if date_format is not None:
             return _of_datetime(datetime.datetime.strptime(value.strip(), date_format))
         return None if re.fullmatch(r'\s*[+-]?\d+\s*', value) else _of_iso(value)
     if isinstance(value, datetime.datetime):
         # pandas' Timestamp has more digits
-        return _of_datetime(value) + int(getattr(value, 'nanosecond', 0))
+        return _of_datetime(value, int(getattr(value, 'nanosecond', 0)))
     if isinstance(value, datetime.date):
         return _of_datetime(datetime.datetime(value.year, value.month, value.day))
     if type(value).__name__ == 'datetime64':
@@ -336,22 +338,24 @@ def nanoseconds(value: Any, date_format: Optional[str] = None) -> Optional[int]:
         unit, step = numpy.datetime_data(value.dtype)
         if unit not in LONG_UNITS:
             raise ValueError('times finer than nanoseconds')
-        return int(value.astype('int64')) * step * LONG_UNITS[unit]
+        return Moment(int(value.astype('int64')) * step * LONG_UNITS[unit], False)
     return None
 
 
-def _of_datetime(value: datetime.datetime) -> int:
-    passed = (value if value.tzinfo is not None
-              else value.replace(tzinfo=datetime.timezone.utc)) - EPOCH
-    return ((passed.days * 86400 + passed.seconds) * 10 ** 6 + passed.microseconds) * 1000
+def _of_datetime(value: datetime.datetime, more: int = 0) -> Moment:
+    has_zone = value.tzinfo is not None
+    passed = (value if has_zone else value.replace(tzinfo=datetime.timezone.utc)) - EPOCH
+    seconds = passed.days * 86400 + passed.seconds
+    return Moment((seconds * 10 ** 6 + passed.microseconds) * 1000 + more, has_zone)
 
 
-def _of_iso(text: str) -> int:
+def _of_iso(text: str) -> Moment:
     found = ISO.fullmatch(text)
     if found is None:
         raise ValueError('no time as ISO 8601 has it')
-    year, month, day, hour, minute, second = (int(part or 0) for part in found.groups()[:6])
+    parts = [int(part or 0) for part in found.groups()[:6]]
     zone = (found.group(8) or 'Z').upper().replace(':', '')
     offset = 0 if zone == 'Z' else int(zone[0] + '1') * (3600 * int(zone[1:3]) + 60 * int(zone[3:]))
-    whole_seconds = _of_datetime(datetime.datetime(year, month, day, hour, minute, second))
-    return whole_seconds - offset * 10 ** 9 + int((found.group(7) or '').ljust(9, '0'))
+    whole_seconds = _of_datetime(datetime.datetime(*parts)).nanoseconds  # type: ignore[arg-type]
+    more = int((found.group(7) or '').ljust(9, '0')) - offset * 10 ** 9
+    return Moment(whole_seconds + more, bool(found.group(8)))

@@ -30,7 +30,7 @@ def loop(step: Callable[..., Mapping[str, Any]], state: Mapping[str, Any],
     step : callable
         `step(s, k)` makes of the matrices `s` (`s.front`, or `s["front"]`) in round k, from 1, the
         next ones, which it returns by name. Names that it leaves out stay as they are. It may leave
-        out k (a second parameter with a value by default isn't k), and return more results than
+        out k; a second parameter with a value by default isn't k. It may return more results than
         the state has, to show or count them.
     state : dict
         The matrices that the first round begins with, by name: of one session.
@@ -47,8 +47,8 @@ def loop(step: Callable[..., Mapping[str, Any]], state: Mapping[str, Any],
     NotTraced
         If the step asks for entries: it is a TypeError.
     NotAlike
-        If it makes matrices itself in each round, or asks for something else where it is called
-        again for a round, behind an end: it is a ValueError.
+        If it makes matrices itself in each round. Also if it asks for something else when it is
+        called again for a round, behind an end. It is a ValueError.
 
     See Also
     --------
@@ -58,18 +58,17 @@ def loop(step: Callable[..., Mapping[str, Any]], state: Mapping[str, Any],
 
     Notes
     -----
-    The step is called once for each round, in order and up to 128 rounds ahead, with matrices that
-    have no entries: the round is what it asks for. So it may make of k what it likes, and decides
-    nothing about data by Python: that is select, masks, and 1x1 matrices, as reduce_rowwise makes
-    of a row. It has all methods of a matrix but those that read entries (`nvals`, `to_coo`, `T`,
-    `reduce_scalar`). Matrices from outside the step are constants, which are made before the loop.
+    The step is called once for each round, in order and up to 128 rounds ahead. Its matrices have
+    no entries: the round is what it asks for. So it may make of k what it likes, and decides
+    nothing about data by Python. Decisions are select, masks, and 1x1 matrices, as reduce_rowwise
+    makes of a row. It has all methods of a matrix but those that read entries (`nvals`, `to_coo`,
+    `T`, `reduce_scalar`). Matrices from outside the step are constants, which are made before the
+    loop.
 
     Jobs are those that the step asks for; runs as few as they need. In blocks, on a budget that may
-    not do for a trip of rounds, and where something is refused, rounds are made one by one. So is
-    a round of decimals whose results may pass 64 bits: its step is called again, with matrices that
-    have entries, and warns or raises as without a loop. A refusal is raised as without a loop, with
-    `.round`; the state is that before this round. Ctrl-C leaves the loop as it is: `run` goes on.
-    Threads take turns between trips.
+    not do for a trip of rounds, and where something is refused, rounds are made one by one. A
+    refusal is raised as without a loop, with `.round`; the state is that before this round. Ctrl-C
+    leaves the loop as it is: `run` goes on. Threads take turns between trips.
 
     Examples
     --------

@@ -23,7 +23,7 @@ from .trips import (Counts, Each, Place, Round, Trips, Until, advance_place, as_
                     count_entries, first_met, report_rounds)
 
 if TYPE_CHECKING:
-    from ..algorithms.utils import Progress
+    from ..wire.connection import Progress
 
 FIRST = 4                                          # rounds of the first trip
 # seconds of a trip: those that may be in vain grow to the one, others to the other
@@ -96,6 +96,20 @@ class Loop:
         -------
         int
             0 before the first one.
+
+        See Also
+        --------
+        advance : Makes rounds.
+
+        Examples
+        --------
+        >>> import spmat
+        >>> s = spmat.Session()
+        >>> A = s.from_triples([(0, 0, 1)], 1, 1)
+        >>> doubled = spmat.loop(lambda state: {"A": state.A.apply(lambda x: 2 * x)}, {"A": A})
+        >>> doubled.advance(10)
+        >>> doubled.number
+        10
         """
         return self._place.number if self._end is None else self._end
 
@@ -108,9 +122,23 @@ class Loop:
         State
             The matrices by name, also as attributes.
 
+        See Also
+        --------
+        run : Makes rounds until an end is met.
+
         Notes
         -----
         Where an end was met amid a trip, the trip's rounds up to it are made again for this.
+
+        Examples
+        --------
+        >>> import spmat
+        >>> s = spmat.Session()
+        >>> A = s.from_triples([(0, 0, 1)], 1, 1)
+        >>> doubled = spmat.loop(lambda state: {"A": state.A.apply(lambda x: 2 * x)}, {"A": A})
+        >>> doubled.advance(10)
+        >>> doubled.state.A.to_list()
+        [1024]
         """
         self._catch_up()
         if self._trips is not None:
@@ -121,7 +149,7 @@ class Loop:
         return State(self._place.state) if self._trips is None else self._trips.matrices()
 
     def run(self, until: Union[Until, Callable[[Counts], bool]], most: Optional[int] = None,
-            each: Optional[Each] = None, progress: 'Progress' = None) -> int:
+            each: Optional[Each] = None, progress: Optional['Progress'] = None) -> int:
         """Makes rounds until an end is met.
 
         Parameters
@@ -146,10 +174,24 @@ class Loop:
         NotSettled
             If the end isn't met by then, behind which the state is there: it is a RuntimeError.
 
+        See Also
+        --------
+        advance : Makes a number of rounds.
+        empty, steady : The ends that the server sees.
+
         Notes
         -----
-        A few rounds behind the end may be made in vain, and cost steps: with `empty` up to 128,
-        else up to those that take 2 ms; with `advance` none.
+        A few rounds behind the end may be made in vain, and cost steps. With `empty` these are up
+        to 128, else up to those that take 2 ms; with `advance` none.
+
+        Examples
+        --------
+        >>> import spmat
+        >>> s = spmat.Session()
+        >>> A = s.from_triples([(0, 0, 40)], 1, 1)
+        >>> step = lambda state: {"A": state.A.apply(lambda x: x // 2).select("nonzero")}
+        >>> spmat.loop(step, {"A": A}).run(until=spmat.empty("A"), most=10)
+        6
         """
         end, begun = as_until(until), self._resumed()
         most = 1 + self._longest_side if most is None else whole(most, 'number of rounds')
@@ -161,7 +203,7 @@ class Loop:
         return self.number - begun
 
     def advance(self, rounds: int = 1, each: Optional[Each] = None,
-                progress: 'Progress' = None) -> None:
+                progress: Optional['Progress'] = None) -> None:
         """Makes so many rounds, none in vain.
 
         Parameters
@@ -172,6 +214,20 @@ class Loop:
             As for `run`.
         progress : callable, optional
             As for `run`; the third argument is how many rounds there are to be.
+
+        See Also
+        --------
+        run : Makes rounds until an end is met.
+
+        Examples
+        --------
+        >>> import spmat
+        >>> s = spmat.Session()
+        >>> A = s.from_triples([(0, 0, 1)], 1, 1)
+        >>> doubled = spmat.loop(lambda state: {"A": state.A.apply(lambda x: 2 * x)}, {"A": A})
+        >>> doubled.advance(3)
+        >>> doubled.state.A.to_list()
+        [8]
         """
         self._resumed()
         rounds = whole(rounds, 'number of rounds')
@@ -194,6 +250,21 @@ class Loop:
         -------
         bool
             Whether the end was met.
+
+        See Also
+        --------
+        run : Makes rounds until an end is met, and says how many.
+
+        Examples
+        --------
+        >>> import spmat
+        >>> s = spmat.Session()
+        >>> A = s.from_triples([(0, 0, 1)], 1, 1)
+        >>> doubled = spmat.loop(lambda state: {"A": state.A.apply(lambda x: 2 * x)}, {"A": A})
+        >>> doubled.rounds(None, 2, lambda first, rounds: None)
+        False
+        >>> doubled.number
+        2
         """
         rests = end is None or self._rests(end)
         goal, size = self.number + most, FIRST if rests else 1

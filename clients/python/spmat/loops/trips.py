@@ -21,8 +21,8 @@ from .round_text import (Pending, Renderer, Sources, Template, Writing, flush, i
 from .rounds import RoundJobs, State, TracedRounds, make_round
 
 if TYPE_CHECKING:
-    from ..algorithms.utils import Progress
     from ..session import Session
+    from ..wire.connection import Progress
 
 # of a trip: two of them and their line ends fit into a pipe
 MOST_BYTES = 24_000
@@ -135,7 +135,7 @@ def first_met(end: Optional[Until], before: Counts, rounds: Sequence[Round]) -> 
     return None
 
 
-def report_rounds(each: Optional[Each], progress: 'Progress',
+def report_rounds(each: Optional[Each], progress: Optional['Progress'],
                   of: int) -> Callable[[int, List[Round]], None]:
     """Tells both of rounds, of which the first has this number."""
     def report(first: int, rounds: List[Round]) -> None:

@@ -110,20 +110,30 @@ class BuiltIns:
         CompileError
             If the function can't be an operator: why, on which line, and what to write instead.
 
+        See Also
+        --------
+        asm : An operator of assembly text.
+        c : An operator of a function in C.
+        explain : What an operator costs.
+        semiring : Two binary operators.
+
         Notes
         -----
-        The function is called now, with words that are no numbers yet, once for each way through
-        it. Globals, closures and defaults are as they are now. It may use Python's operations on
-        whole numbers but /, comparisons, if, and, or, not, min, max, sorted, try, loops that end by
-        themselves, and functions. Each result wraps to 64 bits; x // 0 is 0 and x % 0 is x, where
+        The client calls the function now, with symbolic operands, once for each path through it.
+        Globals, closures and defaults are as they are now. It may use Python's operations on whole
+        numbers but /, and comparisons, if, and, or, not, min, max, sorted, try and functions. Loops
+        have to end by themselves. Each result wraps to 64 bits; x // 0 is 0 and x % 0 is x, where
         no `except` says otherwise. docs/operators.md has all that it may do. In python-graphblas
         `BinaryOp.register_anonymous`.
 
         Examples
         --------
+        >>> import spmat
         >>> toll = spmat.binary(lambda x, y: x + y + (5 if y > 10 else 0))
         >>> toll(1, 12)
         18
+        >>> spmat.unary(lambda x: x * x)(7)
+        49
         """
         if function is None:
             return lambda function: self(function, name=name, check=check)
@@ -238,9 +248,15 @@ class Semirings:
         Returns
         -------
         Semiring
+            Wherever a semiring is wanted, its name or the pair will do, too.
+
+        See Also
+        --------
+        binary : A binary operator of a function.
 
         Examples
         --------
+        >>> import spmat
         >>> spmat.semiring("min", lambda x, y: x + y + 1)
         <semiring min_?>
         """

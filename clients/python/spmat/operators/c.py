@@ -89,9 +89,10 @@ def c(source: str, name: Optional[str] = None, *, clang: Optional[str] = None,
     Raises
     ------
     CompileError
-        Before a server is asked: no clang, an old one, or one without a BPF target; what clang
-        refuses; several functions and no name; a result or a parameter that has not 64 bits, or
-        another number of parameters; a call, a global variable or a table; a loop that was left.
+        Before a server is asked. There is no clang, an old one, or one without a BPF target, or
+        clang refuses the text. There are several functions and no name. A result or a parameter has
+        not 64 bits, or there is another number of parameters. There is a call, a global variable, a
+        table, or a loop that was left.
     ImportError
         If pyelftools is missing (extra `c`).
 

@@ -1,57 +1,27 @@
-"""Operators, called at the client on arrays of numbers.
-
-All calls go through a program together: jumps go forward only, so that one walk over its
-instructions is enough, and each is run for those calls that come to it.
+"""Operators, called in this process: by the server's own verifier and machine, of the library
+(`library`). Where there is none, a machine in Python makes one call after the other.
 """
 from __future__ import annotations
 
 import functools
-from typing import Any, Callable, Dict, List, Sequence
+import operator
+from typing import Any, Callable, Dict, List
 
 import numpy
 
+from ..library import load
 from ..types import Array
 from . import assembly
 from .operator import Operator
 
 HALF = (1 << 32) - 1
-
-
-def _unsigned(words: Array) -> Any:
-    return words.view(numpy.uint64)
-
-
-def _quotient(a: Array, b: Array) -> Any:
-    divided = _unsigned(a) // numpy.maximum(_unsigned(b), numpy.uint64(1))
-    return numpy.where(b == 0, 0, divided.view(numpy.int64))
-
-
-def _truncated(a: Array, b: Array) -> Any:
-    divisor = numpy.where(b == 0, 1, b)
-    with numpy.errstate(over='ignore'):            # of the least word by -1, which wraps
-        down = a // divisor
-    up = (down * divisor != a) & ((a < 0) != (divisor < 0))
-    return numpy.where(b == 0, 0, down + up)
-
-
-# where arrays want another way than `assembly.OPERATIONS` has for whole numbers of Python
-VALUES: Dict[str, Callable[[Any, Any], Any]] = {
-    **{name: each.value for name, each in assembly.OPERATIONS.items()},
-    'div': _quotient,
-    'mod': lambda a, b: a - b * _quotient(a, b),
-    'sdiv': _truncated,
-    'smod': lambda a, b: a - b * _truncated(a, b),
-    'rsh': lambda a, b: (_unsigned(a) >> _unsigned(b & 63)).view(numpy.int64),
-}
-HOLDS: Dict[str, Callable[[Any, Any], Any]] = {
-    'eq': numpy.equal, 'ne': numpy.not_equal, 'gt': numpy.greater, 'ge': numpy.greater_equal,
-    'lt': numpy.less, 'le': numpy.less_equal, 'set': lambda a, b: a & b != 0}
-
-
-@functools.lru_cache(4096)
-def _program_of(op: Operator) -> List[assembly.Line]:
-    text = op.text if op.text is not None else '\n'.join(line for _, line in op.lines())
-    return list(assembly.lines_of(text))
+# what the library answers where memory was refused; below it stands the number of a rule
+MEMORY = 17
+# bytes of the code of the longest program
+MOST_CODE = 8 * 4096
+HOLDS: Dict[str, Callable[[int, int], bool]] = {
+    'eq': operator.eq, 'ne': operator.ne, 'gt': operator.gt, 'ge': operator.ge, 'lt': operator.lt,
+    'le': operator.le, 'set': lambda a, b: a & b != 0}
 
 
 def evaluate(op: Operator, *operands: Array) -> Any:
@@ -71,89 +41,119 @@ def evaluate(op: Operator, *operands: Array) -> Any:
 
     Raises
     ------
+    ValueError
+        For an operator that the verifier refuses.
     NotImplementedError
-        For an instruction that isn't known here: of memory, of the order of bytes, of signs.
+        Without the library, for an instruction that isn't known here: of memory, of the order of
+        bytes, of signs.
     """
-    calls = _Calls(operands)
-    for line in _program_of(op):
+    words = numpy.stack(operands, axis=1)
+    if load() is not None:
+        return _call(_code_of(op), words)
+    program = _program_of(op)
+    return numpy.array([_run(program, row) for row in words.tolist()], numpy.int64)
+
+
+# -- by the library
+
+@functools.lru_cache(4096)
+def _code_of(op: Operator) -> bytes:
+    return assemble(op.text.encode()) if op.text is not None else op.code or b''
+
+
+def assemble(text: bytes) -> bytes:
+    """The code of a text of assembly, by the library. ValueError where it is none of a program."""
+    code = numpy.empty(MOST_CODE, numpy.uint8)
+    verdict = load().spmat_assemble(text, len(text), code.ctypes.data, len(code))
+    _check(verdict, 'line %d breaks rule A%d')
+    return code[:verdict.size].tobytes()
+
+
+def _call(code: bytes, words: Array) -> Array:
+    """The values of an operator that takes as many words as an array has columns."""
+    count, arity = words.shape
+    found = numpy.empty((2, count), numpy.int64)   # the values, and the steps of each call
+    first = found.ctypes.data
+    verdict = load().spmat_call(arity, code, len(code), words.ctypes.data, words.size,
+                                first, count, first + 8 * count, count)
+    _check(verdict, 'slot %d breaks rule V%d')
+    values: Array = found[0]
+    return values
+
+
+def _check(verdict: Any, refusal: str) -> None:
+    if verdict.rule == MEMORY:
+        raise MemoryError('no memory for the operator')
+    if verdict.rule:
+        raise ValueError(refusal % (verdict.at, verdict.rule))
+
+
+# -- without it
+
+@functools.lru_cache(4096)
+def _program_of(op: Operator) -> Dict[int, assembly.Line]:
+    text = op.text if op.text is not None else '\n'.join(line for _, line in op.lines())
+    return {line.slot: line for line in assembly.lines_of(text)}
+
+
+def _run(program: Dict[int, assembly.Line], words: List[int]) -> int:
+    """The value of a call. Words of the stack are kept as registers, by their places."""
+    registers = {'r%d' % number: word for number, word in enumerate(words, 1)}
+    slot = 0
+    while program[slot].mnemonic != 'exit':
+        line = program[slot]
+        slot += assembly.size_of(line.mnemonic)
         try:
-            calls.run(line)
+            if not line.mnemonic.startswith('j'):
+                registers[_target(line)] = assembly.wrap(_value(line, registers))
+            elif _jumps(line, registers):
+                slot += int(line.operands[-1])
         except LookupError:
             raise NotImplementedError(line.text) from None
-    return calls.values
+    return registers['r0']
 
 
-class _Calls:
-    """Calls of one program, with what their registers hold. `coming` says of each slot which calls
-    come to it; `values` are what those gave that ended."""
+def _word(operand: str, registers: Dict[str, int]) -> int:
+    return registers[operand] if operand.startswith('r') else assembly.wrap(int(operand))
 
-    def __init__(self, operands: Sequence[Any]) -> None:
-        self.shape = numpy.shape(operands[0])
-        self.registers = {'r%d' % number: words for number, words in enumerate(operands, 1)}
-        self.coming: Dict[int, Any] = {0: numpy.ones(self.shape, bool)}
-        self.values = numpy.zeros(self.shape, numpy.int64)
 
-    def run(self, line: assembly.Line) -> None:
-        """Runs one instruction for those calls that come to it."""
-        here = self.coming.pop(line.slot, None)
-        if here is None:
-            return
-        after = line.slot + (2 if line.mnemonic == 'wide' else 1)
-        if line.mnemonic == 'exit':
-            self.values = numpy.where(here, self.registers['r0'], self.values)
-        elif line.mnemonic.startswith('j'):
-            jumps = here & self._jumps(line)
-            self._send(after + int(line.operands[-1]), jumps)
-            self._send(after, here & ~jumps)
-        else:
-            target, value = self._target(line), self._value(line)
-            held = self.registers.get(target)
-            self.registers[target] = (value if held is None or here.all()
-                                      else numpy.where(here, value, held))
-            self._send(after, here)
+def _jumps(line: assembly.Line, registers: Dict[str, int]) -> bool:
+    """Whether a jump is taken."""
+    if line.mnemonic == 'ja':
+        return True
+    name = line.mnemonic[1:-2]
+    a, b = (_word(each, registers) for each in line.operands[:2])
+    if line.mnemonic.endswith('32'):
+        raise KeyError(line.mnemonic)
+    if name in HOLDS:
+        return HOLDS[name](a % assembly.WORDS, b % assembly.WORDS)
+    return HOLDS[name[1:]](a, b)
 
-    def _send(self, slot: int, calls: Array) -> None:
-        self.coming[slot] = self.coming[slot] | calls if slot in self.coming else calls
 
-    def _word(self, operand: str) -> Any:
-        return (self.registers[operand] if operand.startswith('r')
-                else numpy.full(self.shape, assembly.wrap(int(operand))))
+def _target(line: assembly.Line) -> str:
+    """Where an instruction writes: a register, or a whole word of the stack."""
+    if line.mnemonic not in ('ldx64', 'stx64'):
+        return line.operands[0]
+    target, base, offset = (line.operands if line.mnemonic == 'ldx64' else
+                            ('', *line.operands[:2]))
+    if base != 'r10' or int(offset) % 8:
+        raise KeyError(line.mnemonic)
+    return target or 'r10' + offset
 
-    def _jumps(self, line: assembly.Line) -> Any:
-        """Which calls a jump sends on."""
-        if line.mnemonic == 'ja':
-            return True
-        name, (a, b) = line.mnemonic[1:-2], map(self._word, line.operands[:2])
-        if line.mnemonic.endswith('32'):
-            raise KeyError(line.mnemonic)
-        if name in HOLDS:
-            return HOLDS[name](_unsigned(a), _unsigned(b))
-        return HOLDS[name[1:]](a, b)
 
-    @staticmethod
-    def _target(line: assembly.Line) -> str:
-        """Where an instruction writes: a register, or a whole word of the stack."""
-        if line.mnemonic not in ('ldx64', 'stx64'):
-            return line.operands[0]
-        target, base, offset = (line.operands if line.mnemonic == 'ldx64' else
-                                ('', *line.operands[:2]))
-        if base != 'r10' or int(offset) % 8:
-            raise KeyError(line.mnemonic)
-        return target or 'r10' + offset
-
-    def _value(self, line: assembly.Line) -> Any:
-        """What an instruction writes."""
-        name, target = line.mnemonic[:-2], line.operands[0]
-        if name in ('ldx', 'stx'):
-            return self._word('r10' + line.operands[2] if name == 'ldx' else line.operands[2])
-        if line.mnemonic == 'wide':
-            return self._word(line.operands[1])
-        if name == 'neg':
-            return -self.registers[target]
-        b = self._word(line.operands[1])
-        a = b if name == 'mov' else self.registers[target]
-        if line.mnemonic.endswith('64'):
-            return VALUES[name](a, b)
-        if name in ('arsh', 'lsh', 'rsh', 'sdiv', 'smod'):
-            raise KeyError(line.mnemonic)          # of 32 bits, which have their own sign
-        return VALUES[name](a & HALF, b & HALF) & HALF
+def _value(line: assembly.Line, registers: Dict[str, int]) -> int:
+    """What an instruction writes, before it wraps."""
+    name, target = line.mnemonic[:-2], line.operands[0]
+    if name in ('ldx', 'stx'):
+        return _word('r10' + line.operands[2] if name == 'ldx' else line.operands[2], registers)
+    if line.mnemonic == 'wide':
+        return _word(line.operands[1], registers)
+    if name == 'neg':
+        return -registers[target]
+    b = _word(line.operands[1], registers)
+    a = b if name == 'mov' else registers[target]
+    if line.mnemonic.endswith('64'):
+        return assembly.OPERATIONS[name].value(a, b)
+    if name in ('arsh', 'lsh', 'rsh', 'sdiv', 'smod'):
+        raise KeyError(line.mnemonic)              # of 32 bits, which have their own sign
+    return assembly.OPERATIONS[name].value(a & HALF, b & HALF) & HALF

@@ -2,7 +2,7 @@
 take plain numbers, and operands in a function that becomes an operator.
 
 Operands are words that are no numbers yet, of which the compiler makes expressions
-(`compiler.symbolic_words`).
+(`compiler.exploration`).
 """
 from __future__ import annotations
 

@@ -16,8 +16,8 @@ _LEFT = (('mov64 r2, r1', 'bf12000000000000'), ('mov64 r1, r4', 'bf4100000000000
 class Operator:
     """A program and its kind.
 
-    It belongs to no session, and can be pickled. A session uploads it at its first use, and each
-    program once, whatever object it comes in: operators that differ in their names alone are equal.
+    It belongs to no session, and can be pickled. A session uploads each program once, at its first
+    use, whatever object it comes in. Operators that differ in their names alone are equal.
 
     Parameters
     ----------
@@ -72,6 +72,16 @@ class Operator:
         -------
         bytes
             The text, or two digits for each byte of the code.
+
+        See Also
+        --------
+        bare_text : The instructions alone.
+
+        Examples
+        --------
+        >>> import spmat
+        >>> spmat.asm("unary", "mov64 r0, r1\\nexit").body
+        b'mov64 r0, r1\\nexit\\n'
         """
         return self.text.encode() if self.text is not None else (self.code or b'').hex().encode()
 
@@ -83,6 +93,16 @@ class Operator:
         -------
         str
             The lines; empty where there is code alone.
+
+        See Also
+        --------
+        body : What is uploaded.
+
+        Examples
+        --------
+        >>> import spmat
+        >>> spmat.asm("unary", "mov64 r0, r1  ; a copy\\nexit").bare_text
+        'mov64 r0, r1\\nexit\\n'
         """
         return ''.join(line + '\n' for _, line in self.slots())
 
@@ -101,6 +121,16 @@ class Operator:
         str
             The line. Where there is code alone, the slot's hexadecimal digits. Empty where there is
             none.
+
+        See Also
+        --------
+        lines : All lines, with their slots.
+
+        Examples
+        --------
+        >>> import spmat
+        >>> spmat.asm("unary", "mov64 r0, r1\\nexit").line_at("V11", 1)
+        'exit'
         """
         if self.text is None:
             return (self.code or b'')[8 * at:8 * at + 8].hex() if rule.startswith('V') else ''
@@ -118,6 +148,16 @@ class Operator:
             The slot, from 0; `wide` takes two.
         line : str
             The instruction.
+
+        See Also
+        --------
+        lines : The same, also where there is code alone.
+
+        Examples
+        --------
+        >>> import spmat
+        >>> list(spmat.asm("unary", "mov64 r0, r1\\nexit").slots())
+        [(0, 'mov64 r0, r1'), (1, 'exit')]
         """
         for line in lines_of(self.text or ''):
             yield line.slot, line.text
@@ -129,6 +169,16 @@ class Operator:
         -------
         list of tuple
             A slot and a line for each instruction, in order.
+
+        See Also
+        --------
+        origin : The source.
+
+        Examples
+        --------
+        >>> import spmat
+        >>> spmat.code("unary", "bf100000000000009500000000000000").lines()
+        [(0, 'mov64 r0, r1'), (1, 'exit')]
         """
         return lines_of_code(self.code or b'') if self.text is None else list(self.slots())
 
@@ -139,6 +189,16 @@ class Operator:
         -------
         tuple of str
             Both: 'assembly' and the assembly text, where nothing else is known.
+
+        See Also
+        --------
+        lines : The instructions, whatever it was written in.
+
+        Examples
+        --------
+        >>> import spmat
+        >>> spmat.asm("unary", "mov64 r0, r1\\nexit").origin()
+        ('assembly', 'mov64 r0, r1\\nexit\\n')
         """
         if self.text is not None:
             return 'assembly', self.text
@@ -156,6 +216,16 @@ class Operator:
         ------
         TypeError
             If this isn't a binary operator.
+
+        See Also
+        --------
+        bind_left : The other side.
+
+        Examples
+        --------
+        >>> import spmat
+        >>> spmat.binary.minus.bind_right()
+        <index operator minus_right>
         """
         return self._after(_RIGHT, '_right')
 
@@ -171,6 +241,16 @@ class Operator:
         ------
         TypeError
             If this isn't a binary operator.
+
+        See Also
+        --------
+        bind_right : The other side.
+
+        Examples
+        --------
+        >>> import spmat
+        >>> spmat.binary.minus.bind_left()
+        <index operator minus_left>
         """
         return self._after(_LEFT, '_left')
 

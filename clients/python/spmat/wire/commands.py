@@ -18,11 +18,10 @@ from types import MappingProxyType
 from typing import (Callable, Dict, List, Mapping, NamedTuple, NoReturn, Optional, Sequence, Tuple,
                     Union)
 
-from ..errors import ProtocolError, Refused, refusal
+from ..errors import OF_GATEWAY, ProtocolError, Refused, is_placed, refusal
 from ..io import matrix_text
 from ..io.matrix_text import BANNER, Triples
 from ..limits import MOST_PRICE, MOST_SIDE, MOST_SLOTS, MOST_STEPS, QUEUE
-from ..refusal_rules import OF_GATEWAY, is_placed
 
 
 class Places(enum.Enum):
@@ -136,47 +135,6 @@ REPLIES: Dict[str, Tuple[str, Tuple[str, ...]]] = {
 """By command the first word behind `ok`, and the names of the numbers behind that."""
 
 
-def check_first_line(words: Sequence[str], word: str, command: str,
-                     within: Mapping[str, Limits] = NOTHING) -> Optional[List[int]]:
-    """The numbers of the first line of an `ok` reply; None of a refusal.
-
-    Parameters
-    ----------
-    words
-        The words of the line.
-    word, command
-        The first word of the command, and its line.
-    within
-        Limits of numbers of the reply by their names, where the client knows narrower ones than
-        the protocol's.
-
-    Raises
-    ------
-    ProtocolError
-        Where the line doesn't answer the command.
-    """
-    if not words or words[0] != 'ok':
-        if not _REFUSAL.fullmatch(' '.join(words)):
-            raise ProtocolError('the reply to `%.80s` is none of spmat: `%s`'
-                                % (command, visible(' '.join(words))))
-        return None
-    if word not in REPLIES:
-        # a command of a session script, which only a refusal can answer
-        raise_fault(command, 'a refusal, since there is no such command', words)
-    first, names = REPLIES[word]
-    if len(words) != 2 + len(names) or words[1] != first:
-        raise_fault(command, '`ok %s`' % COMMANDS[word].reply, words)
-    numbers = []
-    for name, number in zip(names, words[2:]):
-        least, most = within.get(name) or LIMITS[name]
-        # int() takes blanks and letters of other scripts, and texts of any length
-        if not number.isdigit() or len(number) > LONGEST_NUMBER or not least <= int(number) <= most:
-            asked = '%d to %d' % (least, most) if least != most else '%d' % least
-            raise_fault(command, '%s of %s' % (name, asked), words)
-        numbers.append(int(number))
-    return numbers
-
-
 def sizes_of_text(text: bytes) -> Mapping[str, Limits]:
     """What the reply to `matrix` can say of a Matrix Market text that the server takes: its size
     line, and up to twice as many entries where it is symmetric. Nothing of a text without a size
@@ -198,11 +156,6 @@ def sizes_of_text(text: bytes) -> Mapping[str, Limits]:
     return NOTHING
 
 
-def longest_text(entries: int) -> int:
-    """The most bytes that the text of a matrix with so many entries has."""
-    return LONGEST_HEAD + entries * LONGEST_ENTRY
-
-
 def read_shown(command: str, text: bytes, shape: Tuple[int, int],
                entries: Optional[int]) -> Triples:
     """The entries of a text. ProtocolError where it isn't that of a matrix of this shape, with so
@@ -221,6 +174,7 @@ def read_shown(command: str, text: bytes, shape: Tuple[int, int],
                     ['%d %d %d' % (rows, columns, count)])
     try:
         found = matrix_text.read(text)
+        # the library takes entries in any order
         if len(text) <= LOOKED_AT_WHOLE and matrix_text.write(found) != text:
             raise ValueError('it is not as the server writes it')
     except ValueError as fault:
@@ -292,8 +246,13 @@ class Command:
         How many jobs it runs.
     """
 
-    __slots__ = ('line', 'word', 'body', 'near', 'within', 'matters', 'runs', 'answer')
+    line = word = ''
+    body: Optional[bytes] = None
+    near: Optional[Near] = None
+    within: Mapping[str, Limits] = NOTHING
+    matters = runs = False
     jobs = 0
+    answer: Union[Reply, Refused, None] = None
 
     def __init__(self, line: str, body: Optional[bytes] = None, near: Optional[Near] = None,
                  within: Mapping[str, Limits] = NOTHING, matters: bool = False) -> None:
@@ -304,26 +263,58 @@ class Command:
         if (self.word in WORDS_WITH_BODY) != (body is not None):
             raise ValueError('`matrix`, `asm` and `op` have a body, and no other command')
         self.within, self.matters, self.runs = within, matters, self.word == 'run'
-        self.answer: Union[Reply, Refused, None] = None
-
-    def limits(self) -> Mapping[str, Limits]:
-        """Limits of the reply's numbers that the client knows, as the reply is read."""
-        return self.within
 
     def read(self, incoming: Incoming) -> Union[Reply, str]:
-        """The next reply, or the line of a refusal. ProtocolError where it doesn't answer this
-        command."""
-        reply = incoming.next(self)
-        if isinstance(reply, Reply):
-            self.check(reply)
-            self.answer = reply
+        """The next reply with all that it brings, or the line of a refusal, once it is there whole.
+        Closed where it can't come any more. The first line is checked before more is awaited:
+        ProtocolError where it doesn't answer this command."""
+        came = incoming.bytes
+        end = came.find(b'\n', 0, LONGEST_LINE) + 1 or incoming.await_line()
+        words = came[:end].decode('ascii', 'replace').split()
+        numbers = self._numbers_of(words)
+        if numbers is None:
+            del came[:end]
+            return ' '.join(words)
+        brings, start = COMMANDS[self.word].brings, end
+        body, lines = b'', []  # type: bytes, List[str]
+        if brings is Behind.LINES:
+            end, lines = incoming.await_lines(start, numbers[0])
+        elif brings is Behind.BYTES:
+            end = start + numbers[0]
+            if len(came) < end:
+                incoming.await_bytes(end, numbers[0])
+            body = bytes(memoryview(came)[start:end])
+        del came[:end]
+        self.answer = reply = Reply(words[1:], numbers, lines, body)
         return reply
 
-    def check(self, reply: Reply) -> None:
-        """Raises ProtocolError of a reply that says anything else that it can't."""
+    def _numbers_of(self, words: Sequence[str]) -> Optional[List[int]]:
+        """The numbers of the first line of an `ok` reply, of which these are the words; None of a
+        refusal. ProtocolError where the line doesn't answer this command."""
+        if not words or words[0] != 'ok':
+            if not _REFUSAL.fullmatch(' '.join(words)):
+                raise ProtocolError('the reply to `%.80s` is none of spmat: `%s`'
+                                    % (self.line, visible(' '.join(words))))
+            return None
+        if self.word not in REPLIES:
+            # a command of a session script, which only a refusal can answer
+            raise_fault(self.line, 'a refusal, since there is no such command', words)
+        first, names = REPLIES[self.word]
+        if len(words) != 2 + len(names) or words[1] != first:
+            raise_fault(self.line, '`ok %s`' % COMMANDS[self.word].reply, words)
+        numbers = []
+        for name, number in zip(names, words[2:]):
+            least, most = self.within.get(name) or LIMITS[name]
+            # int() takes blanks and letters of other scripts, and texts of any length
+            if (len(number) > LONGEST_NUMBER or not number.isdigit()
+                or not least <= int(number) <= most):
+                asked = '%d to %d' % (least, most) if least != most else '%d' % least
+                raise_fault(self.line, '%s of %s' % (name, asked), words)
+            numbers.append(int(number))
+        return numbers
 
     def done(self, reply: Reply) -> None:
-        """Notes what the reply says."""
+        """Notes what the reply says. ProtocolError where it says what it can't."""
 
     def lost(self, cause: BaseException) -> None:
         """There is no reply: it was a refusal, or the session has ended."""
@@ -353,92 +344,77 @@ class CommandBatch:
 
 
 class Incoming:
-    """What has come and was not taken. `receive` gives what comes next, and raises Closed where
+    """What has come and was not taken. `more` takes in what comes next, and raises Closed where
     nothing does; `tell(done, of)` is called as a long reply comes."""
 
-    def __init__(self, receive: Callable[[], bytes], tell: Callable[[int, int], None]) -> None:
-        self._bytes = bytearray()
-        self._receive, self._tell = receive, tell
-        # of a reply with lines: how many ended before the place that was looked at
-        self._lines_seen, self._looked = 0, 0
+    def __init__(self, more: Callable[[], None], tell: Callable[[int, int], None]) -> None:
+        self.bytes = bytearray()
+        self.more, self._tell = more, tell
+        # of replies that are read as one: the place up to which the last line wasn't found
+        self._looked = 0
         self.received = 0
-
-    def next(self, command: Command) -> Union[Reply, str]:
-        """The next reply with all that it brings, or the line of a refusal, once it is there whole.
-        Closed where it can't come any more. The first line is checked before more is awaited:
-        ProtocolError where it doesn't answer the command."""
-        start = end = self._bytes.find(b'\n', 0, LONGEST_LINE) + 1 or self._await_line()
-        words = self._bytes[:start].decode('ascii', 'replace').split()
-        numbers = check_first_line(words, command.word, command.line, command.limits())
-        brings = COMMANDS[command.word].brings if numbers is not None else None
-        body, lines = b'', []  # type: bytes, List[str]
-        if numbers and brings is not None:
-            end = (self._bytes_until(start + numbers[0], numbers[0]) if brings is Behind.BYTES
-                   else self._lines_until(start, numbers[0]))
-            body = bytes(memoryview(self._bytes)[start:end])
-            self._lines_seen = self._looked = 0
-            if brings is Behind.LINES:
-                body, lines = b'', body.decode('ascii', 'replace').split('\n')[:-1]
-        del self._bytes[:end]
-        return ' '.join(words) if numbers is None else Reply(words[1:], numbers, lines, body)
 
     def through(self, mark: bytes, most: int) -> bytes:
         """All that comes up to the end of the line with a mark, which stands in no other reply,
         once it is there. ProtocolError where that is more than `most` bytes."""
         while True:
-            if len(self._bytes) > most:
+            if len(self.bytes) > most:
                 raise ProtocolError(
                     'the replies to a loop have more than %d bytes, the most that its commands '
                     'can be answered with' % most)
-            at = self._bytes.find(mark, self._looked)
-            end = self._bytes.find(b'\n', at) if at >= 0 else -1
+            at = self.bytes.find(mark, self._looked)
+            end = self.bytes.find(b'\n', at) if at >= 0 else -1
             if end >= 0:
-                out = bytes(memoryview(self._bytes)[:end + 1])
-                del self._bytes[:end + 1]
+                out = bytes(memoryview(self.bytes)[:end + 1])
+                del self.bytes[:end + 1]
                 self._looked = 0
                 return out
             # the mark may have come in part
-            self._looked = max(0, len(self._bytes) - len(mark)) if at < 0 else at
-            self._more()
+            self._looked = max(0, len(self.bytes) - len(mark)) if at < 0 else at
+            self.more()
 
-    def _await_line(self) -> int:
+    def await_line(self) -> int:
         """The place behind the first line, once it is there."""
         end = 0
         while not end:
-            if len(self._bytes) >= LONGEST_LINE:
+            if len(self.bytes) >= LONGEST_LINE:
                 raise ProtocolError('the reply is none of spmat: `%s`'
-                                    % visible(self._bytes[:MOST_SHOWN].decode('latin-1')))
-            self._more()
-            end = self._bytes.find(b'\n', 0, LONGEST_LINE) + 1
+                                    % visible(self.bytes[:MOST_SHOWN].decode('latin-1')))
+            self.more()
+            end = self.bytes.find(b'\n', 0, LONGEST_LINE) + 1
         return end
 
-    def _bytes_until(self, end: int, size: int) -> int:
-        while len(self._bytes) < end:
-            before = len(self._bytes)
-            self._more()
-            if size >= PIECE and (before // PIECE != len(self._bytes) // PIECE
-                                  or len(self._bytes) >= end):
-                self._tell(min(size, size - (end - len(self._bytes))), size)
-        return end
+    def await_bytes(self, end: int, size: int) -> None:
+        """Returns once there are bytes up to a place, at which a body of this size ends."""
+        while len(self.bytes) < end:
+            before = len(self.bytes)
+            self.more()
+            if size >= PIECE and (before // PIECE != len(self.bytes) // PIECE
+                                  or len(self.bytes) >= end):
+                self._tell(min(size, size - (end - len(self.bytes))), size)
 
-    def _lines_until(self, start: int, count: int) -> int:
-        self._looked = max(self._looked, start)
-        while self._lines_seen < count:
-            end = self._bytes.find(b'\n', self._looked)
-            line = self._bytes[self._looked:end if end >= 0 else len(self._bytes)]
-            if len(line) > MOST_BEHIND or not (line.isascii() and line.decode().isprintable()):
-                raise ProtocolError('a line of a reply is none of spmat: `%s`'
-                                    % visible(line[:MOST_SHOWN].decode('latin-1')))
-            if end >= 0:
-                self._looked, self._lines_seen = end + 1, self._lines_seen + 1
-            else:
-                self._more()
-        return self._looked
+    def await_lines(self, start: int, count: int) -> Tuple[int, List[str]]:
+        """The place behind so many lines that begin at a place, and the lines, once they are there.
+        ProtocolError where they are no lines that a server writes."""
+        looked = start
+        while self.bytes.count(b'\n', start) < count:
+            came = self.bytes[looked:].decode('latin-1').split('\n')
+            _check_lines(came)
+            looked = len(self.bytes) - len(came[-1])
+            self.more()
+        lines = self.bytes[start:].decode('latin-1').split('\n', count)[:count]
+        _check_lines(lines)
+        return start + sum(map(len, lines)) + count, lines
 
-    def _more(self) -> None:
-        piece = self._receive()
-        self._bytes += piece
-        self.received += len(piece)
+
+def _check_lines(lines: List[str]) -> None:
+    """ProtocolError where some lines of a reply have letters, or a length, that none has."""
+    whole = ''.join(lines)
+    if len(whole) <= MOST_BEHIND and whole.isascii() and whole.isprintable():
+        return
+    for line in lines:
+        if len(line) > MOST_BEHIND or not (line.isascii() and line.isprintable()):
+            raise ProtocolError('a line of a reply is none of spmat: `%s`' % visible(line))
 
 
 def read_refusal(reply: str, command: Command) -> Refused:

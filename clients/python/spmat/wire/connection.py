@@ -17,17 +17,15 @@ from __future__ import annotations
 import collections
 import os
 import socket
-import sys
 import threading
 import weakref
 from signal import SIGINT
 from typing import (Any, Callable, Deque, Iterable, Iterator, List, Mapping, Optional, Tuple, Type,
                     Union)
 
-from ..errors import Closed, Refused, SpmatError, about
+from ..errors import OF_GATEWAY, Closed, ProtocolError, Refused, SpmatError, about
 from ..io.coo import shown, whole
 from ..limits import MOST_STEPS, MOST_WORKERS
-from ..refusal_rules import OF_GATEWAY
 from .commands import (NOTHING, PIECE, WORDS_WITH_BODY, Command, CommandBatch, Incoming, Limits,
                        Near, Reply, read_refusal)
 from .transport import Address, Channel, Child, Program, Socket, Timeouts, start_program
@@ -75,12 +73,14 @@ class SessionLock:
         self._connection = connection
         self._main = threading.main_thread().ident
         self._depth = 0
-        self._before: Optional[Handler] = None
-        self._held = self._lets = False
+        # what would handle Ctrl-C, whether one was put off, and whether it may come
+        self.before: Optional[Handler] = None
+        self.held = self.lets = False
 
     def __enter__(self) -> None:
+        connection = self._connection
         # pylint: disable-next=consider-using-with  # __exit__ releases it
-        self._connection.turn.acquire()
+        connection.turn.acquire()
         self._depth += 1
         if self._depth > 1:
             return
@@ -88,59 +88,41 @@ class SessionLock:
             if threading.get_ident() == self._main:
                 before = signal.getsignal(SIGINT)
                 if callable(before):
-                    self._before, self._held, self._lets = before, False, False
-                    signal.signal(SIGINT, self._handle_interrupt)
-            self._connection.check_open()
+                    self.before, self.held, self.lets = before, False, False
+                    signal.signal(SIGINT, self.handle_interrupt)
+            connection.check_open()
         except BaseException:
-            self._leave(sys.exc_info()[0])
+            self._leave(Exception)                 # nothing was begun
             raise
 
     def __exit__(self, kind: Optional[Type[BaseException]], *_: object) -> None:
-        connection = self._connection
-        if self._depth > 1:
-            self._depth -= 1
-            connection.turn.release()
-            return
+        connection, before = self._connection, None
         try:
-            if kind is not None and not issubclass(kind, Exception) and not connection.owes:
+            if (kind is not None and self._depth == 1 and not issubclass(kind, Exception)
+                and not connection.owes):
                 connection.end('amid its work came ' + kind.__name__, kill=True)
         finally:
-            self._leave(kind)
-
-    def _leave(self, kind: Optional[Type[BaseException]]) -> None:
-        before = None
-        try:
-            if self._before is not None:
-                before, self._before = self._before, None
-                signal.signal(SIGINT, before)
-        finally:
-            self._depth -= 1
-            self._connection.turn.release()
-        if before is not None and self._held and kind is None:
-            self._held = False
+            try:
+                if self._depth == 1 and self.before is not None:
+                    before, self.before = self.before, None
+                    signal.signal(SIGINT, before)
+            finally:
+                self._depth -= 1
+                connection.turn.release()
+        if before is not None and self.held and kind is None:
+            self.held = False
             before(SIGINT, None)
 
-    def await_bytes(self, wait: Callable[[], None]) -> None:
-        """Calls what waits for a reply, while nothing would be lost. What was put off comes
-        here."""
-        if self._before is None:
-            wait()
-            return
-        self._lets = True
-        try:
-            if self._held:
-                self._handle_interrupt(SIGINT, None)
-            wait()
-        finally:
-            self._lets = False
+    _leave = __exit__
 
-    def _handle_interrupt(self, number: int, frame: object) -> None:
-        before = self._before
-        if before is not None and (self._lets or self._held):
-            self._held = self._lets = False
+    def handle_interrupt(self, number: int, frame: object) -> None:
+        """Hands a Ctrl-C on, or puts it off."""
+        before = self.before
+        if before is not None and (self.lets or self.held):
+            self.held = self.lets = False
             before(number, frame)
         else:
-            self._held = True
+            self.held = True
 
 
 # all that a session has to know to stay in step
@@ -156,16 +138,18 @@ class Connection:
         self.progress = progress
         self.commands, self.sent = 0, 0
         self._channel = channel
-        self.incoming = Incoming(self._receive,
+        self.incoming = Incoming(self._take_in,
                                  lambda done, of: self.tell('received', done, of))
         # the first refusal of the last exchange that mattered
         self.refused: Optional[Refused] = None
         self._waiting: List[Command] = []
         self._waiting_bytes = 0
         # sent, and not answered
-        self._pending: Deque[Union[Command, CommandBatch]] = collections.deque()
+        self.pending: Deque[Union[Command, CommandBatch]] = collections.deque()
         self._owner = os.getpid()
         self._ended: Optional[str] = None
+        # whether the deadline stands of the reply that is awaited
+        self._is_timed = False
         self._amid = False
         self._last = weakref.finalize(self, channel.close, True)
 
@@ -220,59 +204,56 @@ class Connection:
         Raises Refused for `no ..` and Closed where the session has ended. `near` gives the line
         that stands at a place of the body, for the refusal's words, and `within` the limits of the
         reply's numbers that the client knows."""
-        reply = self.exchange(Command(line, body, near, within))
+        with self.lock:
+            reply = self.exchange(Command(line, body, near, within))
         assert reply is not None
         return reply
 
-    def put(self, command: Command) -> None:
+    def put(self, command: Command) -> bool:
         """One command more that waits to be sent with the next. Its reply has to be short, as none
-        is read before all is sent."""
+        is read before all is sent. Whether it is time to send what waits."""
         self._waiting.append(command)
         self._waiting_bytes += len(command.line) + len(command.body or b'')
+        return len(self._waiting) >= MOST_WAITING or self._waiting_bytes >= MOST_BYTES
 
     @property
     def waiting(self) -> int:
         """How many commands wait to be sent."""
         return len(self._waiting)
 
-    @property
-    def is_full(self) -> bool:
-        """Whether it is time to send what waits."""
-        return len(self._waiting) >= MOST_WAITING or self._waiting_bytes >= MOST_BYTES
-
     def exchange(self, last: Optional[Command] = None) -> Optional[Reply]:
         """Sends what waits and one command more in one go, and reads the reply of each; that of the
-        last. Raises what the last is refused by, and Closed where the session ends before all are
-        answered. KeyboardInterrupt while replies are awaited leaves what isn't answered pending."""
-        if last is None and not self._waiting and not self._pending:
+        last. The caller has the lock. Raises what the last is refused by, and Closed where the
+        session ends before all are answered. KeyboardInterrupt while replies are awaited leaves
+        what isn't answered pending."""
+        if last is None and not self._waiting and not self.pending:
             return None
-        with self.lock:
-            jobs = sum(command.jobs for command in self._waiting) if self.progress else 0
-            if jobs:
-                self.tell('jobs', 0, jobs)
-            self._begin()
-            try:
-                self.refused = None
-                if self._pending:
-                    self._read_pending()
-                    self.check_open()
-                sent, self._waiting, self._waiting_bytes = self._waiting, [], 0
-                if last is not None:
-                    sent.append(last)
-                self.commands += len(sent)
-                self._pending.extend(sent)
-                self._send(self._pieces_of(sent))
-                self._read_pending()
-            finally:
-                self._amid = False
-            if self._ended is not None and any(command.answer is None for command in sent):
+        jobs = sum(command.jobs for command in self._waiting) if self.progress else 0
+        if jobs:
+            self.tell('jobs', 0, jobs)
+        self._begin()
+        try:
+            self.refused = None
+            if self.pending:
+                self._read_replies()
                 self.check_open()
-            answer = last.answer if last is not None else None
-            if isinstance(answer, Refused):
-                raise answer
-            if jobs:
-                self.tell('jobs', jobs, jobs)
-            return answer
+            sent, self._waiting, self._waiting_bytes = self._waiting, [], 0
+            if last is not None:
+                sent.append(last)
+            self.commands += len(sent)
+            self.pending.extend(sent)
+            self._send(self._pieces_of(sent))
+            self._read_replies()
+        finally:
+            self._amid = False
+        if self._ended is not None and any(command.answer is None for command in sent):
+            self.check_open()
+        answer = last.answer if last is not None else None
+        if isinstance(answer, Refused):
+            raise answer
+        if jobs:
+            self.tell('jobs', jobs, jobs)
+        return answer
 
     def post(self, batch: CommandBatch) -> None:
         """Sends commands whose replies nobody waits for: `collect` takes them, or whoever sends
@@ -282,7 +263,7 @@ class Connection:
             self._begin()
             try:
                 self.commands += batch.commands
-                self._pending.append(batch)
+                self.pending.append(batch)
                 self._send([batch.text])
             finally:
                 self._amid = False
@@ -291,14 +272,16 @@ class Connection:
         """The replies to commands that were posted. KeyboardInterrupt leaves them pending. Closed
         where they never come."""
         if batch.replies is None:
-            self._settle(lambda: batch.replies is not None)
+            self.settle(batch)
+            self.check_open()
         assert batch.replies is not None
         return batch.replies
 
     def _begin(self) -> None:
-        """A command begins, one at a time, and no Ctrl-C amid. Raises Closed where the session has
-        ended, and SpmatError amid another command."""
-        self.check_open()
+        """A command begins, one at a time. Raises Closed where the session has ended, and
+        SpmatError amid another command."""
+        if self._ended is not None:
+            self.check_open()
         if self._amid:
             raise SpmatError(
                 'a session can not be used from within its own command, such as by a progress '
@@ -308,64 +291,74 @@ class Connection:
     @property
     def owes(self) -> bool:
         """Whether replies are still to come, of commands that were interrupted or posted."""
-        return bool(self._pending)
+        return bool(self.pending)
 
     @property
     def received(self) -> int:
         """How many bytes have come."""
         return self.incoming.received
 
-    def settle(self) -> None:
-        """Waits for the replies of commands that were interrupted or posted, where any are
-        pending. Raises Closed where the session has ended."""
-        self._settle(lambda: not self._pending)
-
-    def _settle(self, is_done: Callable[[], bool]) -> None:
-        """Reads pending replies until it is done."""
+    def settle(self, last: Optional[CommandBatch] = None) -> None:
+        """Waits for the replies of commands that were interrupted or posted, up to the last that is
+        meant, or of all. Raises Closed where the session has ended."""
         with self.lock:
-            while not is_done():
-                self._begin()
-                try:
-                    self._read_first()
-                finally:
-                    self._amid = False
+            self._begin()
+            try:
+                self._read_replies(last)
+            finally:
+                self._amid = False
 
-    def _read_pending(self) -> None:
-        """Reads the replies to all that is pending, in order, and does what they say."""
-        while self._pending:
-            self._read_first()
+    def _read_replies(self, last: Optional[CommandBatch] = None) -> None:
+        """Reads the replies to what is pending, in order, up to the last that is meant, and does
+        what they say. KeyboardInterrupt leaves the rest pending; what else comes ends the
+        session."""
+        pending = self.pending
+        while pending:
+            # which knows what its own reply is
+            first: Any = pending[0]
+            self._is_timed = False
+            try:
+                reply = first.read(self.incoming)
+            except KeyboardInterrupt:
+                raise
+            except BaseException as fault:
+                self.end(_words_of(fault), kill=True, cause=fault)
+                raise
+            if not pending:                        # a callback has ended the session
+                return
+            pending.popleft()
+            try:
+                if isinstance(reply, str):
+                    self._note_refusal(first, reply)
+                else:
+                    first.done(reply)
+            except ProtocolError as fault:
+                first.lost(fault)
+                self.end(_words_of(fault), kill=True, cause=fault)
+                raise
+            except BaseException:
+                # of a signal's handler, say: what stands behind it isn't noted
+                self.end('an exception came while its replies were noted', kill=True)
+                raise
+            if first is last:
+                return
 
-    def _read_first(self) -> None:
-        """The same of what is pending first. KeyboardInterrupt leaves it so; what else comes ends
-        the session."""
-        # which knows what its own reply is
-        first: Any = self._pending[0]
-        self._channel.begin(first.runs)
+    def _take_in(self) -> None:
+        """Takes in what comes next of the reply to what is pending first. Closed where nothing
+        does."""
+        channel, lock = self._channel, self.lock
+        if not self._is_timed:
+            self._is_timed = True
+            channel.begin(self.pending[0].runs)
         try:
-            reply = first.read(self.incoming)
-        except KeyboardInterrupt:
-            raise
-        except BaseException as fault:
-            self.end(_words_of(fault), kill=True, cause=fault)
-            raise
-        if not self._pending:                      # a callback has ended the session
-            return
-        self._pending.popleft()
-        try:
-            if isinstance(reply, str):
-                self._note_refusal(first, reply)
-            else:
-                first.done(reply)
-        except BaseException:
-            # of a signal's handler, say: what stands behind it isn't noted
-            self.end('an exception came while its replies were noted', kill=True)
-            raise
-
-    def _receive(self) -> bytes:
-        """What comes next. Closed where nothing does."""
-        channel = self._channel
-        try:
-            self.lock.await_bytes(channel.wait)
+            # nothing would be lost while it waits, so what was put off comes here
+            lock.lets = lock.before is not None
+            try:
+                if lock.held and lock.lets:
+                    lock.handle_interrupt(SIGINT, None)
+                channel.wait()
+            finally:
+                lock.lets = False
             piece = channel.receive()
         except socket.timeout:
             raise
@@ -374,7 +367,8 @@ class Connection:
             raise about(Closed('%s (%s)' % (why, fault)), *why.parameters) from fault
         if not piece:
             raise channel.fault(self.incoming.received > 0)
-        return piece
+        self.incoming.bytes += piece
+        self.incoming.received += len(piece)
 
     def end(self, why: str, kill: bool = False, cause: Optional[BaseException] = None) -> None:
         """Marks the session as ended, and closes its channel. What is pending is lost, by this
@@ -385,15 +379,15 @@ class Connection:
                 self._last.detach()
                 self._channel.close(kill)
                 cause = cause or SpmatError('the session ended before it was answered')
-                while self._pending:
-                    self._pending.popleft().lost(cause)
+                while self.pending:
+                    self.pending.popleft().lost(cause)
 
     def quit(self) -> None:
         """Ends the session in good order, or at once where a reply is owed; nothing where it has
         ended already."""
         with self.turn:
             self._waiting, self._waiting_bytes = [], 0     # which isn't sent any more
-            if self._pending:
+            if self.pending:
                 self.end('it was closed while a reply was awaited', kill=True)
             if self._ended is None and os.getpid() == self._owner:
                 try:

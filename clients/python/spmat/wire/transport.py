@@ -6,7 +6,6 @@ from __future__ import annotations
 # pylint: disable=consider-using-with,unused-argument
 
 import os
-import platform
 import select
 import shlex
 import shutil
@@ -363,7 +362,7 @@ def program_words(program: Optional[Program] = None) -> List[str]:
         raise about(FileNotFoundError(
             'no program `spmat`: this package carries none (a wheel for Linux on x86_64 does; '
             'this is %s on %s). Give program=, set the variable SPMAT, or put it on the PATH%s'
-            % (platform.system(), platform.machine(), _describe_plain_server())), 'program')
+            % (os.uname().sysname, os.uname().machine, _describe_plain_server())), 'program')
     if not isinstance(found, str):
         return [os.fspath(word) for word in found]
     if os.path.isdir(found) and not shutil.which(found):

@@ -9,7 +9,7 @@ import graphs
 import spmat
 import support
 from spmat import algorithms
-from spmat.algorithms import bfs
+from spmat.algorithms import searches
 from spmat.loops.trips import Trips
 
 pytestmark = pytest.mark.slow
@@ -39,8 +39,8 @@ class Hops(support.InSession):
         for graph in (PATH, ONE_WAY, graphs.UNDIRECTED[4]):
             for part, small, many in ((32, 1 << 18, (1, 31, 32, 33, 200)), (5, 1 << 18, (5, 64)),
                                       (32, 0, (33,)), (1, 0, (3,))):
-                with mock.patch.object(bfs, 'GATHERED', part), \
-                        mock.patch.object(bfs, 'FEW_PLACES', small):
+                with mock.patch.object(searches, 'GATHERED', part), \
+                        mock.patch.object(searches, 'FEW_PLACES', small):
                     for most in many:
                         self.look(graph, [0, graph.count // 2, graph.count - 1, 0], most)
 

@@ -62,11 +62,11 @@ class Checks(support.InSession):
         G = graphs.UNDIRECTED[3].matrix(self.session)
         algorithms.triangles(G)
         before = self.session.budget().spent
-        cached_properties.check_undirected(G, True)
+        cached_properties.check_undirected(G, False)
         self.assertEqual(self.session.budget().spent, before)
         known = self.session.from_triples([(0, 1, 1), (1, 0, 1)], 2, 2)
         known.notes = known.notes._replace(directed=False)            # as from_networkx notes it
-        cached_properties.check_undirected(known, True, loops=True)
+        cached_properties.check_undirected(known, True)
         self.assertEqual(self.session.budget().spent, before)
 
     def test_both_ways(self):

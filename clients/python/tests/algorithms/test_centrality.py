@@ -90,7 +90,8 @@ class Centralities(graphs.OnGraphs):
             ('no edge', lambda: algorithms.eigenvector(none)),
             ('no edge', lambda: algorithms.hits(none)),
             ('2 rounds', lambda: algorithms.eigenvector(G, rounds=2)),
-            ('a scale', lambda: algorithms.closeness(G, scale=0)),
+            ('scale= of closeness is a whole number from 1 to 2.52, not 0',
+             lambda: algorithms.closeness(G, scale=0)),
             ('leave no room',
              lambda: algorithms.eigenvector(self.s.from_triples([(0, 1, 1 << 50), (1, 0, 1 << 50)],
                                                                 2, 2), weighted=True))):

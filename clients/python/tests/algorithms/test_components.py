@@ -7,7 +7,7 @@ import numpy
 import graphs
 import spmat_blocks as blocks
 from spmat import algorithms
-from spmat.algorithms import components, spanning_forest, traversal
+from spmat.algorithms import components, traversal
 from support import InSession, enter
 
 
@@ -75,7 +75,7 @@ class Parts(InSession):
                                  least_of(groups, graph.count), graph.name)
                 if graph.name in {one.name for one in graphs.UNDIRECTED[:6]}:
                     forest = algorithms.minimum_spanning_forest(G).to_triples()
-                    with mock.patch.object(spanning_forest, 'AT_ONCE', 0):
+                    with mock.patch.object(components, 'AT_ONCE', 0):
                         self.assertEqual(algorithms.minimum_spanning_forest(G).to_triples(), forest)
 
     def test_many_parts_beside_a_hub(self):

@@ -7,7 +7,7 @@ import graphs
 import spmat
 import support
 from spmat import algorithms
-from spmat.algorithms import core_decomposition, traversal
+from spmat.algorithms import communities, traversal
 
 pytestmark = pytest.mark.slow
 
@@ -26,7 +26,7 @@ class Cores(graphs.OnGraphs):
                                           (0, 0, 16)):
                 told = []
                 with mock.patch.object(traversal, 'AT_ONCE', at_once), \
-                        mock.patch.multiple(core_decomposition, MOST_READ=most, SPARSE=sparse):
+                        mock.patch.multiple(communities, MOST_READ=most, SPARSE=sparse):
                     self.assertEqual(algorithms.core_numbers(
                         G, lambda *now: told.append(now)).to_dict(), want, most)
                     for k in (0, 1, 2, 4):
@@ -43,7 +43,7 @@ class Cores(graphs.OnGraphs):
         for most, is_free in ((1 << 12, True), (0, False)):
             for at_once in (1 << 12, 0):
                 with mock.patch.object(traversal, 'AT_ONCE', at_once), \
-                        mock.patch.object(core_decomposition, 'MOST_READ', most):
+                        mock.patch.object(communities, 'MOST_READ', most):
                     self.assertEqual(algorithms.core_numbers(path, check=False).to_list(), [1] * 90)
                 self.assertEqual(self.few.budget().spent == before, is_free or at_once > 0)
 

@@ -16,7 +16,7 @@ import spmat
 from spmat import algorithms
 from spmat.algorithms import cached_properties, traversal
 from spmat.algorithms.registry import ALGORITHMS, Size
-from spmat.algorithms.utils import column, loops, nothing, product, settle
+from spmat.algorithms.utils import column, loops, nothing, product
 
 pytestmark = pytest.mark.slow
 
@@ -97,9 +97,9 @@ class Costs(unittest.TestCase):
         """What is found out of a graph is paid once."""
         for graph in graphs.UNDIRECTED[2:]:
             G, (n, m) = graph.matrix(self.session), (graph.count, len(graph.edges))
-            self.assertLessEqual(self.spent(cached_properties.check_undirected, G, True),
+            self.assertLessEqual(self.spent(cached_properties.check_undirected, G, False),
                                  18 * m + 5 * n)
-            self.assertEqual(self.spent(cached_properties.check_undirected, G, True), 0)
+            self.assertEqual(self.spent(cached_properties.check_undirected, G, False), 0)
             self.assertLessEqual(self.spent(cached_properties.extremes, G), 8 * m + 4 * n)
 
     def test_no_more_steps_than_by_columns(self):
@@ -297,21 +297,6 @@ class Costs(unittest.TestCase):
             self.assertLessEqual(runs,
                                  ALGORITHMS[function.__name__].runs(self.size(self.graph, told)),
                                  function.__name__)
-
-    def test_settle(self):
-        """1 a round, of which two are in vain; no more than are allowed are tried."""
-        path = graphs.directed('path', 9, [(i, i + 1) for i in range(8)])
-        near = path.matrix(self.session).T.ewise_add(self.session.identity(9, 0), 'min')
-        start = self.session.from_coo([0], [0], 0, 9, 1)
-        start.wait(), near.wait()
-        steps = []
-        runs = self.runs(settle, lambda far: steps.append(far) or near.mxv(far, 'min_plus'), start)
-        self.assertEqual((len(steps), runs), (11, 11))
-        far = settle(lambda far: near.mxv(far, 'min_plus'), start, most=8)
-        self.assertEqual(far.to_list(),
-                         [sum(path.edges[i, i + 1] for i in range(end)) for end in range(9)])
-        with self.assertRaisesRegex(spmat.NotSettled, 'after 10 rounds'):
-            settle(lambda far: near.mxv(far, 'min_plus'), start, most=7)
 
     def test_pagerank(self):
         """No more rounds than are known beforehand, and fewer where the ranks have settled."""

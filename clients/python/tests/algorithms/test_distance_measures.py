@@ -9,7 +9,7 @@ import graphs
 import support
 import spmat
 from spmat import algorithms
-from spmat.algorithms import all_pairs_lengths, distance_measures
+from spmat.algorithms import distances
 
 pytestmark = pytest.mark.slow
 
@@ -45,7 +45,7 @@ class Distances(support.InSession):
     def test_batches(self):
         """More searches than a batch has bits, and the sign's bit among them."""
         G = self.ring(70)
-        with mock.patch.object(distance_measures, 'MOST_WORDS', 1):
+        with mock.patch.object(distances, 'MOST_WORDS', 1):
             single = [column.to_list() for column in algorithms.distance_counts(G, G)]
         self.assertEqual(single, [[2] * 70] * 34 + [[1] * 70])
         self.assertEqual([column.to_list() for column in algorithms.distance_counts(G, G)], single)
@@ -54,7 +54,7 @@ class Distances(support.InSession):
         numbers = [0, 1, -1, 1 << 63, -(1 << 63), 0x5555, -2, (1 << 62) + 5]
         words = [number - (1 << 64) if number >= 1 << 63 else number for number in numbers]
         column = self.session.from_coo(range(len(words)), [0] * len(words), words)
-        self.assertEqual(column.apply(distance_measures.BITS).to_list(),
+        self.assertEqual(column.apply(distances.BITS).to_list(),
                          [bin(number & (1 << 64) - 1).count('1') for number in words])
 
     def test_eccentricity_and_diameter(self):
@@ -164,7 +164,7 @@ class Distances(support.InSession):
 
     def test_refused_before_it_begins(self):
         """A ring whose pairs are more than a matrix holds, and a graph of many that fits."""
-        with mock.patch.object(all_pairs_lengths, 'MOST_SIDE', 100):
+        with mock.patch.object(distances, 'MOST_SIDE', 100):
             runs = self.session.runs
             with self.assertRaisesRegex(spmat.TooLarge, '144 pairs.*path_lengths'):
                 algorithms.all_pairs(self.ring(12))

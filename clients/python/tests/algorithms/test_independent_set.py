@@ -5,7 +5,7 @@ import numpy
 
 import support
 from spmat import algorithms
-from spmat.algorithms import independent_set
+from spmat.algorithms import components
 
 
 class Seeds(support.InSession):
@@ -48,12 +48,12 @@ class Seeds(support.InSession):
 class Drawn(support.InSession):
     def test_each_once(self):
         for seed in (0, 1, -5, 1 << 70):
-            values = independent_set.draw_numbers(self.s.ones(5000), seed).to_list()
+            values = components.draw_numbers(self.s.ones(5000), seed).to_list()
             self.assertEqual(len(set(values)), 5000)
             self.assertTrue(0 < min(values) and max(values) < 1 << 32)
             self.assertEqual(values,
                              [value
-                              for value in independent_set.draw_numbers(self.s.full(5000, 1, 7),
+                              for value in components.draw_numbers(self.s.full(5000, 1, 7),
                                                                         seed).to_list()])
             self.assertLess(abs(sum(values) / 5000 / (1 << 31) - 1), .05)
             up = sum(a < b for a, b in zip(values, values[1:]))
@@ -61,15 +61,15 @@ class Drawn(support.InSession):
 
     def test_the_client_draws_the_same(self):
         for seed in (0, 1, -5, 1 << 70):
-            made = independent_set.draw_numbers(self.s.full(1, 3000), seed).to_dense(0)[0]
-            self.assertEqual(list(made), independent_set.draw_on_paper(3000, seed).tolist())
+            made = components.draw_numbers(self.s.full(1, 3000), seed).to_dense(0)[0]
+            self.assertEqual(list(made), components.draw_on_paper(3000, seed).tolist())
 
     def test_a_text_is_no_seed(self):
         with self.assertRaisesRegex(TypeError, "a seed is a whole number, .*, not 'x'"):
-            independent_set.draw_numbers(self.s.ones(5), 'x')
+            components.draw_numbers(self.s.ones(5), 'x')
 
     def test_seeds(self):
-        first, second = (independent_set.draw_numbers(self.s.ones(2000), seed).to_list()
+        first, second = (components.draw_numbers(self.s.ones(2000), seed).to_list()
                          for seed in (1, 2))
         self.assertLess(sum(a == b for a, b in zip(first, second)), 3)
         self.assertLess(abs(sum(a < b for a, b in zip(first, second)) - 1000), 150)

@@ -9,7 +9,7 @@ import graphs
 import spmat
 import support
 from spmat import algorithms
-from spmat.algorithms.page_rank import BITS, SHARE_OF_ALL, SHARE_ROUNDING, damping_of
+from spmat.algorithms.centralities import BITS, SHARE_OF_ALL, SHARE_ROUNDING, damping_of
 
 pytestmark = pytest.mark.slow
 

@@ -7,7 +7,7 @@ import pytest
 import graphs
 import support
 from spmat import algorithms
-from spmat.algorithms import server_loops, traversal
+from spmat.algorithms import traversal
 
 pytestmark = pytest.mark.slow
 
@@ -29,7 +29,7 @@ class Long(support.InSession):
         for after in (0, 1, 3):
             for graph in SOME:
                 with self.subTest(after=after, graph=graph.name), \
-                        mock.patch.object(server_loops, 'LONG', after):
+                        mock.patch.object(traversal, 'LONG', after):
                     self.one(graph, graph.count // 3)
 
     def one(self, graph, source):
@@ -57,7 +57,7 @@ class Long(support.InSession):
 
     def test_directed_graphs_stay_with_the_client(self):
         for graph in graphs.DIRECTED:
-            with self.subTest(graph=graph.name), mock.patch.object(server_loops, 'LONG', 0):
+            with self.subTest(graph=graph.name), mock.patch.object(traversal, 'LONG', 0):
                 G, near = graph.matrix(self.s), graph.near()
                 self.assertEqual(algorithms.bfs_levels(G, 0).to_dict(),
                                  {(i, 0): level for i, level in graphs.levels(near, 0).items()})

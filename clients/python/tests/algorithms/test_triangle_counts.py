@@ -5,7 +5,7 @@ import pytest
 
 import graphs
 from spmat import algorithms
-from spmat.algorithms import triangle_counts as truss
+from spmat.algorithms import neighbours as truss
 from spmat.loops.trips import Trips
 
 pytestmark = pytest.mark.slow

@@ -13,7 +13,7 @@ import spmat_blocks as blocks
 from spmat import algorithms
 from spmat.algorithms import rounds
 from spmat.algorithms.rounds import MOST_AHEAD, Rounds, Scale, scale_of
-from spmat.algorithms.vector_centralities import Grown, hand_on
+from spmat.algorithms.centralities import Grown, hand_on
 from spmat.loops import State
 from spmat.operators.evaluation import evaluate
 

@@ -131,7 +131,7 @@ class Words(CommandLine):
         self.prints('bfs-levels', 'r3.csv', '--source', 'A', '--depth', '0', lines=['A 0'])
         for flag in ('--depth', '--k'):
             self.prints('k-hop', 'r3.csv', '--source', 'B', flag, '1', lines=['B B 0', 'B C 1'])
-        self.refuses('bfs-levels', 'r3.csv', '--depth', '-1', says=['--depth: a depth is'])
+        self.refuses('bfs-levels', 'r3.csv', '--depth', '-1', says=['--depth: depth= of bfs_levels is a whole number of 0 or more'])
 
     def test_several_sources(self):
         both = ['--source', 'A', '--source', 'C']

@@ -10,7 +10,7 @@ import support
 import spmat
 import spmat_blocks as blocks
 from spmat import operators
-from spmat.display import html as shown
+from spmat import display, submatrices
 
 
 class Parser(html.parser.HTMLParser):
@@ -69,15 +69,11 @@ class Html(support.InSession):
         self.assertLess(len(A._repr_html_()), 10_000)
 
     def test_masks(self):
-        """The corner has a mark where a result may have an entry."""
+        """Are told in a line, as at a prompt: which matrix, where, and whether around it."""
         A = self.s.from_triples([(0, 0, 5), (0, 1, 0), (1, 2, 3)], 2, 3)
-        for mask, said, marks in ((A.S, 'has an entry', 3), (~A.S, 'has no entry', 3),
-                                  (A.V, "has an entry that isn't 0", 2),
-                                  (~A.V, 'has no entry, or 0', 4)):
-            words, tags = self.seen(mask)
-            self.assertIn('Mask  2 × 3, where %s %s' % (A.name, said), words)
-            # a row and a column are 1
-            self.assertEqual((words.split().count('1') - 2, tags.count('td')), (marks, 6), words)
+        for mask, told in ((A.S, '%r.S'), (~A.S, '~%r.S'), (A.V, '%r.V'), (~A.V, '~%r.V')):
+            self.assertFalse(hasattr(mask, '_repr_html_'))
+            self.assertEqual(repr(mask), told % A)
 
     def test_semirings(self):
         words, tags = self.seen(spmat.semiring.min_plus)
@@ -100,7 +96,7 @@ class Html(support.InSession):
         """Of many entries the server is asked for the corner: it is the one of few."""
         A = self.s.from_triples([(i, 7 * i % 90, i) for i in range(90)] + [(89, 3, 4)], 90, 90)
         few = self.seen(A)
-        with mock.patch.object(shown, 'FEW', 10), spmat.Session(steps=0) as poor:
+        with mock.patch.object(display, 'FEW', 10), spmat.Session(steps=0) as poor:
             self.assertEqual(self.seen(A), few)
             words, tags = self.seen(poor.full(9, 9))
             self.assertIn('81 entries', words)
@@ -109,12 +105,12 @@ class Html(support.InSession):
 
     def test_jobs_of_large_ones(self):
         """One job, and a call for each entry of the corner alone."""
-        with spmat.Session() as s, mock.patch.object(shown, 'FEW', 10):
+        with spmat.Session() as s, mock.patch.object(display, 'FEW', 10):
             A, before = s.full(30, 40).wait(), s.runs
             A._repr_html_()
             self.assertEqual(s.runs - before, 1)
             spent = s.budget().spent
-            self.assertEqual(shown.first_cells(A).to_triples(),
+            self.assertEqual(submatrices.take_cells(A, range(8), range(8)).to_triples(),
                              [(i, j, 1) for i in range(8) for j in range(8)])
             self.assertLessEqual(s.budget().spent - spent, 3 * 64)
 

@@ -134,6 +134,22 @@ class Columns(InSession):
         self.assertEqual(self.s.from_edgelist(
             pandas.DataFrame({0: [7, 8], 1: [8, 9]})).to_edgelist(), [(7, 8, 1), (8, 9, 1)])
 
+    def test_tables_with_odd_cells(self):
+        import pandas
+        for first in (float('nan'), None, pandas.NaT, 'x'):
+            frame = pandas.DataFrame({'from': [first, 1], 'to': [2, 3], 'w': [4, 5]})
+            A = self.s.from_edgelist(frame, missing=None)
+            self.assertEqual(A.to_triples(), [(0, 1, 4), (2, 3, 5)])
+            self.assertEqual(list(map(str, A.nodes)), [*map(str, frame['from'][:1]), '2',
+                                                       str(frame['from'][1]), '3'])
+        frame = pandas.DataFrame([('a', 'b', {'weight': 3}), ('b', 'c', {})])
+        self.assertEqual(self.s.from_edgelist(frame).to_edgelist(), [('a', 'b', 3), ('b', 'c', 1)])
+        for odd in ([1], {}):
+            frame = pandas.DataFrame({'source': [odd, 1], 'target': [2, 3]})
+            for read in (self.s.from_edgelist, self.s.from_pandas_edgelist):
+                with self.assertRaisesRegex(TypeError, 'a name is text, a number'):
+                    read(frame)
+
 
 CELLS = [[5, 0, 2], [0, 7, 0]]
 FULL = {(i, j): value for i, row in enumerate(CELLS) for j, value in enumerate(row)}

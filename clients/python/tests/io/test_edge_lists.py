@@ -152,6 +152,8 @@ REFUSED = [
     ('from,to,when\na,b,2024-05-03\n', 2, "got '2024-05-03': unit=\"s\" takes times"),
     ('from,to\n"c\nd",e\n', 2, 'a name has an end of line in it'),
     ('from,to\na,b\nc\n', 3, '1 field, and the first line has 2'),
+    ('from,to,w\na,b,3,9\nb,c,4\n', 2, '4 fields, and the first line has 3'),
+    ('from to\n1 2 3\n', 2, '3 fields, and the first line has 2'),
     ('from,to,w\na,b,1\n"c,d,3\n', 3, 'a quotation does not end'),
     ('a b 5\n\nb c\n', 3, '2 fields, and the first line has 3 (blanks part them)'),
     # what is no list
@@ -402,7 +404,8 @@ class Read(Case):
             for _ in range(r.choice((0, 0, 1))):
                 lines.insert(r.randrange(len(lines) + 1), r.choice(('', '  ')))
             text = r.choice(('\n', '\r\n')).join(lines) + r.choice(('', '\n'))
-            taken = edge_lists.read('f', text.encode(), Layout(sep, header=False, comments=None))
+            layout = Layout(sep, header=False, comments=None)
+            taken = edge_lists.read_edges(edge_lists.lay_out('f', text.encode(), layout), layout)
             known = [name for row in rows for name in row[:2]]
             kind = int if all(map(edges.WHOLE.fullmatch, known)) else str
             self.assertEqual([list(map(kind, some)) for some in zip(*rows)][:2],

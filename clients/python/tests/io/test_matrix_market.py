@@ -1,6 +1,7 @@
 """Matrix texts: those that the client writes and reads, and files of every field that can be had as
 whole numbers."""
 import bz2
+import fractions
 import gzip
 import io
 import os
@@ -43,6 +44,28 @@ class Files(support.InSession):
                          {(0, 0): 2 ** 63 - 1, (0, 1): -2 ** 63, (1, 0): -2 ** 63})
         unsigned = text_of('coordinate unsigned-integer general', '1 1 1', '1 1 7')
         self.assertEqual(self.read(unsigned).to_dict(), {(0, 0): 7})
+
+    def test_fields_of_values_that_are_not_read(self):
+        for field, lines in (('integer', ('2 3 4', '1 2')), ('real', ('2 3 x', '1 2')),
+                             ('complex', ('2 3 1 0', '1 2 3')), ('complex', ('2 3 1 0', '1 2'))):
+            for given in (lines, lines[::-1]):
+                text = text_of('coordinate %s general' % field, '3 3 2', *given)
+                with self.assertRaises(spmat.Refused) as caught:
+                    self.read(text, values=False)
+                self.assertEqual(caught.exception.rule, 'M5')
+                self.assertIn('line %d ' % (3 + given.index(lines[1])), str(caught.exception))
+        for value in ('x', '\xe9', '\u0663', '1\0', '1.5'):
+            text = text_of('coordinate real general', '3 3 1', '2 3 ' + value)
+            self.assertEqual(self.read(text, values=False).to_dict(), {(1, 2): 1})
+
+    def test_letters_of_other_scripts(self):
+        for field, how in (('real', {}), ('real', {'scale': 10}), ('integer', {'scale': 10})):
+            for line in ('2 3 \u0663', '2 3 \xe9', '2 \u0663 1', '\uff12 3 1'):
+                with self.assertRaises(spmat.Refused) as caught:
+                    self.read(text_of('coordinate %s general' % field, '3 3 1', line), **how)
+                self.assertEqual(caught.exception.rule, 'M5')
+                self.assertIn(repr(line), str(caught.exception))
+                self.assertNotIn('\ufffd', str(caught.exception))
 
     def test_array(self):
         self.assertEqual(self.read(text_of('array integer general', '2 3', *'123456')).to_dict(),
@@ -157,22 +180,59 @@ class Files(support.InSession):
             self.s.mmread('/no/such/file.mtx')
 
 
-class Quick(unittest.TestCase):
-    """Large files are read by numpy all at once; what it takes is what the slow way takes, line by
-    line."""
+class Lines(unittest.TestCase):
+    """All lines are read at once; what is taken is what a reader takes that goes line by line."""
+
+    @staticmethod
+    def read_one_by_one(text):
+        """The entries, or the rule and the number of the first line that breaks one."""
+        try:
+            reader, found = matrix_market.Reader(io.BytesIO(text)), []
+        except spmat.TextRefused as fault:
+            return fault.rule, fault.at
+        kind, cells = reader.kind, [(j, i) for i in range(reader.ncols)
+                                    for j in range(reader.nrows)]
+        if kind.symmetry != 'general':
+            cells = [(j, i) for j, i in cells if j > i or (kind.symmetry == 'symmetric' and j == i)]
+        for line in reader.lines():
+            fields = [field.decode() for field in line.fields]
+            places, value = (fields[:0], fields) if kind.array else (fields[:2], fields[2:])
+            if len(found) == reader.count:
+                return 'M10', line.number
+            if len(fields) != kind.width or not all(field.isdigit() for field in places):
+                return 'M5', line.number
+            if kind.field == 'integer' and not value[0].lstrip('+-').isdigit():
+                return 'M5', line.number
+            number = fractions.Fraction(1)
+            if value:
+                try:
+                    number = fractions.Fraction(value[0])
+                except ValueError:
+                    return 'M5', line.number
+            if number.denominator > 1:
+                return 'M5', line.number
+            if not -2 ** 63 <= number < 2 ** 63:
+                return 'M7', line.number
+            i, j = cells[len(found)] if kind.array else (int(places[0]) - 1, int(places[1]) - 1)
+            if not (0 <= i < reader.nrows and 0 <= j < reader.ncols) or (
+                i == j and kind.symmetry == 'skew-symmetric'):
+                return 'M6', line.number
+            is_turned = i < j and kind.symmetry != 'general'
+            sign = -1 if is_turned and kind.symmetry == 'skew-symmetric' else 1
+            found.append((j, i, sign * int(number)) if is_turned else (i, j, int(number)))
+        if len(found) < reader.count:
+            return 'M9', text.count(b'\n') + 1
+        return found
 
     def pair(self, text):
-        """What both ways give: triples, or the refusal's words."""
-        got = []
-        for quickly in (matrix_market.read_quickly, lambda *_: None):
-            try:
-                with mock.patch.object(matrix_market, 'read_quickly', quickly):
-                    triples, symmetry = matrix_market.parse(text)
-                got.append([part.tolist() for part in triples[:3]] + [triples[3:], symmetry])
-            except ValueError as fault:
-                got.append(str(fault))
-        self.assertEqual(got[0], got[1], text)
-        return got[0]
+        """What both ways give: entries, or the rule and the line of the refusal."""
+        try:
+            triples, _ = matrix_market.parse(text)
+            got = list(zip(*(part.tolist() for part in triples[:3])))
+        except spmat.TextRefused as fault:
+            got = fault.rule, fault.at
+        self.assertEqual(got, self.read_one_by_one(text), text)
+        return got
 
     def test_both_ways(self):
         r = random.Random(5)
@@ -202,7 +262,7 @@ class Quick(unittest.TestCase):
         self.assertGreater(kept, 500)
 
     def test_taken(self):
-        """The quick way is taken for plain files."""
+        """Whole lines are read in one go."""
         for columns, text in ((2, text_of('coordinate real general', '2 2 2', '1 1 1.0',
                                           '2 2 -2e0')),
                               (1, text_of('array real general', '2 1', '1', '2')),
@@ -210,8 +270,16 @@ class Quick(unittest.TestCase):
                               (2, text_of('array integer symmetric', '2 2', '1', '2', '3'))):
             file = io.BytesIO(text)
             reader = matrix_market.Reader(file)
-            self.assertIsNotNone(matrix_market.read_quickly(reader.kind, file.read(),
-                                                            text.count(b'\n') - 2, 2, columns))
+            self.assertIsNotNone(matrix_market.read_lines(reader.kind, file.read(), 2, columns))
+
+    def test_what_parts_fields(self):
+        """Blanks of any kind part fields, and nothing else does."""
+        text = text_of('coordinate real general', '2 2 2', '1\x0b1\t\x0c2.0\r', '2 2\r3')
+        self.assertEqual(self.pair(text), [(0, 0, 2), (1, 1, 3)])
+        for entry in ('1 1 2\0', '1 1 "2"', '1 1 \u0662', '1,1,2', '1 1 True', '1 1 2 % two'):
+            with self.assertRaises(spmat.TextRefused, msg=entry) as said:
+                matrix_market.parse(text_of('coordinate real general', '2 2 2', '2 2 2', entry))
+            self.assertEqual((said.exception.rule, said.exception.at), ('M5', 4), entry)
 
     def test_without_warnings_of_numpy(self):
         """A field that numpy warns of is refused by its rule, also where warnings are errors."""
@@ -257,12 +325,6 @@ class Texts(unittest.TestCase):
         self.assertEqual(matrix_text.swapped(text), b'%%MatrixMarket matrix coordinate integer '
                          b'general\n6 3 2\n6 1 -9223372036854775808\n1 3 9223372036854775807\n')
         self.assertEqual(self.listed(matrix_text.read(matrix_text.EMPTY)), [[], [], [], 0, 0])
-
-    def test_even_lines(self):
-        for text, count in ((b'', 0), (b'1 2\n', 1), (b' 1\t2 \n\n3 4', 2), (b'1 2\n3\n', None),
-                            (b'1 2\n3 4 5\n', None), (b'\n \n', 0)):
-            with mock.patch.object(matrix_market, 'PIECE', 1):
-                self.assertEqual(matrix_market.count_even_lines(text, 2), count, text)
 
     def test_line_at(self):
         text = b'one\n\nthree\r\n' + b'x' * 200

@@ -10,13 +10,14 @@ from unittest import mock
 import numpy
 
 import spmat
+from spmat import library
 from spmat.io import matrix_text, text_library
 from spmat.io.matrix_text import Triples
 from spmat.wire import commands
 
 TEXT = matrix_text.BANNER + b'3 12 5\n1 1 41\n1 12 0\n2 3 -7\n3 1 9223372036854775807\n3 10 -10\n'
 ODD = b'\x00\t\n\r +-0159%,.e\xff'
-HAS_LIBRARY = text_library.load() is not None
+HAS_LIBRARY = library.load() is not None
 wants_library = unittest.skipUnless(HAS_LIBRARY, 'no library: tools/build makes it')
 SHORT_OF_MEMORY = """
 import resource, numpy
@@ -199,18 +200,18 @@ class Found(unittest.TestCase):
     """Which file is the library."""
 
     def setUp(self):
-        text_library.load.cache_clear()
-        self.addCleanup(text_library.load.cache_clear)
+        library.load.cache_clear()
+        self.addCleanup(library.load.cache_clear)
 
     def named(self, path):
-        return mock.patch.dict(os.environ, {text_library.VARIABLE: path})
+        return mock.patch.dict(os.environ, {library.VARIABLE: path})
 
     def test_the_one_that_is_named(self):
         """A step of the gate names the library that it built: that one is loaded, and reads."""
-        path = os.environ.get(text_library.VARIABLE)
+        path = os.environ.get(library.VARIABLE)
         if not path:
             self.skipTest('SPMAT_LIBRARY names none')
-        self.assertEqual(text_library.find(), path)
+        self.assertEqual(library.find(), path)
         with mock.patch.object(text_library, 'read', wraps=text_library.read) as used:
             self.assertEqual(matrix_text.read(TEXT).nrows, 3)
         used.assert_called_once()
@@ -218,27 +219,27 @@ class Found(unittest.TestCase):
 
     def test_none(self):
         with self.named(''):
-            self.assertIsNone(text_library.load())
+            self.assertIsNone(library.load())
             self.assertEqual(matrix_text.read(TEXT).ncols, 12)
 
     def test_no_library(self):
         for path in ('/nonexistent/libspmat.so', __file__, 'libc.so.6'):
             with self.named(path), self.assertRaisesRegex(OSError, 'SPMAT_LIBRARY names no library '
                                                           'of spmat'):
-                text_library.load()
+                library.load()
 
     def test_places(self):
         """Where no variable names one, the first that is there is taken, but none that is
         damaged."""
         with mock.patch.dict(os.environ):
-            os.environ.pop(text_library.VARIABLE, None)
-            with mock.patch.object(text_library, 'PLACES', ('/nonexistent/one', __file__)):
-                self.assertEqual(text_library.find(), __file__)
-                self.assertIsNone(text_library.load())
-            with mock.patch.object(text_library, 'PLACES', ()):
-                self.assertIsNone(text_library.find())
+            os.environ.pop(library.VARIABLE, None)
+            with mock.patch.object(library, 'PLACES', ('/nonexistent/one', __file__)):
+                self.assertEqual(library.find(), __file__)
+                self.assertIsNone(library.load())
+            with mock.patch.object(library, 'PLACES', ()):
+                self.assertIsNone(library.find())
 
     @wants_library
     def test_another_interface(self):
-        with mock.patch.object(text_library, 'INTERFACE', 2):
-            self.assertIsNone(text_library.load())
+        with mock.patch.object(library, 'INTERFACE', 1):
+            self.assertIsNone(library.load())

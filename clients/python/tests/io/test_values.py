@@ -54,8 +54,8 @@ class Times(support.InSession):
             text = time.astimezone(zone).isoformat(chance.choice(' T'))
             want = (time - datetime.datetime(1970, 1, 1, tzinfo=UTC)) // datetime.timedelta(
                 microseconds=1)
-            self.assertEqual(values.nanoseconds(text), want * 1000, text)
-            self.assertEqual(values.nanoseconds(time), want * 1000, text)
+            self.assertEqual(values.read_moment(text).nanoseconds, want * 1000, text)
+            self.assertEqual(values.read_moment(time).nanoseconds, want * 1000, text)
 
     def test_text(self):
         for text, want in (('2024-01-02', 1704153600), ('2024-01-02T03:04:05Z', SECONDS),

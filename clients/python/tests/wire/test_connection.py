@@ -338,7 +338,7 @@ class Interrupts(unittest.TestCase):
         with spmat.Session() as s:
             B = s.full(2, 2).apply('ainv')
             slow = Slow('budget')
-            s.connection._pending.append(slow)
+            s.connection.pending.append(slow)
             s.connection._send(s.connection._pieces_of([slow]))
             with self.assertRaises(KeyboardInterrupt):
                 B.wait()

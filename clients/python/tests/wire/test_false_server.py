@@ -245,9 +245,10 @@ class Shown(unittest.TestCase):
             return str(said.exception)
 
     def test_lines_of_any_length(self):
-        said = self.said_of('dis', b'ok dis 2\n' + b'a' * 1100 + b'\nexit\n',
-                            lambda s: s.dis(spmat.unary.abs))
-        self.assertIn('a line of a reply is none of spmat: `aaa', said)
+        for behind in (b'exit\n', b''):            # also before the lines behind it have come
+            said = self.said_of('dis', b'ok dis 2\n' + b'a' * 1100 + b'\n' + behind,
+                                lambda s: s.dis(spmat.unary.abs))
+            self.assertIn('a line of a reply is none of spmat: `aaa', said)
 
     def test_escape_codes(self):
         for command, reply, call in (

@@ -1,11 +1,11 @@
 """Operators from Python functions.
 
-A function is called with words that are no numbers yet (`words`). Each operation makes a shared,
-simplified expression (`expressions`), and each truth of a condition forks the run, with what is
-known by then answered (`exploration`). The expression's decision graph becomes blocks and forward
-jumps (`emission`), on registers and then the stack, and assembly text (`registers`).
-`compile_function` goes through these steps, and calls the code beside the function before its first
-use. `cache` knows when a function has to be compiled again.
+A function is called with words that are no numbers yet. Each operation makes a shared, simplified
+expression (`expressions`), and each truth of a condition forks the run, with what is known by then
+answered (`exploration`). The expression's decision graph becomes blocks and forward jumps, on
+registers and then the stack, and assembly text (`emission`). `compile_function` goes through these
+steps, calls the code beside the function before its first use, and knows when a function has to be
+compiled again.
 
 No source is needed, so a function may come from a file, a notebook, `python3 -c` or the prompt, and
 what it calls may be any Python.

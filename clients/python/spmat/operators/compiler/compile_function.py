@@ -23,11 +23,10 @@ from ..assembly import wrap
 from ..evaluation import evaluate
 from ..integer_functions import whole
 from ..operator import Operator
-from .emission import Emission
-from .exploration import Exploration, Impure, Line, Path, call, describe_line, explore, is_users
+from .emission import Emission, Reg, allocate, ins, resolve, size_of, text_of, tidy
+from .exploration import (Exploration, Impure, Line, Path, Word, call, describe_line, explore,
+                          is_users, node_of)
 from .expressions import LEAST, MOST, Node, below
-from .registers import Reg, allocate, ins, resolve, size_of, text_of, tidy
-from .symbolic_words import Word, node_of
 
 NAMES = {'unary': ('x',), 'binary': ('x', 'y'), 'index': ('x', 'row', 'column', 'thunk')}
 KINDS = {'unary': 'a unary operator is a function of x',

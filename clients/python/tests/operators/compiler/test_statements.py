@@ -22,6 +22,9 @@ EDGES = (0, 1, -1, 2, 3, -3, 5, 7, 8, 10, 63, 64, 76, 77, 78, -77, -76, 100, 1 <
 
 # Bodies of functions of x that mean what Python means; a `;` in the first column parts them.
 SAME = '''
+y = x ^ x
+return y % -1000 + [7, 8][y]
+;
 try: return 1000 // (x - 77)
 except ZeroDivisionError: return -1
 ;

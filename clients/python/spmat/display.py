@@ -1,12 +1,14 @@
-"""What notebooks and pictures show: here tables and programs in HTML without scripts, of which each
-class makes what it shows of itself."""
+"""What notebooks show: tables and programs in HTML without scripts, of which each class makes what
+it shows of itself."""
 from __future__ import annotations
 
 from html import escape
-from typing import Sequence
+from typing import List, Mapping, Sequence, Tuple
 
 CELL = 'text-align:right;padding:1px 6px;white-space:nowrap;border:1px solid #ddd'
 HEAD = 'text-align:right;padding:1px 6px;color:#5a6672;font-weight:normal;border:1px solid #ddd'
+CORNER = 8                                         # rows and columns of a matrix that are shown
+FEW = 50_000               # entries that come to the client; of more it asks for the corner
 
 
 def text_of(thing: object) -> str:
@@ -39,3 +41,15 @@ def code(text: str) -> str:
     return ('<pre style="margin:4px '
             '0;text-align:left;white-space:pre-wrap;overflow-wrap:anywhere">%s</pre>'
             % text_of(text.strip('\n')))
+
+
+def corner(rows: Sequence[object], columns: Sequence[object],
+           cells: Mapping[Tuple[int, int], object]) -> str:
+    """The first rows and columns of a matrix, by their names, with the values of its entries."""
+    width, more = len(columns[:CORNER]), ['..'] if len(columns) > CORNER else []
+    body: List[Sequence[object]] = [
+        [name, *(cells.get((i, j), '') for j in range(width)), *more]
+        for i, name in enumerate(rows[:CORNER])]
+    if len(rows) > CORNER:
+        body.append(['..'] * (1 + width) + more)
+    return table(['', *columns[:CORNER], *more], body)
