@@ -53,7 +53,7 @@ NUMBERS = (
 
 
 def plain(number: str) -> str:
-    """A number without what only parts its digits."""
+    """A number without what only separates its digits."""
     return re.sub(r'(?<=\d)[,_](?=\d)', '', number)
 
 

@@ -50,6 +50,7 @@ SUPPOSED: Dict[Tuple[str, str], Tuple[str, str]] = {
     ('matrix_market.specs.Market', 'IsTextOf'): ('first others', 'they are the lines of the text'),
     ('matrix_market.specs.Refusal', 'HasSizes'):
         ('first others behind', 'they are the lines of the text, up to its sizes and behind'),
+    ('matrix_market.specs.Refusal', 'IsText'): ('g', 'a text stands for one matrix'),
     ('metered_session.specs.Limits', 'Meters'):
         ('calls', 'the call of the session and its reply fix them'),
     ('metered_session.specs.Limits', 'StandsFor'):
@@ -57,6 +58,10 @@ SUPPOSED: Dict[Tuple[str, str], Tuple[str, str]] = {
     ('race_board.specs.Chunks', 'StandsOnce'): ('nth steps', 'the list of chunks has them'),
     ('race_board.specs.Race', 'RanOneRace'):
         ('lost', 'seats that were lost with a refused start are held by nobody'),
+    ('session.specs.Talk', 'IsAnswered'):
+        ('read text dealings held',
+         'the devices fix what is read and written where their bytes are known; which calls of the '
+         'budget stand behind the replies is said of the whole session'),
     ('session.specs.Talk', 'Outcome'):
         ('end', 'after a write that failed nothing tells whether the session had ended'),
     ('session.specs.Talk', 'Said'):
@@ -73,6 +78,12 @@ SUPPOSED: Dict[Tuple[str, str], Tuple[str, str]] = {
          'the call opens the purse, with the allowance, and the calls of the session lead on'),
     ('spmat_lib.specs.Answer', 'IsAnswer'):
         ('outcome', 'a text stands for one matrix, and the numbers of a refusal for one refusal'),
+    ('spmat_lib.specs.Calls', 'AreCalled'):
+        ('outcome', 'code spells one program, which is accepted or has one fault'),
+    ('spmat_lib.specs.Calls', 'IsRefused'):
+        ('insns', 'code spells one program'),
+    ('spmat_lib.specs.Verdict', 'IsAssembly'):
+        ('outcome', 'a text denotes one program, or has one fault'),
     ('step_purse.specs.Histories', 'Begins'):
         ('rest', 'it is what one history has beyond another'),
     ('step_purse.specs.Histories', 'Leads'):

@@ -253,7 +253,7 @@ class Made(unittest.TestCase):
                                        'import spmat; print(spmat.__version__)']), file.read())
         karate = os.path.join(TOP, 'docs', 'karate.mtx')
         self.assertEqual(self.ran(room, ['env/bin/spmat-graph', 'triangle-count', karate]), '45\n')
-        asked = 'from spmat.io import text_library as t; print(t.load() is not None, t.find())'
+        asked = 'from spmat import library as t; print(t.load() is not None, t.find())'
         self.assertRegex(self.ran(room, ['env/bin/python', '-c', asked]),
                          r'^True .*/env/.*/spmat/carried/libspmat\.so\n$')
         self.use_others(room)

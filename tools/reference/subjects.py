@@ -1,5 +1,7 @@
 """The subjects of the reference, in order, each with the names that it shows. A new name that no
 subject has is shown at the end."""
+import importlib
+import inspect
 from typing import Dict, List, NamedTuple, Sequence, Tuple
 
 
@@ -43,20 +45,10 @@ OPERATORS = (
 # The modules that users import, and all that distributions built on spmat import of it.
 MODULES = ('spmat', 'spmat.algorithms', 'spmat.draw', 'spmat.errors', 'spmat.extending',
            'spmat.limits')
-# The modules of spmat.algorithms under their subjects: an algorithm is shown where its module is.
-ALGORITHM_MODULES = {
-    'Degrees, triangles, undirected graphs': ('triangle_counts',),
-    'Searches and shortest paths': ('bfs', 'single_source_paths', 'shortest_path_trees',
-                                    'all_pairs_lengths', 'distance_measures'),
-    'Components, orders and trees': ('components', 'independent_set', 'topological_order',
-                                     'spanning_forest'),
-    'Centrality': ('page_rank', 'path_centralities', 'vector_centralities'),
-    'Communities and dense parts': ('communities', 'core_decomposition'),
-    'Similarity': ('neighbour_similarity',),
-}
 PICTURES = ('spy', 'degree_histogram', 'graph', 'levels', 'route')
 BLOCKS = ('Sessions', 'Threads', 'Dask')
 OTHERS = 'Others'
+RESULTS = 'Results and errors'                     # what algorithms return and raise
 
 
 def with_others(subjects: Sequence[Subject], names: Sequence[str]) -> List[Subject]:
@@ -71,8 +63,14 @@ def with_others(subjects: Sequence[Subject], names: Sequence[str]) -> List[Subje
 
 
 def algorithms_by_subject(modules: Dict[str, str]) -> List[Subject]:
-    """The algorithms by subject; `modules` says in which module each one is."""
-    found = [Subject(title,
-                     tuple(name for part in parts for name, module in modules.items()
-                           if module == part)) for title, parts in ALGORITHM_MODULES.items()]
-    return with_others(found, list(modules))
+    """The algorithms by subject: an algorithm is shown where its module is, whose docstring begins
+    with the subject. `modules` says in which module each one is. What algorithms return is shown
+    last."""
+    from spmat.algorithms.registry import ALGORITHMS   # once the page knows where spmat is
+    found = []
+    for module in sorted({modules[name] for name in ALGORITHMS}):
+        words = inspect.getdoc(importlib.import_module('spmat.algorithms.' + module)) or ''
+        found.append(Subject(words.partition(':')[0],
+                             tuple(name for name, one in modules.items() if one == module)))
+    return [subject._replace(title=RESULTS) if subject.title == OTHERS else subject
+            for subject in with_others(found, list(modules))]

@@ -1,4 +1,4 @@
-"""Builds the site: lays out what Sphinx reads, runs it, and mends the theme that Debian has."""
+"""Builds the site: lays out what Sphinx reads, runs it, and fixes the theme that Debian has."""
 import glob
 import os
 import re
@@ -25,6 +25,11 @@ PROGRAMS = (os.path.join(TOP, 'crates', 'spmat', 'out', 'spmat'),
 HEARD = (('<body>', '<body>\n<a class="skip" href="#content">Skip to content</a>'),
          ('<article role="main">', '<article role="main" id="content">'),
          ('<p class="caption" role="heading">', '<p class="caption" role="heading" aria-level="2">'))
+# names in code of more letters than these may go on in the next line, behind a sign that separates them
+MOST_IN_LINE = 16
+CODE = re.compile(r'<code class="((?:xref [\w -]+ )?docutils literal notranslate)">(.*?)</code>')
+WORD = re.compile(r'(?<=<span class="pre">)[^<]+')
+PART_OF_NAME = re.compile(r'(?<=[A-Za-z0-9)][_/(,=.])(?=["\'\w])')
 # pages that only the site has
 CRATES = 'crates.md'
 MADE = {'How-to': ('gallery',), 'Reference': ('reference/index',)}
@@ -102,6 +107,17 @@ def inline(path: str, line: str, other: str) -> None:
             file.write(text.replace(line, read(other)))
 
 
+def breakable(text: str) -> str:
+    """A page whose long names in code may go on in the next line."""
+    def parted(found: 're.Match[str]') -> str:
+        kinds, words = found.groups()
+        if len(re.sub(r'<[^>]*>', '', words)) <= MOST_IN_LINE:
+            return found.group(0)
+        return '<code class="%s long">%s</code>' % (kinds, WORD.sub(
+            lambda word: PART_OF_NAME.sub('<wbr>', word.group(0)), words))
+    return CODE.sub(parted, text)
+
+
 def mend_theme(folder: str) -> None:
     """Has each file of the theme hold all that it needs."""
     static = os.path.join(folder, '_static')
@@ -120,6 +136,6 @@ def mend_theme(folder: str) -> None:
         for line, other in HEARD:
             text = text.replace(line, other)
         with open(page, 'w', encoding='utf-8') as file:
-            file.write(text)
+            file.write(breakable(text))
 
 

@@ -1,5 +1,6 @@
 """The client's docstrings as reStructuredText: backticks mark code, and what is indented behind an
 empty line is code."""
+import inspect
 import itertools
 import re
 from typing import Any, List
@@ -12,8 +13,11 @@ UNDERLINE = re.compile(r'^(-{3,}|={3,})\s*$')
 
 
 def process(_app: Any, what: str, name: str, thing: Any, options: Any, lines: List[str]) -> None:
-    """What Sphinx calls with the lines of a docstring, which it takes back changed."""
-    del what, name, thing, options
+    """What Sphinx calls with the lines of a docstring, which it takes back changed. Of an object
+    that is called as a function, these are the call's."""
+    del name, options
+    if what == 'function' and not inspect.isroutine(thing):
+        lines[:] = (inspect.getdoc(type(thing).__call__) or '').split('\n')
     lines[:] = converted(lines)
 
 

@@ -13,6 +13,8 @@ BUILT_IN = """Each of these is an attribute, `spmat.binary.plus`. Wherever an op
 do: `A.ewise_add(B, "plus")`. `spmat.select` has the index operators that `select` takes, and the signs
 `==`, `!=`, `<`, `<=`, `>` and `>=`. An operator of your own is a function of Python, `A.apply(lambda x: x * x)`,
 or a text of assembly, `spmat.asm`: [Write operators](../docs/operators.md)."""
+SELECT = """The index operators by which `Matrix.select` keeps entries, by name: ``spmat.select.tril``. They are
+   those of `spmat.indexunary`, and a sign may stand for a comparison: ``A.select(">=", 3)``."""
 SEMIRINGS = """`spmat.semiring.min_plus`, or `"min_plus"`, joins any two binary names: the first adds, the second
 multiplies. A custom semiring of your own functions is `spmat.Semiring("plus", lambda x, y: max(x, y))`."""
 
@@ -119,6 +121,10 @@ def pages() -> Dict[str, List[str]]:
         'operators': ['Operators and loops',
                       page.READY.replace('[operators.md](operators.md#built-in-operators)',
                                          ':doc:`/docs/operators`'), '',
+                      *heading('Make operators of functions', '-'),
+                      *(line for name in ('unary', 'binary', 'indexunary')
+                        for line in directive('autofunction', 'spmat.' + name)),
+                      *directive('py:data', 'spmat.select'), '   ' + SELECT,
                       *by_subject('spmat',
                                   subjects.with_others(subjects.OPERATORS, page.operators()),
                                   spmat), *heading('A loop', '-'),
@@ -136,7 +142,7 @@ def pages() -> Dict[str, List[str]]:
         title = subject.title[:1].lower() + subject.title[1:]
         found[name] = ['Algorithms: ' + title, '.. index:: ' + title.replace(' and ', ', '), '',
                        *functions('spmat.algorithms', subject.names, algorithms)]
-    found['draw'] = ['Pictures', '.. automodule:: spmat.draw', '   :no-members:', '',
+    found['draw'] = ['Pictures', '.. index:: plot, picture', '', '.. automodule:: spmat.draw', '   :no-members:', '',
                      *functions('spmat.draw', pictures(), draw)]
     found['blocks'] = ['Row blocks', '.. automodule:: spmat_blocks', '   :no-members:', '',
                        *functions('spmat_blocks', subjects.BLOCKS, blocks)]
