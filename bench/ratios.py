@@ -21,8 +21,8 @@ MEASUREMENTS = os.path.join(BENCH, 'README.md')
 LIMITS, FAQ, SERVICE, COMPARISON = (os.path.join(TOP, 'docs', name) for name in (
     'limits.md', 'faq.md', 'service.md', 'comparison.md'))
 UNKNOWN = """The figures of graphs of 4,096 and 16,384 vertices are of 2026-11-28 (commit 3cc2d2c8), those of a million edges
-of 2026-11-29 (commit 5628e646). Four processors, which nobody noted the kind of, and Debian 12's libraries made them, SuiteSparse:GraphBLAS 7.4
-among them. The client has changed since. `bench/performance` measures all anew, and writes this paragraph and the tables."""
+of 2026-11-29 (commit 5628e646). They were made on four processors, of which nobody noted the kind, by Debian 12's libraries, SuiteSparse:GraphBLAS
+7.4 among them. The client has changed since. `bench/performance` measures all anew, and writes this paragraph and the tables."""
 FAR = 10.0                                         # times as long as the best library
 # how many times as long as the best library a call was to take at most, by graphs
 TARGETS: Dict[str, Dict[str, float]] = {
