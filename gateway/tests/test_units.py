@@ -122,7 +122,7 @@ class Stops(unittest.TestCase):
 
 class Starts(unittest.TestCase):
     def test_without_descriptors(self):
-        """A start that fails for want of a descriptor leaves none open."""
+        """A start that fails for lack of a descriptor leaves none open."""
         settings, failed = Settings(command=('true',)), 0
         highest = max(map(int, os.listdir('/proc/self/fd')))
         while (filled := os.open('/dev/null', os.O_RDONLY)) < highest:

@@ -40,7 +40,7 @@ pub data IsFault (kind : Kind) (insns : List Insn) (fault : Fault) : Type 0 wher
   OfSlot : IsSlotFault insns fault.slot fault.rule → IsFault kind insns fault
   OfPaths : HasNoSlotFault insns → IsFirstShown insns (entry_tags kind) fault.slot fault.rule → IsFault kind insns fault
 
--- why a program is refused: its fault, or, where it has no slot fault, want of memory
+-- why a program is refused: its fault, or, where it has no slot fault, out of memory
 abbrev pub ExplainsRefusal : Kind → List Insn → VerifyError → Type 0
 ExplainsRefusal kind insns (errors.Fault fault) = IsFault kind insns fault
 ExplainsRefusal kind insns errors.Memory = HasNoSlotFault insns

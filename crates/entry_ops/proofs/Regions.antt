@@ -17,7 +17,7 @@ use Rattle.entry_ops.proofs.Standing.{empty_run, adds-costs}
 
 module _ (first columns : ℕ) (s : Standing) (rows : s.rows ≡ empty_run first columns) (none : s.waiting ≡ [])
     (steps : s.steps ≡ 0) where
-  -- want of memory on the way
+  -- out of memory on the way
   pub begin-stop : (all : List Call) (spent : ℕ) → ((rest : List Call) → Charges (s.waiting ++ (all ++ rest)) s.steps spent)
       → Charges all 0 spent
   begin-stop all spent h =

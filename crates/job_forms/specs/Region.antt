@@ -1,5 +1,5 @@
 -- What is computed of a part of a result: rows of a range, under a structural mask (GraphBLAS C API Specification 2.0, "Masks"),
--- with the steps of the calls. That calls have steps, and what want of memory leaves, is this project's own.
+-- with the steps of the calls. That calls have steps, and what running out of memory leaves, is this project's own.
 use Rattle.std.specs.Prelude.{◌≡◌, ◌≤◌, ◌+◌, ◌-◌, ◌⊎◌, ◌++◌, ℕ, List, [], Option, None, Some}
 use Rattle.std.specs.Prelude.{Result, Ok, Err, IfOk, OnOk, OnErr}
 use Rattle.std.specs.declared.alloc.AllocError.{AllocError}
@@ -23,7 +23,7 @@ pub record IsRegion (rows columns : ℕ) (region : Region) : Type 0 where
   pub range : region.range.start ≤ region.range.end
   pub within : region.range.end ≤ rows
 
--- a run of rows with the steps of all calls; or, for want of memory, the steps of some of the calls, each taken at most once
+-- a run of rows with the steps of all calls; or, out of memory, the steps of some of the calls, each taken at most once
 pub record IsMade (run : Run) (calls : List Call) (chunk : Chunk) : Type 0 where
   pub rows : IfOk chunk.result (λ r. r ≡ run)
   pub steps : OnOk chunk.result (chunk.steps ≡ steps_of calls)
@@ -38,7 +38,7 @@ IsPartOf columns values calls region chunk =
     (record { first = first; columns = columns; ended = rows_under (mask_of region.mask) columns values first count; opened = [] })
     (all_listed_under (mask_of region.mask) columns calls first count) chunk
 
--- rows are added, with the steps of the calls for them; or, for want of memory, the steps of some of these calls
+-- rows are added, with the steps of the calls for them; or, out of memory, the steps of some of these calls
 pub record Adds (added : List Row) (calls : List Call) (old new : Making) (filled : Result (Unit {0}) AllocError) : Type 0 where
   pub rows : OnOk filled (new.rows ≡ record old.rows { ended = old.rows.ended ++ added })
   pub steps : OnOk filled (new.steps ≡ old.steps + steps_of calls)

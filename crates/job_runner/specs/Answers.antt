@@ -22,7 +22,7 @@ said_of (Ok a) = Gave (map result_of a.results.items)
 said_of (Err f) = Broke f.cause f.spent
 
 -- What a batch of these jobs may say that may have so many workers: what a race gave of just as many as `crew_of` tells; or,
--- where it broke off, the steps of some of the calls, each taken at most once, and for want of a thread only where it may have
+-- where it broke off, the steps of some of the calls, each taken at most once, and for lack of a thread only where it may have
 -- several.
 pub data MaySay : ℕ → List Job → Said → Type 0 where
   gave : (workers : ℕ) (jobs : List Job) (results : List Result)

@@ -16,7 +16,7 @@ use race_board::{Board, BoardSeat};
 use std::alloc::{AllocError, Global};
 
 /// What a worker did: the pieces of the chunks that it completed, in order of its draws, the steps
-/// of all its calls, and whether it failed a chunk for want of memory.
+/// of all its calls, and whether it failed a chunk by running out of memory.
 #[derive(Drop)]
 pub struct Worked {
     pub pieces: Vec<Piece>,
@@ -25,7 +25,7 @@ pub struct Worked {
 }
 
 /// Draws chunks of a plan, computes them and completes them, until the seat is told the end or a
-/// chunk fails for want of memory.
+/// chunk runs out of memory.
 pub fn work<G: Gate>(
     alloc: Global,
     plan: &Plan,
@@ -124,7 +124,7 @@ fn fail_first<G: Gate>(alloc: Global, task: Task<'_>, seat: &mut BoardSeat, gate
     }
 }
 
-/// How the work on a chunk ended, with the steps of its calls. A chunk fails for want of memory;
+/// How the work on a chunk ended, with the steps of its calls. A chunk fails if memory runs out;
 /// then the steps are those of the calls before.
 #[derive(Clone, Copy)]
 pub(crate) enum ChunkEnd {

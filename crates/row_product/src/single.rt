@@ -61,7 +61,7 @@ fn push_row(
     ensures sums { sums.new ≡ sums.old }
 {
     let mut cells = factors.b.row(k);
-    // Reserve first: once calls ran, nothing may fail for want of memory.
+    // Reserve first: once calls ran, nothing may run out of memory.
     making.rows.reserve(cells.len())?;
     while !cells.is_empty() {
         let (now, rest) = cells.split_at(cells.len().min(MOST_CALLS));
@@ -89,7 +89,7 @@ fn push_row_under(
 {
     let (k, x) = cell;
     let cells = factors.b.row(k);
-    // Reserve first: once calls ran, nothing may fail for want of memory.
+    // Reserve first: once calls ran, nothing may run out of memory.
     // No more cells pass than the shorter of the two rows has.
     making.rows.reserve(cells.len().min(stored.len()))?;
     let mut row = RowUnderMask {

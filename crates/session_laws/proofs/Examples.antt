@@ -15,7 +15,7 @@ use Rattle.workspace.specs.State.{empty}
 apart : (at : ℕ) (xs ys : List ℕ) → (get_or xs at 0 ≡ get_or ys at 0 → ⊥) → xs ≡ ys → ⊥
 apart at xs ys differ e = differ (ap (λ zs. get_or zs at 0) e)
 
--- the third byte of a refusal for want is behind a blank, and is `m` or `t`
+-- the third byte of a refusal for lack of memory or of a thread is behind a blank, and is `m` or `t`
 not_want : (at : ℕ) (text : List ℕ) → (get_or text at 0 ≡ get_or (refusal_text no.Memory) at 0 → ⊥)
     → ((n : ℕ) → get_or text at 0 ≡ get_or (refusal_text (no.BatchMemory n)) at 0 → ⊥)
     → ((n : ℕ) → get_or text at 0 ≡ get_or (refusal_text (no.BatchThread n)) at 0 → ⊥) → TellsWant text → ⊥

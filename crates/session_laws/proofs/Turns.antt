@@ -1,5 +1,5 @@
--- One command of two sessions that hold the same: where the budget says the same to both and neither wants memory or a thread, both
--- reply the same, and hold the same after it.
+-- One command of two sessions that hold the same: where the budget says the same to both and neither lacks memory or a thread,
+-- both reply the same, and hold the same after it.
 use Rattle.std.proofs.Common.{◌≡◌, ◌⊎◌, ◌+◌, ℕ, Bool, true, false, nat_lt, List, [], ◌∷◌, ◌++◌, map, length, codes, Option, Some, None, option_map, Result, Ok, Err, MatchBool, inl, inr, refl, sym, ap, ◌∙◌, subst, subst₂}
 use Rattle.std.proofs.lemmas.List.{map-append}
 use Rattle.std.specs.FinMap as fin
@@ -182,7 +182,7 @@ module _ (s t u v : State) (ds es : List Dealing) (reply other : List ℕ) (xs y
       (TakesAssembly t name kind body es other v) (Refuses (no.Session MalformedName) t es other v) a b (λ x y. takes_assembly name kind body x y)
       (λ x y. says (refusal_text (no.Session MalformedName)) (refusal_text (no.Session MalformedName)) refl x y)
 
-  -- where neither wants memory
+  -- where neither lacks memory
   with_memory : {P Q : Type 0} → Refuses no.Memory s ds reply u ⊎ P → Refuses no.Memory t es other v ⊎ Q → (P → Q → Same) → Same
   with_memory a b f = elim a [
     | inl x ↦ absurd (well (inl x.1))

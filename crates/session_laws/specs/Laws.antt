@@ -25,7 +25,7 @@ budget_replies (Reserved amount reply ∷ ds) = ToReserve reply ∷ budget_repli
 budget_replies (Settled amount spent ∷ ds) = budget_replies ds
 budget_replies (Observed totals ∷ ds) = ToTotals totals ∷ budget_replies ds
 
--- a reply for want of memory or of a thread: `no memory`, `no memory N` or `no thread N`
+-- a reply for lack of memory or of a thread: `no memory`, `no memory N` or `no thread N`
 abbrev pub TellsWant : List ℕ → Type 0
 TellsWant reply =
     (reply ≡ refusal_text no.Memory)
@@ -47,13 +47,13 @@ exchanges (stop cut s t bytes ended c e ds reply w turn) = record { reply = repl
 exchanges (go cut s t u bytes rest ended c ds es reply text end w turn talk) =
     record { reply = reply; dealings = ds } ∷ exchanges talk
 
--- no reply of these tells of want
+-- no reply of these tells of lack of memory or of a thread
 abbrev pub TellNoWant : List Exchange → Type 0
 TellNoWant = AllByRecursion (λ (x : Exchange). TellsWant x.reply → ⊥)
 
 -- Two talks are over the same bytes, from nothing bound or queued, with any numbers of workers. If the budget replies the same to
--- both, and no reply of either tells of want, then they have the same text, the same end and the same calls of the budget, among
--- them those that release what is held at the end.
+-- both, and no reply of either tells of such lack, then they have the same text, the same end and the same calls of the budget,
+-- among them those that release what is held at the end.
 abbrev pub SameText : Type 0
 SameText =
     (m n : ℕ) (bytes : List ℕ) (ended : Bool) (ds es : List Dealing) (text other : List ℕ) (end last : Option End) (s t : State)
@@ -66,8 +66,8 @@ abbrev pub replies_to : List Exchange → List BudgetReply
 replies_to xs = budget_replies (flat_map (λ (x : Exchange). x.dealings) xs)
 
 -- Two talks are over bytes of which one has more than the other, from nothing bound or queued, with any numbers of workers. Either
--- may break off. Of their first commands, as many of the one as of the other, no reply tells of want, and the budget replies the
--- same to both. Then these commands have the same replies and the same calls of the budget.
+-- may break off. Of their first commands, as many of the one as of the other, no reply tells of such lack, and the budget replies
+-- the same to both. Then these commands have the same replies and the same calls of the budget.
 abbrev pub SameFirst : Type 0
 SameFirst =
     (m n : ℕ) (cut broken : Bool) (bytes more : List ℕ) (ended over : Bool) (ds es : List Dealing) (text other : List ℕ)

@@ -16,15 +16,15 @@ ghost use Rattle.step_purse.specs.declared.dealings.Totals.{Totals};
 ghost use Rattle.workspace.specs.State.{empty};
 
 /// The bytes of a session and what the budget replies to it determine its text, its end and its
-/// calls of the budget, as long as no reply tells of want of memory or of a thread. The number of
+/// calls of the budget, as long as no reply tells of lack of memory or of a thread. The number of
 /// workers has no part in it.
 pub fn same_text()
     ensures law { SameText }
 {}
 
 /// The first commands of two sessions have the same replies and the same calls of the budget, as long
-/// as none of these replies tells of want. One session may have read more than the other, and either
-/// may have been broken off by a write that failed.
+/// as none of these replies tells of such lack. One session may have read more than the other, and
+/// either may have been broken off by a write that failed.
 pub fn same_first()
     ensures law { SameFirst }
 {}
@@ -34,14 +34,14 @@ pub fn said_by_commands()
     ensures law { SaidByCommands }
 {}
 
-/// The law is of talks that there are: this one has no want, whatever the budget's totals are.
+/// The law is of talks that there are: this one lacks nothing, whatever the budget's totals are.
 pub fn budget_told()
     ensures talk { (totals : Totals) → (talk : Talk false (empty 1) (codes "budget\nquit\n") false (Observed totals ∷ [])
         (budget_text totals.left totals.reserved totals.spent ++ quit_text) (Some Quit) (empty 1)) × TellNoWant (exchanges talk) }
 {}
 
 /// The law needs its premise: to one line a session may reply with the rule that it breaks, or that
-/// memory is wanting.
+/// it is out of memory.
 pub fn want_told()
     ensures rule { (talk : Talk false (empty 1) (codes "op A x 0\n") true [] (refusal_text (no.Session MalformedWords))
         (Some InputEnd) (empty 1)) × TellNoWant (exchanges talk) }

@@ -43,7 +43,7 @@ BindsLines old name None body reply new = Refuses (no.Session MalformedWords) ol
 BindsLines old name (Some kind) body reply new =
     MatchBool (is_name name) (BindsAssembly old name kind body reply new) (Refuses (no.Session MalformedName) old [] reply new)
 
--- A command binds its name, or is refused. Want of memory is reported only behind each refusal of KIND and of NAME, of `matrix`
+-- A command binds its name, or is refused. Out of memory is reported only behind each refusal of KIND and of NAME, of `matrix`
 -- behind each of a line up to the sizes, and of `asm` behind each of a line.
 abbrev pub Binds : State → Header → List ℕ → List ℕ → State → Type 0
 Binds old (MatrixHeader name) body reply new = BindsMatrix old name body reply new

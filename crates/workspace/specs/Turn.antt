@@ -211,7 +211,7 @@ job_lines [] results = []
 job_lines (job ∷ jobs) [] = []
 job_lines (job ∷ jobs) (r ∷ rs) = job_line job r ∷ job_lines jobs rs
 
--- a batch breaks off for want of memory or of a thread, with the steps that its calls had taken by then
+-- a batch breaks off for lack of memory or of a thread, with the steps that its calls had taken by then
 abbrev pub batch_refusal : Cause → ℕ → Refusal
 batch_refusal cause.Memory spent = no.BatchMemory spent
 batch_refusal cause.Thread spent = no.BatchThread spent

@@ -346,7 +346,7 @@ class Refusals(unittest.TestCase):
             return None
 
     def test_memory(self):
-        """For want of memory: wherever it is refused, the state is that behind so many rounds, and
+        """Out of memory: wherever it is refused, the state is that behind so many rounds, and
         what was held is there."""
         least, most = 1000, 1 << 21
         while most - least > 200:
@@ -388,7 +388,7 @@ class Refusals(unittest.TestCase):
                     self.assertEqual(matrix.nvals, want[name].nvals)
                     try:
                         self.assertEqual(matrix.to_text(), want[name].to_text())
-                    except spmat.Refused:          # for want of memory, too
+                    except spmat.Refused:          # out of memory, too
                         pass
         if not refused:
             self.skipTest('no limit on memory was met amid the loop')

@@ -63,13 +63,13 @@ pub record IsReady (f : Accepted) (columns : ℕ) (calls : List Call) (e : Emiss
   pub open_row : IsOpen columns (final f e g)
   pub capacity : e.steps + (steps_of (calls_on f g.operands) + steps_of calls) < 2 ^ 64
 
--- one thing was done; or, for want of memory, some of the calls that waited ran
+-- one thing was done; or, out of memory, some of the calls that waited ran
 pub record Puts (f : Accepted) (calls : List Call) (change : Run → Run) (old : Emission) (was : Gathered) (new : Emission)
     (is : Gathered) (put : Result (Unit {0}) AllocError) : Type 0 where
   pub does : OnOk put (Does f calls change old was new is)
   pub spent : OnErr put (Charges (calls_on f was.operands) old.steps new.steps)
 
--- much was done; or, for want of memory, some of the calls that waited and of those that were to come ran
+-- much was done; or, out of memory, some of the calls that waited and of those that were to come ran
 pub record Fills (f : Accepted) (calls : List Call) (change : Run → Run) (old : Emission) (was : Gathered) (new : Emission)
     (is : Gathered) (filled : Result (Unit {0}) AllocError) : Type 0 where
   pub does : OnOk filled (Does f calls change old was new is)

@@ -89,7 +89,7 @@ form_rows form f a b mask first n = along (λ i. form_row form f a b mask i ∷ 
 abbrev pub form_all_calls : Form → Accepted → Grid → Option Grid → Option Grid → ℕ → ℕ → List Call
 form_all_calls form f a b mask first n = along (λ i. form_row_calls form f a b mask i) first n
 
--- these rows of a form were computed, with the steps of its calls; or, for want of memory, the steps of some of them
+-- these rows of a form were computed, with the steps of its calls; or, out of memory, the steps of some of them
 abbrev pub IsFormMade : Form → Accepted → Grid → Option Grid → Option Grid → ℕ → ℕ → Chunk → Type 0
 IsFormMade form f a b mask first n chunk =
     IsMade (record { first = first; columns = a.columns; ended = form_rows form f a b mask first n; opened = [] })

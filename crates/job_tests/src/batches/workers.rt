@@ -134,8 +134,8 @@ impl Gate for Counts {
     }
 }
 
-/// How many instructions the operator of dear increments has. A batch of theirs on two chunks or
-/// more is worth several workers.
+/// How many instructions the operator of expensive increments has. A batch of theirs on two chunks
+/// or more is worth several workers.
 const DEAR: u64 = 1000;
 
 /// The operator that adds one, by so many instructions.
@@ -158,7 +158,7 @@ fn dear_increments(rt: &impl Abort, alloc: Global, rows: u32) -> Result<Plan, Al
     plan_of(rt, alloc, form)
 }
 
-/// Whether the dear increments of a diagonal run, on so many workers at this gate.
+/// Whether the expensive increments of a diagonal run, on so many workers at this gate.
 fn runs<H: Threads + Wait + Abort, G: Gate + Sync>(
     rt: &H,
     alloc: Global,
