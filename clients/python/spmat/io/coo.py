@@ -28,7 +28,7 @@ def whole(number: Any, what: str = 'value') -> int:
         pass
     if not isinstance(number, (numbers.Real, decimal.Decimal)):
         raise TypeError('a %s is a whole number, not %s' % (what, shown(number)))
-    if number != number:                           # pylint: disable=comparison-with-itself
+    if is_gap(number) or number != number:         # pylint: disable=comparison-with-itself
         raise ValueError('a %s is missing: it is nan' % what)
     if number in (math.inf, -math.inf):
         raise ValueError('a %s is a whole number, not %s' % (what, shown(number)))
@@ -97,4 +97,6 @@ def is_gap(cell: object) -> bool:
     """Whether a cell stands for a value that is missing: None, NaN, and NA and NaT of pandas."""
     if cell is None or type(cell).__name__ in ('NAType', 'NaTType'):
         return True
+    if isinstance(cell, decimal.Decimal):
+        return cell.is_nan()
     return isinstance(cell, float) and math.isnan(cell)

@@ -2,6 +2,7 @@
 import fractions
 import random
 import warnings
+from decimal import Decimal
 
 import numpy
 
@@ -66,7 +67,8 @@ class Columns(InSession):
 
     def test_gaps(self):
         import pandas
-        for values in ([5, NAN, 1], numpy.array([5, NAN, 1]), numpy.array([5, None, 1], object),
+        for values in ([5, NAN, 1], [5, Decimal('NaN'), 1], [5, Decimal('sNaN'), 1],
+                       numpy.array([5, NAN, 1]), numpy.array([5, None, 1], object),
                        pandas.Series([5, NAN, 1]), pandas.Series([5, None, 1], dtype='Int64'),
                        [5, None, 1], pandas.array([5, pandas.NA, 1], dtype='Int64'),
                        [5, pandas.NA, 1], numpy.ma.array([5, 6, 1], mask=[0, 1, 0])):

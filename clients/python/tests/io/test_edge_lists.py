@@ -14,6 +14,7 @@ import tempfile
 import threading
 import unittest
 import warnings
+from decimal import Decimal
 from unittest import mock
 
 import numpy
@@ -556,7 +557,7 @@ class Missing(Case):
 
     def test_lists_of_edges(self):
         edges = [('a', 'b', 3), ('a', None, 3), ('b', 'c', None), (float('nan'), 'd', 4),
-                 ('c', 'd', {'weight': float('nan')}), ('nan', 'c', 5)]
+                 ('c', 'd', {'weight': Decimal('NaN')}), ('nan', 'c', 5)]
         with blocks.Sessions(2) as many:
             for s in (self.s, many):
                 self.assertIn('edge 1: a name is missing: missing="skip" leaves the edge out',
