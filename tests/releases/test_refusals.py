@@ -146,7 +146,10 @@ class Refusals(InCopy):
     def test_documents_that_name_another_version(self) -> None:
         self.copy.replace('docs/server.md', 'spmat_%s_amd64.deb' % self.version,
                           'spmat_0.9.7_amd64.deb')
+        self.copy.replace('gateway/README.md', 'spmat_gateway-%s-' % self.version,
+                          'spmat_gateway-0.9.6-')
         self.checked('docs/server.md (0.9.7) says 0.9.7')
+        self.checked('gateway/README.md (0.9.6) says 0.9.6')
 
     def test_a_client_with_a_version_of_its_own(self) -> None:
         self.copy.write('clients/python/spmat/VERSION', '0.9.7\n')
@@ -213,6 +216,8 @@ class Refusals(InCopy):
         self.copy.replace('clients/python/pyproject.toml', 'Homepage = "https://',
                           'Homepage = "https://another.')
         self.checked('clients/python/pyproject.toml names the homepage https://another.')
+        self.copy.replace('clients/blocks/README.md', '(https://', '(https://another.')
+        self.checked('clients/blocks/README.md names the homepage https://another.')
         self.copy.replace('packaging/debian/control', 'Homepage: ', 'Vcs-Git: ')
         self.checked('README.md names the homepage')
 

@@ -14,14 +14,15 @@ COPIES = tuple(one.version_file for one in tree.DISTRIBUTIONS)
 PLACES = {'CHANGELOG.md': r'^## (\d[^ \n]*)', PROGRAMS: r'^pub const VERSION: &str = "(.+)";$',
           **dict.fromkeys(COPIES, r'^(.+)$')}
 # Names of files of a release, in the documents.
-RELEASED = r'\bspmat[_-](\d+(?:\.\d+)+)[_-]'
-DOCUMENTS = ('README.md', 'docs/server.md', 'clients/python/README.md')
+RELEASED = r'\bspmat(?:[_-][a-z]+)?[_-](\d+(?:\.\d+)+)[_-]'
+# What stands in a wheel: whoever reads it there has no other file of the repository.
+PACKED = tuple(one.folder + 'README.md' for one in tree.DISTRIBUTIONS)
+DOCUMENTS = ('README.md', 'docs/server.md', 'docs/service.md', *PACKED)
 # Where the homepage stands: whoever publishes puts theirs into each.
 HOMEPAGES = {'packaging/debian/control': r'^Homepage: (\S+)$',
              **{one.folder + 'pyproject.toml': r'^Homepage = "(\S+)"$'
                 for one in tree.DISTRIBUTIONS},
-             'README.md': r'<(https://\S+)>',
-             'clients/python/README.md': r'\((https://[^/)]+/)'}
+             'README.md': r'<(https://\S+)>', **dict.fromkeys(PACKED, r'\((https://[^/)]+/)')}
 # Where the toolchain that proves is named.
 PROVED = ('README.md', 'CHANGELOG.md', 'docs/proved.md')
 
@@ -95,8 +96,8 @@ def homepage_faults() -> List[str]:
     """Places that name another homepage than the packages do, or none."""
     told = {path: re.findall(form, tree.text_of(path), re.M) for path, form in HOMEPAGES.items()}
     return ['%s names the homepage %s, and packaging/debian/control %s'
-            % (path, found[0] if found else 'nowhere', homepage() or 'none')
-            for path, found in told.items() if not homepage() or found[:1] != [homepage()]]
+            % (path, ' '.join(sorted(set(found))) or 'nowhere', homepage() or 'none')
+            for path, found in told.items() if not homepage() or set(found) != {homepage()}]
 
 
 def source_faults() -> List[str]:

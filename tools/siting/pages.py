@@ -7,6 +7,7 @@ import subprocess
 from typing import Callable, Dict, List, Tuple
 
 from tools.paths import TOP
+from tools.releasing.look import homepage
 
 PATTERNS = ('*.md', 'docs/*.md', 'clients/*/README.md', 'gateway/README.md', 'bench/README.md',
             'crates/*/README.md')
@@ -120,6 +121,7 @@ class Site:
     def target(self, page: str, target: str, is_picture: bool) -> str:
         """Where a link of a page leads in the site; nowhere in a tree that lacks the file, as a
         release's may."""
+        target = self.at_home(page, target)
         if re.match(r'[a-z]+:|#', target):
             return target
         path, _, anchor = target.partition('#')
@@ -137,6 +139,15 @@ class Site:
             shutil.copy(os.path.join(TOP, name), os.path.join(self.folder, name))
             return os.path.relpath(name, here or '.')
         return self.source(here, name)
+
+    def at_home(self, page: str, target: str) -> str:
+        """A link to the page that an address of the homepage means: the README of a wheel has such
+        addresses, as nothing stands beside it. Any other link as it is."""
+        path, _, anchor = target.partition('#')
+        name = path.replace(homepage(), '', 1).replace('.html', '.md')
+        if not target.startswith(homepage()) or name not in self.pages:
+            return target
+        return os.path.relpath(name, os.path.dirname(page) or '.') + ('#' + anchor if anchor else '')
 
     def source(self, here: str, name: str) -> str:
         """A link to the copy of a file of the repository, or to the list of a folder's files."""

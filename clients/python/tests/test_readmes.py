@@ -24,7 +24,9 @@ def has_backends():
 
 
 CLIENT = os.path.join('clients', 'python', 'README.md')
-LONGEST = 60                                       # lines of the client's README
+OTHERS = [os.path.join(*names, 'README.md')
+          for names in (('clients', 'blocks'), ('clients', 'networkx'), ('gateway',))]
+LONGEST = 60                                       # lines of a wheel's README
 # a page of the site, which stands in the repository under the same name
 OF_SITE = re.compile(r'https://[^/]+/((?:docs/)?\w+)\.html$')
 
@@ -62,16 +64,18 @@ class Page(unittest.TestCase):
                     self.assertEqual(self.printed(lines), said)
 
     def test_in_a_wheel(self):
-        """A wheel has this README and nothing beside it: its links are whole addresses, of pages
-        that the site has."""
-        text = self.text(CLIENT)
-        self.assertLessEqual(text.count('\n'), LONGEST)
-        links = re.findall(r'\]\(([^)]+)\)', text)
-        self.assertGreater(len(links), 5)
-        for link in links:
-            page = OF_SITE.match(link)
-            self.assertIsNotNone(page, link)
-            self.assertTrue(os.path.exists(os.path.join(support.TOP, page.group(1) + '.md')), link)
+        """A wheel has its README and nothing beside it: links are whole addresses, of pages that
+        the site has."""
+        for name, least in ((CLIENT, 6), *((other, 1) for other in OTHERS)):
+            text = self.text(name)
+            self.assertLessEqual(text.count('\n'), LONGEST)
+            links = re.findall(r'\]\(([^)]+)\)', text)
+            self.assertGreaterEqual(len(links), least)
+            for link in links:
+                page = OF_SITE.match(link)
+                self.assertIsNotNone(page, link)
+                self.assertTrue(os.path.exists(os.path.join(support.TOP, page.group(1) + '.md')),
+                                link)
 
     def test_first_command(self):
         """What a newcomer runs first, by the reference implementation: within ten seconds on a
