@@ -143,11 +143,11 @@ class Site:
     def at_home(self, page: str, target: str) -> str:
         """A link to the page that an address of the homepage means: the README of a wheel has such
         addresses, as nothing stands beside it. Any other link as it is."""
-        path, _, anchor = target.partition('#')
+        path, mark, anchor = target.partition('#')
         name = path.replace(homepage(), '', 1).replace('.html', '.md')
         if not target.startswith(homepage()) or name not in self.pages:
             return target
-        return os.path.relpath(name, os.path.dirname(page) or '.') + ('#' + anchor if anchor else '')
+        return os.path.relpath(name, os.path.dirname(page) or '.') + mark + anchor
 
     def source(self, here: str, name: str) -> str:
         """A link to the copy of a file of the repository, or to the list of a folder's files."""
