@@ -1,7 +1,7 @@
 """The backend of matrices in row blocks.
 
 A block is a matrix of the whole's shape that has the entries of its own rows alone. So a job is the
-same job at the session of each block, index operators see true rows and columns, and entries,
+same job at the session of each block, and index operators see true rows and columns. Entries,
 prices and steps of all blocks together are those of one session's job. Operands and masks that are
 cut elsewhere are cut anew first, by text and without steps. Products are in `jobs`.
 """

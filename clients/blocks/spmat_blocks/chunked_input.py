@@ -1,7 +1,7 @@
 """Matrices that come by pieces: files, and edges as a generator gives them. No more than a block of
 them is held.
 
-What comes is counted by rows and laid into a file of this machine; then it is known where to cut,
+What comes is counted by rows and laid into a file of this machine. Then it is known where to cut,
 and each block is read back and made a text of. Where rows come in ascending order, a block lies in
 one piece of that file; else the entries are laid into a file for each block first.
 """

@@ -35,8 +35,8 @@ class Dask(Engine):
     without them, too. `distributed.scheduler.work-stealing: false` has each task stay with its
     block, where else workers that wait take tasks from others.
     `distributed.scheduler.active-memory-manager.start: false` leaves a whole matrix with all
-    workers that used it, where else all copies but one are dropped after some seconds, sent once
-    more, and made again where that one is lost.
+    workers that used it. Otherwise all copies but one are dropped after some seconds. They are sent
+    once more, and made again where that one is lost.
 
     Each task wishes for its block's worker, so that no block's text moves. A worker that is lost
     loses nothing: the scheduler computes its tasks again on others, from the tasks before them. A

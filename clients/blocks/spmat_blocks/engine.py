@@ -1,6 +1,6 @@
 """What `Sessions` asks of whoever does the tasks: an `Engine`, which is a pool of threads
-(`threads`) or the workers of Dask (`dask`); and what a caller gets where a task fails: errors that
-name the block.
+(`threads`) or the workers of Dask (`dask`). Where a task fails, a caller gets errors that name the
+block.
 
 An engine has places, one for each session, and puts a block's tasks to the block's place. That is a
 wish and not a promise: a task is right wherever it is done, since a piece is a text.
@@ -25,9 +25,9 @@ come, 'read' bytes of a file."""
 
 @dataclass(frozen=True)
 class Settings:
-    """How each worker opens its session: the budget of steps of all, its threads, the words that
-    start the program (without them each worker finds its own, as `Session` does), and the version
-    that is expected there."""
+    """How each worker opens its session: the budget of steps of all, its threads, and the version
+    that is expected there. Without words that start the program each worker finds its own, as
+    `Session` does."""
     steps: int = MOST_STEPS
     workers: int = 1
     program: Optional[Program] = None
@@ -79,7 +79,7 @@ class Engine(abc.ABC):
 # -- what fails
 
 class BlockFailed(SpmatError):
-    """A block could not be computed, for another reason than a refusal: its session ended, its
+    """A block could not be computed, for another reason than a refusal. Its session ended, its
     worker has no memory, or its workers were lost again and again. `block` names it, as the words
     do; `__cause__` is what came."""
     __module__ = 'spmat_blocks'
@@ -104,9 +104,9 @@ class AtBlock(Exception):
 
 
 def name_block(at: AtBlock) -> Exception:
-    """The exception that a caller gets: a refusal of the same class with the block in its words and
-    as `block`, `BlockFailed` for anything else; what the package raises for callers' mistakes
-    (VersionMismatch, ValueError, TypeError) with its own words."""
+    """The exception that a caller gets: a refusal of the same class, with the block in its words
+    and as `block`, or `BlockFailed`. What the package raises for callers' mistakes
+    (VersionMismatch, ValueError, TypeError) keeps its own words."""
     label, fault = at.label, at.fault
     if isinstance(fault, Refused):
         out = _add_words(fault, label).of_file(fault.file, fault.said).on_line(fault.text_line)

@@ -1,5 +1,5 @@
 """Parts of files that workers read by themselves: ranges of a Matrix Market file or of a list,
-whole files, frames of pandas; and their lines, sorted out by the blocks that have their rows.
+whole files, frames of pandas. Their lines are sorted out by the blocks that have their rows.
 
 A line belongs to the range in which it begins, so ranges may end anywhere. Whatever is unusual or
 wrong in a range is told as such, and left to whoever reads the file line by line and names the
@@ -105,8 +105,8 @@ class Market(NamedTuple):
 
 
 def split_range(store: Store, part: Range, market: Market, cut: Cut, path: str) -> List[Any]:
-    """The lines of a range of a file by blocks, in another file where a path is given; and last how
-    many lines of the file they are, `UNUSUAL` where these are to be read one by one."""
+    """The lines of a range of a file by blocks, in another file where a path is given. Last comes
+    how many lines of the file they are, or `UNUSUAL` if these are to be read one by one."""
     body = read_lines(part)
     triples = read_market_lines(market.kind, body, market.nrows, market.ncols)
     if triples is None:
@@ -181,8 +181,8 @@ def tell_names(store: Store, part: Optional[EdgePart]) -> Optional[EdgePart]:
 
 
 class To(NamedTuple):
-    """Where the edges of a part go: the numbers of its names among all, the sizes of the matrix,
-    whether edges lead one way alone, and whether lines have no value."""
+    """Where the edges of a part go: the numbers of its names among all, and the sizes of the
+    matrix. Also whether edges lead one way alone, and whether lines have no value."""
     places: List[Any]
     nrows: int
     ncols: int

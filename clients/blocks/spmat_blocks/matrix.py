@@ -24,24 +24,26 @@ class BlockMatrix(Matrix):
     make a difference.
 
     A block is a matrix of the whole's shape that has the entries of its own rows alone. So a job is
-    the same command at each block, index operators see true rows and columns, and entries, prices
+    the same command at each block, and index operators see true rows and columns. Entries, prices
     and steps of all blocks together are those of one session's job. Other matrices and masks that
     are cut elsewhere are cut anew, by text and without steps.
 
     A method answers at once, and a product once it is made. Wrong shapes and kinds are found where
-    the method is called, and what a session refuses where the result is looked at: the same
-    exceptions, which name the block in words and as `block`. BudgetExceeded also tells what all
+    the method is called, and what a session refuses where the result is looked at. The exceptions
+    are the same, and name the block in words and as `block`. BudgetExceeded also tells what all
     sessions have spent (`spent_in_all`); BlockFailed stands for what is no refusal.
 
     A product sends the whole of `other` to each session: right for every operator, since the terms
     of a position are folded in one place. Its text has to be one that a session takes (268,435,456
     bytes), and is sent once while `other` is held. Each block may make 16,777,216 multiplications,
-    and with `parts=True` halves its own rows. With `mxm(.., associative=True)`, the caller's word
-    that ADD is associative, no session has more of `other` than one block at a time: each block's
-    product is joined to those before by union with ADD, in the order of k. ((t1 t2) t3) t4 becomes
-    (t1 t2) (t3 t4), so an ADD that isn't associative, as `minus`, gives other values; it need not
-    commute. It makes as many calls of ADD. `Sessions(associative=[..])` says it of operators for
-    all products whose `other` is wider than one column.
+    and with `parts=True` halves its own rows.
+
+    `mxm(.., associative=True)` is the caller's word that ADD is associative. Then no session has
+    more of `other` than one block at a time. Each block's product is joined to those before by
+    union with ADD, in the order of k. So ((t1 t2) t3) t4 becomes (t1 t2) (t3 t4), and an ADD that
+    isn't associative, as `minus`, gives other values. ADD need not commute, and is called as often.
+    `Sessions(associative=[..])` says it of operators for all products whose `other` is wider than
+    one column.
 
     `cut`, `counts`, `recut`, `checkpoint` and `sessions` are what only blocks have; `A.blocks.cut`
     is `A.cut`."""

@@ -1,12 +1,13 @@
-"""Files that workers read by themselves, each a part at a time: Matrix Market files and lists (CSV,
-TSV, edge lists) that all workers see, by ranges; folders of lists or of parquet; frames of Dask.
+"""Files that workers read by themselves, each a part at a time. Matrix Market files and lists (CSV,
+TSV, edge lists) that all workers see are read by ranges. The others are folders of lists or of
+parquet, and frames of Dask.
 
 Of a Matrix Market file the caller's process reads the first lines, and some lines here and there,
 which tell where to cut. Of lists each worker tells the names that stand in its parts. The caller's
 process joins these, which is all it gets of the entries, and tells each part the numbers of its
-names: whole numbers ascending, others in the order in which they first stand, as one session has
-it. Then each part's lines go to the blocks: through files in the sessions' `folder`, where there is
-one, so that nobody holds more than a range and a block; else from worker to worker.
+names. Whole numbers ascend, and others have the order in which they first stand, as one session has
+it. Then each part's lines go to the blocks. If the sessions have a `folder`, they go through files
+there, so that nobody holds more than a range and a block; else from worker to worker.
 
 Whatever is packed, small, unusual or wrong is read by the caller's process, which names the line.
 """
@@ -57,7 +58,7 @@ def find_shared(sessions: 'Inputs', source: Any) -> Optional[Range]:
 
 
 class _Parts:
-    """Parts that are read, ranges of a file or what errors call others: the places of those of a
+    """Parts that are read, ranges of a file or what errors call others. The places of those of a
     file lie beside one another, as the rows of its blocks do in most files."""
 
     def __init__(self, sessions: 'Inputs', parts: Sequence[Union[Range, str]]) -> None:
@@ -204,7 +205,7 @@ def _find_table(path: str, request: Request) -> Optional[ListTable]:
 
 def _read_folder(sessions: 'Inputs', folder: str, request: Request, dup_op: DupOp,
                  name: Optional[str]) -> Optional[BlockMatrix]:
-    """The matrix of the files of a folder, by their names; those that begin with a dot or a low
+    """The matrix of the files of a folder, by their names. Those that begin with a dot or a low
     line are passed over, as whoever writes such folders has it."""
     if request.nodelist is not None:
         raise ValueError('nodelist is of a single file, not of a folder')
@@ -237,7 +238,7 @@ def read_frame(sessions: 'Inputs', frame: Any, ends: Tuple[Any, Any], value: Any
 def _read_parts(parts: _Parts, read: Callable[..., Any], args: List[List[Any]], request: Request,
                 dup_op: DupOp, name: Optional[str]) -> Optional[BlockMatrix]:
     """The matrix of the edges of all parts, by a function of `file_parts` and its arguments for
-    each; None where a part has to be read line by line, or names are of several kinds."""
+    each. None where a part has to be read line by line, or names are of several kinds."""
     directed, bipartite = request.directed is not False, request.bipartite
     check_direction(How(directed, None, bipartite))
     edges = parts.submit(file_parts.read_edges, read, args, bipartite)

@@ -82,7 +82,7 @@ def cut_by_entries(counts: Sequence[int], blocks: int) -> Cut:
 
 
 def cut_by_ranges(nrows: int, blocks: int, count: Callable[[List[int]], List[Any]]) -> Cut:
-    """A cut by entries at some rows, of which there are 4,096 at most: `count` gives how many
+    """A cut by entries at some rows, of which there are 4,096 at most. `count` gives how many
     entries of each part of a matrix lie in the rows from each of these to below the next."""
     ranges = max(1, min(RANGES, nrows))
     edges = [nrows * k // ranges for k in range(ranges + 1)]
@@ -160,7 +160,7 @@ def text_of(nrows: int, ncols: int, parts: Sequence[Tuple[bytes, int]]) -> bytes
 
 class Stored(NamedTuple):
     """Text of a block, or some of its lines: itself, or where it lies in a file and what tells its
-    content; and the number of entries, where it is lines."""
+    content. Lines also have the number of entries."""
     data: bytes
     entries: int = 0
     path: str = ''

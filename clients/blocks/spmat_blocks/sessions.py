@@ -58,8 +58,8 @@ class Sessions(Inputs):
     Raises
     ------
     VersionMismatch
-        Unless all workers have one version of this package and of the program, told by the SHA-256
-        of its file: at once, and for a worker that comes later at its first task."""
+        Unless all workers have one version of this package and of the program, which the SHA-256
+        of its file tells. A worker that comes later is asked at its first task."""
 
     def __init__(self, engine: Union[Engine, int, None] = None, *, steps: int = MOST_STEPS,
                  workers: int = 1, program: Optional[Program] = None, blocks: Optional[int] = None,

@@ -25,8 +25,8 @@ class Threads(Engine):
     Where one machine has the memory, one session with as many `workers` is faster, as no text goes
     from one to another; docs/scaling.md has both.
 
-    Where a program ends by itself (the system ends what holds the memory), a session is opened anew
-    at its next task, and takes in the texts that it needs. A block whose program ends so three
+    A program may end by itself, as the system ends what holds the memory. Then a session is opened
+    anew at its next task, and takes in the texts that it needs. A block whose program ends so three
     times in one task ends as BlockFailed."""
 
     def __init__(self, count: int = 2) -> None:

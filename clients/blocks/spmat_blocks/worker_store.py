@@ -3,7 +3,7 @@ there.
 
 A `Piece` is what a task gives: a block, or a whole matrix that products want at each worker. It is
 a text, which any worker can take in. A worker's session takes in the text of a piece at its first
-use, each content once, and keeps what it made itself: so where a task's operands are there, nothing
+use, each content once, and keeps what it made itself. So where a task's operands are there, nothing
 moves. A session that has ended by itself loses nothing: the next one takes in the texts that tasks
 want.
 """
@@ -168,10 +168,10 @@ def close_store(place: int, settings: Settings) -> None:
 # -- versions
 
 def version_of(place: int, program: Optional[Program] = None) -> Version:  # pylint: disable=unused-argument
-    """What tells a version here: that of this package, and the SHA-256 of the program's file, which
-    says more than the version that the program tells, since two builds of one source may differ as
-    well. Where the program is started by several words (a shell, a wrapper), each word that is a
-    file counts, and each other word as it stands. FileNotFoundError where the first is none."""
+    """What tells a version here: that of this package, and the SHA-256 of the program's file. That
+    says more than the version that the program tells, as two builds of one source may differ. Where
+    the program is started by several words (a shell, a wrapper), each word that is a file counts,
+    and each other word as it stands. FileNotFoundError where the first is none."""
     said = hashlib.sha256()
     for number, word in enumerate(program_words(program)):
         path = shutil.which(word) or word

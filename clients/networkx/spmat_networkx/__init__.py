@@ -1,13 +1,13 @@
 """spmat as a backend of networkx (3.2 or above): `nx.triangles(G, backend="spmat")`.
 
 networkx finds it by the entry points `networkx.backend_info` and `networkx.backends`, and asks for
-the first when it is imported; nothing of spmat is imported before a function is called with this
+the first when it is imported. Nothing of spmat is imported before a function is called with this
 backend. docs/networkx.md has the functions, what is left to networkx, and what it takes.
 
 `nx.config.backends.spmat` has the settings of the one session that a process has: `program`,
 `connect`, `steps`, `workers`, and `least_edges`. `spmat_networkx.graph(G)` is G on the server, to
-be handed to networkx' functions in its place, and `graph(G).matrix()` its adjacency matrix, for
-operators of one's own; `session()` is the session. """
+be handed to networkx' functions in its place. `graph(G).matrix()` is its adjacency matrix, for
+operators of one's own, and `session()` is the session."""
 from __future__ import annotations
 
 import importlib

@@ -202,9 +202,9 @@ class Backend:
 
     @staticmethod
     def should_run(name: str, args: Any, kwargs: Dict[str, Any]) -> Union[bool, str]:
-        """True if the graph has so many edges that it pays, or is on the server, the answer is
-        networkx', and a session can be had; else why not, in words. networkx asks this only of
-        calls that it hands over by itself."""
+        """Whether a call pays: True, or why not, in words. The graph must have enough edges, or be
+        on the server, the answer must be networkx', and a session be had. networkx asks this only
+        of calls that it hands over by itself."""
         graph = args[0] if args else next(iter(kwargs.values()))
         said = (_is_too_small(name, graph) or Backend.reason(name, args, kwargs)
                 or process_session.find_failure())

@@ -2,7 +2,7 @@
 
 Weights that are whole multiples of a power of ten, as 0.25 is of 0.01, or of a power of two, are
 computed with exactly. Lengths of paths are then the floats nearest to the true sums, where networkx
-adds floats one by one. Of paths that are equally long it takes the one that networkx takes; where
+adds floats one by one. Of paths that are equally long it takes the one that networkx takes. Where
 floats that are added one by one differ in the last bit, networkx may take another of them. With the
 setting `scale` all weights are multiplied by it and rounded.
 """
@@ -25,8 +25,8 @@ FOLDS: Dict[str, Any] = {'min': min, 'max': max, 'plus': sum}
 
 
 class Key(NamedTuple):
-    """What decides the values of an edge attribute: its name, the value where an edge has none, the
-    fold of parallel edges (None if a graph can't have any), and the scale that is set."""
+    """What decides the values of an edge attribute: its name, and the value where an edge has none.
+    Then the fold of parallel edges (None if a graph can't have any), and the scale that is set."""
     name: Any
     default: Any
     fold: Optional[str]
@@ -34,9 +34,9 @@ class Key(NamedTuple):
 
 
 class Values(NamedTuple):
-    """An edge attribute at each entry of the matrix: whole numbers as an array, the least and the
-    greatest of them, and how many of them are 1: None if all were whole numbers, 1 if one was a
-    float. `read` is what the graph has."""
+    """An edge attribute at each entry of the matrix: whole numbers as an array, and the least and
+    the greatest of them. `unit` is how many of them are 1: None if all were whole numbers, 1 if one
+    was a float. `read` is what the graph has."""
     many: Any
     least: int
     most: int

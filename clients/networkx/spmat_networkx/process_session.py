@@ -125,8 +125,8 @@ _open: Dict[Tuple[int, Wanted], Session] = {}
 def session() -> Session:
     """Return the one session of this process that the backend uses.
 
-    A new one is opened at the first call, after a change of the settings, after the last one has
-    ended or its program died, and in a process that was forked off.
+    A new one is opened at the first call, and after a change of the settings. So it is after the
+    last one has ended or its program died, and in a process that was forked off.
 
     Returns
     -------

@@ -174,7 +174,7 @@ def negative_edge_cycle(G: SpmatGraph, weight: Any) -> bool:
 
 class SearchTree(NamedTuple):
     """What a search finds, by index: the nodes in the order in which they are found, with their
-    lengths; and before each one all nodes that a shortest path comes by, in the order in which
+    lengths. Before each one stand all nodes that a shortest path comes by, in the order in which
     these were found."""
     G: SpmatGraph
     starts: Set[int]

@@ -284,8 +284,8 @@ class SpmatGraph:
 
     def to_networkx(self, keep: Optional[Container[Any]] = None,
                     links: Optional[Tuple[Sequence[int], Sequence[int]]] = None) -> Any:
-        """Make a networkx graph of the nodes in `keep`, or all, and of the edges between them, or
-        of those at the rows and columns in `links`; with the attributes that were converted."""
+        """Make a networkx graph of the nodes in `keep`, or all, with the attributes that were
+        converted. It has the edges between them, or those at the rows and columns in `links`."""
         graph = self.kind()
         graph.graph.update(self.graph)
         data = self.node_data

@@ -166,8 +166,8 @@ def _values_of(G: Matrix, given: Look, what: str) -> Dict[int, Any]:
 
 
 class _Colours(NamedTuple):
-    """A colour for each vertex, and what explains it: pairs of a colour and a text for a legend, or
-    the scale of a colour bar, whose numbers may all be whole."""
+    """A colour for each vertex, and what explains it. That is pairs of a colour and a text for a
+    legend, or the scale of a colour bar, whose numbers may all be whole."""
     dots: List[Any]
     legend: Sequence[Tuple[Any, str]] = ()
     title: Optional[str] = None

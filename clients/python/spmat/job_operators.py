@@ -145,8 +145,8 @@ def of_index(op: Operator, thunk: Number, unit: int,
 
 def of_bound(op: Operator, number: Number, is_left: bool,
              unit: int) -> Tuple[Operator, int, int]:
-    """The same of a binary operator, one of whose operands is a number: where it meets the values
-    it is one of these, by times and division it is a factor."""
+    """The same of a binary operator, one of whose operands is a number. Where it meets the values
+    it is one of these. By times and division it is a factor."""
     if unit == 1 and type(number) is int and _is_stored(number):
         return op, number, 1
     meaning, what = meaning_of(op), 'left=' if is_left else 'right='

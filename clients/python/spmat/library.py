@@ -2,9 +2,9 @@
 (`io.text_library`) and calls of operators (`operators.evaluation`).
 
 It is the file of the variable SPMAT_LIBRARY (none, where that is empty), or the first that is there
-of these: the one in this package, as a wheel for one kind of machine has it; that of a checkout, as
-`tools/build` makes it; and that of the Debian package `spmat`. One of another interface is passed
-over. Without a library numpy and Python do the same, in more time.
+of three. One is in this package, as a wheel for one kind of machine has it. The others are that of
+a checkout, as `tools/build` makes it, and that of the Debian package `spmat`. One of another
+interface is passed over. Without a library numpy and Python do the same, in more time.
 """
 from __future__ import annotations
 

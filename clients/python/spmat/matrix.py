@@ -2310,7 +2310,7 @@ class Matrix(Signs, MatrixBase, metaclass=MatrixType):
     def _visit(self, job: Job, operands: Sequence[MatrixBase], where: Mask, notes: Metadata,
                name: Optional[str], method: Tuple[object, ...] = (), **options: object) -> Any:
         """The result of a method under a mask, of which this job is the last, where one visit to a
-        session makes all of them; else None, and the caller queues them."""
+        session makes all of them. Else None, and the caller queues them."""
         if not self.session.backend.fuses(job):
             return None
         visit = OneVisit(where.value, where.complement, method, options)
@@ -3485,7 +3485,7 @@ def _rounding(more: int, less: int) -> Operator:
 
 def _check_positions(op: Op, first: Metadata, counting: Mapping[str, int]) -> None:
     """Looks at an operator that gets rows and columns by number, where these have other numbers for
-    names: ValueError for a built-in one that counts them, and a warning for a function."""
+    names. ValueError for a built-in one that counts them, and a warning for a function."""
     axes: Sequence[int] = ()
     if isinstance(op, str):
         axes = [counting[op]] if op in counting else []

@@ -337,8 +337,8 @@ def _pair(nodes: Optional[Collection[Any]]) -> Optional[Tuple[Any, Any]]:
 
 
 class Metadata(NamedTuple):
-    """The names of the rows and of the columns, where they have any; whether an entry (i, j) may
-    stand without one of (j, i), or with one of another value; and whether the values are weights
+    """The names of the rows and of the columns, where they have any. Whether an entry (i, j) may
+    stand without one of (j, i), or with one of another value, and whether the values are weights
     that the caller gave. None: not known. `source` says what was taken of the file or table that
     the matrix was read from, and is empty for results. `unit` says what a stored number stands for.
     `unnamed_rows` and `unnamed_columns` say what those are called that have no names."""
@@ -493,8 +493,8 @@ def _are_cut(a: Axis, b: Axis) -> bool:
 
 
 def along(shape: Tuple[int, int], notes: Metadata) -> int:
-    """Whether a vector is seen along its rows (0) or its columns (1): of a single entry along those
-    that have names, and where both have not along the row or the column that was cut."""
+    """Whether a vector is seen along its rows (0) or its columns (1). One of a single entry is seen
+    along those that have names, or if neither has, along the row or the column that was cut."""
     if shape != (1, 1):
         return ROWS if shape[1] == 1 else COLUMNS
     rows, columns = notes.axis(ROWS), notes.axis(COLUMNS)
@@ -504,8 +504,8 @@ def along(shape: Tuple[int, int], notes: Metadata) -> int:
 
 
 def is_line(shape: Tuple[int, int], notes: Metadata) -> bool:
-    """Whether a matrix of one row, or one column, is seen as a vector: of a single entry where
-    that has just one name, or its row and its column were not cut alike."""
+    """Whether a matrix of one row, or one column, is seen as a vector. One of a single entry is,
+    where that has just one name, or its row and its column were not cut alike."""
     rows, columns = notes.axis(ROWS), notes.axis(COLUMNS)
     return 1 in shape and (shape != (1, 1) or rows.cut != columns.cut
                            or (rows.names is None) != (columns.names is None))

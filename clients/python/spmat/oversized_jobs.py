@@ -38,8 +38,8 @@ def explained(fault: Refused, job: Job, matrices: Sequence['Matrix']) -> Refused
 
 def count_calls(form: str, first: 'Matrix', second: Optional['Matrix'] = None,
                 mask: Optional['Matrix'] = None) -> int:
-    """Of a product its multiplications, in the rows of which a mask stores something; of a union
-    the entries of both operands, of another form the entries of the first, which it looks at."""
+    """Of a product its multiplications, in the rows of which a mask stores something. Of a union
+    the entries of both operands, and of another form those of the first, which it looks at."""
     if form == 'product':
         assert second is not None
         rows = None if mask is None else mask.reduce_rowwise('first').S
@@ -67,11 +67,11 @@ def in_parts(first: Matrix, job: Callable[[Matrix], Matrix], start: int = 0,
              end: Optional[int] = None) -> Matrix:
     """What a job gives, which makes each row of its result of the same row of `first`, that has
     entries from row `start` on up to `end`. Where that is too large, it is made by halves of the
-    rows, joined by a union; TooLarge where one row is too expensive, or the whole result has more
+    rows, joined by a union. TooLarge where one row is too expensive, or the whole result has more
     entries than a matrix may have.
 
-    Halves are joined at once: each part has 8 bytes for every row of the whole, and so no more
-    parts are held at a time than halvings lead to one."""
+    Halves are joined at once, as each part has 8 bytes for every row of the whole. So no more parts
+    are held at a time than halvings lead to one."""
     end = first.nrows if end is None else end
     try:
         return job(first)

@@ -138,9 +138,9 @@ def _means(matrix: 'Matrix', axis: int, where: Optional[Mask], name: Optional[st
 
 
 def _total(low: int, high: int) -> int:
-    """A sum of fewer than 2^32 numbers without a limit: `low` is it in 64 bits, and `high` the sum
-    of the upper halves of these numbers, so that it lies from high * 2^32 on, by less than their
-    count times 2^32."""
+    """A sum of fewer than 2^32 numbers without a limit. `low` is it in 64 bits, and `high` the sum
+    of the upper halves of these numbers. So it lies from high * 2^32 on, by less than their count
+    times 2^32."""
     least = high << HALF
     return least + (low - least) % (1 << 64)
 

@@ -1,7 +1,7 @@
 """What is known of results beside their entries: names, directions, units. One table says it by
 form of job.
 
-A job makes terms of values by one operator, and folds terms by one; a row says which of the form's
+A job makes terms of values by one operator, and folds terms by one. A row says which of the form's
 operators do that, and which rows and columns have to mean the same vertices.
 """
 from __future__ import annotations
@@ -221,8 +221,8 @@ def of_update(first: Metadata, second: Metadata, accum: Optional[Operator], wher
 # -- what the client makes
 
 def of_both_sides(first: Metadata, nrows: int, ncols: int) -> Metadata:
-    """What is known of the square matrix of a bipartite graph: its names are those of the rows and
-    of the columns, or where some are the same, or there are none, ('row', name) and ('column',
+    """What is known of the square matrix of a bipartite graph. Its names are those of the rows and
+    of the columns. If some are the same, or there are none, they are ('row', name) and ('column',
     name)."""
     rows = first.rows if first.rows is not None else Nodes(range(nrows))
     columns = first.columns if first.columns is not None else Nodes(range(ncols))

@@ -194,8 +194,8 @@ _CERTAIN: Dict[bool, Dict[bool, str]] = {False: {True: 'ge', False: 'lt'},
 def compared(op: Operator, number: object, unit: int,
              is_left: bool = False) -> Tuple[Operator, int]:
     """The operator and the whole number of 64 bits that compare stored numbers as an operator
-    compares what they stand for with any number: x > 0.125 is x > 12 of hundredths. TypeError for
-    what is no number, ValueError for NaN."""
+    compares what they stand for with any number. So x > 0.125 is x > 12 of hundredths. TypeError
+    for what is no number, ValueError for NaN."""
     prefix = 'value' if op.kind == 'index' else ''
     name = next(name for name in _RELATIONS if prefix + name in READY[op.kind]
                 and READY[op.kind][prefix + name] == op)

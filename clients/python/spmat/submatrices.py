@@ -105,8 +105,8 @@ def find_greatest(matrix: 'Matrix', k: int) -> 'Matrix':
     """The k greatest entries, of equals the first, and some others: all entries from a threshold
     on. This matrix where it has few entries.
 
-    Runs: 4, and 1 for each halving of what lies between the least and the greatest value; of
-    entries of one value 1 for each halving of the rows or columns. Steps: 8 an entry and 4 a row
+    Runs: 4, and 1 for each halving of what lies between the least and the greatest value. Entries
+    of one value take 1 for each halving of the rows or columns. Steps: 8 an entry and 4 a row
     for the ends, and 3 an entry from the last threshold on for each halving."""
     enough = max(FEW, SPARE * k)
     if k < 1 or matrix.nvals <= enough:

@@ -154,7 +154,8 @@ class Sentences(unittest.TestCase):
     def test_are_short(self):
         """No sentence that users read is longer than those of the pages."""
         read = {**public_names(), 'spmat': spmat, 'spmat.errors': spmat.errors,
-                'spmat.algorithms': algorithms, 'spmat.draw': draw, 'spmat_blocks': blocks}
+                'spmat.algorithms': algorithms, 'spmat.draw': draw, 'spmat_blocks': blocks,
+                **{'spmat_blocks.' + name: getattr(blocks, name) for name in blocks.__all__}}
         for name, one in read.items():
             if re.search(r'__(?!getitem)\w+__$', name):
                 continue               # a message, with what to write for a sign

@@ -66,8 +66,8 @@ def _odd() -> int:
 
 def is_both_ways(graph: Matrix) -> bool:
     """Whether each edge leads both ways, whatever the values. 2 jobs (13 steps an edge and 5 a
-    vertex), a fold of numbers that are drawn at random: a graph of another kind passes by a chance
-    of less than one in 2^30."""
+    vertex) fold numbers that are drawn at random. A graph of another kind passes by a chance of
+    less than one in 2^30."""
     if graph.directed is False:
         return True
     known: bool = found(graph, 'both ways',
@@ -120,8 +120,8 @@ def is_transpose(graph: Matrix, other: Matrix, values: bool = False) -> bool:
 
 def transpose_of(graph: Matrix, given: Optional[Matrix], check: bool,
                  values: bool = False) -> Matrix:
-    """The transpose: the one that is given (a ValueError where it isn't), the graph itself where
-    each edge leads both ways, else one that is made, and kept while the graph is held."""
+    """The transpose: the one that is given (a ValueError where it isn't), or the graph itself
+    where each edge leads both ways. Else one is made, and kept while the graph is held."""
     if given is not None:
         held = graph.kept.get('transpose')
         if check and not ((held is not None and is_same(held, given))

@@ -157,7 +157,8 @@ class System:
 
     def factors(self, flow: Matrix, base: int) -> Matrix:
         """The reciprocals of the vertices to which something comes, and of others the shares of
-        what they are given anew; kept with the graph, as its edges say to whom something comes."""
+        what they are given anew. They are kept with the graph, whose edges say to whom something
+        comes."""
         def find() -> Matrix:
             reached = flow.ewise_mult(self.reciprocals, 'second')
             return reached.ewise_add(self.shares_of(base), 'first')
@@ -177,7 +178,7 @@ class System:
 
 class Flowing(NamedTuple):
     """A round of flows. Where all vertices are given the same anew, an operator adds that to a
-    flow, and turns it into shares by its vertex' factor; else what they are given is added before.
+    flow, and turns it into shares by its vertex' factor. Else what they are given is added before.
     """
     system: System
     given: Matrix
@@ -275,9 +276,9 @@ class Aim(NamedTuple):
 
 
 def find_aim(system: System, weight: int, tolerance: Optional[float], scale: Optional[int]) -> Aim:
-    """What is aimed at: where no tolerance is given 1e-6, or the least that can be kept; and where
-    no scale is, 2^40, or as many more bits as ranks want to be told within the tolerance, up to 52.
-    ValueError where rounding takes more than half of a tolerance, or the least says nothing."""
+    """What is aimed at. Where no tolerance is given it is 1e-6, or the least that can be kept.
+    Where no scale is, it is 2^40, or up to 2^52 if the tolerance needs that many bits. ValueError
+    where rounding takes more than half of a tolerance, or the least says nothing."""
     count = system.lines.count
     # in as many rounds as there may be
     flows = 2 * system.rounding(count, weight) / (1 - system.damping.value) + FLOATS
@@ -853,7 +854,7 @@ def hits(G: Matrix, GT: Optional[Matrix] = None, tolerance: Optional[float] = No
 
 class Handed(NamedTuple):
     """A share of what comes to each vertex, by a semiring, and what each has anyhow, which `units`
-    has. The share is a whole number and a constant of 62 bits, which is rounded up: so all is
+    has. The share is a whole number and a constant of 62 bits, which is rounded up. So all is
     rounded by less than 1, of sums that have up to 62 bits."""
     products: Products
     operator: Operator
@@ -907,8 +908,8 @@ def _exact_alpha(alpha: float, beta: float, unit: int) -> Fraction:
 
 
 def _way(products: Products, exact: Fraction, heaviest: int) -> _Way:
-    """How so much is handed on along an edge: by plain products, or where weights are so great that
-    sums of these leave few bits by products that leave out 32 bits, whichever keeps more."""
+    """How so much is handed on along an edge: by plain products, or by products that leave out 32
+    bits, whichever keeps more. Sums of plain products leave few bits where weights are great."""
     ways = [_Way(exact, 1)]
     if heaviest >> HEAVY:
         share = exact * (1 << LEFT_OUT)
@@ -1031,9 +1032,9 @@ def katz(G: Matrix, alpha: float = 0.1, beta: float = 1.0, GT: Optional[Matrix] 
 class Growth(Process):
     """Rounds of Katz' numbers, where the least has some bits, and the greatest may have so many.
 
-    One more round takes each number nearer to the true ones, by the norm in which these are one: so
-    `off`, the change in that norm, bounds the distance of the numbers before where it is below 1:
-    it is off / (1 - off)."""
+    One more round takes each number nearer to the true ones, by the norm in which these are one. So
+    if `off`, the change in that norm, is below 1, the numbers before were at most off / (1 - off)
+    away."""
 
     rounds: Vectors
 

@@ -49,8 +49,8 @@ ANY_PAIR = Semiring(binary.any, binary.pair)
 
 
 class Way(NamedTuple):
-    """How what is known spreads: terms of a known entry and one of `reach`, marked; their union
-    with what is known, of which the marked ones are new; and the known ones without marks."""
+    """How what is known spreads: by terms of a known entry and one of `reach`, marked. In their
+    union with what is known the marked ones are new. Last, the known ones without marks."""
     terms: Semiring
     join: str
     is_new: Operator
@@ -87,9 +87,9 @@ def _squared(near: Matrix, way: Way) -> Tuple[Matrix, int]:
 
 def _spread(start: Matrix, fresh: Matrix, reach: Matrix, way: Way, progress: Progress,
             most: int = 1 << 62, signed: bool = False) -> Matrix:
-    """What is known from the start on, when nothing new is added: each round what is new is pushed
-    by `reach`, so an entry is multiplied again only where it changed. Raises ValueError for a cycle
-    of negative length."""
+    """What is known from the start on, when nothing new is added. In each round what is new is
+    pushed by `reach`, so an entry is multiplied again only where it changed. Raises ValueError for
+    a cycle of negative length."""
     known, number = start, 0
     while fresh.nvals:
         joined = known.ewise_add(product(fresh, reach, way.terms), way.join)
@@ -749,7 +749,7 @@ MOST_SUM = 1 << 62                                 # of the lengths to a vertex
 
 class Fixed(NamedTuple):
     """How shares of paths are written as whole numbers: those of a path in units of 2^-bits,
-    results in units of 1/scale; and how many paths from one vertex keep what is lost by rounding
+    results in units of 1/scale. Then how many paths from one vertex keep what is lost by rounding
     below the tolerance."""
     bits: int
     scale: int
@@ -913,9 +913,9 @@ def betweenness(G: Matrix, sources: Optional[Vertices] = None, tolerance: float 
 
 
 def _lost(sources: int, count: int, paths: int, fixed: Fixed) -> float:
-    """How far from the true one a number is at most: of each source a unit of a share for each
-    path, and one of the result; and where the one is no multiple of the other, a share of the
-    number itself, which is up to the number of pairs."""
+    """How far from the true one a number is at most. Each source may lose a unit of a share for
+    each path, and one of the result. Where the one is no multiple of the other, a share of the
+    number itself is lost, too, which is up to the number of pairs."""
     whole, rest = divmod(1 << fixed.bits, fixed.scale)
     units = sources * (paths / (1 << fixed.bits) + 1 / fixed.scale)
     return units + (sources * count / whole if rest else 0)

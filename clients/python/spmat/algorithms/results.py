@@ -1,5 +1,5 @@
 """What algorithms return: columns that know how good their numbers are and what groups they mean,
-lengths in the unit of the graph, and what was found where a budget ends amid the work."""
+and lengths in the unit of the graph. Also what was found where a budget ends amid the work."""
 from __future__ import annotations
 
 import contextlib

@@ -230,7 +230,7 @@ class Room:
     of a number before it is scaled.
 
     If none of a round's numbers is more than r times the one before it, and a little, this holds
-    for the next rounds as well (Collatz and Wielandt), but that the little grows by the norm."""
+    for the next rounds as well (Collatz and Wielandt). Only the little grows, by the norm."""
 
     def __init__(self, bits: int, norm: float, lost: float = 0) -> None:
         self.bits, self.norm, self.lost, self._ratio = bits, norm, lost, norm

@@ -1,5 +1,5 @@
-"""Searches and shortest paths: by the number of edges from one vertex or from many at once, with a
-row for each, and by values, as lengths, as the vertices that paths go through, and as trees."""
+"""Searches and shortest paths. They go by the number of edges from one vertex, or from many at once
+with a row for each. They also go by values, as lengths, as the vertices of paths, and as trees."""
 from __future__ import annotations
 
 import functools
@@ -70,7 +70,7 @@ def continue_search(G: Matrix, numbers: Array, reached: Reached, search: Search,
     """Goes on with a search at the server. A vertex of the front has its level as its value, or its
     number plus one.
 
-    A round has to do with what the state holds. Where each edge leads both ways that is little: a
+    A round has to do with what the state holds. Where each edge leads both ways that is little. A
     vertex that is found has been found in the last two levels, or no edge leads to it from the
     front."""
     level, front, near = reached.level, reached.front, reached.near
@@ -458,8 +458,8 @@ Route = Tuple[int, List[Place], List[int]]
 
 
 class Query(NamedTuple):
-    """What else a caller asks of a search for lengths: how long paths may be, at which vertex it
-    may end, whether lengths that could wrap are looked for, and who is told."""
+    """What else a caller asks of a search for lengths: how long paths may be, and at which vertex
+    it may end. Also whether lengths that could wrap are looked for, and who is told."""
     cutoff: Optional[int] = None
     target: Optional[Place] = None
     check: bool = True
@@ -905,9 +905,9 @@ def find_distances(G: Matrix, source: Place, GT: Optional[Matrix], weighted: boo
 
 
 def _parents(lines: Traversal, source: Place, far: Array, weighted: bool) -> Array:
-    """The vertex before each on a shortest path to it, of several the least; where edges are 0
-    long, or less, or lengths leave no room for the number of a vertex in a word, one on a path of
-    as few edges as any of the shortest."""
+    """The vertex before each on a shortest path to it, of several the least. Edges may be 0 long,
+    or less, or lengths may leave no room for the number of a vertex in a word. Then it is one on a
+    path of as few edges as any of the shortest."""
     parents, lengths = numpy.full(lines.count, NONE), select_known(far, UNREACHED)
     if not len(lengths.at):
         return parents
@@ -1144,7 +1144,7 @@ def has_path(G: Matrix, source: Vertex, target: Vertex, GT: Optional[Matrix] = N
 
 class Spurs:
     """Searches by the client for paths to one vertex around what is barred. Rows of a large graph
-    are fetched as they are met, until to read all would have taken less, and lengths to the target
+    are fetched as they are met, until to read all would have taken less. Lengths to the target
     that leave out what is barred say where to look first (A*)."""
 
     def __init__(self, lines: Traversal, target: Place, home: Array, weighted: bool) -> None:

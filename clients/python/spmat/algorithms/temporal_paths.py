@@ -298,7 +298,7 @@ def _turn_rows(table: Iterable[Any]) -> List[Any]:
 
 class Clock(NamedTuple):
     """How times are counted. `unit` is that of numpy's datetime64, and empty where times are
-    numbers; `zone` is the time zone of dates that have one, which are counted in UTC; `kind` is the
+    numbers. `zone` is the time zone of dates that have one, which are counted in UTC. `kind` is the
     class of the caller's dates: of Python, numpy or pandas."""
     unit: str = ''
     zone: Optional[datetime.tzinfo] = None

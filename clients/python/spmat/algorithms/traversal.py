@@ -6,7 +6,7 @@ This module decides by the sizes and by where the graph is how the step is made:
 - One session has the graph: vectors are rows, and a front is *pushed*. A row times a graph costs
   what the edges cost that leave the row's vertices, however many vertices there are.
 - In blocks a row would bring the whole graph to one block. There the client has the front, and
-  each step is one trip to the blocks that have to do with it; full vectors are columns, which are
+  each step is one trip to the blocks that have to do with it. Full vectors are columns, which are
   *pulled* along the rows of the transpose.
 - Of a small graph the client has the edges, which it reads once, where nobody counts steps: it
   pushes fronts by itself, in less time than a trip takes.
@@ -14,8 +14,8 @@ This module decides by the sizes and by where the graph is how the step is made:
   workers share a product: they share its rows.
 
 In one session a search always pushes. Under a mask of the vertices that weren't seen both ways take
-the same steps, and on graphs of 65,536 vertices and a million edges pulling took 1.1 to 1.8 times
-as long by the clock: a pull looks at all rows, and wants the front as a column, which is sent.
+the same steps. On graphs of 65,536 vertices and a million edges pulling took 1.1 to 1.8 times as
+long by the clock. A pull looks at all rows, and needs the front as a column, which is sent.
 """
 from __future__ import annotations
 

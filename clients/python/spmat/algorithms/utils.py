@@ -163,8 +163,8 @@ def product(a: Matrix, b: Matrix, semiring: Ring, mask: Optional[Matrix] = None)
     """`a.mxm(b, semiring, mask=mask.S)`, by parts where that is too large.
 
     Where it is refused (over 16,777,216 multiplications), it is made by halves of the rows of `a`,
-    their halves, and so on, joined as they come; in blocks each block does so by itself. Runs:
-    those that the operands want, and up to 3 for each halving. Raises TooLarge where a single row
+    their halves, and so on, joined as they come. In blocks each block does so by itself. Runs:
+    those that the operands need, and up to 3 for each halving. Raises TooLarge where a single row
     is too expensive (its price above 2^32)."""
     return a.mxm(b, semiring, mask=None if mask is None else mask.S, parts=True)
 

@@ -103,8 +103,8 @@ def _size_of(made: Any) -> str:
 
 class Handle:
     """What a backend gives for a matrix: its shape, the number of entries `nvals` (None until its
-    job ran), the `most` that these can be, and of a job's result the price and the steps that the
-    job took. `lost` says why it is never made."""
+    job ran), and the `most` that these can be. A job's result also has the price, and the steps
+    that the job took. `lost` says why it is never made."""
 
     key = ''                                       # the name at a server, where there is one
     # the entries are sent when a job first wants them
@@ -151,9 +151,9 @@ class Handle:
 
 
 class OneVisit(NamedTuple):
-    """What a backend that `fuses` makes in one visit to a session, under a mask of any kind: a
-    method of matrices, by its name and arguments, or by default that of the job's form. Of the jobs
-    before the last nothing comes to the client."""
+    """What a backend that `fuses` makes in one visit to a session, under a mask of any kind. It is
+    a method of matrices, by its name and arguments, or by default that of the job's form. Of the
+    jobs before the last nothing comes to the client."""
     by_value: bool
     complement: bool
     method: Tuple[Any, ...] = ()

@@ -241,9 +241,9 @@ class ServerBackend(Backend):
         that is too small while jobs wait: then what they don't take comes back, and the job is sent
         once more.
 
-        A job that can be refused by nothing but lack of memory, as what is known of its operands'
-        entries tells, is sent with the next command that needs an answer, and so is the run before
-        it; any other at once. A job of a call that is priced is only foreseen."""
+        What is known of its operands' entries may tell that nothing but lack of memory can refuse a
+        job. Such a job is sent with the next command that needs an answer, and so is the run before
+        it. Any other is sent at once. A job of a call that is priced is only foreseen."""
         estimate = estimate_here() if ESTIMATES else None
         if estimate is not None:
             return estimate.submit(self, job)
@@ -391,9 +391,9 @@ class ServerNames:
         self._count = 0
 
     def take(self, owner: Handle, wished: Optional[str] = None) -> str:
-        """A name for a new matrix, which its owner has until it is collected: the one that is
-        wished, where the server takes it and no other matrix has it, or one of the client's, which
-        begin with an underscore."""
+        """A name for a new matrix, which its owner has until it is collected. It is the one that is
+        wished, if the server takes it and no other matrix has it. Otherwise it is one of the
+        client's, which begin with an underscore."""
         # of owners first, as one that is collected meanwhile goes from there to `dropped`
         if (wished is not None and wished not in self._owners and wished not in self.dropped
             and _NAME.fullmatch(wished)):

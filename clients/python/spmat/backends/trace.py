@@ -31,8 +31,8 @@ class NotTraced(TypeError):
 
 
 class NotAlike(ValueError):
-    """A step isn't one of its rounds alone: it makes matrices itself in each, takes some of an
-    earlier round, or asks for other jobs where it is called again for the same round."""
+    """A step isn't one of its rounds alone. It makes matrices itself in each, or takes some of an
+    earlier round. Or it asks for other jobs where it is called again for the same round."""
 
 
 class Given(NamedTuple):

@@ -1,5 +1,5 @@
-"""The options that say which graph a command reads, and where its work is done: by a process of its
-own, or by a server, over TLS where something in front of it speaks that."""
+"""The options that say which graph a command reads, and where its work is done. A process of its
+own does it, or a server, over TLS where something in front of the server speaks that."""
 from __future__ import annotations
 
 import contextlib

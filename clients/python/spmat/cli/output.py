@@ -2,8 +2,8 @@
 
 A result is plain lines, CSV (`--csv`) or JSON (`--json`), all of the same fields and rows. A
 command has the options of `form_options`, makes a `Result` of what it found, and hands
-`format_lines(options, result)` to `write`. Plain lines have no header; CSV has one, in words that
-`read_graph` knows; JSON is a list with an object a row, or an object alone where the result is
+`format_lines(options, result)` to `write`. Plain lines have no header, and CSV has one, in words
+that `read_graph` knows. JSON is a list with an object a row, or an object alone where the result is
 `single`. Rows may come one by one from a generator.
 
 A fault is one line on standard error, and each cause has an exit status. The manual page
@@ -255,7 +255,7 @@ def is_column(matrix: Matrix) -> bool:
 def list_entries(options: SimpleNamespace, matrix: Matrix, called: str,
                  show: Callable[[int], Any] = int) -> Result:
     """A matrix as rows, one an entry: the names of its row and its column, of a column the row's
-    alone, and what is shown of the value, which is called so. Nothing is asked of the server once
+    alone. Then what is shown of the value, which is called so. Nothing is asked of the server once
     they are handed out."""
     is_one = is_column(matrix)
     entries: List[Tuple[Any, ...]] = [

@@ -1,8 +1,8 @@
 """Files that keep matrices with their names, so that a later session goes on with them.
 
-Such a file is a zip archive: `matrices.json` says of each matrix what it is called, the names of
-its vertices and what is known of it, and in which member its entries are, as Matrix Market text.
-Other programs can write and read it, too.
+Such a file is a zip archive. Its `matrices.json` says of each matrix what it is called, the names
+of its vertices, and what is known of it. It also names the member that has the entries, as Matrix
+Market text. Other programs can write and read it, too.
 """
 from __future__ import annotations
 

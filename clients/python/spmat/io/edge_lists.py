@@ -46,8 +46,8 @@ ASK_FLOATS = ('one column has whole numbers, and each name of the other ends in 
 
 
 class Form(NamedTuple):
-    """How the lines of edges are written: what parts their fields (None: blanks and tabs), how many
-    there are, the places of the two names, and that of the value or None."""
+    """How the lines of edges are written: what separates their fields (None: blanks and tabs), and
+    how many there are. Then the places of the two names, and that of the value or None."""
     sep: Optional[str]
     width: int
     ends: Tuple[int, int] = (0, 1)
@@ -61,8 +61,8 @@ class Form(NamedTuple):
 
 class Table(NamedTuple):
     """A list to be read: its name for errors, its bytes as they are, the lines of its edges and the
-    number of the first one, how they are written, what is taken, in words, what is passed over, and
-    what is to be asked of a list that says itself that its edges have no direction."""
+    number of the first one. Then how these are written, what is taken, in words, and what is passed
+    over. Last, what is to be asked if the list itself says that its edges have no direction."""
     file: str
     original: bytes
     body: bytes

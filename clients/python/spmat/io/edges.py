@@ -85,9 +85,10 @@ class Layout(NamedTuple):
 
 
 class LeftOut(NamedTuple):
-    """What reading leaves out: how many lines are comments, how many end in one, how many rows lack
-    a name or a value, and how many edges are of other vertices than those of `nodelist`, or repeat
-    one that counts once. `notes.source` says it, so that nothing is lost in silence."""
+    """What reading leaves out. It counts lines that are comments, lines that end in one, and rows
+    that lack a name or a value. It also counts edges of other vertices than those of `nodelist`,
+    and edges that repeat one that counts once. `notes.source` says it, so that nothing is lost in
+    silence."""
     comments: int = 0
     ends: int = 0
     names: int = 0
@@ -127,10 +128,10 @@ class Names(NamedTuple):
 
 class Edges(NamedTuple):
     """Edges in order: from where, to where (arrays of whole numbers, `Names`, or lists), and their
-    values, or None where they have none. `fault(k, words)` is the error of edge k; `summary` says
-    what was taken of a file, `left_out` what was not; `question` has to be answered where nobody
-    said which way edges lead. A file of a graph says by itself what its vertices are, `nodes`, and
-    whether its edges lead one way, `directed`."""
+    values, or None where they have none. `fault(k, words)` is the error of edge k. `summary` says
+    what was taken of a file, and `left_out` what was not. `question` has to be answered where
+    nobody said which way edges lead. A file of a graph says by itself what its vertices are,
+    `nodes`, and whether its edges lead one way, `directed`."""
     sources: Any
     targets: Any
     values: Any
@@ -143,9 +144,9 @@ class Edges(NamedTuple):
 
 
 class How(NamedTuple):
-    """What becomes of edges: `directed`, or else each stands both ways; `nodelist` the vertices, in
-    order, or None for those that there are; `bipartite` where sources and targets are vertices of
-    two kinds, rows and columns."""
+    """What becomes of edges. Each stands both ways unless they are `directed`. `nodelist` has the
+    vertices, in order, or is None for those that there are. With `bipartite`, sources and targets
+    are vertices of two kinds, rows and columns."""
     directed: bool = True
     nodelist: Optional[Sequence[Any]] = None
     bipartite: bool = False
@@ -372,7 +373,7 @@ def list_edges(edges: Iterable[Any]) -> List[Any]:
 
 def edges_of_list(edges: Any, layout: Layout) -> Edges:
     """The edges (from, to), (from, to, value) or (from, to, {'weight': value}), as networkx gives
-    and takes them; or of a table of pandas with two or three columns, by position."""
+    and takes them. Or those of a table of pandas with two or three columns, by position."""
     if is_frame(edges):
         width = len(edges.columns) if layout.values else 2
         of_frame = list(columns_of_frame(edges)[:width])
@@ -420,7 +421,7 @@ def check_times(layout: Layout, edges: Edges) -> None:
 
 def convert_values(values: Any, layout: Layout,
                    wrong: Callable[[int, Exception], Exception]) -> Tuple[Any, str]:
-    """Numbers or times as an array of whole numbers, and what was done to them; `wrong` makes the
+    """Numbers or times as an array of whole numbers, and what was done to them. `wrong` makes the
     error of one, of its place and of an error that doesn't name it. What is ABSENT of a list is 1,
     as networkx has it, but for times, of which 1 is none."""
     absent = ([at for at, value in enumerate(values) if value is ABSENT]
@@ -538,8 +539,8 @@ def _warn_of_weights(columns: Sequence[Vertex], ends: Tuple[Vertex, Vertex]) -> 
 def edges_of_frame(frame: DataFrame, ends: Tuple[Vertex, Vertex], attribute: Vertex,
                    layout: Layout) -> Edges:
     """The edges of a table: two columns of names, and one of values. TypeError for what is no table
-    of pandas, KeyError where a column isn't there, ValueError with the row where a name or a value
-    is missing, or a value isn't whole."""
+    of pandas, and KeyError where a column isn't there. ValueError, with the row, where a name or a
+    value is missing, or a value isn't whole."""
     if not is_frame(frame):
         raise TypeError('expected a table of pandas, got %s: from_edgelist takes a list of edges, '
                         'read_graph a file' % type(frame).__name__)

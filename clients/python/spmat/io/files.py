@@ -148,9 +148,9 @@ class _Counted(io.RawIOBase):
 
 
 class Limit(NamedTuple):
-    """How many bytes a file may have, unpacked: as the caller says; else a packed file as many as
-    `market` where it is a Matrix Market file, and others above `SMALL` so many times its length as
-    `RATIO` says."""
+    """How many bytes a file may have, unpacked, unless the caller says it. A packed Matrix Market
+    file may have `market`. Another one above `SMALL` may have so many times its length as `RATIO`
+    says."""
     max_bytes: Optional[int] = None
     market: Optional[int] = None
 

@@ -284,9 +284,9 @@ class Request(NamedTuple):
 # -- which format a file has
 
 class GraphFormat(NamedTuple):
-    """A format that says by itself what its vertices are and which way edges lead: its name for
-    callers, what texts call it, whether bytes look like it, and what reads these. A module and a
-    row here are all that a new one needs."""
+    """A format that says by itself what its vertices are and which way edges lead. It has its name
+    for callers, what texts call it, whether bytes look like it, and what reads these. A module and
+    a row here are all that a new one needs."""
     name: str
     called: str
     is_like: Callable[[bytes], bool]

@@ -240,8 +240,8 @@ class Reader:
 
 
 def parse(text: bytes, values: Values = Values()) -> Tuple[Triples, str]:
-    """The entries of a file as they stand there, and its symmetry: unless that is `general`, those
-    of the other triangle are put into the lower one (negated, where it is `skew-symmetric`), and
+    """The entries of a file as they stand there, and its symmetry. Unless that is `general`, those
+    of the other triangle are put into the lower one (negated, if it is `skew-symmetric`). Then
     `mirrored` gives the whole."""
     reader = Reader(io.BytesIO(text), values)
     reader.check_count()

@@ -1,5 +1,5 @@
 """Values of edges as whole numbers of 64 bits: as they are, scaled and rounded, or points in time
-as a count of units since 1970-01-01; and what stands for a name or a value that is missing."""
+as a count of units since 1970-01-01. Also what stands for a name or a value that is missing."""
 from __future__ import annotations
 
 import contextlib
@@ -86,8 +86,8 @@ def check_scale(scale: Optional[float]) -> Optional[decimal.Decimal]:
 
 
 class Rounding:
-    """What rounding did to values that were multiplied by a scale: how many there are, how many
-    weren't whole then, and by how much at most they were changed, in their own units."""
+    """What rounding did to values that were multiplied by a scale: how many there are, and how
+    many weren't whole then. Also by how much at most they were changed, in their own units."""
 
     def __init__(self, scale: Optional[float]) -> None:
         self.scale, self.exact = scale, check_scale(scale)
@@ -164,11 +164,11 @@ def whole_of(exact: decimal.Decimal, field: str, rounding: Rounding, wrong: Wron
 def whole_numbers(many: Any, rounding: Optional[Rounding] = None,
                   wrong: Optional[Callable[[int, Exception], Exception]] = None,
                   what: str = 'value') -> Any:
-    """Numbers, an array or a list, as an array of whole numbers: multiplied by a scale and rounded
-    to the nearest, halves to the even one, as they are written in decimals (0.29 times 100 is 29);
-    `rounding` has the scale, and notes what it did. TypeError for what is no number, ValueError for
-    what is missing, isn't whole or is beyond 64 bits: `wrong` makes the error of one, of its place
-    and of an error that doesn't name it."""
+    """Numbers, an array or a list, as an array of whole numbers. They are multiplied by a scale and
+    rounded to the nearest, halves to the even one, as they are written in decimals: 0.29 times 100
+    is 29. `rounding` has the scale, and notes what it did. TypeError for what is no number,
+    ValueError for what is missing, isn't whole or is beyond 64 bits. `wrong` makes the error of one
+    number, of its place and of an error that doesn't name it."""
     rounding, found = rounding or Rounding(None), None
     if isinstance(many, numpy.ndarray):
         found = _whole_at_once(many, what, rounding)

@@ -216,8 +216,8 @@ OTHERWISE = 'save() keeps such names, or set others, as G.nodes = names'
 
 
 def quote(text: str, sep: str) -> str:
-    """A field in quotation marks where it needs them: for what parts fields, for blanks at its
-    ends, and where it may be taken for a comment or for a missing name."""
+    """A field in quotation marks where it needs them. It does for what separates fields, for blanks
+    at its ends, and where it may be taken for a comment or for a missing name."""
     needs = (sep in text or '"' in text or text[:1] in (' ', '\t', *MARKS)
              or text[-1:] in (' ', '\t') or is_missing(text) or '\n' in text or '\r' in text)
     return '"%s"' % text.replace('"', '""') if needs else text

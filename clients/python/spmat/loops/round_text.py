@@ -66,8 +66,8 @@ class OwnNames:
 
 
 class Pending(NamedTuple):
-    """A job that is queued and not run: the server's name that it binds, its results, how many
-    rounds ago it was asked for, and whether it is to be shown."""
+    """A job that is queued and not run: the server's name that it binds, and its results. Also how
+    many rounds ago it was asked for, and whether it is to be shown."""
     name: str
     results: Tuple[str, ...]
     back: int
@@ -75,11 +75,11 @@ class Pending(NamedTuple):
 
 
 class Template(NamedTuple):
-    """The commands of a round under certain names: text with `%d` for numbers; how many words are
-    replied; at which of them the counts of some results stand, and which are shown, in order, each
-    with how many rounds ago it was asked for; the state behind it: owners of what jobs make, names
-    of what was the state's before, and None for what the step has from outside; and the jobs that
-    are left behind it."""
+    """The commands of a round under certain names, as text with `%d` for numbers. Then how many
+    words are replied, at which of them the counts of some results stand, and which are shown. These
+    are in order, each with how many rounds ago it was asked for. The state behind it has owners of
+    what jobs make, names of what was the state's before, and None for what the step has from
+    outside. Last come the jobs that are left behind it."""
     text: bytes
     words: int
     counts: List[Tuple[int, int, Tuple[str, ...]]]

@@ -1,8 +1,8 @@
 """What the rounds of a loop ask for, found out ahead of them.
 
 The step is called once for each round, in order, before the round is sent. So a round is what the
-step asks for in it, whatever it makes of the number of the round, and what is known of results
-(names, units, directions) is known of this round's. A step that is called works on matrices of a
+step asks for in it, whatever it makes of the number of the round. What is known of results (names,
+units, directions) is known of this round's. A step that is called works on matrices of a
 `TraceBackend`: it has all that matrices have.
 """
 from __future__ import annotations
@@ -64,8 +64,8 @@ def check_state(state: Mapping[str, Any]) -> State:
 
 
 class RoundJobs(NamedTuple):
-    """A round: what it asks for, the numbers of those jobs that take one, in order, the results
-    that are matrices from outside, and what is known beside of what it begins with, and of its
+    """A round: what it asks for, the numbers of those jobs that take one, in order, and the results
+    that are matrices from outside. Also what is known of what it begins with, and of its
     results."""
     traced: Traced
     numbers: Tuple[int, ...]

@@ -1,12 +1,12 @@
 """Loops whose rounds stay at the server.
 
 A step makes of named matrices, the state, the next ones. It is called ahead of the rounds, and says
-which jobs they are: many rounds go in one trip, and two trips are under way at a time, so that
+which jobs they are. Many rounds go in one trip, and two trips are under way at a time, so that
 neither side waits for the other. What ends the loop is seen from the numbers of entries that the
 server tells of each result anyway.
 
 Where a trip can't be borne or something in it is refused, the loop goes on round by round from
-where the trip began: so each refusal comes in the round, and leaves the state, that it would have
+where the trip began. So each refusal comes in the round, and leaves the state, that it would have
 without trips.
 """
 from __future__ import annotations

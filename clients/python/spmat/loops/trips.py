@@ -49,9 +49,9 @@ class Round(NamedTuple):
 
 
 class Until(NamedTuple):
-    """An end: the results that it looks at, whether it is met by their numbers of entries in a
-    round and in the one before, and whether rounds behind it cost next to nothing, should they work
-    on these results."""
+    """An end: the results that it looks at, and whether it is met by their numbers of entries in a
+    round and in the one before. Also whether rounds behind it that work on these results cost next
+    to nothing."""
     names: Tuple[str, ...]
     met: Callable[[Counts, Counts], bool]
     rests: bool = False
@@ -210,7 +210,7 @@ class Trips:
 
     def choose_rounds(self, most: int) -> List[RoundJobs]:
         """The next rounds, at most so many, that may go in one trip now, so that nothing in it can
-        be refused for lack of steps; none where that can't be said of one. Raises what the step
+        be refused for lack of steps. None where that can't be said of one. Raises what the step
         ends in where it is called for the next round that is made."""
         queue = self.session.backend.queue
         left = 0 if queue.limits else queue.left - (AMPLE if queue.shared else 0)

@@ -1,7 +1,7 @@
 """Operators: programs with a kind, as descriptions that belong to no session and can be pickled.
 
-A session uploads an operator at its first use, and each operator once, whatever object it comes in:
-two descriptions of the same kind and the same text or code are equal. The built-in ones are one
+A session uploads an operator at its first use, and each operator once, whatever object it comes in.
+Two descriptions of the same kind and the same text or code are equal. The built-in ones are one
 file each, `KIND/NAME.asm` beside this one, in the assembly text of docs/operators.md, by
 python-graphblas' names: `unary.abs`, `binary.plus`, `indexunary.tril`, and `semiring.min_plus` for
 any two binary names. Wherever an operator is wanted its name does as well, `A.apply("abs")`, and so

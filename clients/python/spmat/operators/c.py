@@ -135,7 +135,7 @@ def without_tricks(source: str) -> str:
     """The source without comments. CompileError where it has what could make clang read a file: any
     directive but `#pragma unroll`, assembly, or a name of clang's own that isn't known as harmless.
 
-    No backslash, no trigraph and no digraph is left before comments are taken off, so lines are
+    No backslash, no trigraph and no digraph is left before comments are taken off. So lines are
     lines and tokens are tokens (phases 1 and 2 of a translation have nothing to do). No quote is,
     so a comment is a comment (phase 3)."""
     source = source.replace('\r\n', '\n')
@@ -574,9 +574,9 @@ class Malformed(ValueError):
 
 
 class Function(NamedTuple):
-    """A function of an object file: its code, where it starts in its section, the symbols that it
-    reaches by relocation, with the byte of its code at which it does, and whether other files see
-    it (`static` ones aren't seen)."""
+    """A function of an object file: its code, and where it starts in its section. Then the symbols
+    that it reaches by relocation, each with the byte of its code at which it does. Last, whether
+    other files see it (`static` ones aren't seen)."""
     name: str
     section: str
     start: int
@@ -586,10 +586,10 @@ class Function(NamedTuple):
 
 
 class ObjectFile:
-    """What is read of an object file: its functions by name; `types`, of each function what is
-    wrong with its result and with each parameter as an integer of 64 bits, in words; and `lines`,
-    by section the byte from which on a line's code stands, with the line. Raises Malformed where it
-    is none, ImportError without pyelftools."""
+    """What is read of an object file: its functions by name. `types` says of each function, in
+    words, what is wrong with its result and with each parameter as an integer of 64 bits. `lines`
+    has by section the byte from which on a line's code stands, with the line. Raises Malformed
+    where it is none, ImportError without pyelftools."""
 
     def __init__(self, data: bytes) -> None:
         reader = import_extra('elftools.elf.elffile', 'an operator in C')

@@ -27,9 +27,9 @@ State = List[Dict[str, Way]]
 
 
 class Step(NamedTuple):
-    """An instruction: its slot, the slots that may follow, the registers that it reads, the one
-    that it writes, what it leaves there (a register whose content it copies, with what is added to
-    it, or None for a number), its text, and whether it is a choice."""
+    """An instruction: its slot, the slots that may follow, the registers that it reads, and the one
+    that it writes. What it leaves there is a register whose content it copies, with what is added
+    to it, or None for a number. Then its text, and whether it is a choice."""
     slot: int
     next: Tuple[int, ...]
     reads: Tuple[int, ...]
@@ -166,10 +166,10 @@ KNOWN = 'before each instruction: - unset, n a number, pK the stack\'s top plus 
 
 @dataclass(frozen=True)
 class Check:
-    """What a server says of an operator. `accepted`; `instructions`, the most steps that a call
-    takes; `refusal`, where it is refused; `rows`, of each instruction the slot, the text and what
-    R0 to R10 hold before it (- for nothing), up to the one that is refused. It prints as a table.
-    True where it is accepted."""
+    """What a server says of an operator: whether it is `accepted`, or else its `refusal`.
+    `instructions` is the most steps that a call takes. `rows` has of each instruction the slot, the
+    text and what R0 to R10 hold before it (- for nothing), up to the one that is refused. It prints
+    as a table. True where it is accepted."""
     operator: Operator
     refusal: Optional[OperatorRefused]
     rows: List[List[str]]
@@ -438,8 +438,8 @@ def steps(op: Operator) -> str:
 
 @dataclass(frozen=True)
 class Explained:
-    """What an operator costs: `instructions`, the steps that a price counts for a call; `longest`,
-    the most that a call takes; and in words which calls each method's price counts."""
+    """What an operator costs. `instructions` are the steps that a price counts for a call, and
+    `longest` the most that a call takes. It also says which calls each method's price counts."""
     operator: Operator
     instructions: int
     longest: int

@@ -88,9 +88,9 @@ def is_ufunc(thing: object) -> bool:
 
 
 def ready_of(kind: str, ufunc: 'numpy.ufunc') -> Tuple[str, str]:
-    """The kind and the name of the built-in operator that a function of numpy is: of a kind, or of
-    the kind of its operands where that one has none. TypeError where no built-in operator has its
-    meaning for all words."""
+    """The kind and the name of the built-in operator that a function of numpy is. It is of a kind,
+    or of the kind of its operands where that one has none. TypeError where no built-in operator has
+    its meaning for all words."""
     own = 'unary' if ufunc.nin == 1 else 'binary'
     for wanted in (kind, own):
         name = UFUNCS[wanted].get(ufunc.__name__)

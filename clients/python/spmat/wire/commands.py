@@ -1,5 +1,5 @@
 """What is sent to a server, and what it answers: the commands of the protocol, of which jobs are
-some; a command with its whole reply; and batches of commands whose replies are read as one. Source:
+some, and a command with its whole reply. Replies to batches of commands are read as one. Source:
 docs/protocol.md.
 
 A server, or what stands between, may say anything: a reply is looked at before it is believed. Each
@@ -136,9 +136,9 @@ REPLIES: Dict[str, Tuple[str, Tuple[str, ...]]] = {
 
 
 def sizes_of_text(text: bytes) -> Mapping[str, Limits]:
-    """What the reply to `matrix` can say of a Matrix Market text that the server takes: its size
-    line, and up to twice as many entries where it is symmetric. Nothing of a text without a size
-    line."""
+    """What the reply to `matrix` can say of a Matrix Market text that the server takes. That is its
+    size line, and up to twice as many entries where it is symmetric. Nothing of a text without a
+    size line."""
     first = at = text.find(b'\n') + 1
     while 0 < at < len(text):
         end = text.find(b'\n', at)
@@ -159,8 +159,8 @@ def sizes_of_text(text: bytes) -> Mapping[str, Limits]:
 def read_shown(command: str, text: bytes, shape: Tuple[int, int],
                entries: Optional[int]) -> Triples:
     """The entries of a text. ProtocolError where it isn't that of a matrix of this shape, with so
-    many entries, where that is known: a short one as the server writes it, byte by byte, and a
-    longer one as the format allows."""
+    many entries, where that is known. A short one has to be as the server writes it, byte by byte,
+    and a longer one as the format allows."""
     head = _HEAD.match(text)
     if head is None:
         raise_fault(command,

@@ -3,14 +3,14 @@
 A `Connection` sends commands and reads their replies before it sends more, so neither side waits
 for the other with full pipes. What can hardly be refused waits to be sent with the next command, so
 that a loop of jobs and runs takes one trip for many. Where something is refused all the same, what
-was sent behind it may have used names that stand for older matrices: all of that is lost, and says
+was sent behind it may have used names that stand for older matrices. All of that is lost, and says
 so when it is looked at.
 
 A command that Ctrl-C interrupts is simply still pending: its reply is read before more is sent, and
-then it is done. Whatever else comes between a command and the whole of its reply (a timeout, a
-fault of a callback, a second Ctrl-C while commands are being sent) ends the session, since commands
-and replies would be out of step from then on; a child that was started here is then killed, as
-nothing cancels a batch.
+then it is done. Whatever else comes between a command and the whole of its reply ends the session,
+since commands and replies would be out of step from then on. That may be a timeout, a fault of a
+callback, or a second Ctrl-C while commands are being sent. A child that was started here is then
+killed, as nothing cancels a batch.
 """
 from __future__ import annotations
 
@@ -180,8 +180,8 @@ class Connection:
         return self._channel.process.pid if isinstance(self._channel, Child) else None
 
     def usable(self) -> bool:
-        """Whether a command can be sent, as far as can be seen without sending one: the session
-        goes on, in this process, and the program that was started for it has not ended."""
+        """Whether a command can be sent, as far as can be seen without sending one. The session has
+        to go on, in this process, and the program that was started for it must not have ended."""
         if self._ended is not None or os.getpid() != self._owner:
             return False
         return not isinstance(self._channel, Child) or self._channel.process.poll() is None

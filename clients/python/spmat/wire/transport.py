@@ -1,4 +1,4 @@
-"""The bytes of a session: a child process, or a connection to a server; and the program that the
+"""The bytes of a session: a child process, or a connection to a server. Also the program that the
 first one runs: where it is found, and the command of that name of a wheel that carries it."""
 from __future__ import annotations
 
@@ -187,7 +187,7 @@ class Child(Awaited):
 
 class Address(NamedTuple):
     """Where a server listens: a host and a port, with what speaks TLS where something in front of
-    the server does; or a socket file, where the host has a slash, which has neither."""
+    the server does. Or a socket file, where the host has a slash, which has neither."""
     host: str
     port: int
     tls: Optional[ssl.SSLContext] = None

@@ -4,7 +4,7 @@ A node is an operand, a number, an operation of the machine, a choice (`select`)
 which is used in choices alone. Operations are those of RFC 9669, section 4: they are total, so an
 expression may be computed before it is known to be needed. A `Graph` makes each node once, and
 simplifies it by what is true of all words. What two arms of a choice have in common is made once:
-f(x) or f(y) by a condition is f(x or y by it), so conditions after one another don't double the
+f(x) or f(y) by a condition is f(x or y by it). So conditions after one another don't double the
 code.
 """
 from __future__ import annotations
