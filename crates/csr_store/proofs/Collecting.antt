@@ -1,23 +1,62 @@
--- What a builder keeps, as one map.
-use Rattle.std.proofs.Common.{◌≡◌, ◌≤◌, ◌<◌, ◌+◌, ◌^◌, ℕ, Bool, true, false, cond, List, [], ◌∷◌, ◌++◌, Option, None, Some, is_some, length, append-nil, refl, sym, ap, ◌∙◌, arith}
-use Rattle.std.specs.Prelude.{nat_le}
+-- What a builder keeps: entries that came in ascending order, and the others, as one list and one map.
+use Rattle.std.proofs.Common.{◌≡◌, ◌≤◌, ◌<◌, ◌+◌, ◌^◌, zero, suc, ℕ, true, false, cond, List, [], ◌∷◌, ◌++◌, Option, None, Some, IsSome, is_some, length, get_or, refl, sym, ap, ◌∙◌, subst, arith, append_assoc, length-append}
+use Rattle.std.specs.Prelude.{◌&&◌, nat_le, nat_lt}
 use Rattle.std.proofs.lemmas.Bool.{lt-ltb, le-leb}
-use Rattle.std.specs.List.Sorted.{IsStrictlySortedBy}
-use Rattle.std.specs.Map.{keys_of, lookup}
-use Rattle.std.specs.declared.cmp.Ordering.{Ordering}
+use Rattle.std.proofs.lemmas.Bool.Decides.{nat_tests}
+use Rattle.std.specs.List.{AllByRecursion, Contains, IsDistinct}
+use Rattle.std.specs.List.Sorted.{IsPermutation}
+use Rattle.std.proofs.lemmas.List.Sorted.{IsPermutation-refl, IsPermutation-trans, IsPermutation-sym, IsPermutation-cons, IsPermutation-middle, IsPermutation-to_front, IsPermutation-append_right, Contains-permutation, length_permutation}
 use Rattle.std.specs.declared.cmp.Ordering.TheVariants.{Less, Equal, Greater}
-use Rattle.std.specs.Ordering.{is_eq}
-use Rattle.std.specs.Cmp.{eq_by_cmp_equiv}
-use Rattle.std.specs.BTreeMap.{is_at}
-use Rattle.std.specs.FinMap.{FinMap, entries, len, len-entries, empty, get, insert, from_entries, get-from_entries, get-entries, get-insert}
+use Rattle.std.specs.Cmp.{tied_itself, eq_by_cmp_equiv}
+use Rattle.std.specs.Ordering.{is_eq, eq_by_cmp, match_ordering}
+use Rattle.std.specs.BTreeMap.{is_at, insert_entry}
+use Rattle.std.specs.Map.{keys_of, lookup}
+use Rattle.std.specs.FinMap.{empty, entries, get, insert, is_sorted, len, len-entries, from_entries, get-from_entries}
 use Rattle.std.specs.FinMap.Entries.{find}
 use Rattle.csr_store.specs.declared.error.StoreError.TheVariants.{PositionGivenTwice, TooManyEntries}
-use Rattle.csr_store.specs.Grid.{Grid, Position, Entry, IsInside, pos_cmp, limit}
+use Rattle.csr_store.specs.Grid.{Grid, IsGrid, Position, Entry, pos_cmp, limit}
 use Rattle.csr_store.specs.Refusal.{put_fault}
 use Rattle.csr_store.specs.ByRows.{grid}
+use Rattle.csr_store.specs.Listed.{Listed, NoneTwice}
 use Rattle.csr_store.specs.inner.Collected.{IsCollected}
-use Rattle.csr_store.proofs.Order.{pos_total, pos_exact, sorted_from_keys}
-use Rattle.csr_store.proofs.Laws.{Fits, is_none, same_values, entries-from_entries, entries-empty, from_entries-entries, len-insert_new, insert-is_grid, empty-is_grid}
+use Rattle.csr_store.proofs.Order.{pos_total, both_true}
+use Rattle.csr_store.proofs.Laws.{Fits, same_values, same_entries, entries-from_entries, entries-empty, len-insert_new, insert-is_grid, empty-is_grid}
+use Rattle.csr_store.proofs.Listing.{once_more, map_with_entry}
+use Rattle.csr_store.proofs.Shuffled.{find_contains}
+use Rattle.csr_store.proofs.Packing.{once_shuffled}
+
+-- ---- the order of entries doesn't matter to their map
+
+apart_each : (p : Position) (es : List Entry) (k : ℕ) (d : Entry) → AllByRecursion (λ r. eq_by_cmp pos_cmp p r ≡ false) (keys_of es) → k < length es → eq_by_cmp pos_cmp p (get_or es k d).0 ≡ false
+apart_each p [] k d h l = absurd (omega arith)
+apart_each p (e ∷ es) zero d h l = h.0
+apart_each p (e ∷ es) (suc k) d h l = apart_each p es k d h.1 (omega arith)
+
+-- each entry is found
+found_once : (es : List Entry) (k : ℕ) (d : Entry) → NoneTwice es → k < length es → find pos_cmp (get_or es k d).0 es ≡ Some (get_or es k d).1
+unfolding IsDistinct
+found_once [] k d h l = absurd (omega arith)
+found_once (e ∷ es) zero d h l = ap (λ o. cond (is_eq o) (Some e.1) (find pos_cmp e.0 es)) (tied_itself pos_total e.0)
+found_once (e ∷ es) (suc k) d h l =
+    ap (λ b. cond b (Some e.1) (find pos_cmp (get_or es k d).0 es)) ((eq_by_cmp_equiv pos_total).symm (get_or es k d).0 e.0 ∙ apart_each e.0 es k d h.0 (omega arith))
+    ∙ found_once es k d h.1 (omega arith)
+
+contains_found : (es : List Entry) (q : Position) (v : ℕ) → NoneTwice es → Contains es (q, v) → find pos_cmp q es ≡ Some v
+contains_found es q v h c =
+    ap (λ (x : Entry). find pos_cmp x.0 es) (sym c.2) ∙ (found_once es c.0 (q, v) h c.1 ∙ ap (λ (x : Entry). Some x.1) c.2)
+
+pub same_once : (xs ys : List Entry) → IsPermutation xs ys → NoneTwice xs → from_entries {R = pos_cmp} ys ≡ from_entries xs
+same_once xs ys p once = same_values _ _ (λ q. get-from_entries pos_total ys q ∙ (there q (find pos_cmp q ys) (find pos_cmp q xs) refl refl ∙ sym (get-from_entries pos_total xs q)))
+  where
+    moved : NoneTwice ys
+    moved = once_shuffled xs ys p once
+
+    there : (q : Position) (o r : Option ℕ) → find pos_cmp q ys ≡ o → find pos_cmp q xs ≡ r → find pos_cmp q ys ≡ find pos_cmp q xs
+    there q (Some v) r e f = e ∙ sym (contains_found xs q v once (Contains-permutation ys xs (q, v) (IsPermutation-sym xs ys p) (find_contains ys q v e)))
+    there q None (Some w) e f = absurd (let g = contains_found ys q w moved (Contains-permutation xs ys (q, w) p (find_contains xs q w f)) in let n : None ≡ Some w = sym e ∙ g in cc)
+    there q None None e f = e ∙ sym f
+
+-- ---- an entry more
 
 -- what an ordered map has at a position
 abbrev pub value_at : List Entry → Position → Option ℕ
@@ -27,19 +66,37 @@ find_at : (es : List Entry) (q : Position) → find pos_cmp q es ≡ value_at es
 find_at [] q = refl
 find_at (e ∷ es) q = ap (cond (is_at (pos_cmp q) e.0) (Some e.1)) (find_at es q)
 
-pub get-value_at : (es : List Entry) (q : Position) → get (from_entries {R = pos_cmp} es) q ≡ value_at es q
-get-value_at es q = get-from_entries pos_total es q ∙ find_at es q
+-- behind the first list
+pub pushed : (xs os : List Entry) (e : Entry) → IsPermutation ((xs ++ os) ++ e ∷ []) ((xs ++ e ∷ []) ++ os)
+pushed xs os e =
+    subst (λ (ys : List Entry). IsPermutation ys ((xs ++ e ∷ []) ++ os)) (sym (append_assoc xs os (e ∷ [])))
+    (subst (λ (ys : List Entry). IsPermutation (xs ++ (os ++ e ∷ [])) ys) (sym (append_assoc xs (e ∷ []) os)) (IsPermutation-append_right xs (os ++ e ∷ []) (e ∷ os) (IsPermutation-to_front os e)))
 
-pub len-from_entries : (es : List Entry) → IsStrictlySortedBy pos_cmp (keys_of es) → len (from_entries {R = pos_cmp} es) ≡ length es
-len-from_entries es h = len-entries _ ∙ ap length (entries-from_entries es (sorted_from_keys pos_cmp es h))
+-- at its place in an ordered map
+inserted : (es : List Entry) (p : Position) (v : ℕ) → value_at es p ≡ None → IsPermutation ((p, v) ∷ es) (insert_entry pos_cmp es p v)
+inserted [] p v n = IsPermutation-refl ((p, v) ∷ [])
+inserted (e ∷ es) p v n =
+    elim (pos_cmp p e.0) as (λ o. cond (is_eq o) (Some e.1) (value_at es p) ≡ None → IsPermutation ((p, v) ∷ e ∷ es) (match_ordering o ((p, v) ∷ e ∷ es) ((e.0, v) ∷ es) (e ∷ insert_entry pos_cmp es p v))) [
+      | Less ↦ λ h. IsPermutation-refl ((p, v) ∷ e ∷ es)
+      | Equal ↦ λ h. absurd (cc)
+      | Greater ↦ λ h.
+          IsPermutation-trans ((p, v) ∷ e ∷ es) (e ∷ (p, v) ∷ es) (e ∷ insert_entry pos_cmp es p v)
+          (IsPermutation-sym (e ∷ (p, v) ∷ es) ((p, v) ∷ e ∷ es) (IsPermutation-middle (e ∷ []) (p, v) es))
+          (IsPermutation-cons e ((p, v) ∷ es) (insert_entry pos_cmp es p v) (inserted es p v h))
+    ] n
+
+pub put_between : (xs os : List Entry) (p : Position) (v : ℕ) → value_at os p ≡ None → IsPermutation ((xs ++ os) ++ (p, v) ∷ []) (xs ++ insert_entry pos_cmp os p v)
+put_between xs os p v n =
+    subst (λ (ys : List Entry). IsPermutation ys (xs ++ insert_entry pos_cmp os p v)) (sym (append_assoc xs os ((p, v) ∷ [])))
+    (IsPermutation-append_right xs (os ++ (p, v) ∷ []) (insert_entry pos_cmp os p v)
+    (IsPermutation-trans (os ++ (p, v) ∷ []) ((p, v) ∷ os) (insert_entry pos_cmp os p v) (IsPermutation-to_front os (p, v)) (inserted os p v n)))
+
+-- ---- what `put` finds is what `put_fault` says
 
 -- the first of two answers
 abbrev first_of_two : Option ℕ → Option ℕ → Option ℕ
 first_of_two (Some v) o = Some v
 first_of_two None o = o
-
-abbrev both : FinMap pos_cmp ℕ → List Entry → FinMap pos_cmp ℕ
-both m es = from_entries (entries m ++ es)
 
 find_both : (xs ys : List Entry) (q : Position) → find pos_cmp q (xs ++ ys) ≡ first_of_two (find pos_cmp q xs) (find pos_cmp q ys)
 find_both [] ys q = refl
@@ -49,139 +106,104 @@ find_both (e ∷ xs) ys q =
       | false ↦ find_both xs ys q
     ]
 
-pub get_both : (m : FinMap pos_cmp ℕ) (es : List Entry) (q : Position) → get (both m es) q ≡ first_of_two (get m q) (value_at es q)
-get_both m es q =
-    get-from_entries pos_total (entries m ++ es) q ∙ find_both (entries m) es q
-    ∙ ap (λ o. first_of_two o (find pos_cmp q es)) (sym (get-entries m q)) ∙ ap (first_of_two (get m q)) (find_at es q)
-
--- An entry more, in the one or in the other.
-
-in_first : (b : Bool) (v : ℕ) (o p : Option ℕ) → first_of_two (cond b (Some v) o) p ≡ cond b (Some v) (first_of_two o p)
-in_first true v o p = refl
-in_first false v o p = refl
-
-pub both_first : (m : FinMap pos_cmp ℕ) (es : List Entry) (p : Position) (v : ℕ) → both (insert m p v) es ≡ insert (both m es) p v
-both_first m es p v = same_values _ _ (λ q.
-    get_both (insert m p v) es q ∙ ap (λ o. first_of_two o (value_at es q)) (get-insert pos_total m p v q)
-    ∙ in_first (is_eq (pos_cmp q p)) v (get m q) (value_at es q)
-    ∙ sym (get-insert pos_total (both m es) p v q ∙ ap (cond (is_eq (pos_cmp q p)) (Some v)) (get_both m es q)))
-
-in_second : (m : FinMap pos_cmp ℕ) (p q : Position) (v : ℕ) (o : Ordering) (r : Option ℕ) → pos_cmp q p ≡ o → get m p ≡ None → first_of_two (get m q) (cond (is_eq o) (Some v) r) ≡ cond (is_eq o) (Some v) (first_of_two (get m q) r)
-in_second m p q v Less r e n = refl
-in_second m p q v Equal r e n = ap (λ x. first_of_two x (Some v)) (ap (get m) (pos_exact q p e) ∙ n)
-in_second m p q v Greater r e n = refl
-
--- entries that differ at one position
-abbrev pub Differs : List Entry → List Entry → Position → ℕ → Type 0
-Differs es fs p v = (q : Position) → value_at fs q ≡ cond (is_at (pos_cmp p) q) (Some v) (value_at es q)
-
-turned : (es fs : List Entry) (p : Position) (v : ℕ) → Differs es fs p v → (q : Position) → value_at fs q ≡ cond (is_eq (pos_cmp q p)) (Some v) (value_at es q)
-turned es fs p v d q = d q ∙ ap (λ b. cond b (Some v) (value_at es q)) ((eq_by_cmp_equiv pos_total).symm p q)
-
-pub one_put : (es fs : List Entry) (p : Position) (v : ℕ) → Differs es fs p v → from_entries {R = pos_cmp} fs ≡ insert (from_entries es) p v
-one_put es fs p v d = same_values _ _ (λ q.
-    get-value_at fs q ∙ turned es fs p v d q ∙ sym (get-insert pos_total (from_entries es) p v q ∙ ap (cond (is_eq (pos_cmp q p)) (Some v)) (get-value_at es q)))
-
-pub both_second : (m : FinMap pos_cmp ℕ) (es fs : List Entry) (p : Position) (v : ℕ) → get m p ≡ None → Differs es fs p v → both m fs ≡ insert (both m es) p v
-both_second m es fs p v n d = same_values _ _ (λ q.
-    get_both m fs q ∙ ap (first_of_two (get m q)) (turned es fs p v d q)
-    ∙ in_second m p q v (pos_cmp q p) (value_at es q) refl n
-    ∙ sym (get-insert pos_total (both m es) p v q ∙ ap (cond (is_eq (pos_cmp q p)) (Some v)) (get_both m es q)))
-
--- What `put` finds is what `put_fault` says.
-
-abbrev pub collected : Grid → List Entry → Grid
-collected g es = grid g.rows g.columns (entries g.cells ++ es)
-
-no_value : (b : Bool) (o : Option ℕ) → b ≡ is_some o → b ≡ false → o ≡ None
-no_value b o e f = is_none o (sym e ∙ f)
-
-module _ (g : Grid) (es : List Entry) (p : Position) (h : IsCollected g es) (inside : IsInside g p) where
-  pub first_twice : is_some (get g.cells p) ≡ true → put_fault (collected g es) p ≡ Some PositionGivenTwice
-  first_twice e = rw (lt-ltb p.0 g.rows inside.0, lt-ltb p.1 g.columns inside.1, ap is_some (get_both g.cells es p) ∙ found (get g.cells p) e) refl
-    where
-      found : (o : Option ℕ) → is_some o ≡ true → is_some (first_of_two o (value_at es p)) ≡ true
-      found (Some v) k = refl
-      found None k = absurd (cc)
-
-  pub second_twice : is_some (value_at es p) ≡ true → put_fault (collected g es) p ≡ Some PositionGivenTwice
-  second_twice e = rw (lt-ltb p.0 g.rows inside.0, lt-ltb p.1 g.columns inside.1, ap is_some (get_both g.cells es p) ∙ found (get g.cells p)) refl
-    where
-      found : (o : Option ℕ) → is_some (first_of_two o (value_at es p)) ≡ true
-      found (Some v) = refl
-      found None = e
-
-  nothing : get g.cells p ≡ None → value_at es p ≡ None → get (both g.cells es) p ≡ None
-  nothing a b = get_both g.cells es p ∙ ap (λ o. first_of_two o (value_at es p)) a ∙ b
-
-  pub too_many : get g.cells p ≡ None → value_at es p ≡ None → limit ≤ len g.cells + len (from_entries {R = pos_cmp} es) → put_fault (collected g es) p ≡ Some TooManyEntries
-  too_many a b l =
-      let many : nat_le limit (len (both g.cells es)) ≡ true = le-leb _ _ (let n = h.apart in omega arith) in
-      rw (lt-ltb p.0 g.rows inside.0, lt-ltb p.1 g.columns inside.1, nothing a b, many) refl
-
-  pub fits : get g.cells p ≡ None → value_at es p ≡ None → len g.cells + len (from_entries {R = pos_cmp} es) < limit → Fits (collected g es) p
-  fits a b l = record { inside = inside; absent = nothing a b; capacity = let n = h.apart in omega arith }
-
-  still_first : (q : Position) (v : ℕ) → value_at es p ≡ None → (o : Ordering) → pos_cmp q p ≡ o → is_some (cond (is_eq o) (Some v) (get g.cells q)) ≡ true
-      → get (from_entries {R = pos_cmp} es) q ≡ None
-  still_first q v b Less e s = h.disjoint q s
-  still_first q v b Equal e s = ap (λ r. get (from_entries {R = pos_cmp} es) r) (pos_exact q p e) ∙ (get-value_at es p ∙ b)
-  still_first q v b Greater e s = h.disjoint q s
-
-  still_second : (q : Position) (v : ℕ) → get g.cells p ≡ None → is_some (get g.cells q) ≡ true → (o : Ordering) → pos_cmp q p ≡ o
-      → cond (is_eq o) (Some v) (value_at es q) ≡ None
-  still_second q v a s Less e = sym (get-value_at es q) ∙ h.disjoint q s
-  still_second q v a s Equal e = absurd (let t : is_some (get g.cells q) ≡ false = ap is_some (ap (get g.cells) (pos_exact q p e) ∙ a) in let u : true ≡ false = sym s ∙ t in cc)
-  still_second q v a s Greater e = sym (get-value_at es q) ∙ h.disjoint q s
-
-  -- an entry more in the one
-  pub first_collected : (new : Grid) (v : ℕ) → get g.cells p ≡ None → value_at es p ≡ None → len g.cells + len (from_entries {R = pos_cmp} es) < limit → v < 2 ^ 64
-      → new ≡ record g { cells = insert g.cells p v } → IsCollected new es
-  first_collected new v a b l w e =
-      let n = h.apart in
-      rw e (record {
-        is_grid = rw (both_first g.cells es p v) (insert-is_grid (collected g es) p v h.is_grid (fits a b l) w);
-        apart =
-            ap len (both_first g.cells es p v) ∙ len-insert_new (both g.cells es) p v (nothing a b)
-            ∙ (let c = len-insert_new g.cells p v a in omega arith);
-        disjoint = λ q s. still_first q v b (pos_cmp q p) refl (sym (ap is_some (get-insert pos_total g.cells p v q)) ∙ s);
-      })
-
-  -- an entry more in the other
-  pub second_collected : (fs : List Entry) (v : ℕ) → get g.cells p ≡ None → value_at es p ≡ None → len g.cells + len (from_entries {R = pos_cmp} es) < limit → v < 2 ^ 64
-      → Differs es fs p v → IsCollected g fs
-  second_collected fs v a b l w d =
-      let n = h.apart in
-      record {
-        is_grid = rw (both_second g.cells es fs p v a d) (insert-is_grid (collected g es) p v h.is_grid (fits a b l) w);
-        apart =
-            ap len (both_second g.cells es fs p v a d) ∙ len-insert_new (both g.cells es) p v (nothing a b)
-            ∙ (let c = ap len (one_put es fs p v d) ∙ len-insert_new (from_entries es) p v (get-value_at es p ∙ b) in omega arith);
-        disjoint = λ q s. get-value_at fs q ∙ (turned es fs p v d q ∙ still_second q v a s (pos_cmp q p) refl);
-      }
+abbrev pub collected : Listed → List Entry → Grid
+collected l os = grid l.rows l.columns (l.entries ++ os)
 
 abbrev pub with_entry : Grid → Position → ℕ → Grid
 with_entry g p v = record g { cells = insert g.cells p v }
 
-pub collected_first : (g new : Grid) (es : List Entry) (p : Position) (v : ℕ) → new ≡ with_entry g p v → collected new es ≡ with_entry (collected g es) p v
-collected_first g new es p v e = ap (λ (x : Grid). collected x es) e ∙ ap (λ m. let x : Grid = record { rows = g.rows; columns = g.columns; cells = m } in x) (both_first g.cells es p v)
+pub less : (a b : ℕ) → nat_lt a b ≡ true → a < b
+less a b h = grind (arith, nat_tests)
 
-pub collected_second : (g : Grid) (es fs : List Entry) (p : Position) (v : ℕ) → get g.cells p ≡ None → Differs es fs p v → collected g fs ≡ with_entry (collected g es) p v
-collected_second g es fs p v n d = ap (λ m. let x : Grid = record { rows = g.rows; columns = g.columns; cells = m } in x) (both_second g.cells es fs p v n d)
+-- a position inside the sizes
+pub spanned : (l : Listed) (row column : ℕ) → (nat_lt row l.rows && nat_lt column l.columns) ≡ true → (row < l.rows) × (column < l.columns)
+spanned l row column e = let t = both_true (nat_lt row l.rows) (nat_lt column l.columns) e in (less row l.rows t.0, less column l.columns t.1)
 
--- nothing else: the map is that of the first alone
-pub collected_alone : (g : Grid) (es : List Entry) → es ≡ [] → collected g es ≡ g
-collected_alone g es e =
-    ap (λ m. let x : Grid = record { rows = g.rows; columns = g.columns; cells = m } in x)
-    (ap (λ (xs : List Entry). from_entries {R = pos_cmp} (entries g.cells ++ xs)) e ∙ ap from_entries (append-nil (entries g.cells)) ∙ from_entries-entries g.cells)
+module _ (l : Listed) (os : List Entry) (h : IsCollected l os) where
+  abbrev all : List Entry
+  all = l.entries ++ os
 
-pub collected_none : (g : Grid) (es : List Entry) → g.rows ≤ limit → g.columns ≤ limit → g.cells ≡ empty → es ≡ [] → IsCollected g es
-collected_none g es r c e f =
-    let alone = collected_alone g es f in
-    let first : len g.cells ≡ 0 = ap len e ∙ len-entries empty ∙ ap length entries-empty in
-    let second : len (from_entries {R = pos_cmp} es) ≡ 0 = ap (λ (xs : List Entry). len (from_entries {R = pos_cmp} xs)) f ∙ len-entries _ ∙ ap length (entries-from_entries [] refl) in
-    record {
-      is_grid = rw alone (let k : g ≡ record { rows = g.rows; columns = g.columns; cells = empty } = ap (λ m. let x : Grid = record { rows = g.rows; columns = g.columns; cells = m } in x) e in rw k (empty-is_grid g.rows g.columns r c));
-      apart = ap (λ (x : Grid). len x.cells) alone ∙ omega arith;
-      disjoint = λ q s. get-value_at es q ∙ ap (λ (xs : List Entry). value_at xs q) f;
-    }
+  get_all : (q : Position) → get (from_entries {R = pos_cmp} all) q ≡ first_of_two (find pos_cmp q l.entries) (value_at os q)
+  get_all q = get-from_entries pos_total all q ∙ find_both l.entries os q ∙ ap (first_of_two (find pos_cmp q l.entries)) (find_at os q)
+
+  -- the entries that have a position make the matrix, whatever their order
+  pub same_merged : (fs : List Entry) → IsPermutation all fs → grid l.rows l.columns fs ≡ collected l os
+  same_merged fs p = ap (λ m. let g : Grid = record { rows = l.rows; columns = l.columns; cells = m } in g) (same_once all fs p h.once)
+
+  -- each is inside the sizes
+  pub each_inside : (k : ℕ) (d : Entry) → k < length all → ((get_or all k d).0.0 < l.rows) × ((get_or all k d).0.1 < l.columns) × ((get_or all k d).1 < 2 ^ 64)
+  each_inside k d n =
+      let found : get (from_entries {R = pos_cmp} all) (get_or all k d).0 ≡ Some (get_or all k d).1 = get-from_entries pos_total all (get_or all k d).0 ∙ found_once all k d h.once n in
+      let inside = h.is_grid.inside (get_or all k d).0 (subst (λ (o : Option ℕ). IsSome o) (sym found) refl) in
+      (inside.0, inside.1, h.is_grid.words (get_or all k d).0 (get_or all k d).1 found)
+
+  pub few : length l.entries + length os ≤ limit
+  few = let c = h.count in let s = h.is_grid.entries_small in omega (arith, length-append l.entries os)
+
+  module _ (p : Position) (row : p.0 < l.rows) (column : p.1 < l.columns) where
+    pub first_twice : is_some (find pos_cmp p l.entries) ≡ true → put_fault (collected l os) p ≡ Some PositionGivenTwice
+    first_twice e = rw (lt-ltb p.0 l.rows row, lt-ltb p.1 l.columns column, ap is_some (get_all p) ∙ found (find pos_cmp p l.entries) e) refl
+      where
+        found : (o : Option ℕ) → is_some o ≡ true → is_some (first_of_two o (value_at os p)) ≡ true
+        found (Some v) k = refl
+        found None k = absurd (cc)
+
+    pub second_twice : is_some (value_at os p) ≡ true → put_fault (collected l os) p ≡ Some PositionGivenTwice
+    second_twice e = rw (lt-ltb p.0 l.rows row, lt-ltb p.1 l.columns column, ap is_some (get_all p) ∙ found (find pos_cmp p l.entries)) refl
+      where
+        found : (o : Option ℕ) → is_some (first_of_two o (value_at os p)) ≡ true
+        found (Some v) = refl
+        found None = e
+
+    module _ (first : find pos_cmp p l.entries ≡ None) (second : value_at os p ≡ None) where
+      absent : get (from_entries {R = pos_cmp} all) p ≡ None
+      absent = get_all p ∙ ap (λ o. first_of_two o (value_at os p)) first ∙ second
+
+      pub too_many : limit ≤ length l.entries + length os → put_fault (collected l os) p ≡ Some TooManyEntries
+      too_many n =
+          let many : nat_le limit (len (from_entries {R = pos_cmp} all)) ≡ true = le-leb _ _ (let c = h.count in omega (arith, length-append l.entries os)) in
+          rw (lt-ltb p.0 l.rows row, lt-ltb p.1 l.columns column, absent, many) refl
+
+      pub fits : length l.entries + length os < limit → Fits (collected l os) p
+      fits n = record { inside = (row, column); absent = absent; capacity = let c = h.count in omega (arith, length-append l.entries os) }
+
+  -- an entry more in the one list or the other
+  module _ (p : Position) (v : ℕ) (f : Fits (collected l os) p) (w : v < 2 ^ 64) (ps fs : List Entry) (m : IsPermutation (all ++ (p, v) ∷ []) (ps ++ fs)) where
+    once_then : NoneTwice (all ++ (p, v) ∷ [])
+    once_then = once_more all p v h.once f.absent
+
+    more_is : from_entries {R = pos_cmp} (ps ++ fs) ≡ insert (from_entries all) p v
+    more_is = same_once (all ++ (p, v) ∷ []) (ps ++ fs) m once_then ∙ map_with_entry all p v once_then
+
+    more_here : grid l.rows l.columns (ps ++ fs) ≡ with_entry (collected l os) p v
+    more_here = ap (λ n. let g : Grid = record { rows = l.rows; columns = l.columns; cells = n } in g) more_is
+
+    more_count : length (ps ++ fs) ≡ length all + 1
+    more_count = length_permutation (all ++ (p, v) ∷ []) (ps ++ fs) m ∙ length-append all ((p, v) ∷ [])
+
+    pub more_collected : (new : Listed) → new ≡ record l { entries = ps } → is_sorted pos_cmp ps ≡ true → IsCollected new fs
+    more_collected new e s =
+        rw e (record {
+          rises = s;
+          once = once_shuffled (all ++ (p, v) ∷ []) (ps ++ fs) m once_then;
+          count = ap len more_is ∙ len-insert_new (from_entries all) p v f.absent ∙ (let c = h.count in let n = more_count in omega arith);
+          is_grid = subst (λ (g : Grid). IsGrid g) (sym more_here) (insert-is_grid (collected l os) p v h.is_grid f w);
+        })
+
+    pub more_same : (new : Listed) → new ≡ record l { entries = ps } → collected new fs ≡ with_entry (collected l os) p v
+    more_same new e = ap (λ (x : Listed). collected x fs) e ∙ more_here
+
+-- ---- no entry
+
+none_is : from_entries {X = ℕ} {R = pos_cmp} [] ≡ empty
+none_is = same_entries _ _ (entries-from_entries [] refl ∙ sym entries-empty)
+
+pub collected_none : (l : Listed) (os : List Entry) (rows columns : ℕ) → rows ≤ limit → columns ≤ limit → l ≡ record { rows = rows; columns = columns; entries = [] } → os ≡ [] → IsCollected l os
+unfolding IsDistinct
+collected_none l os rows columns r c e f =
+    rw (e, f) (record {
+      rises = refl;
+      once = tt;
+      count = len-entries (from_entries {X = ℕ} {R = pos_cmp} []) ∙ ap length (entries-from_entries [] refl);
+      is_grid = subst (λ m. let g : Grid = record { rows = rows; columns = columns; cells = m } in IsGrid g) (sym none_is) (empty-is_grid rows columns r c);
+    })

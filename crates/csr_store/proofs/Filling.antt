@@ -1,20 +1,17 @@
 -- A matrix by rows, filled in ascending order.
-use Rattle.std.proofs.Common.{zero, suc, ◌≡◌, ◌≤◌, ◌<◌, ◌+◌, ◌-◌, ◌^◌, ℕ, true, None, List, [], ◌∷◌, ◌++◌, length, take, drop, refl, sym, ap, ◌∙◌, subst, arith, inl, inr, append_assoc, append-nil, length-append}
+use Rattle.std.proofs.Common.{zero, suc, ◌≡◌, ◌≤◌, ◌+◌, ◌-◌, ℕ, true, List, [], ◌∷◌, ◌++◌, length, take, drop, refl, sym, ap, ◌∙◌, subst, arith, append_assoc, append-nil, length-append}
 use Rattle.std.proofs.lemmas.List.{map-append, take-append-le, drop-append-le, take_all, drop_all, length-drop, length-take, length-map}
 use Rattle.std.specs.Prelude.{Result, Ok, Err, OnErr}
 use Rattle.std.specs.declared.cmp.Ordering.{Ordering}
 use Rattle.std.specs.declared.cmp.Ordering.TheVariants.{Less, Equal, Greater}
 use Rattle.std.specs.Ordering.{is_lt}
-use Rattle.std.specs.FinMap.{get, len, insert, from_entries, is_sorted, len-entries}
+use Rattle.std.specs.FinMap.{len, from_entries, is_sorted, len-entries}
 use Rattle.std.specs.FinMap.Entries.{below_all}
-use Rattle.std.proofs.lemmas.Bool.{cases_lt}
-use Rattle.std.proofs.lemmas.Bool.Decides.{nat_tests}
-use Rattle.csr_store.specs.Grid.{Grid, IsGrid, Position, Cell, Entry, pos_cmp, limit, at_row, row_cells, row_of}
-use Rattle.csr_store.specs.ByRows.{grid}
+use Rattle.csr_store.specs.Grid.{Position, Cell, Entry, pos_cmp, at_row}
 use Rattle.csr_store.proofs.Order.{pos_total, both_true}
-use Rattle.csr_store.proofs.Laws.{entries-from_entries, same_entries, entries-insert_last, get-last, insert-is_grid, empty-is_grid, Fits}
+use Rattle.csr_store.proofs.Laws.{entries-from_entries}
 use Rattle.csr_store.specs.ByRows.{entries_from, by_rows}
-use Rattle.csr_store.specs.inner.ByRows.{Within, repeated, Closes, IsFilling}
+use Rattle.csr_store.specs.inner.ByRows.{Within, repeated, Closes}
 
 -- ---- lists
 
@@ -93,18 +90,6 @@ less Greater h = absurd (cc)
 below_trans : (p q r : Position) → is_lt (pos_cmp p q) ≡ true → is_lt (pos_cmp q r) ≡ true → is_lt (pos_cmp p r) ≡ true
 below_trans p q r a b = ap is_lt (pos_total.trans p q r (less _ a) (less _ b))
 
-same_row : (z q : Position) (k : ℕ) → q.1 ≤ k → is_lt (pos_cmp z q) ≡ true → is_lt (pos_cmp z (q.0, k)) ≡ true
-same_row z q k l h = grind (arith, nat_tests)
-
-later_row : (z : Position) (i j m n : ℕ) → i < m → is_lt (pos_cmp z (i, j)) ≡ true → is_lt (pos_cmp z (m, n)) ≡ true
-later_row z i j m n l h = grind (arith, nat_tests)
-
-not_before : (z : Position) (i j m : ℕ) → i ≤ m → is_lt (pos_cmp z (i, j)) ≡ true → is_lt (pos_cmp z (m, j)) ≡ true
-not_before z i j m l h = grind (arith, nat_tests)
-
-next_column : (i j : ℕ) → is_lt (pos_cmp (i, j) (i, j + 1)) ≡ true
-next_column i j = grind (arith, nat_tests)
-
 -- ---- closing
 
 repeated_push : (n x : ℕ) → repeated (n + 1) x ≡ repeated n x ++ x ∷ []
@@ -120,10 +105,6 @@ closes_more old new more end h e =
       count = h.count + 1;
       is = e ∙ (ap (λ xs. xs ++ end ∷ []) h.is ∙ (append_assoc old (repeated h.count end) (end ∷ []) ∙ ap (λ xs. old ++ xs) (sym (repeated_push h.count end))));
     }
-
-length-repeated : (n x : ℕ) → length (repeated n x) ≡ n
-length-repeated zero x = refl
-length-repeated (suc n) x = ap suc (length-repeated n x)
 
 -- ---- one entry more
 
@@ -158,112 +139,10 @@ fewer_sorted p v (e ∷ es) h = let t : (below_all pos_cmp e.0 (es ++ (p, v) ∷
     below_fewer x q u [] g = refl
     below_fewer x q u (f ∷ fs) g = let s : (is_lt (pos_cmp x f.0) ≡ true) × (below_all pos_cmp x (fs ++ (q, u) ∷ []) ≡ true) = both_true _ _ g in rw (s.0, below_fewer x q u fs s.1) refl
 
--- an entry put behind all others
-pub put_behind : (es : List Entry) (p : Position) (v : ℕ) → is_sorted pos_cmp (es ++ (p, v) ∷ []) ≡ true → from_entries {R = pos_cmp} (es ++ (p, v) ∷ []) ≡ insert (from_entries es) p v
-put_behind es p v h =
-    let own = entries-from_entries es (fewer_sorted p v es h) in
-    same_entries _ _ (entries-from_entries (es ++ (p, v) ∷ []) h ∙ sym (entries-insert_last (from_entries es) p v (ap (λ (xs : List Entry). is_sorted pos_cmp (xs ++ (p, v) ∷ [])) own ∙ h) ∙ ap (λ (xs : List Entry). xs ++ (p, v) ∷ []) own))
-
-pub fits_behind : (rows columns : ℕ) (es : List Entry) (p : Position) (v : ℕ) → is_sorted pos_cmp (es ++ (p, v) ∷ []) ≡ true → p.0 < rows → p.1 < columns → length es < limit → Fits (grid rows columns es) p
-fits_behind rows columns es p v h a b l =
-    let own = entries-from_entries es (fewer_sorted p v es h) in
-    record {
-      inside = (a, b);
-      absent = get-last (from_entries es) p v (ap (λ (xs : List Entry). is_sorted pos_cmp (xs ++ (p, v) ∷ [])) own ∙ h);
-      capacity = omega (arith, len-entries (from_entries {R = pos_cmp} es), ap length own);
-    }
-
--- the state with an entry at `column` of the open row
-pub record Ready (rows columns : ℕ) (ends : List ℕ) (cells : List Cell) (column : ℕ) : Type 0 where
-  pub is_grid : IsGrid (grid rows columns (by_rows ends cells))
-  pub ready : is_sorted pos_cmp (by_rows ends cells ++ ((length ends, column), 0) ∷ []) ≡ true
-  pub within : Within 0 ends (length cells)
-
-module _ (rows columns : ℕ) (ends new : List ℕ) (cells : List Cell) (next : ℕ) (h : IsFilling rows columns ends cells next) (c : Closes ends (length cells) new) where
-  both : (by_rows new cells ≡ by_rows ends cells) × Within 0 new (length cells)
-  both = closed_rows ends new cells h.within c
-
-  longer : length new ≡ length ends + c.count
-  longer = ap length c.is ∙ (length-append ends (repeated c.count (length cells)) ∙ ap (λ n. length ends + n) (length-repeated c.count (length cells)))
-
-  pub same_grid : grid rows columns (by_rows new cells) ≡ grid rows columns (by_rows ends cells)
-  same_grid = ap (grid rows columns) both.0
-
-  -- ready for an entry at `column` of the row that is open now
-  pub ready_there : (column : ℕ) → (length ends ≡ length new → next ≤ column) → Ready rows columns new cells column
-  ready_there column l =
-      record {
-        is_grid = subst (λ (g : Grid). IsGrid g) (sym same_grid) h.is_grid;
-        ready = ap (λ (es : List Entry). is_sorted pos_cmp (es ++ ((length new, column), 0) ∷ [])) both.0 ∙ raise (length ends, next) (length new, column) 0 0 (by_rows ends cells) rises h.ready;
-        within = both.1;
-      }
-    where
-      rises : (x : Position) → is_lt (pos_cmp x (length ends, next)) ≡ true → is_lt (pos_cmp x (length new, column)) ≡ true
-      rises x g = elim (cases_lt (length ends) (length new)) [
-        | inl a ↦ later_row x (length ends) next (length new) column a g
-        | inr b ↦ let e : length ends ≡ length new = omega (arith, longer) in
-            ap (λ n. is_lt (pos_cmp x (n, column))) (sym e) ∙ same_row x (length ends, next) column (l e) g
-      ]
-
-  pub filling_there : length new ≤ rows → IsFilling rows columns new cells next
-  filling_there o =
-      record {
-        is_grid = subst (λ (g : Grid). IsGrid g) (sym same_grid) h.is_grid;
-        ready = ap (λ (es : List Entry). is_sorted pos_cmp (es ++ ((length new, next), 0) ∷ [])) both.0 ∙ raise (length ends, next) (length new, next) 0 0 (by_rows ends cells) (λ x g. not_before x (length ends) next (length new) (omega (arith, longer)) g) h.ready;
-        within = both.1;
-        opened = o;
-      }
-
-module _ (rows columns : ℕ) (ends : List ℕ) (cells : List Cell) (column word : ℕ) (h : Ready rows columns ends cells column) (row_in : length ends < rows) (column_in : column < columns) (capacity : length cells < limit) (fits : word < 2 ^ 64) where
-  at : Position
-  at = (length ends, column)
-
-  sorted : is_sorted pos_cmp (by_rows ends cells ++ ((length ends, column), word) ∷ []) ≡ true
-  sorted = raise (length ends, column) (length ends, column) 0 word (by_rows ends cells) (λ x g. g) h.ready
-
-  pushed : by_rows ends (cells ++ (column, word) ∷ []) ≡ by_rows ends cells ++ ((length ends, column), word) ∷ []
-  pushed = push_row ends cells (column, word) h.within
-
-  pub added : grid rows columns (by_rows ends (cells ++ (column, word) ∷ [])) ≡ record (grid rows columns (by_rows ends cells)) { cells = insert (from_entries (by_rows ends cells)) (length ends, column) word }
-  added = ap (grid rows columns) pushed ∙ ap (λ m. let g : Grid = record { rows = rows; columns = columns; cells = m } in g) (put_behind (by_rows ends cells) (length ends, column) word sorted)
-
-  pub filling_more : IsFilling rows columns ends (cells ++ (column, word) ∷ []) (column + 1)
-  filling_more =
-      let count = length-entries_from 0 0 ends cells h.within in
-      record {
-        is_grid = subst (λ (g : Grid). IsGrid g) (sym added) (insert-is_grid (grid rows columns (by_rows ends cells)) (length ends, column) word h.is_grid (fits_behind rows columns (by_rows ends cells) (length ends, column) word sorted row_in column_in (omega arith)) fits);
-        ready = ap (λ (es : List Entry). is_sorted pos_cmp (es ++ ((length ends, column + 1), 0) ∷ [])) pushed ∙ sorted_push (length ends, column) (length ends, column + 1) word 0 (by_rows ends cells) sorted (next_column (length ends) column);
-        within = subst (λ (n : ℕ). Within 0 ends n) (sym (length-append cells ((column, word) ∷ []))) (within_push 0 ends (length cells) h.within);
-        opened = omega arith;
-      }
-
-pub filling_none : (rows columns : ℕ) (ends : List ℕ) (cells : List Cell) → rows ≤ limit → columns ≤ limit → ends ≡ [] → cells ≡ [] → IsFilling rows columns ends cells 0
-filling_none rows columns ends cells r c e f = rw (e, f) (record { is_grid = empty-is_grid rows columns r c; ready = refl; within = tt; opened = omega arith })
-
 -- ---- what is read
 
 pub sorted_entries : (ends : List ℕ) (cells : List Cell) → Within 0 ends (length cells) → is_sorted pos_cmp (by_rows ends cells) ≡ true → len (from_entries {R = pos_cmp} (by_rows ends cells)) ≡ length cells
 sorted_entries ends cells w h = len-entries _ ∙ ap length (entries-from_entries (by_rows ends cells) h) ∙ length-entries_from 0 0 ends cells w
-
-module _ (rows columns : ℕ) (ends : List ℕ) (cells : List Cell) (next : ℕ) (h : IsFilling rows columns ends cells next) where
-  pub filling_sorted : is_sorted pos_cmp (by_rows ends cells) ≡ true
-  filling_sorted = fewer_sorted (length ends, next) 0 (by_rows ends cells) h.ready
-
-  pub filling_entries : len (from_entries {R = pos_cmp} (by_rows ends cells)) ≡ length cells
-  filling_entries = sorted_entries ends cells h.within filling_sorted
-
-  pub filling_rows : (i : ℕ) → row_of (grid rows columns (by_rows ends cells)) i ≡ row_cells i (by_rows ends cells)
-  filling_rows i = ap (row_cells i) (entries-from_entries (by_rows ends cells) filling_sorted)
-
-  none_behind : (p : Position) → is_sorted pos_cmp (by_rows ends cells ++ (p, 0) ∷ []) ≡ true → get (from_entries {R = pos_cmp} (by_rows ends cells)) p ≡ None
-  none_behind p s = get-last (from_entries (by_rows ends cells)) p 0 (ap (λ (xs : List Entry). is_sorted pos_cmp (xs ++ (p, 0) ∷ [])) (entries-from_entries (by_rows ends cells) filling_sorted) ∙ s)
-
-  pub none_in_later_row : (row column : ℕ) → length ends < row → get (from_entries {R = pos_cmp} (by_rows ends cells)) (row, column) ≡ None
-  none_in_later_row row column l = none_behind (row, column) (raise (length ends, next) (row, column) 0 0 (by_rows ends cells) (λ x g. later_row x (length ends) next row column l g) h.ready)
-
-  pub none_in_later_column : (row column : ℕ) → length ends ≡ row → next ≤ column → get (from_entries {R = pos_cmp} (by_rows ends cells)) (row, column) ≡ None
-  none_in_later_column row column e l =
-      none_behind (row, column) (ap (λ n. is_sorted pos_cmp (by_rows ends cells ++ ((n, column), 0) ∷ [])) (sym e) ∙ raise (length ends, next) (length ends, column) 0 0 (by_rows ends cells) (λ x g. same_row x (length ends, next) column l g) h.ready)
 
 -- a fact that holds anyway
 pub on_err : {X E : Type 0} {P : Type 0} (r : Result X E) → P → OnErr r P

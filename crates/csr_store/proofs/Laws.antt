@@ -38,10 +38,6 @@ entries_ascend m = true_from _ (entries_sorted m)
 pub entries-empty : entries (empty {X = ℕ} {R = pos_cmp}) ≡ []
 entries-empty = entries-from_entries [] refl
 
--- a map is made of its entries
-pub from_entries-entries : (m : FinMap pos_cmp ℕ) → from_entries {R = pos_cmp} (entries m) ≡ m
-from_entries-entries m = same_entries _ _ (entries-from_entries (entries m) (entries_ascend m))
-
 -- What `insert` changes.
 
 apart : (p q : Position) (o : Ordering) → pos_cmp q p ≡ o → q ≢ p → is_eq o ≡ false
@@ -99,7 +95,7 @@ pub get-entry : (m : FinMap pos_cmp ℕ) (k : ℕ) (d : Entry) → k < length (e
 get-entry m k d l = get-entries m _ ∙ find-entry (entries m) k d (entries_ascend m) l
 
 -- a position behind all entries has none
-find-last : (es : List Entry) (p : Position) (v : ℕ) → is_sorted pos_cmp (es ++ (p, v) ∷ []) ≡ true → find pos_cmp p es ≡ None
+pub find-last : (es : List Entry) (p : Position) (v : ℕ) → is_sorted pos_cmp (es ++ (p, v) ∷ []) ≡ true → find pos_cmp p es ≡ None
 find-last [] p v h = refl
 find-last (e ∷ es) p v h =
     let t = both_true _ _ h in

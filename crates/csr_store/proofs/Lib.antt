@@ -3,7 +3,6 @@ pub mod Laws
 pub mod ByRow
 pub mod InRow
 pub mod Filling
-pub mod Adding
 pub mod Packing
 pub mod Listing
 pub mod Repeating

@@ -370,3 +370,20 @@ place_back row column l =
 -- what the map of some cells has
 pub marks_are : (cells : List Cell) (p : Position) → get (from_entries {R = pos_cmp} (map unpacked cells)) p ≡ found_in cells p
 marks_are cells p = get-from_entries pos_total (map unpacked cells) p
+
+-- ---- a search among numbers is one among places
+
+same_test : (m n : ℕ) → eq_by_cmp pos_cmp (place_of m) (place_of n) ≡ nat_eq m n
+same_test m n = elim (eqb_tells m n) [
+  | inl d ↦ ap (λ k. eq_by_cmp pos_cmp (place_of m) (place_of k)) (sym d.1) ∙ own_position (place_of m) ∙ sym d.0
+  | inr d ↦ apart m n d.1 ∙ sym d.0
+]
+
+found_number : (n : ℕ) (cells : List Cell) → found_in cells (place_of n) ≡ lookup (nat_eq n) cells
+found_number n [] = refl
+found_number n (c ∷ cells) =
+    ap (λ b. cond b (Some c.1) (found_in cells (place_of n))) (same_test n c.0)
+    ∙ ap (cond (nat_eq n c.0) (Some c.1)) (found_number n cells)
+
+pub found_packed : (row column : ℕ) (cells : List Cell) → column < limit → found_in cells (row, column) ≡ lookup (nat_eq (row * limit + column)) cells
+found_packed row column cells l = ap (found_in cells) (sym (place_back row column l)) ∙ found_number (row * limit + column) cells

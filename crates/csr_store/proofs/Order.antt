@@ -1,5 +1,5 @@
 -- The order of positions, and of entries by their positions.
-use Rattle.std.proofs.Common.{◌≡◌, ℕ, Bool, true, false, ◌&&◌, List, [], ◌∷◌, nat_eq, refl, ap, ◌∙◌, arith}
+use Rattle.std.proofs.Common.{◌≡◌, ℕ, Bool, true, false, ◌&&◌, nat_eq, refl, ap, ◌∙◌, arith}
 use Rattle.std.specs.declared.cmp.Ordering.{Ordering}
 use Rattle.std.specs.declared.cmp.Ordering.TheVariants.{Less, Equal, Greater}
 use Rattle.std.specs.Ordering.{nat_cmp, ordering_then, is_eq}
@@ -7,12 +7,6 @@ use Rattle.std.specs.Cmp.{IsTotalOrder, nat_cmp_total}
 use Rattle.std.proofs.lemmas.Cmp.{on_total, then_total}
 use Rattle.std.proofs.lemmas.Map.Lookups.{CmpEqualImpliesEq, exact_pairs, exact_unsigned}
 use Rattle.std.proofs.lemmas.Bool.Decides.{nat_tests}
-use Rattle.std.specs.List.{AllByRecursion}
-use Rattle.std.specs.List.Sorted.{IsStrictlySortedBy}
-use Rattle.std.proofs.lemmas.Map.Keys.{sorted_head, sorted_tail}
-use Rattle.std.specs.Map.{keys_of}
-use Rattle.std.specs.FinMap.{is_sorted}
-use Rattle.std.specs.FinMap.Entries.{below_all}
 use Rattle.csr_store.specs.Grid.{Position, pos_cmp}
 
 pub pos_total : IsTotalOrder pos_cmp
@@ -42,13 +36,3 @@ is_eq-pos_cmp i j p =
 pub both_true : (a b : Bool) → (a && b) ≡ true → (a ≡ true) × (b ≡ true)
 both_true true b h = (refl, h)
 both_true false b h = absurd (cc)
-
--- keys in order make sorted entries
-module _ {K X : Type 0} (R : K → K → Ordering) where
-  below_from_keys : (x : K) (es : List (K × X)) → AllByRecursion (λ y. R x y ≡ Less) (keys_of es) → below_all R x es ≡ true
-  below_from_keys x [] h = refl
-  below_from_keys x (e ∷ es) h = rw (h.0, below_from_keys x es h.1) refl
-
-  pub sorted_from_keys : (es : List (K × X)) → IsStrictlySortedBy R (keys_of es) → is_sorted R es ≡ true
-  sorted_from_keys [] h = refl
-  sorted_from_keys (e ∷ es) h = rw (below_from_keys e.0 es (sorted_head R e.0 (keys_of es) h), sorted_from_keys es (sorted_tail R e.0 (keys_of es) h)) refl

@@ -46,7 +46,7 @@ row_behind_first i k from e ends cs =
 
 -- Where a row starts and ends.
 
-pub start_bounds : (k from : ℕ) (ends : List ℕ) (n : ℕ) → Within from ends n → k ≤ length ends → (from ≤ get_or (from ∷ ends) k 0) × (get_or (from ∷ ends) k 0 ≤ from + n)
+start_bounds : (k from : ℕ) (ends : List ℕ) (n : ℕ) → Within from ends n → k ≤ length ends → (from ≤ get_or (from ∷ ends) k 0) × (get_or (from ∷ ends) k 0 ≤ from + n)
 start_bounds zero from ends n w l = (omega arith, omega arith)
 start_bounds (suc k) from [] n w l = absurd (omega arith)
 start_bounds (suc k) from (e ∷ ends) n w l =
@@ -54,7 +54,7 @@ start_bounds (suc k) from (e ∷ ends) n w l =
     let a = w.0 in let b = w.1.0 in let c = r.0 in let d = r.1 in
     (omega arith, omega arith)
 
-pub row_bounds : (k from : ℕ) (ends : List ℕ) (n : ℕ) → Within from ends n → k < length ends → (get_or (from ∷ ends) k 0 ≤ get_or ends k 0) × (get_or ends k 0 ≤ from + n)
+row_bounds : (k from : ℕ) (ends : List ℕ) (n : ℕ) → Within from ends n → k < length ends → (get_or (from ∷ ends) k 0 ≤ get_or ends k 0) × (get_or ends k 0 ≤ from + n)
 row_bounds k from [] n w l = absurd (omega arith)
 row_bounds zero from (e ∷ ends) n w l = (w.0, w.1.0)
 row_bounds (suc k) from (e ∷ ends) n w l =
@@ -76,43 +76,16 @@ row_ended_from (suc k) i from (e ∷ ends) cs w l =
     row_behind_first i k from e ends cs ∙ row_ended_from k (i + 1) e ends (drop (e - from) cs) inner (omega arith)
     ∙ ap (take (get_or ends k 0 - get_or (e ∷ ends) k 0)) (drop-drop (get_or (e ∷ ends) k 0 - e) (e - from) cs ∙ ap (λ n. drop n cs) (let q : e - from + (get_or (e ∷ ends) k 0 - e) ≡ get_or (e ∷ ends) k 0 - from = omega arith in q))
 
--- the open row
-row_open_from : (k i from : ℕ) (ends : List ℕ) (cs : List Cell) → Within from ends (length cs) → k ≡ length ends
-    → row_cells (i + k) (entries_from i from ends cs) ≡ drop (get_or (from ∷ ends) k 0 - from) cs
-row_open_from zero i from [] cs w l =
-    ap (λ n. row_cells n (at_row i cs)) (let q : i + 0 ≡ i = omega arith in q) ∙ row_cells-own i cs ∙ ap (λ n. drop n cs) (let q : 0 ≡ from - from = omega arith in q)
-row_open_from (suc k) i from [] cs w l = absurd (omega arith)
-row_open_from zero i from (e ∷ ends) cs w l = absurd (omega arith)
-row_open_from (suc k) i from (e ∷ ends) cs w l =
-    let inner : Within e ends (length (drop (e - from) cs)) = subst (λ (n : ℕ). Within e ends n) (sym (length-drop (e - from) cs)) w.1.1 in
-    let b = start_bounds k e ends _ inner (omega arith) in
-    let low = b.0 in let a = w.0 in
-    row_behind_first i k from e ends cs ∙ row_open_from k (i + 1) e ends (drop (e - from) cs) inner (omega arith)
-    ∙ drop-drop (get_or (e ∷ ends) k 0 - e) (e - from) cs ∙ ap (λ n. drop n cs) (let q : e - from + (get_or (e ∷ ends) k 0 - e) ≡ get_or (e ∷ ends) k 0 - from = omega arith in q)
-
--- no row stands behind the open one
-row_none_from : (k i from : ℕ) (ends : List ℕ) (cs : List Cell) → length ends < k → row_cells (i + k) (entries_from i from ends cs) ≡ []
-row_none_from k i from [] cs l = row_cells-other (i + k) i cs (λ q. omega arith)
-row_none_from zero i from (e ∷ ends) cs l = absurd (omega arith)
-row_none_from (suc k) i from (e ∷ ends) cs l = row_behind_first i k from e ends cs ∙ row_none_from k (i + 1) e ends (drop (e - from) cs) (omega arith)
-
 here : (k : ℕ) → 0 + k ≡ k
 here k = omega arith
 
 minus_none : (k : ℕ) → k - 0 ≡ k
 minus_none k = omega arith
 
-pub row_ended : (k : ℕ) (ends : List ℕ) (cs : List Cell) → Within 0 ends (length cs) → k < length ends → row_cells k (by_rows ends cs) ≡ take (get_or ends k 0 - get_or (0 ∷ ends) k 0) (drop (get_or (0 ∷ ends) k 0) cs)
+row_ended : (k : ℕ) (ends : List ℕ) (cs : List Cell) → Within 0 ends (length cs) → k < length ends → row_cells k (by_rows ends cs) ≡ take (get_or ends k 0 - get_or (0 ∷ ends) k 0) (drop (get_or (0 ∷ ends) k 0) cs)
 row_ended k ends cs w l =
     ap (λ n. row_cells n (by_rows ends cs)) (sym (here k)) ∙ row_ended_from k 0 0 ends cs w l
     ∙ ap (λ n. take (get_or ends k 0 - get_or (0 ∷ ends) k 0) (drop n cs)) (minus_none (get_or (0 ∷ ends) k 0))
-
-pub row_open : (k : ℕ) (ends : List ℕ) (cs : List Cell) → Within 0 ends (length cs) → k ≡ length ends → row_cells k (by_rows ends cs) ≡ drop (get_or (0 ∷ ends) k 0) cs
-row_open k ends cs w l =
-    ap (λ n. row_cells n (by_rows ends cs)) (sym (here k)) ∙ row_open_from k 0 0 ends cs w l ∙ ap (λ n. drop n cs) (minus_none (get_or (0 ∷ ends) k 0))
-
-pub row_none : (k : ℕ) (ends : List ℕ) (cs : List Cell) → length ends < k → row_cells k (by_rows ends cs) ≡ []
-row_none k ends cs l = ap (λ n. row_cells n (by_rows ends cs)) (sym (here k)) ∙ row_none_from k 0 0 ends cs l
 
 -- Rows of a matrix, by its starts.
 

@@ -6,11 +6,9 @@ ghost use Rattle.csr_store.specs.Refusal.{put_fault};
 
 use crate::entry_list::EntryList;
 use crate::error::StoreError;
-use crate::filler::Filler;
 use crate::limits::MOST_ENTRIES;
 use crate::matrix::Matrix;
-use crate::merging::{merged, push_entries};
-use std::alloc::{AllocError, Global};
+use std::alloc::Global;
 use std::collections::BTreeMap;
 use std::marker::Model;
 
@@ -19,14 +17,12 @@ use std::marker::Model;
 /// An entry above all earlier ones is pushed; any other goes into an ordered map.
 #[derive(Drop)]
 pub struct Builder {
-    ascending: Filler,
+    ascending: EntryList,
     others: BTreeMap<(u64, u64), u64>,
-    alloc: Global,
 }
 
 impl Model for Builder {
     ghost use Rattle.std.specs.Prelude.{◌++◌};
-    ghost use Rattle.std.specs.FinMap as map;
     ghost use Rattle.csr_store.specs.Grid.{Grid, grid_code};
     ghost use Rattle.csr_store.specs.ByRows.{grid};
     ghost use Rattle.csr_store.specs.inner.Collected.{IsCollected};
@@ -35,8 +31,7 @@ impl Model for Builder {
 
     ghost coded = { grid_code };
 
-    ghost view = { λ b. grid b.ascending.rows b.ascending.columns
-        (map.entries b.ascending.cells ++ b.others.entries) };
+    ghost view = { λ b. grid b.ascending.rows b.ascending.columns (b.ascending.entries ++ b.others.entries) };
 
     ghost invariant = { λ b. IsCollected b.ascending b.others.entries };
 }
@@ -49,17 +44,9 @@ impl Builder {
         ensures { result ≡ record { rows = rows; columns = columns; cells = map.empty } }
     {
         Builder {
-            ascending: Filler::begin(alloc, rows, columns),
+            ascending: EntryList::new(alloc, rows, columns),
             others: BTreeMap::new(alloc),
-            alloc,
         }
-    }
-
-    /// Reserves memory for `entries` more entries, in ascending order.
-    pub fn reserve(&mut self, entries: usize) -> Result<(), AllocError>
-        ensures { self.new ≡ self.old }
-    {
-        self.ascending.reserve(entries)
     }
 
     /// Adds an entry at a position that has none, both indices counted from 0. Costs a few
@@ -77,7 +64,7 @@ impl Builder {
             (λ e. e ≡ unwrap_or (put_fault self.old (row, column)) StoreError.Memory) }
         ensures unchanged { OnErr result (self.new ≡ self.old) }
     {
-        if row >= self.ascending.rows() || column >= self.ascending.columns() {
+        if !self.ascending.spans(row, column) {
             return Err(StoreError::IndexOutOfRange);
         }
         if self.ascending.has(row, column) {
@@ -86,13 +73,14 @@ impl Builder {
         if self.others.contains_key(&(row, column)) {
             return Err(StoreError::PositionGivenTwice);
         }
-        if self.ascending.entries() + self.others.len() as u64 >= MOST_ENTRIES {
+        if self.ascending.len() + self.others.len() as u64 >= MOST_ENTRIES {
             return Err(StoreError::TooManyEntries);
         }
-        match self.ascending.add(row, column, value) {
-            Ok(true) => return Ok(()),
-            Ok(false) => {}
-            Err(_) => return Err(StoreError::Memory),
+        if self.ascending.ends_before(row, column) {
+            match self.ascending.add(row, column, value) {
+                Ok(()) => return Ok(()),
+                Err(_) => return Err(StoreError::Memory),
+            }
         }
         match self.others.insert((row, column), value) {
             Ok(_) => {}
@@ -106,37 +94,23 @@ impl Builder {
         ensures ok { IfOk result (λ m. m ≡ self) }
         ensures err { IfErr result (λ b. b ≡ self) }
     {
-        if !self.others.is_empty() {
-            return match self.merged() {
-                Ok(matrix) => Ok(matrix),
-                Err(_) => Err(self),
-            };
+        if self.others.is_empty() {
+            match self.ascending.cut() {
+                Ok(matrix) => return Ok(matrix),
+                Err(ascending) => {
+                    return Err(Builder {
+                        ascending,
+                        others: self.others,
+                    });
+                }
+            }
         }
-        match self.ascending.finish() {
-            Ok(matrix) => Ok(matrix),
-            Err(ascending) => Err(Builder {
-                ascending,
-                others: self.others,
-                alloc: self.alloc,
-            }),
-        }
-    }
-
-    /// The matrix of all entries. The two are merged, so they stand in order, and nothing is
-    /// sorted.
-    fn merged(&self) -> Result<Matrix, AllocError>
-        ensures { IfOk result (λ m. m ≡ self.now) }
-    {
-        let entries = merged(self.alloc, &self.ascending, &self.others)?;
-        let for_proof_others = self.others.len();
-        let _ = for_proof_others;
-        let mut list = EntryList::new(self.alloc, self.ascending.rows(), self.ascending.columns());
-        push_entries(&mut list, &entries)?;
+        let Ok(list) = self.ascending.merged(&self.others) else {
+            return Err(self);
+        };
         match list.finish() {
             Ok(matrix) => Ok(matrix),
-            Err(StoreError::Memory) => Err(AllocError),
-            Err(StoreError::PositionGivenTwice) => unreachable!(),
-            Err(StoreError::IndexOutOfRange | StoreError::TooManyEntries) => unreachable!(),
+            Err(_) => Err(self),
         }
     }
 }

@@ -17,12 +17,11 @@
 //! and `stack`; below them `cells` (one list of cells, or many), `starts` (where rows start, in a
 //! list that matrices may share), `growing` (where rows start while runs are stacked), `growth`
 //! (memory that is asked for, which tells of a refusal by a value of its own), `ends`
-//! (where the rows of a run end), `moving` (ends counted from another start), `filler` (rows filled
-//! in ascending order), `merging` (those entries and others by position, as one list), `repeat`
-//! (the positions that two or more entries of a list have), `parts` (where positions start in each
-//! part of their range), `selected` (the cells that answers or a mask select), `reader` (rows one
-//! after the other) and `row` (parts of a list of cells, and searches in a row), over
-//! `specs/ByRows.antt`.
+//! (where the rows of a run end), `moving` (ends counted from another start), `entry_list` (entries
+//! in any order), `repeat` (the positions that two or more entries of a list have), `parts` (where
+//! positions start in each part of their range), `selected` (the cells that answers or a mask
+//! select), `reader` (rows one after the other) and `row` (parts of a list of cells, and searches in
+//! a row), over `specs/ByRows.antt`.
 #![tactic(auto)]
 
 pub mod builder;
@@ -31,13 +30,11 @@ mod column;
 mod ends;
 mod entry_list;
 pub mod error;
-mod filler;
 mod growing;
 mod growth;
 mod join;
 mod limits;
 pub mod matrix;
-mod merging;
 mod moving;
 mod parts;
 mod reader;

@@ -1,6 +1,8 @@
 //! Where the rows of a matrix start: a list that matrices of which each row has as many entries may
 //! share.
-ghost use Rattle.std.specs.Prelude.{◌≡◌, IfOk, IfErr, IfSome, OnOk};
+ghost use Rattle.std.specs.Prelude.{◌≡◌, ◌≤◌, length, IfOk, OnOk, OnErr};
+ghost use Rattle.csr_store.specs.Grid.{limit};
+ghost use Rattle.csr_store.specs.inner.ByRows.{Closes, Starts};
 
 use crate::growth::{self, RefusedGrowth};
 use std::alloc::{AllocError, Global};
@@ -50,17 +52,6 @@ impl RowStarts {
         Ok(())
     }
 
-    /// The starts that a list has, or the list back if there is no memory to share it.
-    pub(crate) fn or_back(alloc: Global, list: Vec<u64>) -> Result<Self, Vec<u64>>
-        ensures ok { IfOk result (λ s. s ≡ list.items) }
-        ensures err { IfErr result (λ l. l.items ≡ list.items) }
-    {
-        match Arc::new(alloc, list) {
-            Ok(list) => Ok(RowStarts { list }),
-            Err(refused) => Err(refused.value),
-        }
-    }
-
     /// The list.
     #[inline(always)]
     pub(crate) fn list(&self) -> &[u64]
@@ -76,4 +67,31 @@ impl RowStarts {
         let list = Arc::try_clone(&self.list)?;
         Ok(RowStarts { list })
     }
+}
+
+/// Closes rows with no more entries, until `row` is the open one.
+#[inline(always)]
+pub(crate) fn close(ends: &mut Vec<u64>, row: u64, end: u64) -> Result<(), RefusedGrowth>
+    requires { length ends.old.items ≤ row }
+    ensures closes { Closes ends.old.items end ends.new.items }
+    ensures upto { length ends.new.items ≤ row }
+    ensures reached { OnOk result (length ends.new.items ≡ row) }
+{
+    for _ in ends.len() as u64..row {
+        growth::push(ends, end)?;
+    }
+    Ok(())
+}
+
+/// Closes the rows that are left, and puts the start of the first row before the ends.
+pub(crate) fn start_rows(ends: &mut Vec<u64>, rows: u64, end: u64) -> Result<(), RefusedGrowth>
+    requires left { length ends.old.items ≤ rows }
+    requires small { rows ≤ limit }
+    ensures started { OnOk result (Starts ends.old.items end rows ends.new.items) }
+    ensures closed { OnErr result (Closes ends.old.items end ends.new.items × (length ends.new.items ≤ rows)) }
+{
+    let len = ends.len();
+    growth::reserve(ends, rows as usize + 1 - len)?;
+    close(ends, rows, end)?;
+    growth::put_first(ends, 0)
 }

@@ -1,8 +1,8 @@
 -- What stands beside specs/ByRows.antt for this crate's own modules and proofs.
 use Rattle.std.specs.Prelude.{◌≡◌, ◌≤◌, ◌+◌, ◌-◌, zero, suc, ℕ, List, [], ◌∷◌, ◌++◌, length, true}
 use Rattle.std.specs.FinMap as fin
-use Rattle.csr_store.specs.Grid.{IsGrid, Cell, pos_cmp}
-use Rattle.csr_store.specs.ByRows.{grid, by_rows, ends_of}
+use Rattle.csr_store.specs.Grid.{Cell, pos_cmp}
+use Rattle.csr_store.specs.ByRows.{by_rows, ends_of}
 
 -- the ends from index `from` on don't fall, and are no more than n behind it
 abbrev pub Within : ℕ → List ℕ → ℕ → Type 0
@@ -17,13 +17,6 @@ repeated (suc n) x = x ∷ repeated n x
 pub record Closes (old : List ℕ) (end : ℕ) (new : List ℕ) : Type 0 where
   pub count : ℕ
   pub is : new ≡ old ++ repeated count end
-
--- what holds while rows are filled: an entry at `next` of the open row would go on in ascending order
-pub record IsFilling (rows columns : ℕ) (ends : List ℕ) (cells : List Cell) (next : ℕ) : Type 0 where
-  pub is_grid : IsGrid (grid rows columns (by_rows ends cells))
-  pub ready : fin.is_sorted pos_cmp (by_rows ends cells ++ ((length ends, next), 0) ∷ []) ≡ true
-  pub within : Within 0 ends (length cells)
-  pub opened : length ends ≤ rows
 
 -- each row has its start, and the last row its end
 pub record AreStarts (rows : ℕ) (starts : List ℕ) (cells : List Cell) : Type 0 where

@@ -1,11 +1,5 @@
-use Rattle.std.proofs.Common.{refl, ◌∙◌}
-use Rattle.csr_store.proofs.Collecting.{collected_none, collected_alone}
+use Rattle.csr_store.proofs.Collecting.{collected_none}
 use Rattle.csr_store.proofs.builder.Builder.new.Goals as goal
 
 pub invariant_of-result : goal.invariant_of-result
-invariant_of-result c =
-    let e = c.begin.ensures in
-    rw e (rw c.new.ensures.empty (collected_none _ _ c.requires.rows c.requires.columns refl refl))
-
-pub returns : goal.returns
-returns c = collected_alone c.begin.result c.new.result.entries c.new.ensures.empty ∙ c.begin.ensures
+invariant_of-result c = collected_none c.new.result c.new-2.result.entries c.args.rows c.args.columns c.requires.rows c.requires.columns c.new.ensures c.new-2.ensures.empty

@@ -1,6 +1,6 @@
 use Rattle.std.proofs.Common.{◌+◌, length, sym, ap, ◌∙◌, arith, length-append, [], ◌∷◌}
 use Rattle.csr_store.proofs.Filling.{closes_none, closes_more}
-use Rattle.csr_store.proofs.filler.close.Goals as goal
+use Rattle.csr_store.proofs.starts.close.Goals as goal
 
 pub loop-init : goal.loop-init
 loop-init c =
