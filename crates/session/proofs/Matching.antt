@@ -22,8 +22,9 @@ use Rattle.job_runner.specs.Batch as batch
 use Rattle.job_runner.specs.Batch.{AreResultsOf}
 use Rattle.workspace.specs.State.{State}
 use Rattle.workspace.specs.Found.{job_found}
-use Rattle.workspace.specs.Turn.{Turn, TakesMatrix, TakesOperator, TakesDigits, TakesKind, Submits, Prices, Finds, Shows, TellsTypes, TakesProgram, TakesAssembly, TakesKindOfAssembly, TellsAssembly, RunTurn, BatchRefused, batch_refusal, Refuses, Replies, settled, charged, released}
+use Rattle.workspace.specs.Turn.{Turn, TakesMatrix, TakesOperator, TakesDigits, TakesKind, Submits, Prices, Finds, Tells, TakesProgram, TakesAssembly, RunTurn, BatchRefused, batch_refusal, Refuses, Replies, settled, charged, released}
 use Rattle.bpf_insn.specs.declared.insn.Insn.{Insn}
+use Rattle.bpf_insn.specs.declared.operands.Kind.{Kind}
 use Rattle.session.specs.NextCommand.{NextCommand}
 use Rattle.session.specs.Exchange.{IsLast, waiting, ending, stopping, going, leaving}
 use Rattle.session.specs.declared.end.End.{End}
@@ -100,11 +101,12 @@ module _ (s t : State) (ds : List Dealing) where
   digits_matched name reply kind (Err e) h = said _ reply h
   digits_matched name reply kind (Ok code) h = operator_matched name code reply kind h
 
-  kind_matched : (name body reply : List ℕ) (kind : _) → TakesKind s name kind body ds reply t → IsMatched s ds t
-  kind_matched name body reply None h = said _ reply h
-  kind_matched name body reply (Some kind) h =
-      elim (is_name name) as (λ v. MatchBool v (TakesDigits s name kind (decode_of (without_gaps body)) ds reply t) (Refuses (no.Session MalformedName) s ds reply t) → IsMatched s ds t) [
-        | true ↦ λ w. digits_matched name reply kind (decode_of (without_gaps body)) w
+  kind_matched : (name reply : List ℕ) (kind : Option Kind) (takes : Kind → List Dealing → List ℕ → State → Type 0)
+      → ((k : Kind) → takes k ds reply t → IsMatched s ds t) → TakesKind s name kind takes ds reply t → IsMatched s ds t
+  kind_matched name reply None takes matched h = said _ reply h
+  kind_matched name reply (Some kind) takes matched h =
+      elim (is_name name) as (λ v. MatchBool v (takes kind ds reply t) (Refuses (no.Session MalformedName) s ds reply t) → IsMatched s ds t) [
+        | true ↦ λ w. matched kind w
         | false ↦ λ w. said _ reply w
       ] h
 
@@ -113,14 +115,6 @@ module _ (s t : State) (ds : List Dealing) where
     | inl w ↦ program_matched name w.0 reply kind w.2
     | inr w ↦ said _ reply w.2
   ]
-
-  kind_of_assembly_matched : (name body reply : List ℕ) (kind : _) → TakesKindOfAssembly s name kind body ds reply t → IsMatched s ds t
-  kind_of_assembly_matched name body reply None h = said _ reply h
-  kind_of_assembly_matched name body reply (Some kind) h =
-      elim (is_name name) as (λ v. MatchBool v (TakesAssembly s name kind body ds reply t) (Refuses (no.Session MalformedName) s ds reply t) → IsMatched s ds t) [
-        | true ↦ λ w. assembly_matched name body reply kind w
-        | false ↦ λ w. said _ reply w
-      ] h
 
   submits_matched : (job : Job) (reply : List ℕ) → Submits s job ds reply t → IsMatched s ds t
   submits_matched job reply h = elim h [
@@ -144,17 +138,9 @@ module _ (s t : State) (ds : List Dealing) where
         | false ↦ λ w. said (refusal_text no.QueueFull) reply w
       ] h
 
-  shows_matched : (reply : List ℕ) (g : _) → Shows s g ds reply t → IsMatched s ds t
-  shows_matched reply None h = said _ reply h
-  shows_matched reply (Some g) h = elim h [ inl w ↦ said _ reply w | inr w ↦ said _ reply w ]
-
-  types_matched : (reply : List ℕ) (o : _) → TellsTypes s o ds reply t → IsMatched s ds t
-  types_matched reply None h = said _ reply h
-  types_matched reply (Some o) h = elim h [ inl w ↦ said _ reply w | inr w ↦ said _ reply w ]
-
-  assembly_told_matched : (reply : List ℕ) (o : _) → TellsAssembly s o ds reply t → IsMatched s ds t
-  assembly_told_matched reply None h = said _ reply h
-  assembly_told_matched reply (Some o) h = elim h [ inl w ↦ said _ reply w | inr w ↦ said _ reply w ]
+  tells_matched : {V : Type 0} (text : V → List ℕ) (reply : List ℕ) (o : Option V) → Tells s o text ds reply t → IsMatched s ds t
+  tells_matched text reply None h = said _ reply h
+  tells_matched text reply (Some v) h = elim h [ inl w ↦ said _ reply w | inr w ↦ said _ reply w ]
 
   refused_matched : (refusal : Refusal) (spent : ℕ) (reply : List ℕ) → BatchRefused refusal spent s ds reply t → IsMatched s ds t
   refused_matched refusal spent reply w =
@@ -187,17 +173,19 @@ module _ (s t : State) (ds : List Dealing) where
   ]
   turn_matched (Op name kind body) reply h = elim h [
     | inl w ↦ said _ reply w
-    | inr w ↦ kind_matched name body reply (kind_of_word kind) w
+    | inr w ↦ kind_matched name reply (kind_of_word kind) (λ (k : Kind). TakesDigits s name k (decode_of (without_gaps body)))
+        (λ k x. digits_matched name reply k (decode_of (without_gaps body)) x) w
   ]
   turn_matched (Asm name kind body) reply h = elim h [
     | inl w ↦ said _ reply w
-    | inr w ↦ kind_of_assembly_matched name body reply (kind_of_word kind) w
+    | inr w ↦ kind_matched name reply (kind_of_word kind) (λ (k : Kind). TakesAssembly s name k body)
+        (λ k x. assembly_matched name body reply k x) w
   ]
-  turn_matched (Dis name) reply h = assembly_told_matched reply (s.operators name) h
+  turn_matched (Dis name) reply h = tells_matched _ reply (s.operators name) h
   turn_matched (Submit submission) reply h = found_matched reply (job_found s submission) h
   turn_matched Run reply h = run_matched reply h
-  turn_matched (Show name) reply h = shows_matched reply (s.matrices name) h
-  turn_matched (Types name) reply h = types_matched reply (s.operators name) h
+  turn_matched (Show name) reply h = tells_matched _ reply (s.matrices name) h
+  turn_matched (Types name) reply h = tells_matched _ reply (s.operators name) h
   turn_matched Budget reply h = let q : t.queue ≡ s.queue = ap (λ (x : State). x.queue) h.3 in rw (h.1, q) (append_nil (map price_of s.queue))
   turn_matched Quit reply h = said _ reply h
   turn_matched (Refuse rule) reply h = said _ reply h

@@ -33,7 +33,7 @@ use Rattle.command_text.specs.Requests.{Command, Blank, Matrix, Op, Asm, Dis, Su
 use Rattle.workspace.specs.State.{State}
 use Rattle.workspace.specs.Found.{job_found}
 use Rattle.workspace.specs.Types.{types_text}
-use Rattle.workspace.specs.Turn.{Turn, Replies, Refuses, TakesMatrix, TakesProgram, TakesOperator, TakesDigits, TakesKind, TakesAssembly, TakesKindOfAssembly, Submits, Prices, Finds, Gives, RunTurn, batch_refusal, Shows, TellsTypes, TellsAssembly, BudgetTurn}
+use Rattle.workspace.specs.Turn.{Turn, Replies, Refuses, TakesMatrix, TakesProgram, TakesOperator, TakesDigits, TakesKind, TakesAssembly, Submits, Prices, Finds, Gives, RunTurn, batch_refusal, Tells, BudgetTurn}
 use Rattle.session_laws.specs.Laws.{BudgetReply, ToReserve, ToTotals, budget_replies, TellsWant}
 use Rattle.session_laws.proofs.Bare.{bare, bare_job, price_bare, fault_bare}
 use Rattle.session_laws.proofs.OneFault.{one_market_fault, no_operator_fault, one_operator_fault}
@@ -151,12 +151,13 @@ module _ (s t u v : State) (ds es : List Dealing) (reply other : List ℕ) (xs y
   takes_digits name kind (Err e) a b = says _ _ refl a b
   takes_digits name kind (Ok code) a b = takes_operator name kind code a b
 
-  takes_kind : (name : List ℕ) (kind : Option Kind) (body : List ℕ) → TakesKind s name kind body ds reply u → TakesKind t name kind body es other v → Same
-  takes_kind name None body a b = says _ _ refl a b
-  takes_kind name (Some kind) body a b =
-      let r = decode_of (without_gaps body) in
-      both_match (is_name name) (TakesDigits s name kind r ds reply u) (Refuses (no.Session MalformedName) s ds reply u)
-      (TakesDigits t name kind r es other v) (Refuses (no.Session MalformedName) t es other v) a b (λ x y. takes_digits name kind r x y)
+  takes_kind : (name : List ℕ) (kind : Option Kind) (P Q : Kind → List Dealing → List ℕ → State → Type 0)
+      → ((k : Kind) → P k ds reply u → Q k es other v → Same) → TakesKind s name kind P ds reply u → TakesKind t name kind Q es other v
+      → Same
+  takes_kind name None P Q f a b = says _ _ refl a b
+  takes_kind name (Some kind) P Q f a b =
+      both_match (is_name name) (P kind ds reply u) (Refuses (no.Session MalformedName) s ds reply u)
+      (Q kind es other v) (Refuses (no.Session MalformedName) t es other v) a b (λ x y. f kind x y)
       (λ x y. says (refusal_text (no.Session MalformedName)) (refusal_text (no.Session MalformedName)) refl x y)
 
   takes_assembly : (name : List ℕ) (kind : Kind) (body : List ℕ) → TakesAssembly s name kind body ds reply u → TakesAssembly t name kind body es other v → Same
@@ -174,13 +175,6 @@ module _ (s t u v : State) (ds es : List Dealing) (reply other : List ℕ) (xs y
               says (refusal_text (no.Assembly x.0)) (refusal_text (no.Assembly y.0)) (ap (λ f. refusal_text (no.Assembly f)) (reading.one_fault x.0 y.0 x.1 y.1)) x.2 y.2
         ]
       ]
-
-  takes_kind_of_assembly : (name : List ℕ) (kind : Option Kind) (body : List ℕ) → TakesKindOfAssembly s name kind body ds reply u → TakesKindOfAssembly t name kind body es other v → Same
-  takes_kind_of_assembly name None body a b = says _ _ refl a b
-  takes_kind_of_assembly name (Some kind) body a b =
-      both_match (is_name name) (TakesAssembly s name kind body ds reply u) (Refuses (no.Session MalformedName) s ds reply u)
-      (TakesAssembly t name kind body es other v) (Refuses (no.Session MalformedName) t es other v) a b (λ x y. takes_assembly name kind body x y)
-      (λ x y. says (refusal_text (no.Session MalformedName)) (refusal_text (no.Session MalformedName)) refl x y)
 
   -- where neither lacks memory
   with_memory : {P Q : Type 0} → Refuses no.Memory s ds reply u ⊎ P → Refuses no.Memory t es other v ⊎ Q → (P → Q → Same) → Same
@@ -296,27 +290,36 @@ module _ (s t u v : State) (ds es : List Dealing) (reply other : List ℕ) (xs y
 
   -- ---- `show`, `types`, `dis`, `budget`
 
-  shows : (g : Option Grid) → Shows s g ds reply u → Shows t g es other v → Same
-  shows None a b = says _ _ refl a b
-  shows (Some g) a b = with_memory a b (λ x y. says (show_text (canonical_text g)) (show_text (canonical_text g)) refl x y)
+  abbrev shown : Grid → List ℕ
+  shown g = show_text (canonical_text g)
 
-  tells_types : (o p : Option Accepted) → option_map bare o ≡ option_map bare p → AcceptedIn o → AcceptedIn p → TellsTypes s o ds reply u → TellsTypes t p es other v → Same
+  abbrev typed : Accepted → List ℕ
+  typed o = list_text (codes "types") (length o.insns) (types_text o)
+
+  abbrev disassembled : Accepted → List ℕ
+  disassembled o = list_text (codes "dis") (length o.insns) (assembly_text o.insns)
+
+  shows : (g : Option Grid) → Tells s g shown ds reply u → Tells t g shown es other v → Same
+  shows None a b = says _ _ refl a b
+  shows (Some g) a b = with_memory a b (λ x y. says (shown g) (shown g) refl x y)
+
+  tells_types : (o p : Option Accepted) → option_map bare o ≡ option_map bare p → AcceptedIn o → AcceptedIn p → Tells s o typed ds reply u → Tells t p typed es other v → Same
   tells_types None None e f g a b = says _ _ refl a b
   tells_types None (Some p) e f g a b = absurd (none_some (bare p) e)
   tells_types (Some o) None e f g a b = absurd (none_some (bare o) (sym e))
   tells_types (Some o) (Some p) e f g a b =
       let same = some_same (bare o) (bare p) e in
       let lines = same_types o p same f g in
-      with_memory a b (λ x y. says (list_text (codes "types") (length o.insns) (types_text o)) (list_text (codes "types") (length p.insns) (types_text p))
+      with_memory a b (λ x y. says (typed o) (typed p)
       (λ i. list_text (codes "types") (length ((same i).insns)) (lines i)) x y)
 
-  tells_assembly : (o p : Option Accepted) → option_map bare o ≡ option_map bare p → TellsAssembly s o ds reply u → TellsAssembly t p es other v → Same
+  tells_assembly : (o p : Option Accepted) → option_map bare o ≡ option_map bare p → Tells s o disassembled ds reply u → Tells t p disassembled es other v → Same
   tells_assembly None None e a b = says _ _ refl a b
   tells_assembly None (Some p) e a b = absurd (none_some (bare p) e)
   tells_assembly (Some o) None e a b = absurd (none_some (bare o) (sym e))
   tells_assembly (Some o) (Some p) e a b =
       let same = some_same (bare o) (bare p) e in
-      with_memory a b (λ x y. says (list_text (codes "dis") (length o.insns) (assembly_text o.insns)) (list_text (codes "dis") (length p.insns) (assembly_text p.insns))
+      with_memory a b (λ x y. says (disassembled o) (disassembled p)
       (λ i. list_text (codes "dis") (length ((same i).insns)) (assembly_text ((same i).insns))) x y)
 
   budgets : BudgetTurn s ds reply u → BudgetTurn t es other v → Same
@@ -338,12 +341,16 @@ module _ (s t u v : State) (ds es : List Dealing) (reply other : List ℕ) (xs y
       with_memory a b (λ x y. both_match (is_name name) (TakesMatrix s name body ds reply u) (Refuses (no.Session MalformedName) s ds reply u)
       (TakesMatrix t name body es other v) (Refuses (no.Session MalformedName) t es other v) x y (takes_matrix name body)
       (says (refusal_text (no.Session MalformedName)) (refusal_text (no.Session MalformedName)) refl))
-  same_turn (Op name kind body) a b = with_memory a b (takes_kind name (kind_of_word kind) body)
-  same_turn (Asm name kind body) a b = with_memory a b (takes_kind_of_assembly name (kind_of_word kind) body)
+  same_turn (Op name kind body) a b =
+      with_memory a b (takes_kind name (kind_of_word kind) (λ (k : Kind). TakesDigits s name k (decode_of (without_gaps body)))
+      (λ (k : Kind). TakesDigits t name k (decode_of (without_gaps body))) (λ k x y. takes_digits name k (decode_of (without_gaps body)) x y))
+  same_turn (Asm name kind body) a b =
+      with_memory a b (takes_kind name (kind_of_word kind) (λ (k : Kind). TakesAssembly s name k body) (λ (k : Kind). TakesAssembly t name k body)
+      (λ k x y. takes_assembly name k body x y))
   same_turn (Dis name) a b = tells_assembly (s.operators name) (t.operators name) (λ i. alike.operators i name) a b
   same_turn (Submit x) a b = finds (job_found s x) (job_found t x) (same_found s t x alike) a b
   same_turn Run a b = runs a b
-  same_turn (Show name) a b = shows (t.matrices name) (subst (λ (g : Option Grid). Shows s g ds reply u) (λ i. alike.matrices i name) a) b
+  same_turn (Show name) a b = shows (t.matrices name) (subst (λ (g : Option Grid). Tells s g shown ds reply u) (λ i. alike.matrices i name) a) b
   same_turn (Types name) a b =
       tells_types (s.operators name) (t.operators name) (λ i. alike.operators i name) (alike.accepted name) (alike.others name) a b
   same_turn Budget a b = budgets a b

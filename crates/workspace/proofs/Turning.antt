@@ -15,7 +15,7 @@ use Rattle.job_plan.specs.declared.error.JobError.{JobError}
 use Rattle.command_text.specs.Requests.{Submission, Header, MatrixHeader, OpHeader, AsmHeader, with_body}
 use Rattle.command_text.specs.Replies.{matrix_text, refusal_text, queued_text}
 use Rattle.command_text.specs.declared.rules.SessionRule.TheVariants.{MalformedName}
-use Rattle.workspace.specs.Turn.{Turn, Refuses, MatrixTurn, TakesMatrix, TakesOperator, TakesDigits, TakesKind, SubmitTurn, Prices, Submits, TakesAssembly, TakesKindOfAssembly}
+use Rattle.workspace.specs.Turn.{Turn, Refuses, MatrixTurn, TakesMatrix, TakesOperator, TakesDigits, TakesKind, SubmitTurn, Prices, Submits, TakesAssembly}
 use Rattle.workspace.specs.Binds.{Binds, BindsMatrix, BindsText, BindsDigits, BindsAssembly, BindsLines}
 use Rattle.workspace.specs.inner.Binds.{BindsCode}
 use Rattle.hex.specs.Hex.{decode_of}
@@ -162,7 +162,8 @@ module _ (old new : State) (name body reply : List ℕ) where
         | false ↦ λ x. inr x
       ] b
 
-  digits_turn : (kind : Option Kind) → BindsDigits old name kind body reply new → refused_memory ⊎ TakesKind old name kind body [] reply new
+  digits_turn : (kind : Option Kind) → BindsDigits old name kind body reply new → refused_memory
+      ⊎ TakesKind old name kind (λ (k : Kind). TakesDigits old name k (decode_of (without_gaps body))) [] reply new
   digits_turn None b = inr b
   digits_turn (Some kind) b =
       let taken = TakesDigits old name kind (decode_of (without_gaps body)) [] reply new in
@@ -171,7 +172,8 @@ module _ (old new : State) (name body reply : List ℕ) where
         | false ↦ λ x. inr x
       ] b
 
-  lines_turn : (kind : Option Kind) → BindsLines old name kind body reply new → refused_memory ⊎ TakesKindOfAssembly old name kind body [] reply new
+  lines_turn : (kind : Option Kind) → BindsLines old name kind body reply new → refused_memory
+      ⊎ TakesKind old name kind (λ (k : Kind). TakesAssembly old name k body) [] reply new
   lines_turn None b = inr b
   lines_turn (Some kind) b =
       elim (is_name name) as (λ v. MatchBool v (BindsAssembly old name kind body reply new) malformed → refused_memory ⊎ MatchBool v (TakesAssembly old name kind body [] reply new) malformed) [

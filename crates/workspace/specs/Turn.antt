@@ -1,7 +1,8 @@
 -- What one command does: from what the session holds, by which calls of the budget and with which reply, to what it then holds
 -- (this project's own).
 -- A relation, since the budget is asked on the way, and since a command may run out of memory where it takes some.
-use Rattle.std.specs.Prelude.{ℕ, ◌≡◌, ◌+◌, ◌-◌, ◌⊎◌, min, nat_lt, List, [], ◌∷◌, ◌++◌, length, map, codes, Option, None, Some, Result, Ok, Err, MatchBool}
+use Rattle.std.specs.Prelude.{ℕ, ◌≡◌, ◌+◌, ◌-◌, ◌⊎◌, min, nat_lt, MatchBool, List, [], ◌∷◌, ◌++◌, length, map, codes}
+use Rattle.std.specs.Prelude.{Option, None, Some, Result, Ok, Err}
 use Rattle.hex.specs.Hex.{decode_of}
 use Rattle.hex.specs.declared.error.FromHexError.{FromHexError}
 use Rattle.csr_store.specs.Grid.{Grid, IsGrid}
@@ -93,7 +94,7 @@ MatrixTurn old name body dealings reply new =
     (TakesMatrix old name body dealings reply new)
     (Refuses (no.Session MalformedName) old dealings reply new)
 
--- ---- `op NAME KIND LEN`
+-- ---- `op NAME KIND LEN` and `asm NAME KIND LEN`
 
 -- the program is accepted as an operator of its kind, which the name then stands for; or it is refused
 abbrev pub TakesProgram : State → List ℕ → Kind → List Insn → List Dealing → List ℕ → State → Type 0
@@ -115,35 +116,23 @@ abbrev pub TakesDigits : State → List ℕ → Kind → Result (List ℕ) FromH
 TakesDigits old name kind (Err e) dealings reply new = Refuses (no.Session NotHexadecimal) old dealings reply new
 TakesDigits old name kind (Ok code) dealings reply new = TakesOperator old name kind code dealings reply new
 
-abbrev pub TakesKind : State → List ℕ → Option Kind → List ℕ → List Dealing → List ℕ → State → Type 0
-TakesKind old name None body dealings reply new = Refuses (no.Session MalformedWords) old dealings reply new
-TakesKind old name (Some kind) body dealings reply new =
-    MatchBool (is_name name)
-    (TakesDigits old name kind (decode_of (without_gaps body)) dealings reply new)
-    (Refuses (no.Session MalformedName) old dealings reply new)
-
-abbrev pub OperatorTurn : State → List ℕ → List ℕ → List ℕ → List Dealing → List ℕ → State → Type 0
-OperatorTurn old name kind body dealings reply new =
-    Refuses no.Memory old dealings reply new ⊎ TakesKind old name (kind_of_word kind) body dealings reply new
-
--- ---- `asm NAME KIND LEN`
-
 -- the body is the assembly text of a program, which is taken; or it is refused by its first faulty line
 abbrev pub TakesAssembly : State → List ℕ → Kind → List ℕ → List Dealing → List ℕ → State → Type 0
 TakesAssembly old name kind body dealings reply new =
     ((program : List Insn) × IsAssemblyOf body program × TakesProgram old name kind program dealings reply new)
     ⊎ ((fault : AsmFault) × IsTextFault body fault × Refuses (no.Assembly fault) old dealings reply new)
 
-abbrev pub TakesKindOfAssembly : State → List ℕ → Option Kind → List ℕ → List Dealing → List ℕ → State → Type 0
-TakesKindOfAssembly old name None body dealings reply new = Refuses (no.Session MalformedWords) old dealings reply new
-TakesKindOfAssembly old name (Some kind) body dealings reply new =
-    MatchBool (is_name name)
-    (TakesAssembly old name kind body dealings reply new)
-    (Refuses (no.Session MalformedName) old dealings reply new)
+-- the words are a kind and a name, and the body is taken as code of that kind; or they are refused
+abbrev pub TakesKind : State → List ℕ → Option Kind → (Kind → List Dealing → List ℕ → State → Type 0)
+    → List Dealing → List ℕ → State → Type 0
+TakesKind old name None takes dealings reply new = Refuses (no.Session MalformedWords) old dealings reply new
+TakesKind old name (Some kind) takes dealings reply new =
+    MatchBool (is_name name) (takes kind dealings reply new) (Refuses (no.Session MalformedName) old dealings reply new)
 
-abbrev pub AssemblyTurn : State → List ℕ → List ℕ → List ℕ → List Dealing → List ℕ → State → Type 0
-AssemblyTurn old name kind body dealings reply new =
-    Refuses no.Memory old dealings reply new ⊎ TakesKindOfAssembly old name (kind_of_word kind) body dealings reply new
+abbrev pub OperatorTurn : State → List ℕ → List ℕ → (Kind → List Dealing → List ℕ → State → Type 0)
+    → List Dealing → List ℕ → State → Type 0
+OperatorTurn old name kind takes dealings reply new =
+    Refuses no.Memory old dealings reply new ⊎ TakesKind old name (kind_of_word kind) takes dealings reply new
 
 -- ---- `apply`, `select`, `union`, `both`, `product`, `reduce`
 
@@ -236,38 +225,13 @@ RunTurn old dealings reply new =
     Gives old dealings reply new
     ⊎ (BreaksOff old dealings reply new ⊎ BatchRefused (no.BatchMemory 0) 0 old dealings reply new)
 
--- ---- `show NAME`
+-- ---- `show NAME`, `types NAME`, `dis NAME`
 
-abbrev pub Shows : State → Option Grid → List Dealing → List ℕ → State → Type 0
-Shows old None dealings reply new = Refuses (no.Session UnknownName) old dealings reply new
-Shows old (Some g) dealings reply new =
-    Refuses no.Memory old dealings reply new ⊎ Replies (show_text (canonical_text g)) old dealings reply new
-
-abbrev pub ShowTurn : State → List ℕ → List Dealing → List ℕ → State → Type 0
-ShowTurn old name = Shows old (old.matrices name)
-
--- ---- `types NAME`
-
-abbrev pub TellsTypes : State → Option Accepted → List Dealing → List ℕ → State → Type 0
-TellsTypes old None dealings reply new = Refuses (no.Session UnknownName) old dealings reply new
-TellsTypes old (Some operator) dealings reply new =
-    Refuses no.Memory old dealings reply new
-    ⊎ Replies (list_text (codes "types") (length operator.insns) (types_text operator)) old dealings reply new
-
-abbrev pub TypesTurn : State → List ℕ → List Dealing → List ℕ → State → Type 0
-TypesTurn old name = TellsTypes old (old.operators name)
-
--- ---- `dis NAME`
-
--- the operator's program as assembly text, a line for each instruction
-abbrev pub TellsAssembly : State → Option Accepted → List Dealing → List ℕ → State → Type 0
-TellsAssembly old None dealings reply new = Refuses (no.Session UnknownName) old dealings reply new
-TellsAssembly old (Some operator) dealings reply new =
-    Refuses no.Memory old dealings reply new
-    ⊎ Replies (list_text (codes "dis") (length operator.insns) (assembly_text operator.insns)) old dealings reply new
-
-abbrev pub DisassemblyTurn : State → List ℕ → List Dealing → List ℕ → State → Type 0
-DisassemblyTurn old name = TellsAssembly old (old.operators name)
+-- what the name stands for is told, as this text
+abbrev pub Tells : {V : Type 0} → State → Option V → (V → List ℕ) → List Dealing → List ℕ → State → Type 0
+Tells old None text dealings reply new = Refuses (no.Session UnknownName) old dealings reply new
+Tells old (Some value) text dealings reply new =
+    Refuses no.Memory old dealings reply new ⊎ Replies (text value) old dealings reply new
 
 -- ---- `budget`
 
@@ -280,13 +244,16 @@ BudgetTurn old dealings reply new =
 abbrev pub Turn : State → Command → List Dealing → List ℕ → State → Type 0
 Turn old Blank = Replies [] old
 Turn old (Matrix name body) = MatrixTurn old name body
-Turn old (Op name kind body) = OperatorTurn old name kind body
-Turn old (Asm name kind body) = AssemblyTurn old name kind body
-Turn old (Dis name) = DisassemblyTurn old name
+Turn old (Op name kind body) =
+    OperatorTurn old name kind (λ (k : Kind). TakesDigits old name k (decode_of (without_gaps body)))
+Turn old (Asm name kind body) = OperatorTurn old name kind (λ (k : Kind). TakesAssembly old name k body)
+Turn old (Dis name) =
+    Tells old (old.operators name) (λ (o : Accepted). list_text (codes "dis") (length o.insns) (assembly_text o.insns))
 Turn old (Submit submission) = SubmitTurn old submission
 Turn old Run = RunTurn old
-Turn old (Show name) = ShowTurn old name
-Turn old (Types name) = TypesTurn old name
+Turn old (Show name) = Tells old (old.matrices name) (λ (g : Grid). show_text (canonical_text g))
+Turn old (Types name) =
+    Tells old (old.operators name) (λ (o : Accepted). list_text (codes "types") (length o.insns) (types_text o))
 Turn old Budget = BudgetTurn old
 Turn old Quit = Replies quit_text old
 Turn old (Refuse rule) = Refuses (no.Session rule) old

@@ -2,8 +2,9 @@
 ghost use Rattle.std.specs.Prelude.{◌≡◌, []};
 ghost use Rattle.command_text.specs.Readings.{name_of};
 ghost use Rattle.command_text.specs.ReplyText.{whole};
+ghost use Rattle.command_text.specs.Requests.{Dis, Show, Types};
 ghost use Rattle.workspace.specs.Workspace.{state_of};
-ghost use Rattle.workspace.specs.Turn.{ShowTurn, TypesTurn, DisassemblyTurn};
+ghost use Rattle.workspace.specs.Turn.{Turn};
 
 use crate::types::types_text;
 use crate::workspace::Workspace;
@@ -14,7 +15,7 @@ use std::alloc::Global;
 
 /// `show NAME`: the matrix text of a matrix.
 pub fn show(alloc: Global, workspace: &Workspace, name: Name<'_>, reply: &mut Reply)
-    ensures { ShowTurn (state_of workspace.now) (name_of name.entry) [] (whole reply.new) (state_of workspace.now) }
+    ensures { Turn (state_of workspace.now) (Show (name_of name.entry)) [] (whole reply.new) (state_of workspace.now) }
 {
     let Some(matrix) = workspace.matrix(name) else {
         return refuse(reply, Refusal::Session(SessionRule::UnknownName));
@@ -27,7 +28,7 @@ pub fn show(alloc: Global, workspace: &Workspace, name: Name<'_>, reply: &mut Re
 
 /// `types NAME`: what the verifier knows of the registers at each instruction of an operator.
 pub fn types(alloc: Global, workspace: &Workspace, name: Name<'_>, reply: &mut Reply)
-    ensures { TypesTurn (state_of workspace.now) (name_of name.entry) [] (whole reply.new) (state_of workspace.now) }
+    ensures { Turn (state_of workspace.now) (Types (name_of name.entry)) [] (whole reply.new) (state_of workspace.now) }
 {
     let Some(operator) = workspace.operator(name) else {
         return refuse(reply, Refusal::Session(SessionRule::UnknownName));
@@ -40,7 +41,7 @@ pub fn types(alloc: Global, workspace: &Workspace, name: Name<'_>, reply: &mut R
 
 /// `dis NAME`: the program of an operator as assembly text.
 pub fn disassembly(alloc: Global, workspace: &Workspace, name: Name<'_>, reply: &mut Reply)
-    ensures { DisassemblyTurn (state_of workspace.now) (name_of name.entry) [] (whole reply.new) (state_of workspace.now) }
+    ensures { Turn (state_of workspace.now) (Dis (name_of name.entry)) [] (whole reply.new) (state_of workspace.now) }
 {
     let Some(operator) = workspace.operator(name) else {
         return refuse(reply, Refusal::Session(SessionRule::UnknownName));
