@@ -162,7 +162,7 @@ def _ask_comment(file: str, number: int, line: str) -> ReadError:
                            'lines, comments=None reads them' % line.lstrip()[0], line), 'comments')
 
 
-# -- lines, parted into fields
+# -- lines, split into fields
 
 def as_text(file: str, text: bytes) -> bytes:
     """A text whose lines end in LF. ReadError where it isn't UTF-8, or has a byte 0, at which
@@ -249,7 +249,7 @@ def lay_out(file: str, text: bytes, layout: Layout) -> Table:
     text = as_text(file, text)
     plain, left_out = blank_comments(text, layout.comments)
     excel = FOR_EXCEL.match(plain)
-    if excel is not None:                          # a first line that says what parts the fields
+    if excel is not None:                          # a first line that says what separates fields
         plain = b' ' * excel.end() + plain[excel.end():]
         layout = layout._replace(sep=layout.sep or excel.group(1).decode())
     sep = _choose_separator(file, plain, layout.sep)
@@ -276,8 +276,8 @@ def lay_out(file: str, text: bytes, layout: Layout) -> Table:
 
 
 def _choose_separator(file: str, text: bytes, given: Optional[str]) -> Optional[str]:
-    """What parts the fields: as the caller says, else a comma in a `.csv`, a tab in a `.tsv`, and
-    blanks (None) elsewhere. ReadError where the first line looks otherwise."""
+    """What separates the fields: as the caller says, else a comma in a `.csv`, a tab in a `.tsv`,
+    and blanks (None) elsewhere. ReadError where the first line looks otherwise."""
     if given is not None:
         if not given.strip(' '):
             return None
@@ -383,7 +383,7 @@ def choose_columns(first: List[str], header: bool, layout: Layout,
     words = [field.strip().lower() for field in first] if header else [''] * len(first)
     pairs, width = find_pairs(words), len(first)
     if width < 2:
-        raise about(ask('an edge has two names, and this line one field: sep= says what parts '
+        raise about(ask('an edge has two names, and this line one field: sep= says what separates '
                         'fields'), 'sep')
     if not (len(pairs) == 1 or (not pairs and width == 2 and words[1] not in WEIGHTS)
             or (not pairs and width == 3 and (not header or words[2] in WEIGHTS))):

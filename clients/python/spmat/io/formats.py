@@ -110,7 +110,7 @@ def read_table(file: str, text: bytes, layout: Layout) -> Edges:
 
 
 def _line_of(sep: Optional[str]) -> 're.Pattern[str]':
-    """A line with a dictionary: what parts its fields, or blanks or commas."""
+    """A line with a dictionary: what separates its fields, or blanks or commas."""
     part = '[\\s,]+' if sep is None else re.escape(sep)
     name = '([^\\s,]+)' if sep is None else '([^%s]+)' % part
     return re.compile(name + part + name + part + r'(\{.*\})\s*')
@@ -465,7 +465,7 @@ def edges_of(file: str, text: bytes, request: Request) -> Tuple[Edges, How]:
 
 
 def _read_list(sep: Optional[str], file: str, text: bytes, layout: Layout) -> Edges:
-    """The edges of a list, whose format may say what parts the fields."""
+    """The edges of a list, whose format may say what separates the fields."""
     layout = layout._replace(sep=sep if layout.sep is None else layout.sep)
     return edge_lists.read_edges(edge_lists.lay_out(file, text, layout), layout)
 

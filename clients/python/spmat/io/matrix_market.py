@@ -29,7 +29,7 @@ from .values import BEYOND, Rounding, scaled_array, whole_values
 FIELDS = {'integer': 'integer', 'unsigned-integer': 'integer', 'pattern': 'pattern', 'real': 'real',
           'double': 'real', 'complex': 'complex'}
 SYMMETRIES = ('general', 'symmetric', 'skew-symmetric')
-# what parts fields beside blanks and tabs, and what no number has, as pandas is to read it
+# what separates fields beside blanks and tabs, and what no number has, as pandas is to read it
 NEITHER = bytes([0, *range(128, 256)])
 PLAIN = bytes.maketrans(b'\r\v\f' + NEITHER, b'   ' + b'x' * len(NEITHER))
 COMMENT = re.compile(rb'(?m)^[ \t]*%[^\n]*')

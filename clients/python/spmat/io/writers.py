@@ -259,7 +259,7 @@ def _check_names(texts: Dict[Vertex, str], sep: str) -> None:
         except UnicodeEncodeError:
             raise ValueError('the name %r has no form in UTF-8: %s' % (name, OTHERWISE)) from None
         if sep == ' ' and text.split() != [text]:
-            raise ValueError('the name %r has what parts the fields in it: another sep=, or '
+            raise ValueError('the name %r has what separates the fields in it: another sep=, or '
                              'to_csv, which quotes' % (name,))
         if sep == ' ' and (text.startswith(MARKS) or is_missing(text)):
             raise ValueError(

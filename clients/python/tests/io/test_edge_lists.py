@@ -115,7 +115,7 @@ REFUSED = [
     ('from,from,x\na,b,1\n', 1, 'columns=(0, 1, 2)'),
     ('node,value\na,7\n', 1, "columns=('node', 'value')"), ('alone\n', 1, 'one field'),
     (',a,b\na,0,7\nb,7,0\n', 1, 'columns=('),
-    # what parts the fields
+    # what separates the fields
     ('a;b;7\nb;c;8\n', 1, "semicolons may part the fields, or blanks: sep=';' or sep=' '"),
     ('a, b;7\nb, c;8\n', 1, "sep=';' or sep=','"), ('New York\tRome\n', 1, "sep='\\t' or sep=' '"),
     ('from|to|w\na|b|7\n', 1, "sep='|' or sep=' '"),
