@@ -12,6 +12,7 @@ PROGRAMS = 'crates/command_line/src/version.rt'
 # copies: the gate's prover refuses a tree with links
 COPIES = tuple(one.version_file for one in tree.DISTRIBUTIONS)
 PLACES = {'CHANGELOG.md': r'^## (\d[^ \n]*)', PROGRAMS: r'^pub const VERSION: &str = "(.+)";$',
+          'docs/log.md': r' version=(\S+)', 'docs/protocol.md': r', such as `spmat (\S+)`',
           **dict.fromkeys(COPIES, r'^(.+)$')}
 # Names of files of a release, in the documents.
 RELEASED = r'\bspmat(?:[_-][a-z]+)?[_-](\d+(?:\.\d+)+)[_-]'
