@@ -1,6 +1,6 @@
-"""Strangers for a long time: eight good and four hostile clients over TLS, while engines, gateways
-and the database are killed and held, disks are full and clocks jump. At two gateways that share
-PostgreSQL, and at one on SQLite.
+"""Untrusted users for a long time: eight good and four hostile clients over TLS. Meanwhile engines,
+gateways and the database are killed and held, disks are full and clocks jump. At two gateways that
+share PostgreSQL, and at one on SQLite.
 
 `tests/gateway --attack MINUTES` runs it, and `tests/packages --attack MINUTES` in a booted root.
 """

@@ -1,5 +1,5 @@
-"""Strangers at a gateway: good clients, who compare each byte with the program's own, and hostile
-ones; and who kills what.
+"""Untrusted users at a gateway: good clients, who compare each byte with the program's own, and
+hostile ones; and who kills what.
 
 A good client's session is one of a pool, whose replies by the program itself are known. Whatever is
 killed, what it has read is the beginning of these replies, and perhaps a line `no session ..`
@@ -49,7 +49,7 @@ def make_scripts(many, seed, size=30):
 
 
 class Report:
-    """What strangers have seen."""
+    """What untrusted users have seen."""
 
     def __init__(self):
         self.lock = threading.Lock()
