@@ -1,5 +1,5 @@
-"""Searches and shortest paths. They go by the number of edges from one vertex, or from many at once
-with a row for each. They also go by values, as lengths, as the vertices of paths, and as trees."""
+"""Searches and shortest paths: by the number of edges from one vertex, or from many at once with a
+row for each. They also go by values, as lengths, as the vertices of paths, and as trees."""
 from __future__ import annotations
 
 import functools
