@@ -4,7 +4,9 @@
 -- draws grows by one. Below n the number is a chunk, which the worker then holds; from n on the worker is told the end. A worker
 -- that holds a chunk records it as complete, or as failed, with the steps that it took, at most the chunk's price, and holds it
 -- no more. Who completed a chunk may draw again; who failed one, or was told the end, may not.
-use Rattle.std.specs.Prelude.{◌≡◌, ℕ, zero, suc, ◌+◌, ◌<◌, ◌≤◌, ◌==◌, ◌&&◌, List, [], ◌∷◌, ◌++◌, length, map, fold, min, slice_index, slice_get, slice_set, nat_lt, nat_le, Bool, true, false, if◌then◌else◌, Option, Some, None, All, Any, Contains}
+use Rattle.std.specs.Prelude.{◌≡◌, ℕ, zero, suc, ◌+◌, ◌<◌, ◌≤◌, ◌==◌, ◌&&◌, nat_lt, nat_le, min, Bool, true, false, if◌then◌else◌}
+use Rattle.std.specs.Prelude.{List, [], ◌∷◌, ◌++◌, length, map, fold, slice_index, slice_get, slice_set, All, Any, Contains}
+use Rattle.std.specs.Prelude.{Option, Some, None}
 use Rattle.race_board.specs.declared.worker_state.WorkerState.{WorkerState}
 use Rattle.race_board.specs.declared.worker_state.WorkerState.TheVariants.{Free, Holds, Drained, Failed}
 use Rattle.race_board.specs.declared.event.RaceEvent.{RaceEvent}

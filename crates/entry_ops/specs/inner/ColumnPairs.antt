@@ -1,5 +1,6 @@
 -- Columns that are joined row by row, of which one has a word in each row. This project's own.
-use Rattle.std.specs.Prelude.{◌≡◌, ℕ, ◌+◌, ◌^◌, ◌<◌, ◌≤◌, Bool, true, if◌then◌else◌, List, map, length, take, Option, None, Some, refl}
+use Rattle.std.specs.Prelude.{◌≡◌, refl, ℕ, ◌+◌, ◌^◌, ◌<◌, ◌≤◌, Bool, true, if◌then◌else◌}
+use Rattle.std.specs.Prelude.{List, map, length, take, Option, None, Some}
 use Rattle.std.specs.Coded.{Coded, code_by, coded×, coded_ℕ}
 use Rattle.std.specs.FinMap as fin
 use Rattle.bpf_run.specs.Calls.{steps_of}

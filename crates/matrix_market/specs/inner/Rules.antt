@@ -6,7 +6,8 @@ use Rattle.matrix_market.specs.declared.rule.MarketRule.{MarketRule}
 use Rattle.matrix_market.specs.declared.rule.MarketRule.TheVariants.{MalformedSize, TooFewEntries, LineAfterLastEntry}
 use Rattle.matrix_market.specs.declared.kinds.Banner.{Banner}
 use Rattle.matrix_market.specs.declared.kinds.Size.{Size}
-use Rattle.matrix_market.specs.Market.{entries_of, entry_rules, entry_words, is_skipped, role_behind, rules_in, size_rules, size_words, tail, when}
+use Rattle.matrix_market.specs.Market.{entries_of, entry_rules, entry_words, is_skipped, role_behind, rules_in}
+use Rattle.matrix_market.specs.Market.{size_rules, size_words, tail, when}
 
 -- the rules of the line after these lines, or of the end there
 abbrev pub rules_behind : List (List ℕ) → Option (List ℕ) → List MarketRule

@@ -3,7 +3,8 @@
 use Rattle.std.specs.Prelude.{◌≡◌, ℕ, zero, suc, ◌+◌, ◌^◌, ◌<◌, ◌≤◌, List, [], ◌∷◌, length, slice_index, min}
 use Rattle.race_board.specs.declared.worker_state.WorkerState.{WorkerState}
 use Rattle.race_board.specs.declared.worker_state.WorkerState.TheVariants.{Free, Holds, Drained, Failed}
-use Rattle.race_board.specs.Race.{Worker, RaceState, total_of, one_if_below, times_drawn, draws_of, ends_of, steps_of, IsWithinPrices}
+use Rattle.race_board.specs.Race.{Worker, RaceState, IsWithinPrices}
+use Rattle.race_board.specs.Race.{total_of, one_if_below, times_drawn, draws_of, ends_of, steps_of}
 
 abbrev pub price_now : List ℕ → WorkerState → ℕ
 price_now prices Free = 0
