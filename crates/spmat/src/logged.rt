@@ -7,11 +7,11 @@ use crate::ended::Ended;
 use crate::respond_on;
 use crate::serving::Log;
 use crate::solo::Spoken;
+use crate::system::System;
 use command_line::{Failure, Settings, VERSION};
 use metered_session::ending_of;
 use session::{End, ServeFault};
 use session_log::{Cause, CloseReason, Cut, Journal, LoggedTerms, OpenAccount, Origin};
-use std::net::{Net, TcpListener, TcpStream};
 use std::sync::Wait;
 use std::thread::{Threads, join};
 use std::time::Clock;
@@ -111,17 +111,11 @@ fn close_reason(outcome: &Result<Ended, Failure>) -> CloseReason {
 /// Serves one session on standard input and output, with a log that another thread writes to
 /// standard error meanwhile. Before the session starts the log gets the request, and at the end
 /// what the session took. If no thread can be started, all is written at the end.
-pub fn run_logged<H>(rt: &H, alone: Alone, log: Log) -> Result<Ended, Failure>
-where
-    H: Clock
-        + Input
-        + Print
-        + Eprint
-        + Net<Listener = TcpListener, Stream = TcpStream>
-        + Threads
-        + Wait
-        + Sync
-        + AllocGlobal,
+pub fn run_logged<H: System + Input + Threads + Wait>(
+    rt: &H,
+    alone: Alone,
+    log: Log,
+) -> Result<Ended, Failure>
     requires capacity { HasRoom alone.steps alone.workers }
     requires idle { IsWithin 1000000 alone.idle }
     ensures ended { IsOfSession result }
@@ -160,17 +154,11 @@ where
 }
 
 /// The session, while another thread writes its log.
-fn serve_logged<H>(rt: &H, journal: &Journal, alone: Alone) -> Result<Ended, Failure>
-where
-    H: Clock
-        + Input
-        + Print
-        + Eprint
-        + Net<Listener = TcpListener, Stream = TcpStream>
-        + Threads
-        + Wait
-        + Sync
-        + AllocGlobal,
+fn serve_logged<H: System + Input + Threads + Wait>(
+    rt: &H,
+    journal: &Journal,
+    alone: Alone,
+) -> Result<Ended, Failure>
     requires capacity { HasRoom alone.steps alone.workers }
     requires idle { IsWithin 1000000 alone.idle }
     ensures ended { IsOfSession result }

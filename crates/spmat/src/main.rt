@@ -2,7 +2,7 @@
 //!
 //! The program is thin: `command_line` reads its words and reports its end; `solo` has one session
 //! on any two devices, `standard` makes sides of standard input and output, `logged` has the log of
-//! such a session, and `serving` has sessions over TCP.
+//! such a session, and `serving` has sessions over TCP. `system` says what they ask of the system.
 //!
 //! `answer` does what the words ask for, over two devices that it is lent; its contract says what
 //! they gave and took, and which server was served (`specs/inner/Running.antt`). The functions above
@@ -17,29 +17,29 @@ ghost use Rattle.std.specs.Process.{exit_status};
 ghost use Rattle.wire.specs.Devices.{IsNewCount};
 ghost use Rattle.command_line.specs.Endings.{code_of, status_of};
 ghost use Rattle.command_line.specs.InRange.{HasRoom, IsInRange};
-ghost use Rattle.spmat.specs.inner.Running.{IsAccounted, IsAnswer, IsDoneAs, IsVersionTold, MayAskFor, MayEnd, idle_in, told_as};
+ghost use Rattle.spmat.specs.inner.Running.{IsAccounted, IsAnswer, IsVersionTold, MayAskFor, MayEnd, idle_in, told_as};
 
 mod ended;
 mod logged;
 mod serving;
 mod solo;
 mod standard;
+mod system;
 
 use crate::ended::{Ended, told_as};
 use crate::logged::{Alone, Noted, explain, run_logged};
 use crate::serving::{log_of, open_server, serve};
 use crate::standard::Side;
+use crate::system::System;
 use command_line::{Failure, Settings, SettingsFault, VERSION, ending_of, finish, settings};
 use session_log::{Cause, Journal, Noticing, Origin, Watch, Watching, open_account};
 use std::io::{ErrorKind, Read, Write};
 use std::marker::Brand;
-use std::net::{Net, TcpListener, TcpStream};
 use std::process::ExitCode;
 use std::rt::Env;
 use std::sync::Wait;
 use std::sync::ledger::{Blank, Ledger};
 use std::thread::Threads;
-use std::time::Clock;
 use std::{env, io};
 use wire::{Asked, FromRead, Sink, ToWrite};
 
@@ -68,78 +68,43 @@ fn tell_version<H: Print>(rt: &H) -> Result<Ended, Failure>
     }
 }
 
-/// Does what settings ask for: one session on these devices; or a server's, which is reported on the
-/// sink.
+/// Does what the words of the command line ask for: one session on these devices; or a server's
+/// sessions, which have sockets, and the line that reports it is written on the sink.
 #[tactic(auto, using(crate::proofs::Running::served_of))]
-fn perform<I: Asked<O>, O: Sink, H>(
-    rt: &H,
-    settings: Settings,
-    source: &mut I,
-    sink: &mut O,
-    watch: Option<Watch<'_>>,
-) -> Result<Ended, Failure>
-where
-    H: Clock
-        + Print
-        + Eprint
-        + Net<Listener = TcpListener, Stream = TcpStream>
-        + Threads
-        + Wait
-        + Sync
-        + AllocGlobal,
-    requires range { IsInRange settings }
-    requires asked { MayAskFor I.may_ask settings (record { source = I.state source.old; sink = O.state sink.old }) }
-    ensures { IsDoneAs settings (record { source = I.state source.old; sink = O.state sink.old })
-        (record { source = I.state source.new; sink = O.state sink.new }) result }
-{
-    match settings {
-        Settings::Run { steps, workers, .. } => {
-            let spoken = solo::run(rt, source, sink, steps, workers, watch);
-            Ok(Ended::Session(spoken))
-        }
-        Settings::Serve { .. } => {
-            // Its sessions have sockets. What it writes on the sink is the line that reports it.
-            let server = open_server(rt, settings, sink)?;
-            match serve(rt, server) {
-                Ok(sessions) => Ok(Ended::Sessions(sessions)),
-                Err(fault) => Err(Failure::Listening(fault)),
-            }
-        }
-    }
-}
-
-/// Does what the words of the command line ask for. The devices are for a session, if they ask for
-/// one, and the sink for the line that reports a server.
-fn answer<I: Asked<O>, O: Sink, H>(
+fn answer<I: Asked<O>, O: Sink, H: System + Threads + Wait>(
     rt: &H,
     asked: Result<Settings, SettingsFault>,
     source: &mut I,
     sink: &mut O,
     watch: Option<Watch<'_>>,
 ) -> Result<Ended, Failure>
-where
-    H: Clock
-        + Print
-        + Eprint
-        + Net<Listener = TcpListener, Stream = TcpStream>
-        + Threads
-        + Wait
-        + Sync
-        + AllocGlobal,
     requires range { IfOk asked (λ s. IsInRange s) }
     requires asked { IfOk asked (λ s. MayAskFor I.may_ask s (record { source = I.state source.old; sink = O.state sink.old })) }
     ensures { IsAnswer asked (record { source = I.state source.old; sink = O.state sink.old })
         (record { source = I.state source.new; sink = O.state sink.new }) result }
 {
     match asked {
-        Ok(settings) => perform(rt, settings, source, sink, watch),
+        Ok(settings) => match settings {
+            Settings::Run { steps, workers, .. } => {
+                let spoken = solo::run(rt, source, sink, steps, workers, watch);
+                Ok(Ended::Session(spoken))
+            }
+            Settings::Serve { .. } => {
+                let server = open_server(rt, settings, sink)?;
+                match serve(rt, server) {
+                    Ok(sessions) => Ok(Ended::Sessions(sessions)),
+                    Err(fault) => Err(Failure::Listening(fault)),
+                }
+            }
+        },
         Err(SettingsFault::Version) => tell_version(rt),
         Err(fault) => Err(Failure::Settings(fault)),
     }
 }
 
-/// As `answer`, over a reader and a writer whose calls the caller's ledgers count.
-fn answer_counted<R: Read + Drop, W: Write + Drop, H, A: Ledger, B: Ledger, C: Ledger, D: Ledger>(
+/// As `answer`, over a reader and a writer, which are dropped when it returns. The caller's ledgers
+/// count their calls.
+fn answer_over<R, W, H, A: Ledger, B: Ledger, C: Ledger, D: Ledger>(
     rt: &H,
     asked: Result<Settings, SettingsFault>,
     reader: R,
@@ -148,14 +113,9 @@ fn answer_counted<R: Read + Drop, W: Write + Drop, H, A: Ledger, B: Ledger, C: L
     blanks: (Blank, Blank, Blank, Blank),
 ) -> Result<Ended, Failure>
 where
-    H: Clock
-        + Print
-        + Eprint
-        + Net<Listener = TcpListener, Stream = TcpStream>
-        + Threads
-        + Wait
-        + Sync
-        + AllocGlobal,
+    R: Read + Drop,
+    W: Write + Drop,
+    H: System + Threads + Wait,
     requires range { IfOk asked (λ s. IsInRange s) }
     requires reads { IsNewCount blanks.0 A.name A.parts × IsNewCount blanks.1 B.name B.parts }
     requires writes { IsNewCount blanks.2 C.name C.parts × IsNewCount blanks.3 D.name D.parts }
@@ -167,31 +127,6 @@ where
     let mut source = FromRead::<R, A, B>::new(reader, reads, failed_reads);
     let mut sink = ToWrite::<W, C, D>::new(writer, writes, failed_writes);
     answer(rt, asked, &mut source, &mut sink, watch)
-}
-
-/// As `answer`, over a reader and a writer, which are dropped when it returns.
-fn answer_over<R: Read + Drop, W: Write + Drop, H>(
-    rt: &H,
-    asked: Result<Settings, SettingsFault>,
-    reader: R,
-    writer: W,
-    watch: Option<Watch<'_>>,
-) -> Result<Ended, Failure>
-where
-    H: Clock
-        + Print
-        + Eprint
-        + Net<Listener = TcpListener, Stream = TcpStream>
-        + Threads
-        + Wait
-        + Sync
-        + AllocGlobal,
-    requires { IfOk asked (λ s. IsInRange s) }
-    ensures { MayEnd asked result }
-{
-    // A ledger of one part each, and a fresh name for each type.
-    let blanks = (Blank::new(1), Blank::new(1), Blank::new(1), Blank::new(1));
-    answer_counted::<R, W, H, Brand, Brand, Brand, Brand>(rt, asked, reader, writer, watch, blanks)
 }
 
 /// How long a call of a standard stream may wait, if a number of seconds is given.
@@ -207,21 +142,11 @@ fn idle_of(asked: &Result<Settings, SettingsFault>) -> Option<u64>
 
 /// Does what the words of the command line ask for, with a session on standard input and output. A
 /// log gets an account of it, if there is one.
-fn respond_on<H>(
+fn respond_on<H: System + Input + Threads + Wait>(
     rt: &H,
     asked: Result<Settings, SettingsFault>,
     journal: Option<&Journal>,
 ) -> Result<Ended, Failure>
-where
-    H: Clock
-        + Input
-        + Print
-        + Eprint
-        + Net<Listener = TcpListener, Stream = TcpStream>
-        + Threads
-        + Wait
-        + Sync
-        + AllocGlobal,
     requires { IfOk asked (λ s. IsInRange s) }
     ensures ended { MayEnd asked result }
     ensures accounted { IsAccounted (is_some journal.entry) result }
@@ -240,7 +165,11 @@ where
     );
     // Outermost: it finds refusals in the bytes of the replies.
     let writer = Noticing::new(writing, rt, account.as_ref(), &mut refused);
-    let outcome = answer_over(rt, asked, reader, writer, watch);
+    // A ledger of one part each, and a fresh name for each type.
+    let blanks = (Blank::new(1), Blank::new(1), Blank::new(1), Blank::new(1));
+    let outcome = answer_over::<_, _, H, Brand, Brand, Brand, Brand>(
+        rt, asked, reader, writer, watch, blanks,
+    );
     let noted = Noted {
         unread,
         unwritten,
@@ -250,17 +179,10 @@ where
 }
 
 /// Does what the words of the command line ask for.
-fn respond<H>(rt: &H, asked: Result<Settings, SettingsFault>) -> Result<Ended, Failure>
-where
-    H: Clock
-        + Input
-        + Print
-        + Eprint
-        + Net<Listener = TcpListener, Stream = TcpStream>
-        + Threads
-        + Wait
-        + Sync
-        + AllocGlobal,
+fn respond<H: System + Input + Threads + Wait>(
+    rt: &H,
+    asked: Result<Settings, SettingsFault>,
+) -> Result<Ended, Failure>
     requires { IfOk asked (λ s. IsInRange s) }
     ensures { MayEnd asked result }
 {

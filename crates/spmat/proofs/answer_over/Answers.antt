@@ -1,5 +1,5 @@
 use Rattle.spmat.proofs.Running.{asked_always, may_end}
-use Rattle.spmat.proofs.answer_counted.Goals as goal
+use Rattle.spmat.proofs.answer_over.Goals as goal
 
 pub returns : goal.returns
 returns g c = may_end c.args.asked _ _ c.answer.result c.answer.ensures
