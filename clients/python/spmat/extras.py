@@ -8,7 +8,8 @@ from typing import Any, Dict, NamedTuple
 
 class Extra(NamedTuple):
     """What brings a module: an extra of spmat, a project of pip, and a Debian package ('' if Debian
-    has none)."""
+    has none). Our own distributions have no extra, and a file in place of a project: pip would look
+    for their names where anybody may register them."""
     extra: str
     project: str
     debian: str
@@ -23,8 +24,8 @@ EXTRAS: Dict[str, Extra] = {
     'pandas': Extra('files', 'pandas', 'python3-pandas'),
     'pyarrow': Extra('parquet', 'pyarrow', ''),
     'scipy': Extra('scipy', 'scipy', 'python3-scipy'),
-    'spmat_blocks': Extra('blocks', 'spmat-blocks', 'python3-spmat-blocks'),
-    'spmat_networkx': Extra('networkx', 'spmat-networkx', 'python3-spmat-networkx'),
+    'spmat_blocks': Extra('', './spmat_blocks-*.whl', 'python3-spmat-blocks'),
+    'spmat_networkx': Extra('', './spmat_networkx-*.whl', 'python3-spmat-networkx'),
     'tqdm': Extra('cli', 'tqdm', 'python3-tqdm'),
     'zstandard': Extra('files', 'zstandard', 'python3-zstandard'),
 }
@@ -53,8 +54,8 @@ def describe_missing(module: str, purpose: str) -> str:
     """
     extra = EXTRAS[module]
     debian = ', or on Debian apt install ' + extra.debian if extra.debian else ''
-    return '%s needs %s (extra %s): pip install %s%s' % (purpose, module, extra.extra,
-                                                         extra.project, debian)
+    origin = ' (extra %s)' % extra.extra if extra.extra else ', a wheel of the release'
+    return '%s needs %s%s: pip install %s%s' % (purpose, module, origin, extra.project, debian)
 
 
 def import_extra(module: str, purpose: str) -> Any:

@@ -52,8 +52,13 @@ class Packages(unittest.TestCase):
     def test_each_extra_brings_its_modules(self):
         found = read_extras()
         for module, extra in extras.EXTRAS.items():
-            with self.subTest(module=module):
-                self.assertIn(extra.project, found[extra.extra])
+            if extra.extra:
+                with self.subTest(module=module):
+                    self.assertIn(extra.project, found[extra.extra])
+        # none brings a name of ours, by which whoever registered it would run code at the reader;
+        # that of spmat itself is met by the file that is being installed
+        self.assertEqual([project for projects in found.values() for project in projects
+                          if project.startswith('spmat') and not project.startswith('spmat[')], [])
 
     def test_all_is_every_extra(self):
         found = read_extras()
@@ -126,6 +131,9 @@ class Missing(unittest.TestCase):
                                                 % module.partition('.')[0]):
                         call()
 
-    def test_without_a_package_of_debian(self):
+    def test_without_a_package_of_debian_or_an_extra(self):
         self.assertEqual(extras.describe_missing('pyarrow', 'parquet'),
                          'parquet needs pyarrow (extra parquet): pip install pyarrow')
+        self.assertEqual(extras.describe_missing('spmat_blocks', 'spmat.blocks'),
+                         'spmat.blocks needs spmat_blocks, a wheel of the release: pip install '
+                         './spmat_blocks-*.whl, or on Debian apt install python3-spmat-blocks')
