@@ -9,7 +9,8 @@ import numpy
 
 from ..io.matrix_text import Triples
 from ..loops import Loop, State, empty
-from ..loops.trips import Round
+from ..loops.fixpoint import fixpoint
+from ..loops.trips import Round, report_rounds
 from ..matrix import Matrix
 from ..matrix_base import is_same
 from ..metadata import of_copy
@@ -22,7 +23,7 @@ from .searches import LEAST, MOST, NONE, WRAPS, Search, run_search
 from .traversal import (Columns, Traversal, Vector, find_traversal, find_vectors, is_ample, keep,
                         put_all, put_column, read_column, read_edges, read_row, read_values, spread,
                         vector_of)
-from .utils import (Progress, beside, column, contract, hear, loops, mark_rows, name_of, nothing,
+from .utils import (Progress, beside, column, contract, loops, mark_rows, name_of, nothing,
                     product, rows_of, tell)
 
 __all__ = ['bipartite_sides', 'connected_components', 'CycleError', 'longest_paths',
@@ -517,7 +518,6 @@ def _close_ends(near: Matrix, back: Matrix, parts: Parts) -> None:
 
 def _close_colours(near: Matrix, back: Matrix, parts: Parts, seed: int) -> None:
     """The components of those vertices whose score is the least of all that reach them."""
-    from ..loops.fixpoint import fixpoint          # which needs a module of this package
     at = numpy.flatnonzero(parts.part != DONE)
     own = draw_numbers(put_column(near, Vector(at, numpy.ones_like(at))), seed)
     taken = back.ewise_add(loops(back, 1), 'first')
@@ -824,7 +824,7 @@ class Order:
         where a cycle leads to it."""
         name = 'lengths' if more else 'front'
         begin = {'front': self.front, 'waiting': self.front.select('nonzero'), **more}
-        tells = hear(progress, 'level')
+        tells = report_rounds(progress, 'level')
 
         def heard(first: int, rounds: List[Round]) -> None:
             if any(one.counts.get('wrapped') for one in rounds):

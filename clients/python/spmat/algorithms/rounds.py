@@ -13,13 +13,14 @@ from typing import Any, Dict, NamedTuple, Optional, Protocol, Tuple
 import numpy
 
 from ..loops import Loop, State
+from ..loops.trips import report_rounds
 from ..matrix import Matrix
 from ..operators import Operator, Semiring, asm, binary
 from .cached_properties import is_both_ways, transpose_of
 from .results import keep_partial
 from .traversal import Columns, Traversal, Vector, spread
 from ..types import Array
-from .utils import Progress, hear
+from .utils import Progress
 
 MOST_AHEAD = 8                                     # rounds between two looks
 # bits of a factor, and of a number that it multiplies
@@ -54,8 +55,8 @@ class Rounds:
             self._loop = Loop(lambda s: {**step.make(s.now), 'before': s.now}, self.state,
                               alike=True)
             self._step = step
-        self._loop.rounds(None, count, hear(self._progress, 'round', self.number
-                                            - self._loop.number, self._of))
+        self._loop.rounds(None, count, report_rounds(
+            self._progress, begun=self.number - self._loop.number, of=self._of))
         self.number += count
 
     @property

@@ -10,7 +10,7 @@ import numpy
 
 from ..io.matrix_text import Triples
 from ..loops import Loop, State, empty
-from ..loops.trips import Round
+from ..loops.trips import Round, report_rounds
 from ..matrix import Matrix
 from ..operators import Operator, Semiring, asm, binary
 from ..scale import to_decimals
@@ -21,7 +21,7 @@ from .results import keep_partial, of_vertices, unless_empty
 from .traversal import (Traversal, Unseen, Vector, find_traversal, find_vectors, held_edges,
                         is_ample, is_small, join, keep, put_known, put_unsorted, select_known,
                         vector_of)
-from .utils import (Progress, beside, find_place, find_places, find_sources, hear, mark_rows,
+from .utils import (Progress, beside, find_place, find_places, find_sources, mark_rows,
                     name_of, name_rows, product, tell, warn_of_repeated)
 
 __all__ = ['bfs_levels', 'bfs_parents', 'has_path', 'k_hop', 'k_shortest_paths', 'NoPath', 'Path',
@@ -92,7 +92,7 @@ def continue_search(G: Matrix, numbers: Array, reached: Reached, search: Search,
     if parents:
         step = next_parents
     loop = Loop(step, state, [shown], alike=True)
-    tells = hear(search.progress, 'level', level, result=shown)
+    tells = report_rounds(search.progress, 'level', level, result=shown)
 
     def heard(first: int, rounds: List[Round]) -> None:
         new = loop.shown[shown].drain()
@@ -392,7 +392,7 @@ def _find_hops(G: Matrix, k: int, sources: List[Place], progress: Progress) -> M
     while level < k and state.front.nvals:
         loop = Loop(step, state)
         loop.rounds(empty('front')._replace(rests=rests), min(GATHERED, k - level),
-                    hear(progress, 'level', level, k, 'front'))
+                    report_rounds(progress, 'level', level, k, 'front'))
         state, level = loop.state, level + loop.number
         if both_ways:
             found = found.ewise_add(state.recent, 'first')

@@ -18,6 +18,7 @@ from ..io.arrays import is_frame
 from ..io.coo import MOST, is_gap
 from ..io.matrix_text import Triples
 from ..loops import Loop, State, empty
+from ..loops.trips import report_rounds
 from ..matrix import Matrix
 from ..metadata import Nodes
 from ..operators import Semiring, asm, binary
@@ -25,7 +26,7 @@ from ..session import Session
 from .searches import LESS, NOT_LESS
 from .traversal import Vector, put_column, put_row, vector_of
 from ..types import DataFrame, Many, Number, Place, Vertex, Vertices
-from .utils import Progress, find_place, find_places, hear
+from .utils import Progress, find_place, find_places
 
 # The time at which an event begins, where that isn't before one is there; else the least number
 TAKEN = asm('binary', 'mov64 r0, r2\njsge64 r2, r1, 2\nmov64 r0, 1\nlsh64 r0, 63\nexit\n')
@@ -173,7 +174,7 @@ class Events:
         if end is not None:
             front = front.select('valuele', end)
         loop = Loop(lambda s: self._advance(s, end), {'front': front, 'known': front})
-        loop.rounds(empty('front'), count + 1, hear(progress, 'round', result='front'))
+        loop.rounds(empty('front'), count + 1, report_rounds(progress, result='front'))
         _, at, times = loop.state.known.to_coo()
         found = put_column(self.leave, Vector(at, times))
         found.notes = found.notes._replace(rows=self.nodes)

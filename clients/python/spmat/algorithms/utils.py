@@ -1,28 +1,21 @@
-"""What the algorithms share: vertices and columns, products by parts, and rounds until nothing
-changes."""
+"""What the algorithms share: vertices and columns, and products by parts."""
 from __future__ import annotations
 
 import warnings
-from typing import TYPE_CHECKING, Any, Callable, Iterable, List, Optional, Tuple, TypeVar, cast
+from typing import Any, Callable, Iterable, List, Optional, Tuple, cast
 
 import numpy
 
 from .. import metadata
-from ..errors import NotSettled
 from ..io.matrix_text import Triples
 from ..job_operators import Ring
 from ..matrix import Matrix
-from ..matrix_base import without_names
-from ..matrix_base import common_session
-from .cached_properties import found
+from ..matrix_base import common_session, without_names
 from ..types import Array, Place, Vertex, Vertices
-
-if TYPE_CHECKING:
-    from ..loops.trips import Round
+from .cached_properties import found
 
 __all__ = ['Progress']
 
-S = TypeVar('S')
 Progress = Optional[Callable[[str, int, int], None]]
 """Called as a session's `progress` is: with a word ('level' or 'round'), the number of those that
 have ended, and of how many; 0 where that isn't known."""
@@ -181,43 +174,7 @@ def contract(graph: Matrix, groups: Tuple[Array, Array], many: int, add: str) ->
     return product(wide, product(graph, tall, (add, 'first')), (add, 'second'))
 
 
-# -- rounds
-
 def tell(progress: Progress, word: str, number: int, of: int = 0) -> None:
     """Tells who waits that something has ended."""
     if progress is not None:
         progress(word, number, of)
-
-
-Heard = Callable[[int, List['Round']], None]
-"""What is told of the rounds of a trip: the number of the first, and what they came to."""
-
-
-def hear(progress: Progress, word: str, begun: int = 0, of: int = 0,
-         result: Optional[str] = None) -> Heard:
-    """Tells of the rounds of a loop, of which some were made before it: of all, or of those in
-    which a result has entries."""
-    def heard(first: int, rounds: List[Round]) -> None:
-        for number, one in enumerate(rounds, begun + first):
-            if result is None or one.counts[result]:
-                tell(progress, word, number, of)
-    return heard
-
-
-def iterate(start: S, step: Callable[[S], S], ends: Callable[[S, S], bool],
-            progress: Progress = None, most: Optional[int] = None) -> S:
-    """`step(start)`, `step(step(start))` and so on, up to the first of which `ends(before, now)` is
-    true. It is the answer.
-
-    Whatever is made round by round at the client is made by this loop. `progress('round', k, most
-    or 0)` is called after each step. Raises NotSettled where `most` steps are too few."""
-    before, number = start, 0
-    while most is None or number < most:
-        now = step(before)
-        number += 1
-        has_ended = ends(before, now)
-        tell(progress, 'round', number, most or 0)
-        if has_ended:
-            return now
-        before = now
-    raise NotSettled('did not converge after %d rounds' % number)

@@ -1,14 +1,16 @@
 """A step that is made until it changes nothing."""
 from __future__ import annotations
 
-from typing import Callable, Dict, Optional
+from typing import TYPE_CHECKING, Callable, Dict, Optional
 
-from ..algorithms.utils import Progress, iterate, tell
 from ..errors import NotSettled
 from ..io.coo import whole
 from ..matrix import Matrix
 from . import Loop, NotAlike, NotTraced, Until
 from .trips import report_rounds
+
+if TYPE_CHECKING:
+    from ..wire.connection import Progress
 
 NOT_SETTLED = (
     'it still changes after %d rounds: most= allows more, such as most=10**6. By default a '
@@ -17,7 +19,7 @@ NOT_SETTLED = (
 
 
 def fixpoint(matrix: Matrix, step: Callable[[Matrix], Matrix], most: Optional[int] = None,
-             progress: Progress = None) -> Matrix:
+             progress: Optional['Progress'] = None) -> Matrix:
     """Repeat a step until the matrix no longer changes.
 
         lengths = spmat.fixpoint(start, lambda d: d.ewise_add(d.mxm(W, 'min_plus'), 'min'))
@@ -70,7 +72,7 @@ def fixpoint(matrix: Matrix, step: Callable[[Matrix], Matrix], most: Optional[in
     loop = _traced(matrix, step)
     try:
         if loop is not None:
-            if loop.rounds(SAME, limit, report_rounds(None, progress, most or 0)):
+            if loop.rounds(SAME, limit, report_rounds(progress, of=most or 0)):
                 answer: Matrix = loop.state.now
                 return answer
             raise NotSettled(NOT_SETTLED % limit)
@@ -78,12 +80,14 @@ def fixpoint(matrix: Matrix, step: Callable[[Matrix], Matrix], most: Optional[in
         # in a later round: what is left is made by the step
         assert loop is not None
         made, number = loop.state.now, loop.number
-    try:
-        return iterate(made, step, lambda before, now: now.isequal(before),
-                       lambda word, k, of: tell(progress, word, number + k, most or 0),
-                       limit - number)
-    except NotSettled:
-        raise NotSettled(NOT_SETTLED % limit) from None
+    for number in range(number + 1, limit + 1):
+        before, made = made, step(made)
+        has_ended = made.isequal(before)
+        if progress is not None:
+            progress('round', number, most or 0)
+        if has_ended:
+            return made
+    raise NotSettled(NOT_SETTLED % limit)
 
 
 SAME = Until(('now', 'both', 'differ'), lambda counts, before: counts['both'] == counts['now']

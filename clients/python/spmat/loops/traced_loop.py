@@ -196,7 +196,7 @@ class Loop:
         end, begun = as_until(until), self._resumed()
         most = 1 + self._longest_side if most is None else whole(most, 'number of rounds')
         self._check_names(end.names)
-        if not self.rounds(end, most, report_rounds(each, progress, 0)):
+        if not self.rounds(end, most, report_rounds(progress, each=each)):
             raise NotSettled(
                 'did not converge after %d rounds: most= allows more, and advance() makes '
                 'rounds without an end; the state is that behind them' % most)
@@ -231,7 +231,7 @@ class Loop:
         """
         self._resumed()
         rounds = whole(rounds, 'number of rounds')
-        self.rounds(None, rounds, report_rounds(each, progress, rounds))
+        self.rounds(None, rounds, report_rounds(progress, of=rounds, each=each))
 
     def rounds(self, end: Optional[Until], most: int,
                report: Callable[[int, List[Round]], Any]) -> bool:

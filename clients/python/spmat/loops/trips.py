@@ -48,6 +48,10 @@ class Round(NamedTuple):
     bodies: Dict[str, bytes]
 
 
+Report = Callable[[int, List[Round]], None]
+"""What is told of the rounds of a trip: the number of the first, and what they came to."""
+
+
 class Until(NamedTuple):
     """An end: the results that it looks at, and whether it is met by their numbers of entries in a
     round and in the one before. Also whether rounds behind it that work on these results cost next
@@ -135,15 +139,16 @@ def first_met(end: Optional[Until], before: Counts, rounds: Sequence[Round]) -> 
     return None
 
 
-def report_rounds(each: Optional[Each], progress: Optional['Progress'],
-                  of: int) -> Callable[[int, List[Round]], None]:
-    """Tells both of rounds, of which the first has this number."""
+def report_rounds(progress: Optional['Progress'], word: str = 'round', begun: int = 0, of: int = 0,
+                  result: Optional[str] = None, each: Optional[Each] = None) -> Report:
+    """Tells of the rounds of a loop, of which some were made before it: of all, or of those in
+    which a result has entries."""
     def report(first: int, rounds: List[Round]) -> None:
-        for number, one in enumerate(rounds, first):
+        for number, one in enumerate(rounds, begun + first):
             if each is not None:
                 each(number, one.counts)
-            if progress is not None:
-                progress('round', number, of)
+            if progress is not None and (result is None or one.counts[result]):
+                progress(word, number, of)
     return report
 
 
