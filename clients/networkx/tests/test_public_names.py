@@ -19,7 +19,7 @@ class PublicNames(unittest.TestCase):
 
     def test_what_is_found(self):
         lines = ('import spmat', 'from spmat import Matrix, algorithms, errors',
-                 'import spmat.wire.connection', 'from spmat.io import coo',
+                 'import spmat.wire.connection', 'from spmat import integers',
                  'from spmat import metadata', 'from spmat.errors import _x', 'import os')
         with tempfile.TemporaryDirectory() as folder:
             with open(os.path.join(folder, 'some.py'), 'w', encoding='utf-8') as file:

@@ -20,9 +20,9 @@ from typing import (Any, Dict, FrozenSet, List, Mapping, NamedTuple, Optional, S
 
 import numpy
 
+from . import integers
 from .errors import refusal
 from .extras import import_extra
-from .io import coo
 from .matrix import Matrix
 from .matrix_base import without_names
 from .metadata import VERTICES, VertexUnit, check_one_kind, joined, vertices_of
@@ -515,7 +515,7 @@ def raster(A: Matrix, rows: int = RASTER, columns: int = RASTER) -> Matrix:
     >>> draw.raster(G, 1, 1).to_triples()
     [(0, 0, 2)]
     """
-    cells = [min(coo.whole(many, what), side) for many, what, side in zip(
+    cells = [min(integers.whole(many, what), side) for many, what, side in zip(
         (rows, columns), ('number of rows', 'number of columns'), A.shape)]
     groups, places = ([numpy.arange(side) * many // max(1, side) for side, many in
                        zip(A.shape, cells)], [numpy.arange(side) for side in A.shape])
@@ -564,7 +564,7 @@ def spy(A: Matrix, path: Optional[Path] = None, size: int = RASTER, first: int =
     >>> G = spmat.Session().from_edgelist([("Ann", "Bob"), ("Bob", "Cid")])
     >>> axes = draw.spy(G, "spy.png")
     """
-    size, first = coo.whole(size, 'size'), coo.word(first, 'first number')
+    size, first = integers.whole(size, 'size'), integers.word(first, 'first number')
     ax = _open_axes(ax, path)
     is_small = max(A.shape) <= size
     shown = A.apply('one') if is_small else raster(A, size, size)

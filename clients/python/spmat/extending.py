@@ -13,10 +13,10 @@ from .algorithms.traversal import Vector, put_column, read_column, read_row, vec
 from .prices import stop_estimate
 from .backends.server import without_frames
 from .backends.protocol import AMPLE, Backend, Budget, Handle, Job, JobResult, Run, most_of
+from .integers import (LEAST, MOST, side as check_size, whole as check_whole, word as check_word,
+                     shown)
 from .io.arrays import (DUP_OP, checked as check_entries, columns_of, full as full_entries, indices
                         as check_indices, repeated as refuse_repeated)
-from .io.coo import (LEAST, MOST, side as check_size, whole as check_whole, word as check_word,
-                     shown)
 from .io.edge_lists import (Form as ListForm, Table as ListTable, as_text as decode_list, lay_out as
                             lay_out_list, read_edges as read_list)
 from .io.edges import (FOLDS, Edges, How, Layout, LeftOut, check_direction, choose_value_column,

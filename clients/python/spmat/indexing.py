@@ -13,7 +13,7 @@ from typing import (Any, Dict, List, NamedTuple, NoReturn, Optional, SupportsFlo
 
 import numpy
 
-from .io.coo import shown
+from .integers import shown
 from .mask import Mask
 from .matrix_base import MatrixBase
 from .metadata import (TRUTHS, Nodes, abbreviate_names, joined, place_of, suggest_names)

@@ -7,8 +7,8 @@ from typing import Dict, FrozenSet, Optional, Tuple, Union
 
 import numpy
 
+from . import integers
 from .errors import refusal
-from .io import coo
 from .metadata import VertexUnit
 from .operators import READY, Op, Operator, Semiring, find, find_semiring
 from .operators.other_names import is_ufunc
@@ -170,17 +170,17 @@ def of_bound(op: Operator, number: Number, is_left: bool,
 def _is_stored(number: int) -> bool:
     """Whether a number is stored as it is where values have no scale. So most are, and all that
     follows here would take longer than the rest of a job."""
-    return coo.LEAST <= number <= coo.MOST
+    return integers.LEAST <= number <= integers.MOST
 
 
 def _whole(number: object, what: str, verb: str) -> int:
     """A whole number of 64 bits that callers write beside an operator, by the word that they know
     it by."""
     try:
-        return coo.word(number, 'number')
+        return integers.word(number, 'number')
     except (TypeError, ValueError) as fault:
         raise type(fault)('%s %s a whole number of 64 bits, not %s'
-                          % (what, verb, coo.shown(number))) from None
+                          % (what, verb, integers.shown(number))) from None
 
 
 def _check_factor(op: Operator, number: Number, is_left: bool, unit: int) -> None:

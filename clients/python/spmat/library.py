@@ -1,5 +1,5 @@
 """The library of the server's own proved code, `libspmat.so`, loaded by ctypes: matrix text
-(`io.text_library`) and calls of operators (`operators.evaluation`).
+(`io.matrix_text`) and calls of operators (`operators.evaluation`).
 
 It is the file of the variable SPMAT_LIBRARY (none, where that is empty), or the first that is there
 of three. One is in this package, as a wheel for one kind of machine has it. The others are that of

@@ -19,12 +19,12 @@ from typing import (TYPE_CHECKING, Any, Dict, Iterable, Iterator, List, Mapping,
 
 import numpy
 
-from . import display, oversized_jobs, result_metadata, scale as scales, submatrices
+from . import display, integers, oversized_jobs, result_metadata, scale as scales, submatrices
 from .backends.protocol import Backend, Handle, Job, OneVisit
 from .errors import BudgetExceeded, SpmatError, TooLarge, refusal, warn_user
 from .extras import import_extra
 from .indexing import WHAT, check_once, choose_places, find_place, pair_of
-from .io import coo, files, writers
+from .io import files, writers
 from .io.arrays import by_columns, dense, to_compressed, to_dicts
 from .job_operators import (RINGS, Ring, applied, kind_of_function, of_form, of_index, ring_of)
 from .limits import MOST_SIDE
@@ -661,7 +661,7 @@ class Matrix(Signs, MatrixBase, metaclass=MatrixType):
         1
         """
         if axis not in (0, 1):
-            raise ValueError('axis is 0 for a row or 1 for a column, not %s' % coo.shown(axis))
+            raise ValueError('axis is 0 for a row or 1 for a column, not %s' % integers.shown(axis))
         return find_place(self, node, int(axis))
 
     # -- products
@@ -891,7 +891,7 @@ class Matrix(Signs, MatrixBase, metaclass=MatrixType):
         >>> G.power(2).to_edgelist()
         [('Ann', 'Cid', 35)]
         """
-        n = coo.whole(n, 'power')
+        n = integers.whole(n, 'power')
         if self.nrows != self.ncols:
             raise refusal('J5', command='product',
                           detail='a power is of a square matrix, and this is %dx%d' % self.shape)
@@ -1186,7 +1186,7 @@ class Matrix(Signs, MatrixBase, metaclass=MatrixType):
         """
         if not isinstance(other, Matrix):
             raise not_a_matrix(other)
-        rel_tol, abs_tol = coo.real(rel_tol, 'rel_tol='), coo.real(abs_tol, 'abs_tol=')
+        rel_tol, abs_tol = integers.real(rel_tol, 'rel_tol='), integers.real(abs_tol, 'abs_tol=')
         if rel_tol < 0 or abs_tol < 0:
             raise ValueError('tolerances are 0 or more, not %r and %r' % (rel_tol, abs_tol))
         if self.shape != other.shape:
@@ -1995,12 +1995,12 @@ class Matrix(Signs, MatrixBase, metaclass=MatrixType):
         >>> A.diag().diag().to_triples()
         [(0, 0, 1), (1, 1, 5)]
         """
-        k = coo.whole(k, 'number of a diagonal')
+        k = integers.whole(k, 'number of a diagonal')
         if 1 not in self.shape:
             return self._read_diagonal(k, name)
         rows, columns, values = self.entries()
         along = ROWS if self.ncols == 1 else COLUMNS
-        size = coo.side(self.shape[along] + abs(k), 0, 'nrows')
+        size = integers.side(self.shape[along] + abs(k), 0, 'nrows')
         at = columns if along else rows
         made: Any = self.session.from_coo(at + max(-k, 0), at + max(k, 0), values, size, size,
                                           name=name)
@@ -2113,7 +2113,8 @@ class Matrix(Signs, MatrixBase, metaclass=MatrixType):
         >>> A.resize(2, 2).to_triples()
         [(0, 0, 1)]
         """
-        shape, made = (coo.side(nrows, 0, 'nrows'), coo.side(ncols, 0, 'ncols')), cast(Any, self)
+        shape = integers.side(nrows, 0, 'nrows'), integers.side(ncols, 0, 'ncols')
+        made = cast(Any, self)
         for axis, size in enumerate(shape):
             stay = range(min(size, self.shape[axis]))
             if size != self.shape[axis]:
@@ -2238,8 +2239,8 @@ class Matrix(Signs, MatrixBase, metaclass=MatrixType):
         if self.nvals * other.nvals > MOST_SIDE:
             raise refusal('M4', detail='%d entries, of %d and of %d' % (
                 self.nvals * other.nvals, self.nvals, other.nvals))
-        shape = (coo.side(self.nrows * other.nrows, 0, 'nrows'),
-                 coo.side(self.ncols * other.ncols, 0, 'ncols'))
+        shape = (integers.side(self.nrows * other.nrows, 0, 'nrows'),
+                 integers.side(self.ncols * other.ncols, 0, 'ncols'))
         (i, j, x), (k, l, y) = self.entries(), other.entries()
         each, times = len(k), len(i)
         rows = numpy.repeat(i, each) * other.nrows + numpy.tile(k, times)
@@ -2675,7 +2676,8 @@ class Matrix(Signs, MatrixBase, metaclass=MatrixType):
                               and not hasattr(value, '__float__')):
             value, dtype = 0, value
         kind = numpy.float64 if scales.are_decimals(dtype) else numpy.int64
-        table = numpy.full(self.shape, value if kind is numpy.float64 else coo.word(value, 'fill'),
+        table = numpy.full(self.shape,
+                           value if kind is numpy.float64 else integers.word(value, 'fill'),
                            kind)
         rows, columns, values = self.entries(arrays=True, dtype=dtype)
         table[rows, columns] = values
@@ -2917,7 +2919,7 @@ class Matrix(Signs, MatrixBase, metaclass=MatrixType):
         [('Cid', 7)]
         """
         few: Any = self
-        k = coo.whole(k, 'number of entries')
+        k = integers.whole(k, 'number of entries')
         if k < 0:
             raise ValueError('top(k) gives the k greatest entries: k is 0 or more, not %d; '
                              'A.apply("ainv").top(%d) has the least' % (k, -k))
@@ -3258,7 +3260,7 @@ class Matrix(Signs, MatrixBase, metaclass=MatrixType):
           source target  weight
         0    Ann    Bob       5
         """
-        many = min(coo.whole(k, 'number of entries'), self.nrows * self.ncols)
+        many = min(integers.whole(k, 'number of entries'), self.nrows * self.ncols)
         return alias(find_first(self, many), self.notes).to_pandas().head(many)
 
     def describe(self) -> Any:
@@ -3458,9 +3460,10 @@ def _check_digits(stored: Matrix, less: int, before: int, wanted: int) -> None:
 
 def _check_fits(stored: Matrix, factor: Fraction, wanted: int) -> None:
     """ValueError where a stored value times a factor is beyond 64 bits."""
-    ends = (('valuelt', math.ceil(coo.LEAST / factor)), ('valuegt', math.floor(coo.MOST / factor)))
+    ends = (('valuelt', math.ceil(integers.LEAST / factor)),
+            ('valuegt', math.floor(integers.MOST / factor)))
     # both wait, so that one run makes them
-    outside = [stored.select(op, end) for op, end in ends if coo.LEAST < end < coo.MOST]
+    outside = [stored.select(op, end) for op, end in ends if integers.LEAST < end < integers.MOST]
     many = sum(part.nvals for part in outside)
     if many:
         raise ValueError('%d of %d values are beyond 64 bits in %s: a coarser unit holds them'

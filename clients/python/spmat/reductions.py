@@ -6,7 +6,7 @@ from fractions import Fraction
 from typing import TYPE_CHECKING, Any, Callable, Dict, NoReturn, Optional, Tuple
 
 from . import scale as scales
-from .io.coo import MOST
+from .integers import MOST
 from .mask import Mask, MaskLike, as_mask
 from .matrix_base import with_unit
 from .metadata import VertexUnit

@@ -22,7 +22,7 @@ from typing import Any, Callable, Dict, List, NoReturn, Optional, Tuple, Union
 import numpy
 
 from .errors import UnitsDiffer, about, warn_user
-from .io.coo import LEAST, MOST, shown
+from .integers import LEAST, MOST, shown
 from .io.matrix_text import is_array
 from .io.values import LONG_UNITS, UNITS, read_moment
 from .metadata import VertexUnit, abbreviate_names, names_differ, place_of, suggest_names

@@ -8,8 +8,8 @@ from typing import TYPE_CHECKING, Any, Dict, Iterator, List, Optional, Type
 from .backends.protocol import Budget, Run
 from .backends.server import Limit, ServerBackend
 from .errors import OperatorRefused
+from .integers import whole
 from .unsupported_syntax import SESSION, missing_attribute
-from .io.coo import whole
 from .io.session_importers import SessionSources
 from .limits import MOST_STEPS
 from .matrix import Matrix

@@ -18,7 +18,7 @@ from . import result_metadata, scale as scales
 from .backends.protocol import Job
 from .errors import refusal, warn_user
 from .indexing import WHAT, Chosen, choose_places
-from .io.coo import shown, side, whole
+from .integers import shown, side, whole
 from .io.matrix_text import Triples
 from .io.values import whole_numbers
 from .job_operators import ring_of

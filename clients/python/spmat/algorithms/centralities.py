@@ -9,7 +9,7 @@ from typing import Any, Callable, Dict, List, Mapping, NamedTuple, Optional, Tup
 import numpy
 
 from ..errors import about
-from ..io.coo import shown
+from ..integers import shown
 from ..matrix import Matrix
 from ..matrix_base import with_unit
 from ..operators import Operator, Semiring, asm, binary

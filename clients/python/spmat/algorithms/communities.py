@@ -8,7 +8,7 @@ from typing import (Any, Dict, Hashable, Iterable, Iterator, List, Mapping, Name
 
 import numpy
 
-from ..io.coo import shown
+from ..integers import shown
 from ..io.matrix_text import Triples
 from ..matrix import Matrix
 from ..metadata import Nodes, VERTICES, joined

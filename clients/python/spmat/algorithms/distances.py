@@ -10,7 +10,7 @@ import numpy
 
 from .. import metadata
 from ..errors import about, refusal
-from ..io.coo import shown
+from ..integers import shown
 from ..limits import MOST_SIDE
 from ..loops import Loop, State, empty
 from ..matrix import Matrix

@@ -20,7 +20,7 @@ import numpy
 
 from .. import scale as scales
 from ..errors import BudgetExceeded, about
-from ..io.coo import real, shown, whole
+from ..integers import real, shown, whole
 from ..matrix import Matrix
 from ..matrix_base import with_unit
 from ..types import Exact

@@ -13,9 +13,9 @@ from typing import Any, Dict, Iterable, List, NamedTuple, Optional, Tuple, Union
 
 import numpy
 
-from ..io import coo
+from .. import integers
 from ..io.arrays import is_frame
-from ..io.coo import MOST, is_gap
+from ..integers import MOST, is_gap
 from ..io.matrix_text import Triples
 from ..loops import Loop, State, empty
 from ..loops.trips import report_rounds
@@ -309,7 +309,7 @@ class Clock(NamedTuple):
         """A time as a number; a date may also be text in ISO 8601. TypeError where it is no time as
         those of the events are, ValueError where it is finer than they are."""
         if not self.unit:
-            return coo.word(moment, what)
+            return integers.word(moment, what)
         if not isinstance(moment, str) and _has_zone(moment) != (self.zone is not None):
             raise TypeError('a %s is a date with%s a time zone, as the times of the events are, '
                             'not %r' % (what, 'out' if self.zone is None else '', moment))
@@ -346,7 +346,7 @@ class Clock(NamedTuple):
                 raise ValueError('durations are no finer than the times of the events, which are '
                                  'in %s of numpy' % self.unit)
             listed = found.astype('int64').tolist()
-        lengths = [coo.word(one, 'duration of event %d' % at) for at, one in enumerate(listed)]
+        lengths = [integers.word(one, 'duration of event %d' % at) for at, one in enumerate(listed)]
         wrong = next((at for at, one in enumerate(lengths) if one < 0), None)
         if wrong is not None:
             raise ValueError('event %d has a duration below 0, or none: nothing arrives before it '
@@ -363,7 +363,8 @@ def read_times(times: Many) -> Tuple[List[int], Clock]:
         raise ValueError('event %d has no time: it is %r' % (gap, listed[gap]))
     if not listed or not (hasattr(listed[0], 'isoformat')
                           or 'M' in (_kind(times), _kind(listed[0]))):
-        return [coo.word(one, 'time of event %d' % at) for at, one in enumerate(listed)], Clock()
+        return ([integers.word(one, 'time of event %d' % at) for at, one in enumerate(listed)],
+                Clock())
     with_zone = sum(map(_has_zone, listed))
     if with_zone not in (0, len(listed)):
         raise ValueError('%d of %d times have a time zone: either all have one, or none'

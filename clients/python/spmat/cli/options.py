@@ -10,12 +10,12 @@ from typing import TYPE_CHECKING, Any, Callable, Dict, Iterator, List, Optional,
 
 import click
 
+from .. import integers
 from ..algorithms import undirected
 from ..algorithms.cached_properties import LOOPS, ONE_WAY, has_loops, is_both_ways
 from ..algorithms.registry import Wanted
 from ..errors import ReadError, about, parameters_of
 from ..io import matrix_market
-from ..io.coo import whole_of_word
 from ..io.files import Loaded, load
 from ..io.formats import FORMATS, format_of
 from ..io.values import UNITS
@@ -57,7 +57,9 @@ def whole(least: int = -1 << 63, most: int = (1 << 63) - 1) -> Callable[[Any], i
     """What reads a whole number from the least to the most, also written as 1e9."""
     def number(word: object) -> int:
         with contextlib.suppress(ValueError, OverflowError):
-            found = whole_of_word(str(word))
+            text = str(word)
+            found = (int(text) if text.strip().lstrip('+-').isdigit()
+                     else integers.whole(float(text), 'number'))
             if least <= found <= most:
                 return found
         raise click.BadParameter('%r is no whole number from %d to %d' % (word, least, most))

@@ -23,12 +23,12 @@ from typing import TYPE_CHECKING, Any, Dict, Iterator, Mapping, Optional, Tuple
 import numpy
 
 from ..errors import ReadError, SpmatError, TextRefused, TooLarge
+from ..integers import MOST
 from ..limits import MOST_SIDE, MOST_TEXT
 from ..metadata import COLUMNS, ROWS, Metadata, Nodes, Unnamed, VertexUnit, new_kind
 from ..scale import as_unit
 from ..types import Path
 from . import matrix_market
-from .coo import MOST
 from .files import RATIO, SMALL, replacing
 from .values import UNITS
 

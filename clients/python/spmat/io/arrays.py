@@ -11,9 +11,9 @@ from typing import (TYPE_CHECKING, Any, Callable, Dict, Iterable, Iterator, List
 import numpy
 
 from ..errors import Refused, about, refusal
+from ..integers import LEAST, MOST, is_gap, shown, side, whole
 from ..metadata import Nodes, check_names
 from ..types import DataFrame, Series
-from .coo import LEAST, MOST, is_gap, shown, side, whole
 from .matrix_text import Triples
 from .values import Rounding, whole_number, whole_numbers
 

@@ -20,11 +20,11 @@ import numpy
 
 from ..errors import about, parameters_of, refusal, warn_user
 from ..extras import import_extra
+from ..integers import MOST, is_gap, shown
 from ..limits import MOST_SIDE
 from ..metadata import Metadata, Nodes, axis_of, list_of_names
 from ..types import Array, DataFrame, NxGraph, Vertex
 from .arrays import columns_of_frame, is_frame, is_series
-from .coo import MOST, is_gap, shown
 from .matrix_text import Triples, lowered
 from .values import RAISE, SKIP, SKIPS, TAKES, Clock, Rounding, is_time, whole_numbers
 

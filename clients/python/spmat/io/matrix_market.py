@@ -17,12 +17,12 @@ from typing import (Any, Callable, Collection, Dict, Iterator, List, Mapping, Na
 import numpy
 
 from ..errors import Refused, about, refusal
+from ..integers import LEAST
 from ..limits import MOST_SIDE
 from ..metadata import BY_POSITIONS, Metadata
 from ..scale import as_unit
 from . import edge_lists, files
 from .arrays import DUP_OP
-from .coo import LEAST
 from .matrix_text import Triples, line_at, lowered
 from .values import BEYOND, Rounding, scaled_array, whole_values
 

@@ -1,18 +1,20 @@
 """Matrix text as the server reads and writes it: `coordinate integer general`, from triples and
 back.
 
-Triples are three arrays of numpy (int64) of one length, indices from 0. The server's own reader
-makes them, as a library (`text_library`). Where there is none, numpy and `re` do, in more time.
+Triples are three arrays of numpy (int64) of one length, indices from 0. The server's own reader and
+writer make them and the text, of the `library`. Where there is none, numpy and `re` do, in more
+time.
 """
 from __future__ import annotations
 
 import re
-from typing import Any, NamedTuple
+from typing import Any, List, NamedTuple, Optional, Tuple
 
 import numpy
 
 from .. import limits
-from . import text_library
+from ..integers import LEAST, MOST
+from ..library import Answer, load
 
 BANNER = b'%%MatrixMarket matrix coordinate integer general\n'
 HEAD_LINES = 2                                     # lines before the first entry in a text of ours
@@ -23,7 +25,11 @@ FEW_LINES = 64
 # The library goes through all rows: where so many are without an entry, the other way is shorter.
 MANY_BLANK_ROWS = 100
 SHORTEST_LINE = len(b'1 1 0\n')
-LEAST, MOST = -1 << 63, (1 << 63) - 1
+# what `spmat_read` answers where memory was refused; below it stands the number of a rule
+MEMORY = 13
+REFUSED = (1 << 64) - 1
+# bytes of the longest line, as the library wants them for each
+LINE = 40
 # a text as the server writes it
 SIZE = rb'(?:0|[1-9]\d{0,7})'
 WHOLE = re.compile(re.escape(BANNER) + b' '.join([SIZE] * 3)
@@ -60,7 +66,7 @@ def write(triples: Triples, ones: bool = False, symmetric: bool = False) -> byte
     head = (PATTERN if bare else BANNER) + b'%d %d %d\n' % (nrows, ncols, len(rows))
     head = head.replace(b'general', b'symmetric') if symmetric else head
     text = (None if len(rows) < FEW_LINES
-            else text_library.write(head, rows, columns, None if bare else values))
+            else write_by_library(head, rows, columns, None if bare else values))
     if text is not None:
         return text
     at = (rows + 1).tolist(), (columns + 1).tolist()
@@ -77,7 +83,7 @@ def read(text: bytes) -> Triples:
         raise ValueError('%d entries have no room in %d bytes' % (nvals, len(text) - start))
     if nrows > MANY_BLANK_ROWS * (nvals + MANY_BLANK_ROWS):
         return _read_by_numpy(text)
-    found = text_library.read(text, nvals)
+    found = read_by_library(text, nvals)
     if found is None:
         return _read_by_numpy(text)
     (rows, columns, values), answer = found
@@ -86,6 +92,39 @@ def read(text: bytes) -> Triples:
     if (answer.rows, answer.columns, answer.entries) != (nrows, ncols, nvals):
         raise ValueError('the sizes of the text are others than its second line says')
     return Triples(rows, columns, values, nrows, ncols)
+
+
+def write_by_library(head: bytes, rows: Any, columns: Any, values: Any) -> Optional[bytes]:
+    """A head and the lines of entries, without values where these are None. None without a library,
+    and where an index is none of a matrix."""
+    library = load()
+    if library is None:
+        return None
+    out = numpy.empty(len(head) + LINE * len(rows), numpy.uint8)
+    arrays: List[Any] = [numpy.ascontiguousarray(many, numpy.int64)
+                         for many in (rows, columns, () if values is None else values)]
+    start = library.spmat_write(*(word for many in [*arrays, out]
+                                  for word in (many.ctypes.data, len(many))))
+    if start == REFUSED:
+        return None
+    out[start - len(head):start] = numpy.frombuffer(head, numpy.uint8)
+    return out[start - len(head):].tobytes()
+
+
+def read_by_library(text: bytes, count: int) -> Optional[Tuple[Any, Answer]]:
+    """Rows, columns (from 0) and values of a text that has so many entries: an array of three rows;
+    and what the library says of the text, whose entries the array has if that names no rule. None
+    without a library. MemoryError where there is none for the matrix."""
+    library = load()
+    if library is None:
+        return None
+    found = numpy.empty((3, count), numpy.int64)
+    first, size = found.ctypes.data, 8 * count
+    answer = library.spmat_read(text, len(text), first, count, first + size, count,
+                                first + 2 * size, count)
+    if answer.rule == MEMORY:
+        raise MemoryError('no memory to read a text of %d bytes' % len(text))
+    return found, answer
 
 
 def _read_by_numpy(text: bytes) -> Triples:

@@ -7,12 +7,12 @@ from typing import Dict, Optional, Tuple, Union
 from .. import limits, scale as scales
 from ..backends.server import ServerBackend
 from ..errors import Refused, TextRefused, about, refusal
+from ..integers import side
 from ..matrix import Matrix
 from ..metadata import BY_POSITIONS, NOTHING
 from ..matrix_base import alias, as_constant
 from ..types import Source
 from . import arrays, files, matrix_market, matrix_text
-from .coo import side
 from .edges import Layout
 from .files import name_of
 from .formats import Request

@@ -15,8 +15,8 @@ from typing import Any, Callable, Dict, NamedTuple, Optional, Sequence
 import numpy
 
 from ..errors import about, parameters_of
+from ..integers import LEAST, MOST, is_gap, shown, whole, word
 from ..types import Array
-from .coo import LEAST, MOST, is_gap, shown, whole, without_truth, word
 
 # Floats below it are the whole numbers that were written, or none: pandas reads the last bits of
 # long decimals wrong, so that 7358111619511751.0 ends in 0.
@@ -174,7 +174,9 @@ def whole_numbers(many: Any, rounding: Optional[Rounding] = None,
         found = _whole_at_once(many, what, rounding)
     elif rounding.exact is None:
         with contextlib.suppress(TypeError, OverflowError):     # which are named below
-            found = numpy.array(list(map(operator.index, without_truth(many))), numpy.int64)
+            if numpy.bool_ in set(map(type, many)):             # which won't be numbers some day
+                many = [int(one) if isinstance(one, numpy.bool_) else one for one in many]
+            found = numpy.array(list(map(operator.index, many)), numpy.int64)
     if found is not None:
         return found
     whole_ones = []

@@ -18,12 +18,12 @@ import numpy
 
 from ..errors import ReadError, warn_user
 from ..extras import import_extra
+from ..integers import real
 from ..metadata import along, is_line, vertices_of
 from ..scale import is_whole, to_decimal, to_decimals, to_text
 from ..types import Array, Path, Target, Vertex
 from . import edge_lists, files
 from .archive import can_save
-from .coo import real
 from .edges import WHOLE, Layout
 from .formats import describe_other, format_of, has_dictionaries
 from .values import check_scale, is_missing

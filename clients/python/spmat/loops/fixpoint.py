@@ -4,7 +4,7 @@ from __future__ import annotations
 from typing import TYPE_CHECKING, Callable, Dict, Optional
 
 from ..errors import NotSettled
-from ..io.coo import whole
+from ..integers import whole
 from ..matrix import Matrix
 from . import Loop, NotAlike, NotTraced, Until
 from .trips import report_rounds

@@ -16,7 +16,7 @@ from typing import (TYPE_CHECKING, Any, Callable, Dict, List, Mapping, Optional,
                     Union)
 
 from ..errors import NotSettled, Refused
-from ..io.coo import whole
+from ..integers import whole
 from .round_text import Shown
 from .rounds import State, TracedRounds, check_state, of_two, results
 from .trips import (Counts, Each, Place, Round, Trips, Until, advance_place, as_until,

@@ -24,7 +24,7 @@ from typing import (Any, Callable, Deque, Iterable, Iterator, List, Mapping, Opt
                     Union)
 
 from ..errors import OF_GATEWAY, Closed, ProtocolError, Refused, SpmatError, about
-from ..io.coo import shown, whole
+from ..integers import shown, whole
 from ..limits import MOST_STEPS, MOST_WORKERS
 from .commands import (NOTHING, PIECE, WORDS_WITH_BODY, Command, CommandBatch, Incoming, Limits,
                        Near, Reply, read_refusal)

@@ -18,7 +18,7 @@ import urllib.parse
 from typing import TYPE_CHECKING, List, NamedTuple, Optional, Sequence, Union
 
 from ..errors import Closed, about
-from ..io.coo import real, shown, whole
+from ..integers import real, shown, whole
 from .commands import PIECE
 
 if TYPE_CHECKING:

@@ -9,7 +9,7 @@ import pytest
 
 from support import InSession, needs
 import spmat
-from spmat.io import text_library
+from spmat import library
 
 pytestmark = pytest.mark.slow
 
@@ -173,7 +173,7 @@ class Scipy(InSession):
         said of the clock's, and the least of three rounds by turns (a third on an idle one)."""
         import scipy.io
         import scipy.sparse
-        if text_library.load() is None:
+        if library.load() is None:
             self.skipTest('without its library the client writes in more time')
         r = numpy.random.default_rng(1)
         at = numpy.unique(r.integers(0, 1 << 40, 1_000_000))

@@ -11,7 +11,7 @@ import numpy
 
 import spmat
 from spmat import library
-from spmat.io import matrix_text, text_library
+from spmat.io import matrix_text
 from spmat.io.matrix_text import Triples
 from spmat.wire import commands
 
@@ -21,7 +21,7 @@ HAS_LIBRARY = library.load() is not None
 wants_library = unittest.skipUnless(HAS_LIBRARY, 'no library: tools/build makes it')
 SHORT_OF_MEMORY = """
 import resource, numpy
-from spmat.io import matrix_text, text_library
+from spmat.io import matrix_text
 count = 1 << 20
 places = numpy.arange(count)
 text = matrix_text.write(matrix_text.Triples(places * 0, places, places, 1, count))
@@ -36,7 +36,7 @@ except MemoryError as fault:
 
 
 def without_library():
-    return mock.patch.object(text_library, 'load', lambda: None)
+    return mock.patch.object(matrix_text, 'load', lambda: None)
 
 
 def listed(triples):
@@ -109,14 +109,14 @@ class BothWays(unittest.TestCase):
         for index in (-1, 1 << 24, (1 << 63) - 1):
             column = numpy.arange(100)
             column[50] = index
-            self.assertIsNone(text_library.write(b'', numpy.arange(100), column, None))
-            self.assertIsNone(text_library.write(b'', column, numpy.arange(100), None))
-        self.assertIsNone(text_library.write(b'', numpy.arange(100), numpy.arange(99), None))
-        self.assertIsNone(text_library.write(b'', column, column, numpy.arange(99)))
+            self.assertIsNone(matrix_text.write_by_library(b'', numpy.arange(100), column, None))
+            self.assertIsNone(matrix_text.write_by_library(b'', column, numpy.arange(100), None))
+        self.assertIsNone(matrix_text.write_by_library(b'', numpy.arange(100), numpy.arange(99), None))
+        self.assertIsNone(matrix_text.write_by_library(b'', column, column, numpy.arange(99)))
 
     def test_many_blank_rows(self):
         text = matrix_text.BANNER + b'16777216 1 2\n7 1 5\n16777216 1 6\n'
-        with mock.patch.object(text_library, 'read') as used:
+        with mock.patch.object(matrix_text, 'read_by_library') as used:
             self.assertEqual(listed(matrix_text.read(text))[:3], [[6, 16777215], [0, 0], [5, 6]])
         used.assert_not_called()
 
@@ -176,13 +176,13 @@ class Altered(unittest.TestCase):
                                  (matrix_text.BANNER + b'3 3 0\n' + b'%' * 1025, 11, 3),
                                  (matrix_text.BANNER.replace(b'general', b'symmetric')
                                   + b'3 4 0\n', 12, 2)):
-            _, answer = text_library.read(text, 0)
+            _, answer = matrix_text.read_by_library(text, 0)
             self.assertEqual((answer.rule, answer.line, answer.entries), (rule, line, 0), text)
 
     def test_arrays_that_are_too_short(self):
         """They are left as they are, whatever a text says of its entries."""
         with mock.patch.object(numpy, 'empty', lambda size, kind: numpy.full(size, 7, kind)):
-            found, answer = text_library.read(TEXT, 4)
+            found, answer = matrix_text.read_by_library(TEXT, 4)
         self.assertEqual((answer.rule, answer.rows, answer.columns, answer.entries), (0, 3, 12, 5))
         self.assertTrue((found == 7).all())
 
@@ -212,10 +212,10 @@ class Found(unittest.TestCase):
         if not path:
             self.skipTest('SPMAT_LIBRARY names none')
         self.assertEqual(library.find(), path)
-        with mock.patch.object(text_library, 'read', wraps=text_library.read) as used:
+        with mock.patch.object(matrix_text, 'read_by_library', wraps=matrix_text.read_by_library) as used:
             self.assertEqual(matrix_text.read(TEXT).nrows, 3)
         used.assert_called_once()
-        self.assertIsNotNone(text_library.read(TEXT, 5))
+        self.assertIsNotNone(matrix_text.read_by_library(TEXT, 5))
 
     def test_none(self):
         with self.named(''):

@@ -5,12 +5,10 @@ import decimal
 import math
 import numbers
 import operator
-from typing import Any, List, Optional
+from typing import Any, Optional
 
-import numpy
-
-from ..errors import about, refusal
-from ..limits import MOST_SIDE
+from .errors import about, refusal
+from .limits import MOST_SIDE
 
 LEAST, MOST = -1 << 63, (1 << 63) - 1
 LONGEST = 60                                       # characters of a value that an error shows
@@ -62,11 +60,6 @@ def shown(number: Any) -> str:
     return words if len(words) <= LONGEST else '%s.. (%d characters)' % (words[:20], len(words))
 
 
-def whole_of_word(word: str) -> int:
-    """A whole number as a word, also 1e9. ValueError for anything else."""
-    return int(word) if word.strip().lstrip('+-').isdigit() else whole(float(word), 'number')
-
-
 def word(number: Any, what: str) -> int:
     """A whole number within 64 bits."""
     got = whole(number, what)
@@ -74,13 +67,6 @@ def word(number: Any, what: str) -> int:
         raise ValueError('%s %s is not in -2^63 to 2^63 - 1, the numbers of 64 bits'
                          % (what, shown(got)))
     return got
-
-
-def without_truth(many: List[Any]) -> List[Any]:
-    """A list with 0 and 1 in place of numpy's truth values, which won't be numbers some day."""
-    if numpy.bool_ not in set(map(type, many)):
-        return many
-    return [int(one) if isinstance(one, numpy.bool_) else one for one in many]
 
 
 def side(given: Optional[int], least: int, what: str) -> int:
