@@ -12,7 +12,9 @@ import numpy
 
 from algorithm_graphs import Asked
 from spmat import algorithms
+from spmat.algorithms.cached_properties import found
 from spmat.algorithms.registry import ALGORITHMS, Wanted, required
+from spmat.algorithms.traversal import put_all
 
 # powers of two by which graphs have fewer vertices where each pair of them counts
 SMALLER = 4
@@ -120,11 +122,9 @@ def levels(g: Ours) -> Any:
 
 
 def modularity(g: Ours) -> float:
-    """That of communities of 64 vertices each."""
-    n = g.G.nrows
-    return algorithms.modularity(g.G,
-                                 g.G.session.from_coo(numpy.arange(n), numpy.zeros(n, numpy.int64),
-                                                      numpy.arange(n) >> 6, n, 1))
+    """That of communities of 64 vertices each, which the client has, as those of `louvain`."""
+    return algorithms.modularity(g.G, found(g.G, 'communities of 64', lambda: put_all(
+        g.G, numpy.arange(g.G.nrows) >> 6)))
 
 
 SEARCHES = (

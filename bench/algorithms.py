@@ -1,6 +1,6 @@
 #!/usr/bin/env python3
-"""algorithms.py [PATH_TO_SPMAT] [--scale N] [--sizes 1|2] [--workers W] [--rounds R] [--graphs
-kron,..] [--only sssp,..] [--figures FILE] [--processor]
+"""algorithms.py [PATH_TO_SPMAT] [--scale N] [--sizes 1|2] [--even] [--workers W] [--rounds R]
+[--graphs kron,..] [--only sssp,..] [--figures FILE] [--processor]
 
 Whole algorithms of the Python client beside what an analyst would take instead, on the same edges,
 by the clock: from a graph that is loaded to an answer in numpy. Wants numpy; the peers are scipy,
@@ -11,7 +11,8 @@ igraph, networkx (for graphs of up to 20,000 vertices) and SuiteSparse:GraphBLAS
 Graphs: kron (R-MAT, skewed), urand (uniform), road (a grid with one edge in twenty missing: long
 paths), directed (uniform, one way alone), dag (the directed one's edges from lower to higher
 vertices); about 2^N vertices, eight edges each (road: two). The second size has four times as many
-vertices. Algorithms that look at each pair of vertices have graphs of a sixteenth of the vertices.
+vertices. Algorithms that look at each pair of vertices have graphs of a sixteenth of the vertices;
+with --even of as many as all.
 
 The first table has how many times as long as the best peer a call took. The second, which goes to
 FILE where one is named, has a line for each: the first call, which finds out what is then kept with
@@ -133,6 +134,7 @@ def all_lines(kinds: Sequence[Type[Peer]], options: argparse.Namespace) -> Itera
     for graph in options.graphs.split(','):
         tasks = [task for task in TASKS if graph in task.graphs
                  and (only is None or task.name in only)]
+        tasks = [task._replace(smaller=0) for task in tasks] if options.even else tasks
         for smaller in sorted({task.smaller for task in tasks}):
             for size in range(options.sizes):
                 yield from measured_on(graph, options.scale + 2 * size - smaller,
@@ -147,11 +149,11 @@ def figures(lines: Sequence[Line]) -> Iterator[str]:
     yield '|---' * 8 + '|'
     before: Dict[Tuple[str, str], Line] = {}
     for line in lines:
-        peers = ', '.join('%s %.4f' % item
+        peers = ', '.join('%s %.6f' % item
                           for item in sorted(line.peers.items(), key=lambda item: item[1]))
         smaller = before.get((line.graph, line.task))
         cells = ['%s: %d vertices, %d entries' % (line.graph, line.vertices, line.entries),
-                 line.task, '%.4f' % line.first, '%.4f' % line.least, '%.3f' % line.server,
+                 line.task, '%.6f' % line.first, '%.6f' % line.least, '%.6f' % line.server,
                  peers or '-', '-' if line.ratio is None else '%.2f' % line.ratio,
                  '%.1f' % (line.least / smaller.least) if smaller is not None else '']
         before[line.graph, line.task] = line
@@ -170,7 +172,8 @@ def wanted() -> argparse.Namespace:
     words.add_argument('--graphs', default=','.join(GRAPHS))
     words.add_argument('--only', default='')
     words.add_argument('--figures')
-    words.add_argument('--processor', action='store_true')
+    for name in ('even', 'processor'):
+        words.add_argument('--' + name, action='store_true')
     return words.parse_args()
 
 

@@ -3,8 +3,8 @@
 ratios.py --check    sees that the pages have them as the raw figures are
 
 bench/peers.txt has the milliseconds of `bench/run peers`, bench/algorithms.txt the seconds of
-`bench/run algorithms`, bench/algorithms_large.txt those on graphs of a million edges,
-bench/networkx.txt those of bench/networkx.py, bench/speed.txt the steps of a second, and
+`bench/run algorithms`, bench/algorithms_few.txt those on graphs of 1,024 vertices,
+bench/algorithms_large.txt those on graphs of a million edges, bench/networkx.txt those of bench/networkx.py, bench/speed.txt the steps of a second, and
 bench/machine.txt what all of it stands on. The pages show ratios, which say more than seconds of
 some machine: each table stands between the comments `<!-- bench/ratios NAME -->` and `<!-- end
 -->`.
@@ -23,6 +23,8 @@ LIMITS, FAQ, SERVICE, COMPARISON = (os.path.join(TOP, 'docs', name) for name in 
 UNKNOWN = """The figures of graphs of 4,096 and 16,384 vertices are of 2026-11-28 (commit 3cc2d2c8), those of a million edges
 of 2026-11-29 (commit 5628e646). They were made on four processors, of which nobody noted the kind, by Debian 12's libraries, SuiteSparse:GraphBLAS
 7.4 among them. The client has changed since. `bench/performance` measures all anew, and writes this paragraph and the tables."""
+FEW = 'algorithms_few.txt'
+UNMEASURED = 'Nobody has measured them on an idle machine yet. `bench/performance --few` does, and writes the table here.'
 FAR = 10.0                                         # times as long as the best library
 # how many times as long as the best library a call was to take at most, by graphs
 TARGETS: Dict[str, Dict[str, float]] = {
@@ -198,6 +200,29 @@ def named(task: str) -> Tuple[str, str]:
     return (name.group(0), task[name.end():]) if name else (task, '')
 
 
+def few() -> str:
+    """The times of each algorithm by spmat and by two libraries, on the first graph that it was
+    measured on, and how many times as long as by these it took."""
+    if not os.path.exists(os.path.join(BENCH, FEW)):
+        return UNMEASURED
+    rows: Dict[str, List[str]] = {}
+    for row in rows_of(text_of(FEW))[1:]:
+        rows.setdefault(row[1], row)
+    lines = []
+    for row in rows.values():
+        cells = ['%s, %s' % (duration(float(taken)), shown(float(row[3]) / max(float(taken), 1e-6)))
+                 if taken else '' for taken in map(seconds_of(row).get, ('igraph', 'networkx'))]
+        lines.append('| `%s`%s | %s | %s | %s |'
+                     % (*named(row[1]), measured(row).graph, duration(float(row[3])),
+                        ' | '.join(cells)))
+    return '\n'.join(['| algorithm | graph | spmat | igraph | networkx |', '|---' * 5 + '|', *lines])
+
+
+def seconds_of(row: List[str]) -> Dict[str, str]:
+    """The seconds of each library, of a row of the figures of algorithms."""
+    return {} if row[5] == '-' else dict(peer.rsplit(' ', 1) for peer in row[5].split(', '))
+
+
 def slow(*raws: str) -> str:
     """The algorithms that took at least FAR times as long as the best peer on some graph, with the
     greatest ratio."""
@@ -222,7 +247,7 @@ def three(raw: str) -> str:
     rows = [row for row in rows if measured(row).vertices == largest]
     lines = []
     for row in rows:
-        found = dict(peer.rsplit(' ', 1) for peer in row[5].split(', '))
+        found = seconds_of(row)
         cells = [duration(float(found[name])) if name in found else '' for name in COMPARED]
         lines.append('| %s | %s |' % (THREE[row[1]], ' | '.join([duration(float(row[3])), *cells])))
     entries = rows[0][0].split(', ')[1].split()[0]
@@ -318,7 +343,7 @@ PAGES: Dict[str, Dict[str, Callable[[], str]]] = {
     PAGE: {'machine': machine, 'summary': lambda: summary(text_of('algorithms_large.txt')),
            'large': lambda: by_graph(text_of('algorithms_large.txt')),
            'small': lambda: by_graph(text_of('algorithms.txt'), smallest=True),
-           'slow': lambda: slow(text_of('algorithms.txt'), text_of('algorithms_large.txt')),
+           'few': few, 'slow': lambda: slow(text_of('algorithms.txt'), text_of('algorithms_large.txt')),
            'steps': steps_a_second, 'speed': lambda: text_of('speed.txt').strip()},
     COMPARISON: {'three': lambda: three(text_of('algorithms.txt'))},
     LIMITS: {'queue': whole_queue}, FAQ: {'million': a_million}, SERVICE: {'day': a_day},
