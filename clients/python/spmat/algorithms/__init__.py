@@ -14,8 +14,8 @@ for the edges of the vertices that changed. So a round costs what these edges co
 vertices change at a time, the server does it all.
 
 Of a graph of up to 65,536 edges the client reads the edges once, and keeps them. Cores, strong
-components and forests ask the server for nothing else. Nor do searches and `modularity`, if the
-budget is above 2^56 steps, as by default.
+components and forests ask the server for nothing else. Nor do searches, `degrees` and `modularity`,
+if the budget is above 2^56 steps, as by default.
 
 If the values of a graph have a unit, lengths of paths and spanning forests have it too; levels,
 counts and shares have none.

@@ -19,10 +19,10 @@ from ..types import Array, Place
 from .cached_properties import (check_undirected, extremes, found, is_both_ways, is_transpose,
                                 transpose_of)
 from .registry import BOTH_WAYS, algorithm
-from .searches import LEAST, MOST, NONE, WRAPS, Search, run_search
-from .traversal import (Columns, Traversal, Vector, find_traversal, find_vectors, is_ample, keep,
-                        put_all, put_column, read_column, read_edges, read_row, read_values, spread,
-                        vector_of)
+from .searches import LEAST, MOST, WRAPS, Search, run_search
+from .traversal import (NONE, Columns, Traversal, Vector, find_traversal, find_vectors, is_ample,
+                        keep, put_all, put_column, read_column, read_edges, read_row, read_values,
+                        spread, vector_of)
 from .utils import (Progress, beside, column, contract, loops, mark_rows, name_of, nothing,
                     product, rows_of, tell)
 

@@ -21,8 +21,8 @@ from .cached_properties import extremes, is_both_ways, is_transpose, transpose_o
 from .components import label_strong_components
 from .registry import algorithm
 from .results import Centrality, as_centrality, unit_of
-from .searches import CYCLE, LENGTHEN, NONE, REACHED, TOO_LONG, Search, run_search
-from .traversal import find_traversal, is_whole, put_all, read_column, read_row, spread
+from .searches import CYCLE, LENGTHEN, REACHED, TOO_LONG, Search, run_search
+from .traversal import NONE, find_traversal, is_whole, put_all, read_column, read_row, spread
 from .utils import (Progress, beside, count_edges, find_places, find_sources, loops, mark_rows,
                     name_of, name_rows, nothing, product, tell, warn_of_repeated)
 

@@ -146,7 +146,9 @@ def of_vertices(column: Matrix) -> Matrix:
 
 def with_zeros(column: Matrix, graph: Matrix) -> Any:
     """A column that has an entry for each vertex of a graph, so that means and minima know those
-    that count 0: 1 job."""
+    that count 0: 1 job, unless it is known to have one."""
+    if column.handle.nvals == column.nrows:
+        return column
     zeros = column_of(graph, 0)
     zeros.notes = zeros.notes._replace(unit=column.unit)
     made = column.ewise_add(zeros, 'first')

@@ -4,6 +4,7 @@ from __future__ import annotations
 
 import functools
 import heapq
+import math
 from typing import Any, Callable, Dict, Iterable, List, Mapping, NamedTuple, Optional, Set, Tuple
 
 import numpy
@@ -18,9 +19,9 @@ from ..types import Array, Place, Vertex, Vertices
 from .cached_properties import extremes, found, is_both_ways, transpose_of
 from .registry import algorithm
 from .results import keep_partial, of_vertices, unless_empty
-from .traversal import (Traversal, Unseen, Vector, find_traversal, find_vectors, held_edges,
-                        is_ample, is_small, join, keep, put_known, put_unsorted, select_known,
-                        vector_of)
+from .traversal import (NONE, SHORTEST, HeldRows, Traversal, Unseen, Vector, find_traversal,
+                        find_vectors, held_edges, is_ample, is_small, join, keep, put_known,
+                        put_unsorted, select_known, vector_of)
 from .utils import (Progress, beside, find_place, find_places, find_sources, mark_rows,
                     name_of, name_rows, product, tell, warn_of_repeated)
 
@@ -31,11 +32,12 @@ REACHED = Semiring(binary.any, binary.first)
 LEAST = Semiring(binary.min, binary.first)
 # from a level to the next
 ANY_NEXT = Semiring(binary.any, asm('binary', 'mov64 r0, r1\nadd64 r0, 1\nexit\n', 'next_level'))
-NONE = -1
 KEPT = 1 << 10                                     # vertices of a front that isn't sent again
 GATHERED = 32                                      # levels after which what was found is gathered
 # places of searches from many whose levels in vain, behind the last one, cost little
 FEW_PLACES = 1 << 18
+# edges, of all searches together, that the client looks at in less time than a loop takes
+MOST_HELD = 1 << 18
 
 
 class Search(NamedTuple):
@@ -113,7 +115,7 @@ def run_search(lines: Traversal, search: Search, parents: bool,
     unseen, before = Unseen(lines, front), front[:0]
     matrix: Optional[Matrix] = None
     numbers[front] = front if parents else 0
-    level, left = 0, lines.count - len(front)
+    level, left = 0, len(numbers) - len(front)
     while left and not search.is_over(level, numbers):
         if search.target is None and lines.may_loop(level):
             continue_search(lines.graph, numbers, Reached(level, front, before), search, parents)
@@ -135,6 +137,8 @@ def _next_front(lines: Traversal, numbers: Array, front: Array, matrix: Optional
                 unseen: Unseen, parents: bool) -> Tuple[Vector, Optional[Matrix]]:
     """Those that an edge leads to and that weren't seen; where the front is large, under a mask of
     these, with a matrix of them."""
+    if isinstance(lines, HeldRows):
+        return lines.enter(front, numbers), None
     ring = LEAST if parents else REACHED
     start = Vector(front, front if parents else numpy.ones_like(front))
     if lines.pays_scan(len(front)):
@@ -371,7 +375,15 @@ def k_hop(G: Matrix, k: int, sources: Optional[Vertices] = None,
     """
     at = find_sources(G, sources)
     warn_of_repeated(G, at)
-    return name_rows(G, _find_hops(G, k, at, progress), at)
+    lines = find_traversal(G, None, False)
+    if not isinstance(lines, HeldRows) or len(at) * max(G.nrows, G.nvals) > MOST_HELD:
+        return name_rows(G, _find_hops(G, k, at, progress), at)
+    begun = [Place(number * G.nrows + int(one)) for number, one in enumerate(at)]
+    search = Search(begun, k, progress=lambda word, level, _: tell(progress, word, level, k))
+    places, values = select_known(run_search(lines, search, False,
+                                             numpy.full(len(at) * G.nrows, NONE)), NONE)
+    entries = Triples(*numpy.divmod(places, max(1, G.nrows)), values, len(at), G.nrows)
+    return name_rows(G, keep(G, entries), at)
 
 
 def _find_hops(G: Matrix, k: int, sources: List[Place], progress: Progress) -> Matrix:
@@ -407,7 +419,6 @@ CYCLE = 'a cycle of negative length: paths along it have no least length'
 WRAPS = ('a path is longer than 2^63 - 1, and its length would wrap: divide the values '
          '(check=False takes them as they come)')
 MOST = UNREACHED = (1 << 63) - 1
-SHORTEST = Semiring(binary.min, binary.plus)
 # 1 where x + y isn't between the least and the greatest number, else 0: the sum has another sign
 # than both, or is one of these
 TOO_LONG = Semiring(binary.max, asm('binary', '''mov64 r0, r1
@@ -453,8 +464,9 @@ WORD = 1 << 62
 IS_SUM = Semiring(binary.any, binary.eq)
 LENGTHEN = Semiring(binary.any, binary.plus)
 BY_TRIP = 1 << 11              # edges that are read in the time of a trip
-# the length of a path, its vertices, and how far along it they are
-Route = Tuple[int, List[Place], List[int]]
+# the length of a path, its vertices, how far along it they are, and at which of them it leaves
+# another
+Route = Tuple[int, List[Place], List[int], int]
 
 
 class Query(NamedTuple):
@@ -1147,10 +1159,17 @@ class Spurs:
     are fetched as they are met, until to read all would have taken less. Lengths to the target
     that leave out what is barred say where to look first (A*)."""
 
-    def __init__(self, lines: Traversal, target: Place, home: Array, weighted: bool) -> None:
+    def __init__(self, lines: Traversal, back: Matrix, target: Place, home: Array,
+                 weighted: bool) -> None:
         self.target, self.home = target, home.tolist()
         self._lines, self._weighted = lines, weighted
         self._rows: Dict[Place, List[Tuple[Place, int]]] = {}
+        # from where an edge leads to the target, where all edges are read
+        self._last: Optional[Set[Place]] = None
+        if is_small(back):
+            edges = held_edges(back)
+            part = slice(*edges.starts[int(target):int(target) + 2].tolist())
+            self._last = set(map(Place, edges.heads[part].tolist()))
 
     def near(self, i: Place) -> List[Tuple[Place, int]]:
         """Where the edges of a vertex lead, and how long they are; those alone from where the
@@ -1167,12 +1186,17 @@ class Spurs:
         if not is_small(graph) and len(self._rows) * BY_TRIP < graph.nvals:
             return self._lines.push(vector_of([i], [0]), LENGTHEN)
         edges = held_edges(graph)
-        part = slice(*edges.starts[i:i + 2])
+        part = slice(*edges.starts[i:i + 2].tolist())
         return Vector(edges.heads[part], edges.values[part])
 
-    def search(self, start: Place, barred: Set[Place], not_first: Set[Place]) -> Optional[Route]:
-        """The shortest path that enters no barred vertex, and leaves the start for none of some.
-        None where there is none."""
+    def search(self, start: Place, barred: Set[Place], not_first: Set[Place],
+               most: float = math.inf) -> Optional[Tuple[List[Place], List[int]]]:
+        """The vertices of the shortest path that enters no barred vertex, leaves the start for none
+        of some, and is no longer than `most`, and how far along it they are. None where there is
+        none."""
+        closed = barred | {start} if self.target in not_first else barred
+        if start != self.target and self._last is not None and self._last <= closed:
+            return None                            # no edge is left that leads to the target
         far: Dict[Place, int] = {start: 0}
         before: Dict[Place, Place] = {}
         done: Set[Place] = set()
@@ -1183,16 +1207,16 @@ class Spurs:
                 found = [i]
                 while found[-1] != start:
                     found.append(before[found[-1]])
-                return far[i], found[::-1], [far[one] for one in found[::-1]]
+                return found[::-1], [far[one] for one in found[::-1]]
             if i in done:
                 continue
             done.add(i)
             for j, edge in self.near(i):
                 if j in barred or j in done or (i == start and j in not_first):
                     continue
-                if j not in far or far[i] + edge < far[j]:
+                home = self.home[int(j)]
+                if far[i] + edge + home <= most and (j not in far or far[i] + edge < far[j]):
                     far[j], before[j] = far[i] + edge, i
-                    home = self.home[int(j)]
                     heapq.heappush(heap, (far[j] + home, home, j))
         return None
 
@@ -1268,35 +1292,35 @@ def k_shortest_paths(G: Matrix, source: Vertex, target: Vertex, k: int, GT: Opti
     """
     start, end = find_place(G, source), find_place(G, target)
     back = transpose_of(G, GT, check, values=weighted)
-    home = find_distances(back, end, G, weighted, Query(check=check))
+    # one session needs no transpose to search, nor to look whether G is that of `back`
+    home = find_distances(back, end, None if G.in_one_place else G, weighted, Query(check=check))
     lines = find_vectors(G, back, False, weighted)
-    spurs = Spurs(lines, end, home, weighted)
+    spurs = Spurs(lines, back, end, home, weighted)
     if home[int(start)] == UNREACHED:
         raise NoPath('no path leads from %r to %r' % (source, target))
     first = spurs.search(start, set(), set())
     assert first is not None
-    found, seen = [first], {tuple(first[1])}
+    found: List[Route] = [(first[1][-1], *first, 0)]
     waiting: List[Route] = []
     while len(found) < k:
-        for candidate in _find_deviations(spurs, found):
-            if tuple(candidate[1]) not in seen:
-                seen.add(tuple(candidate[1]))
-                heapq.heappush(waiting, candidate)
+        _wait_for_deviations(spurs, found, waiting, k - len(found))
         if not waiting:
             break
         found.append(heapq.heappop(waiting))
-    return [Path([name_of(G, at) for at in vertices], far) for _, vertices, far in found]
+    return [Path([name_of(G, at) for at in vertices], far) for _, vertices, far, _ in found]
 
 
-def _find_deviations(spurs: Spurs, found: List[Route]) -> Iterable[Route]:
-    """The shortest paths that leave the last one that was found at each of its vertices, and go
-    where none did."""
-    _, last, far = found[-1]
-    for at in range(len(last) - 1):
+def _wait_for_deviations(spurs: Spurs, found: List[Route], waiting: List[Route],
+                         many: int) -> None:
+    """The shortest paths that leave the last one that was found, and go where none did, are put to
+    those that wait, of which so many are wanted. At the vertices before the one at which the last
+    path left another they were looked for with that one."""
+    _, last, far, left = found[-1]
+    for at in range(left, len(last) - 1):
         root = last[:at + 1]
-        taken = {path[at + 1] for _, path, _ in found if path[:at + 1] == root}
-        tail = spurs.search(root[-1], set(root[:-1]), taken)
+        taken = {path[at + 1] for _, path, _, _ in found if path[:at + 1] == root}
+        longest = heapq.nsmallest(many, waiting)[-1][0] if len(waiting) >= many else math.inf
+        tail = spurs.search(root[-1], set(root[:-1]), taken, longest - far[at])
         if tail is not None:
-            length, vertices, further = tail
-            yield (far[at] + length, root[:-1] + vertices,
-                   far[:at] + [far[at] + one for one in further])
+            further = far[:at] + [far[at] + one for one in tail[1]]
+            heapq.heappush(waiting, (further[-1], root[:-1] + tail[0], further, at))

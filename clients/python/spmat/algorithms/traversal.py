@@ -19,8 +19,7 @@ long by the clock. A pull looks at all rows, and needs the front as a column, wh
 """
 from __future__ import annotations
 
-from typing import (Any, Callable, Dict, List, NamedTuple, Optional, Sequence, Tuple, Union,
-                    cast)
+from typing import Any, Dict, List, NamedTuple, Optional, Sequence, Tuple, Union, cast
 
 import numpy
 
@@ -41,10 +40,8 @@ SWAPPED = {binary.first: binary.second, binary.second: binary.first}
 LONG = 32
 # edges, or vertices, of a small graph
 AT_ONCE = 1 << 16
-# what numpy has for the operators of pushes: for MUL of the values of a front and of its edges
-TERMS: Dict[Any, Callable[[Array, Array], Array]] = {
-    binary.first: lambda values, edges: values, binary.plus: numpy.add}
-FOLDS: Dict[Any, Any] = {binary.min: numpy.minimum, binary.plus: numpy.add}
+SHORTEST = Semiring(binary.min, binary.plus)
+NONE = -1                                          # of a vertex that a search hasn't found
 
 
 class Vector(NamedTuple):
@@ -170,31 +167,41 @@ class Edges(NamedTuple):
         begin = self.starts[at]
         many = self.starts[at + 1] - begin
         ends = numpy.cumsum(many)
-        return many, numpy.repeat(begin - ends + many, many) + numpy.arange(ends[-1] if len(at)
-                                                                            else 0)
+        places = (begin - ends + many).repeat(many)
+        return many, places + numpy.arange(len(places))
 
 
 class HeldRows(Rows):
     """Rows beside a graph whose edges the client has, which it pushes by itself."""
 
     def push(self, front: Vector, ring: Semiring) -> Vector:
-        """By no trip, where numpy has the operators."""
-        if ring.mul not in TERMS or (ring.add != binary.any and ring.add not in FOLDS):
+        """Lengths by no trip."""
+        if ring != SHORTEST:
             return super().push(front, ring)
         edges = held_edges(self.graph)
         many, places = edges.leaving(front.at)
-        heads = edges.heads[places]
-        terms = TERMS[ring.mul](numpy.repeat(front.values, many), edges.values[places])
-        if ring.add == binary.any:                 # that of several is the first, which is put last
-            values, is_head = numpy.zeros(self.count, numpy.int64), numpy.zeros(self.count, bool)
-            values[heads[::-1]], is_head[heads] = terms[::-1], True
-            at = numpy.flatnonzero(is_head)
-            return Vector(at, values[at])
-        ranks = numpy.argsort(heads, kind='stable')
+        heads, lengths = edges.heads[places], front.values.repeat(many) + edges.values[places]
+        ranks = heads.argsort(kind='stable')
         heads = heads[ranks]
         firsts = numpy.flatnonzero(numpy.diff(heads, prepend=-1))
-        return Vector(heads[firsts], FOLDS[ring.add].reduceat(terms[ranks], firsts)
+        return Vector(heads[firsts], numpy.minimum.reduceat(lengths[ranks], firsts)
                       if len(firsts) else heads)
+
+    def enter(self, front: Array, numbers: Array) -> Vector:
+        """The vertices that edges lead to from a front, and that have no number yet, each with the
+        first vertex of the front from where. Of searches side by side the vertices of each are
+        numbered behind those of the one before. `numbers` has others at these vertices then, for
+        the caller to write."""
+        edges, at = held_edges(self.graph), front % self.count
+        many, places = edges.leaving(at)
+        heads = edges.heads[places] + (front - at).repeat(many)
+        is_new = numbers[heads] == NONE
+        heads, tails = heads[is_new], front.repeat(many)[is_new]
+        order = numpy.arange(len(heads))
+        numbers[heads[::-1]] = order[::-1]         # that of several is the first, which is put last
+        firsts = numpy.flatnonzero(numbers[heads] == order)
+        firsts = firsts[heads[firsts].argsort()]
+        return Vector(heads[firsts], tails[firsts])
 
     def pays_scan(self, front: int, part: int = 4) -> bool:
         return False

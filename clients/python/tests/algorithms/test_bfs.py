@@ -39,10 +39,11 @@ class Hops(support.InSession):
         for graph in (PATH, ONE_WAY, graphs.UNDIRECTED[4]):
             for part, small, many in ((32, 1 << 18, (1, 31, 32, 33, 200)), (5, 1 << 18, (5, 64)),
                                       (32, 0, (33,)), (1, 0, (3,))):
-                with mock.patch.object(searches, 'GATHERED', part), \
-                        mock.patch.object(searches, 'FEW_PLACES', small):
+                with mock.patch.multiple(searches, GATHERED=part, FEW_PLACES=small, MOST_HELD=0):
                     for most in many:
                         self.look(graph, [0, graph.count // 2, graph.count - 1, 0], most)
+            for most in (0, 1, 33, 200):           # where the client has the edges
+                self.look(graph, [0, graph.count // 2, graph.count - 1, 0], most)
 
     def test_trips(self):
         """Three levels take few trips, however many sources: nothing is read between them."""
@@ -50,8 +51,11 @@ class Hops(support.InSession):
         G.wait()
         before, sent = self.s.runs, mock.Mock(wraps=self.s.connection.post)
         with mock.patch.object(self.s.connection, 'post', sent):
+            with mock.patch.object(searches, 'MOST_HELD', 0):
+                algorithms.k_hop(G, 3, range(90)).wait()
+            self.assertEqual(sent.call_count, 1)
             algorithms.k_hop(G, 3, range(90)).wait()
-        self.assertEqual(sent.call_count, 1)
+            self.assertEqual(sent.call_count, 1)   # the client has the edges
         # 3 more to see once that each edge leads both ways
         self.assertLessEqual(self.s.runs - before, 5 * 3 + 4 + 3)
 

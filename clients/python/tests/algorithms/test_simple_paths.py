@@ -43,6 +43,12 @@ class SimplePaths(graphs.OnGraphs):
                     self.assertLessEqual({tuple(path) for path in got},
                                          {tuple(path) for _, path in want})
 
+    def test_from_a_vertex_to_itself(self):
+        """Also where no edge leads there."""
+        G = graphs.directed('one edge', 2, [(0, 1)]).matrix(self.s)
+        self.assertEqual([algorithms.k_shortest_paths(G, at, at, 2) for at in (0, 1)],
+                         [[[0]], [[1]]])
+
     def test_k_shortest_below_zero(self):
         edges = {(0, 1): 4, (1, 3): 4, (0, 2): 9, (2, 3): -3, (2, 1): -6, (3, 4): 0}
         G = graphs.Graph('below 0', 5, edges, True).matrix(self.s)
