@@ -282,13 +282,6 @@ def is_placed(rule: str) -> bool:
     return rule[:1] in ('A', 'V', 'M') and rule[1:].isdigit()
 
 
-def find_sentence(rule: str, has_numbers: bool) -> str:
-    """The words of a rule: those of a run that was refused, where it has any and numbers came."""
-    of_run = rule + ' SPENT'
-    key = of_run if rule not in SENTENCES or has_numbers and of_run in SENTENCES else rule
-    return SENTENCES.get(key, 'a refusal that this client does not know')
-
-
 class Refused(SpmatError):
     """A refusal: the server answered `no ..`, or would have.
 
@@ -332,7 +325,9 @@ class Refused(SpmatError):
         self.at: Optional[int] = self.numbers[0] if self.numbers and is_placed(rule) else None
         self.file, self.said = '', ''
         self.text_line: Optional[int] = None
-        self.sentence = find_sentence(rule, bool(self.numbers))
+        of_run = rule + ' SPENT'                   # of a run that was refused, where numbers came
+        key = of_run if rule not in SENTENCES or self.numbers and of_run in SENTENCES else rule
+        self.sentence = SENTENCES.get(key, 'a refusal that this client does not know')
 
     def _describe_numbers(self) -> str:
         """Say what the numbers of the reply mean."""

@@ -59,7 +59,8 @@ def pair_of(at: object) -> Any:
         raise TypeError(
             'a matrix as an index is a mask: write G[M.S] for the positions that are stored in '
             'M, G[M.V] for those whose value is not 0')
-    if _is_boolean_table(at):
+    if getattr(at, 'ndim', 0) == 2 and all(
+            kind == bool for kind in getattr(at, 'dtypes', [getattr(at, 'dtype', None)])):
         raise TypeError('an array of True and False as an index of both sides is a mask: write '
                         'G.select(">", 3) for a condition on values, or G[s.from_dense(array, '
                         'missing=0).S]')
@@ -76,11 +77,6 @@ def pair_of(at: object) -> Any:
     return found
 
 
-def _is_boolean_table(at: object) -> bool:
-    return (getattr(at, 'ndim', 0) == 2
-            and all(kind == bool for kind in getattr(at, 'dtypes', [getattr(at, 'dtype', None)])))
-
-
 def choose_places(matrix: MatrixBase, index: object, axis: int) -> Chosen:
     """The rows (or columns) that an index means: by names where they have some, else by position.
     ValueError where one isn't there, IndexError where a filter has another length, TypeError for
@@ -92,7 +88,7 @@ def choose_places(matrix: MatrixBase, index: object, axis: int) -> Chosen:
     # columns, indexes and arrays of pandas say which of their values are missing
     if isinstance(index, (list, range, numpy.ndarray, Nodes)) or hasattr(type(index), 'isna'):
         return Chosen(_of_list(matrix, index, axis))
-    if isinstance(index, COLLECTIONS) and not _is_name(matrix.notes.names(axis), index):
+    if isinstance(index, COLLECTIONS) and index not in (matrix.notes.names(axis) or ()):
         raise TypeError(
             '%ss are chosen by a list, an array, a slice or a name, not by a %s: write list(..)'
             % (WHAT[axis], type(index).__name__))
@@ -103,7 +99,7 @@ def locate(matrix: MatrixBase, index: object, axis: int) -> int:
     """The place of one row (or column). A number that is no whole one, and a truth value, are names
     alone, where names are such."""
     names = matrix.notes.names(axis)
-    is_name = _is_name(names, index)
+    is_name = names is not None and index in names
     kind = (bool if isinstance(index, TRUTHS) else float if isinstance(index, FLOATS) else None)
     if kind is not None and not (names and is_name and isinstance(names[names.at(index)], kind)):
         _refuse_kind(cast(float, index), axis, kind)
@@ -140,13 +136,6 @@ def _refuse_kind(index: SupportsFloat, axis: int, kind: type) -> NoReturn:
                         % (index, WHAT[axis]))
     raise TypeError('%r is a float, and a %s is a name or a whole number' % (index, WHAT[axis])
                     + (': write %d' % float(index) if float(index).is_integer() else ''))
-
-
-def _is_name(names: Optional[Nodes], index: object) -> bool:
-    try:
-        return names is not None and index in names.places
-    except TypeError:                              # what has no hash is no name
-        return False
 
 
 def _is_boolean(many: Many) -> bool:

@@ -2398,7 +2398,8 @@ class Matrix(Signs, MatrixBase, metaclass=MatrixType):
         if arrays is False:
             rows, columns, values = rows.tolist(), columns.tolist(), values.tolist()
         if dtype is not None and scales.are_decimals(dtype):
-            values = self._to_floats(values)
+            values = (scales.to_decimals(values, self.unit) if not scales.is_whole(self.unit)
+                      else list(map(float, values)) if isinstance(values, list) else values * 1.0)
         return rows, columns, values
 
     def to_coo(self, *, arrays: Optional[bool] = None, dtype: DType = None) -> Tuple[Any, Any, Any]:
@@ -3017,11 +3018,6 @@ class Matrix(Signs, MatrixBase, metaclass=MatrixType):
         axis = along(self.shape, self.notes)
         at, names = (rows, columns)[axis], self.notes.names(axis)
         return (at if names is None else map(names.__getitem__, at)), values
-
-    def _to_floats(self, values: Union[List[int], Array]) -> Any:
-        """What stored values stand for, as floats."""
-        return (scales.to_decimals(values, self.unit) if not scales.is_whole(self.unit)
-                else list(map(float, values)) if isinstance(values, list) else values * 1.0)
 
     def _show_values(self, values: Union[List[int], Array], raw: bool) -> Any:
         """Values as people are shown them: what they stand for, or with `raw` as they are

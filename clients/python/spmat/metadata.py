@@ -261,7 +261,7 @@ class Axis(NamedTuple):
 def axis_of(names: Nodes) -> Axis:
     """What the vertices of a graph are called by whoever reads it: names that are just 0 to n - 1
     need no list."""
-    are_plain = names.are_counted and all(type(name) is int for name in names)
+    are_plain = names.are_counted and set(map(type, names)) <= {int}
     return Axis(None, Unnamed.NUMBERS) if are_plain else Axis(names)
 
 

@@ -92,21 +92,15 @@ class Vector(Matrix):
             A value where one vertex is asked for, else a vector.
         """
         axis = along(self.shape, self.notes)
-        if isinstance(at, Mask) or isinstance(at, tuple) and not self._has_name(at, axis):
+        names = self.notes.names(axis)
+        # a tuple may be the name of a vertex, and not two indexes
+        if isinstance(at, Mask) or isinstance(at, tuple) and at not in (names or ()):
             return super().__getitem__(at)
         chosen = choose_places(self, at, axis)
         if chosen.places is None:
             return self
         part = take(self, axis, chosen.places)
         return value_of(part) if chosen.one else as_vector(part)
-
-    def _has_name(self, at: object, axis: int) -> bool:
-        """Whether a tuple is the name of a vertex, and not two indexes."""
-        names = self.notes.names(axis)
-        try:
-            return names is not None and at in names.places
-        except TypeError:                          # a slice has no hash in older versions of Python
-            return False
 
     __len__ = refusing('len()', 'v.size, or v.nvals for the number of entries', 'vector')
     __iter__ = refusing('iteration', 'v.to_list() for values, v.by_node().items() for vertices '

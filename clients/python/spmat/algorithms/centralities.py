@@ -595,11 +595,6 @@ def norm_of(numbers: Array) -> float:
     return math.sqrt(float(floats @ floats))
 
 
-def _distance(now: Array, before: Array) -> float:
-    """The sum of the differences of two vectors of length 1."""
-    return float(abs(now / norm_of(now) - before / norm_of(before)).sum())
-
-
 class Power(Process):
     """Rounds whose numbers are scaled, up to one whose result changes by less than `aim`, or by no
     more than rounding takes and no less than at the look before. `make` makes a step of a scale,
@@ -620,7 +615,9 @@ class Power(Process):
         rounds = self.rounds
         if self._scale is not None:
             self._room.note(rounds.before, rounds.now, self._scale)
-        moved = _distance(rounds.now, rounds.before) if greatest_of(rounds.now) else 0.0
+        now, before = rounds.now, rounds.before
+        moved = (float(abs(now / norm_of(now) - before / norm_of(before)).sum())
+                 if greatest_of(now) else 0.0)
         self._last, self.moved = self.moved, moved if rounds.number else math.inf
         return self.moved
 

@@ -645,18 +645,14 @@ def diameter(G: Matrix, GT: Optional[Matrix] = None, searches: Optional[int] = N
     if G.nrows == 0:
         raise ValueError('the graph has no vertex')
     GT = transpose_of(G, GT, check)
-    bounds = Eccentricities(_most_joined(G), G.nrows, functools.partial(_both_levels, G, GT))
+    many = read_column(count_edges(G))
+    most_joined = Place(int(many.at[many.values.argmax()]) if len(many.at) else 0)
+    bounds = Eccentricities(most_joined, G.nrows, functools.partial(_both_levels, G, GT))
     left = bounds.narrow_while_it_pays(searches, progress)
     if searches is None:
         _search_left(G, bounds, progress)
     return Bounds(bounds.greatest,
                   int(bounds.most.max()) if searches is not None and left else bounds.greatest)
-
-
-def _most_joined(G: Matrix) -> Place:
-    """The first vertex with the most edges."""
-    many = read_column(count_edges(G))
-    return Place(int(many.at[many.values.argmax()]) if len(many.at) else 0)
 
 
 def _both_levels(G: Matrix, GT: Matrix, start: Place) -> Tuple[Array, Array]:

@@ -357,8 +357,10 @@ def _in_unit(algorithm: Algorithm, given: inspect.BoundArguments) -> Any:
     graph = next(iter(some.values()))
     unit = graph.unit if isinstance(graph, Matrix) else 1
     counts = algorithm.values or bool(some.get('weighted'))
-    if counts:
-        _check_transpose(algorithm, some, unit)
+    for other in (some.get('GT'), some.get('WT')) if counts else ():
+        if isinstance(other, Matrix):
+            scales.common('%s of a graph and its transpose' % algorithm.function.__name__, unit,
+                          other.unit)
     if counts and algorithm.lengths and some.get('cutoff') is not None:
         some['cutoff'] = _floor(some['cutoff'], unit)
     # so that a graph that is its own transpose stays so
@@ -370,13 +372,6 @@ def _in_unit(algorithm: Algorithm, given: inspect.BoundArguments) -> Any:
     if not counts or not algorithm.lengths or isinstance(unit, scales.TimeUnit):
         return found                               # a sum of times is no time
     return _mark_unit(found, unit)
-
-
-def _check_transpose(algorithm: Algorithm, given: Mapping[str, object], unit: int) -> None:
-    for other in (given.get('GT'), given.get('WT')):
-        if isinstance(other, Matrix):
-            scales.common('%s of a graph and its transpose' % algorithm.function.__name__, unit,
-                          other.unit)
 
 
 def _floor(cutoff: Optional[Exact], unit: int) -> Any:

@@ -927,8 +927,11 @@ def _parents(lines: Traversal, source: Place, far: Array, weighted: bool) -> Arr
     bits = max(1, lines.count - 1).bit_length()
     longest = int(lengths.values.max()) + most
     if least <= 0 or longest << bits >= WORD:
-        tight = find_vectors(_select_tight(lines.graph, lengths), None, False)
-        return run_search(tight, Search([source]), True)
+        # the edges that stand on shortest paths: those as long as the difference of their ends
+        ends = keep(lines.graph, Triples(lengths.at, lengths.at, lengths.values, lines.count,
+                                         lines.count))
+        tight = product(product(ends, lines.graph, LENGTHEN), ends, IS_SUM).select('nonzero')
+        return run_search(find_vectors(tight, None, False), Search([source]), True)
     ring = Semiring(binary.min, _lengthen(bits, lines.is_column)) if weighted else LEAST
     words = lengths.values << bits | lengths.at
     at, values = lines.read(lines.step(lines.put(Vector(lengths.at, words)), ring))
@@ -943,12 +946,6 @@ def _lengthen(bits: int, edge_first: bool) -> Operator:
     first."""
     edge, length = ('r1', 'r2') if edge_first else ('r2', 'r1')
     return asm('binary', 'mov64 r0, %s\nlsh64 r0, %d\nadd64 r0, %s\nexit\n' % (edge, bits, length))
-
-
-def _select_tight(graph: Matrix, lengths: Vector) -> Matrix:
-    """The edges that stand on shortest paths: those as long as the difference of their ends."""
-    far = keep(graph, Triples(lengths.at, lengths.at, lengths.values, graph.nrows, graph.nrows))
-    return product(product(far, graph, LENGTHEN), far, IS_SUM).select('nonzero')
 
 
 @algorithm('the vertices of a shortest path', plot='route',
@@ -1221,14 +1218,9 @@ class Spurs:
         return None
 
 
-def _list_paths(found: List[Path], _: Mapping[str, Any]) -> List[Tuple[int, Any, Any]]:
-    """A row for each vertex of each path: the path's number, the vertex, and how far along it
-    is."""
-    return [(number, *step) for number, one in enumerate(found, 1)
-            for step in zip(one, one.lengths)]
-
-
-@algorithm('the k shortest paths', plot=None, rows=_list_paths, ranges={'k': (1, None)},
+@algorithm('the k shortest paths', plot=None, rows=lambda found, _: [
+    (number, *step) for number, one in enumerate(found, 1) for step in zip(one, one.lengths)],
+           ranges={'k': (1, None)},
            fields=('path', 'node', 'length'), lengths=True, says='The k shortest paths that pass '
            'no vertex twice, a line for each vertex: the number of its path, from 1, the vertex, '
            'and how far along the path it is.')

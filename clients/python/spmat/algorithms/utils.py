@@ -52,7 +52,7 @@ def find_places(graph: Matrix, vertices: Vertices) -> List[Place]:
     """The rows of one vertex, or of several in their order. A tuple that is a name is one vertex.
     ValueError where one isn't there."""
     is_one = isinstance(vertices, (str, bytes)) or not isinstance(vertices, Iterable)
-    if is_one or _is_name(graph, vertices):
+    if is_one or vertices in (graph.notes.rows or ()):
         return [find_place(graph, cast(Vertex, vertices))]
     return [find_place(graph, vertex) for vertex in cast(Iterable[Vertex], vertices)]
 
@@ -70,15 +70,6 @@ def warn_of_repeated(graph: Matrix, rows: List[Place]) -> None:
         warnings.warn('the vertex %r is given twice, and no two rows have one name: the rows of '
                       'the result have none; list(dict.fromkeys(names)) has each once'
                       % (name_of(graph, twice),), stacklevel=5)
-
-
-def _is_name(graph: Matrix, one: object) -> bool:
-    """Whether a vertex has this name."""
-    names = graph.notes.rows
-    try:
-        return names is not None and one in names.places
-    except TypeError:                              # what has no hash is no name
-        return False
 
 
 def rows_of(column: Matrix) -> List[Place]:

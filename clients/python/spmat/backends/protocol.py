@@ -89,16 +89,12 @@ class Run(List[JobResult]):
 
     def _repr_html_(self) -> str:
         """The jobs of a run: of each its result, its price and its steps."""
-        rows = [[at, job.form, _size_of(job.matrix), format(job.price, ','), format(job.steps, ',')]
-                for at, job in enumerate(self, 1)]
+        rows = [[at, job.form, 'held by nobody' if job.matrix is None else '%dx%d, %s entries'
+                 % (*job.matrix.shape, format(job.matrix.nvals, ',')),
+                 format(job.price, ','), format(job.steps, ',')] for at, job in enumerate(self, 1)]
         total = format(sum(job.steps for job in self), ',')
         return '<div><b>Run</b> of %d jobs, %s steps%s</div>' % (
             len(self), total, table(['', 'form', 'result', 'price', 'steps'], rows))
-
-
-def _size_of(made: Any) -> str:
-    return ('held by nobody' if made is None else '%dx%d, %s entries'
-            % (*made.shape, format(made.nvals, ',')))
 
 
 class Handle:

@@ -214,7 +214,8 @@ def _among(edges: Edges, nodelist: Sequence[Vertex]) -> Tuple[Edges, Any, Any, N
             raise ValueError('a node stands twice in nodelist')
         rows, columns = (_find_names(column, names) for column in edges[:2])
     if len(rows) and len(names) and (rows < 0).all() and (columns < 0).all():
-        known = _find_first(edges)
+        known = [column.names[int(column.codes[0])] if isinstance(column, Names) else column[0]
+                 for column in edges[:2]]
         kinds = '' if type(names[0]) is type(known[0]) else ": 1 and '1' differ"
         raise ValueError('no name of nodelist is a vertex of an edge: it has %r, and the first '
                          'edge is from %r to %r%s' % (names[0], *known, kinds))
@@ -225,12 +226,6 @@ def _among(edges: Edges, nodelist: Sequence[Vertex]) -> Tuple[Edges, Any, Any, N
     return (edges._replace(values=values,
                            fault=lambda at, words: edges.fault(int(inside[at]), words),
                            left_out=left_out), rows[inside], columns[inside], names)
-
-
-def _find_first(edges: Edges) -> List[Any]:
-    """The names of the first edge."""
-    return [column.names[int(column.codes[0])] if isinstance(column, Names) else column[0]
-            for column in edges[:2]]
 
 
 def _find_names(column: Any, names: Nodes) -> Any:
@@ -581,18 +576,6 @@ def _names_of(columns: Sequence[Any]) -> Sequence[Any]:
 
 # -- graphs of networkx
 
-def neighbourhoods(graph: NxGraph) -> Dict[Any, Neighbours]:
-    """The neighbours of each node, in the graph's order. Views of networkx may count others than
-    they give, so what they give is copied."""
-    return {node: many if type(many) is dict else dict(many.items())
-            for node, many in graph.adjacency()}
-
-
-def row_numbers(counts: List[int]) -> Any:
-    """Each row's number, as often as the row has entries."""
-    return numpy.repeat(numpy.arange(len(counts), dtype=numpy.int64), counts)
-
-
 def triples_of_graph(graph: NxGraph, weight: Optional[str], nodelist: Optional[Sequence[Vertex]],
                      folds: bool = False,
                      scale: Optional[float] = None) -> Tuple[Triples, Metadata]:
@@ -608,7 +591,9 @@ def triples_of_graph(graph: NxGraph, weight: Optional[str], nodelist: Optional[S
             'weight is the name of an edge attribute, or None for ones; what a function gives '
             'for each edge has to be put into an attribute first: '
             'networkx.set_edge_attributes(G, values, "w"), and weight="w"')
-    near = neighbourhoods(graph)
+    # views of networkx may count others than they give, so what they give is copied
+    near = {node: many if type(many) is dict else dict(many.items())
+            for node, many in graph.adjacency()}
     nodes = Nodes(near if nodelist is None else list_of_names(nodelist))
     _check_nodes(nodes, near)
     blocks = list(near.values())
@@ -628,8 +613,9 @@ def triples_of_graph(graph: NxGraph, weight: Optional[str], nodelist: Optional[S
               else whole_numbers([data.get(weight, 1) for data in held], rounding, wrong, 'weight'))
     is_plain = all(type(node) is int for node in nodes) and nodes == list(range(len(nodes)))
     columns = ends if is_plain else map(nodes.places.__getitem__, ends)
-    triples = Triples(row_numbers(counts), numpy.fromiter(columns, numpy.int64, len(ends)), values,
-                      len(nodes), len(nodes))
+    triples = Triples(numpy.arange(len(counts)).repeat(counts),
+                      numpy.fromiter(columns, numpy.int64, len(ends)), values, len(nodes),
+                      len(nodes))
     weighted = weight is not None and any(weight in data for data in held)
     return triples, Metadata(nodes, nodes, bool(graph.is_directed()), weighted,
                              _join(str(rounding) if weight is not None else '',

@@ -204,18 +204,14 @@ def read_dimacs(file: str, text: bytes, layout: Layout) -> Edges:
     except ReadError as fault:
         raise _find_fault(table, problem) or fault from None
     if len(re.findall(rb'(?m)^[ \t]*%s[ \t]' % ARCS[problem.kind], table.body)) != len(
-            edges.sources) or not all(_are_vertices(end, problem) for end in edges[:2]):
+            edges.sources) or not all(
+                isinstance(end, numpy.ndarray) and ((end >= 1) & (end <= problem.vertices)).all()
+                for end in edges[:2]):
         raise _find_fault(table, problem) or AssertionError('a line was wrong, and none is')
     if len(edges.sources) != problem.edges:
         raise ReadError(file, problem.number, '%d edges stand there, and this line says %d' % (
             len(edges.sources), problem.edges), line_at(text, problem.number))
     return edges._replace(nodes=range(1, problem.vertices + 1), directed=problem.directed)
-
-
-def _are_vertices(ends: object, problem: Problem) -> bool:
-    """Whether names are whole numbers of vertices."""
-    return isinstance(ends, numpy.ndarray) and not (
-        len(ends) and not 1 <= ends.min() <= ends.max() <= problem.vertices)
 
 
 def _find_fault(table: Table, problem: Problem) -> Optional[ReadError]:

@@ -150,7 +150,9 @@ class Reader:
         if len(line.fields) != (2 if self.kind.array else 3):
             raise (line if line.text else Line(self._number + 1, b'')).refused('M3')
         self.nrows, self.ncols, *rest = (line.number_of(field, 'M3') for field in line.fields)
-        self.count = rest[0] if rest else _count_cells(self.kind.symmetry, self.nrows, self.ncols)
+        self.count = rest[0] if rest else {
+            'general': self.nrows * self.ncols, 'symmetric': self.nrows * (self.nrows + 1) // 2,
+            'skew-symmetric': self.nrows * (self.nrows - 1) // 2}[self.kind.symmetry]
         self._sizes = line
         if max(self.nrows, self.ncols) > MOST_SIDE:
             raise line.refused('M4')
@@ -270,11 +272,6 @@ def find_repeated(file: Any, wanted: Optional[Collection[Tuple[int,
 
 
 # -- entries
-
-def _count_cells(symmetry: str, nrows: int, ncols: int) -> int:
-    return {'general': nrows * ncols, 'symmetric': nrows * (nrows + 1) // 2,
-            'skew-symmetric': nrows * (nrows - 1) // 2}[symmetry]
-
 
 def _grid(symmetry: str, nrows: int, ncols: int) -> Tuple[Any, Any]:
     """The positions of an `array`'s values, in order: by columns, of a symmetric one the lower

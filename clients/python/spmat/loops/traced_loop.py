@@ -266,7 +266,9 @@ class Loop:
         >>> doubled.number
         2
         """
-        rests = end is None or self._rests(end)
+        # rounds behind an end cost next to nothing where they work on what is empty then
+        rests = end is None or (end.rests and self._trips is not None
+                                and self._trips.rounds.first.traced.used.issuperset(end.names))
         goal, size = self.number + most, FIRST if rests else 1
         before = self._place.counts or count_entries(self._matrices())
         while self.number < goal:
@@ -279,7 +281,9 @@ class Loop:
             kept = rounds if met is None else rounds[:met + 1]
             if by_trip:
                 self._accept(rounds, None if met is None else first + met)
-            self._note(first, kept)
+            for name in self._show:
+                for number, one in enumerate(kept, first):
+                    self.shown[name].add(number, one.counts[name], one.bodies[name])
             report(first, kept)
             if met is not None:
                 return True
@@ -287,12 +291,6 @@ class Loop:
         return False
 
     # -- rounds
-
-    def _rests(self, end: Until) -> bool:
-        """Whether rounds behind an end cost next to nothing: the next ones work on what is empty
-        then."""
-        return (end.rests and self._trips is not None
-                and self._trips.rounds.first.traced.used.issuperset(end.names))
 
     def _by_trip(self, rests: bool, size: int, goal: int) -> Optional[List[Round]]:
         """The rounds of the trip that was sent first. None where they are to be made one by one."""
@@ -335,7 +333,7 @@ class Loop:
         if trips is None:
             self._own_place = advance_place(self._own_place, got)
         else:
-            trips.accept_one(got)
+            trips.advance_to(advance_place(trips.place, got))
         return [Round(count_entries(got), bodies)]
 
     def _by_step(self, end: Optional[Until]) -> Dict[str, Any]:
@@ -351,12 +349,6 @@ class Loop:
         if rests:
             return 2 * size if 2 * took < LONG else size
         return 2 * size if 2 * took < QUICK else size if took < QUICK else max(1, size // 2)
-
-    def _note(self, first: int, rounds: List[Round]) -> None:
-        """Puts aside what was shown."""
-        for name in self._show:
-            for number, one in enumerate(rounds, first):
-                self.shown[name].add(number, one.counts[name], one.bodies[name])
 
     def _catch_up(self) -> None:
         """Makes the rounds again that came before an end amid a trip."""

@@ -292,7 +292,7 @@ class Trips:
         """The first trip under way is what the loop goes on from."""
         trip = self.under_way.popleft()
         notes = {name: trip.asked[-1].notes[name] for name in trip.state}
-        self._advance_to(Place(trip.number, trip.state, notes, rounds[-1].counts))
+        self.advance_to(Place(trip.number, trip.state, notes, rounds[-1].counts))
 
     def stop(self) -> None:
         """Forgets what is under way: the loop is where its first trip began."""
@@ -305,7 +305,8 @@ class Trips:
             last, self._wasted = self._wasted[-1], []
             self._note_budget(self.session.connection.collect(last))
 
-    def _advance_to(self, place: Place) -> None:
+    def advance_to(self, place: Place) -> None:
+        """This is what the loop goes on from."""
         self.place = place
         self.rounds.note_made(place.number)
 
@@ -332,10 +333,6 @@ class Trips:
         for matrix in got.values():
             matrix.wait()
         return got
-
-    def accept_one(self, got: Mapping[str, Matrix]) -> None:
-        """These results are what the loop goes on from."""
-        self._advance_to(advance_place(self.place, got))
 
     # -- the state
 

@@ -359,12 +359,6 @@ class Run:
         bare = {'PATH': os.defpath, 'LC_ALL': 'C', 'TMPDIR': folder}
         self.environment = None if trusted else bare
 
-    def preface(self) -> str:
-        """What stands before the source: types and numbers of <stdint.h>, and for an older clang
-        the functions by which it divides."""
-        helpers = '' if self.compiler.version >= SIGNED else HELPERS
-        return STDINT + helpers + '#line 1 "operator.c"\n'
-
     def clang(self, words: List[str], name: str) -> str:
         """Runs clang, which makes a file of this name in the folder; its path."""
         made, said = os.path.join(self.folder, name), os.path.join(self.folder, 'said')
@@ -400,7 +394,9 @@ def compile_source(source: str, compiler: Compiler, trusted: bool = True) -> byt
         run = Run(compiler, trusted, folder)
         path = os.path.join(folder, 'operator.c')
         with open(path, 'w', encoding='utf-8') as file:
-            file.write(run.preface() + source + '\n')
+            # types and numbers of <stdint.h>, and for an older clang functions by which it divides
+            file.write(STDINT + ('' if compiler.version >= SIGNED else HELPERS)
+                       + '#line 1 "operator.c"\n' + source + '\n')
         words = [path] if trusted else ['-nostdinc', path]
         if compiler.version >= SIGNED:
             made = run.clang(['-mcpu=v4', '-c', *words], 'operator.o')

@@ -304,16 +304,13 @@ def suggest_repair(text: str, rule: str, at: int) -> str:
     if '//' in line and rule in ('A2', 'A3'):
         mend = COMMENTS
     elif rule == 'A2':
-        mend += ' or '.join(_find_similar_mnemonics(mnemonic)) or 'mov64, add32'
+        low = mnemonic.lower()
+        near = ([name for name in (low, low + '64', low + '32') if name in assembly.OPERANDS]
+                or difflib.get_close_matches(low, assembly.OPERANDS, 3))
+        mend += ' or '.join(near) or 'mov64, add32'
     elif rule == 'A3':
         mend += '`%s`%s' % (assembly.form_of(mnemonic), _describe_odd_operand(operands))
     return mend and 'to fix it: ' + mend
-
-
-def _find_similar_mnemonics(mnemonic: str) -> List[str]:
-    low = mnemonic.lower()
-    found = [name for name in (low, low + '64', low + '32') if name in assembly.OPERANDS]
-    return found or difflib.get_close_matches(low, assembly.OPERANDS, 3)
 
 
 def _describe_odd_operand(operands: List[str]) -> str:

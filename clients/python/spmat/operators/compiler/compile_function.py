@@ -18,6 +18,7 @@ from typing import Any, Callable, Dict, Hashable, List, Mapping, Optional, Seque
 import numpy
 
 from ...errors import CompileError
+from ...integers import LEAST, MOST
 from .. import integer_functions
 from ..assembly import wrap
 from ..evaluation import evaluate
@@ -26,7 +27,7 @@ from ..operator import Operator
 from .emission import Emission, Reg, allocate, ins, resolve, size_of, text_of, tidy
 from .exploration import (Exploration, Impure, Line, Path, Word, call, describe_line, explore,
                           is_users, node_of)
-from .expressions import LEAST, MOST, Node, below
+from .expressions import Node, below
 
 NAMES = {'unary': ('x',), 'binary': ('x', 'y'), 'index': ('x', 'row', 'column', 'thunk')}
 KINDS = {'unary': 'a unary operator is a function of x',
@@ -79,16 +80,12 @@ def compile_function(kind: str, function: Function, name: Optional[str] = None,
                                            IMPURE if isinstance(fault, Impure) else fault)
                            ) from fault.__cause__
     for (_, line), warning in shared.warnings.items():
-        _warn_of_line('`%s`: %s' % (called, warning), line)
+        words = '`%s`: %s' % (called, warning)
+        if line is None:
+            warnings.warn(words, RuntimeWarning)
+        else:
+            warnings.warn_explicit(words, RuntimeWarning, *line)
     return text
-
-
-def _warn_of_line(text: str, line: Optional[Line]) -> None:
-    """Warns of a line of the user's, as if that line had."""
-    if line is None:
-        warnings.warn(text, RuntimeWarning, stacklevel=2)
-    else:
-        warnings.warn_explicit(text, RuntimeWarning, *line)
 
 
 def _write_code(root: Node) -> str:
@@ -187,15 +184,11 @@ def _find_raise(fault: BaseException) -> Optional[Line]:
 
 # -- the function's own code
 
-def _find_code(function: Function) -> Optional[types.CodeType]:
-    """The code of a function, of a partial one, a method, or an object that can be called."""
-    inner = inspect.unwrap(getattr(function, 'func', function))
-    return getattr(inner, '__code__', None) or getattr(type(inner).__call__, '__code__', None)
-
-
 def _find_definition(function: Function) -> str:
-    """The line at which a function begins."""
-    code = _find_code(function)
+    """The line at which a function begins, a partial one, a method, or an object that can be
+    called."""
+    inner = inspect.unwrap(getattr(function, 'func', function))
+    code = getattr(inner, '__code__', None) or getattr(type(inner).__call__, '__code__', None)
     return describe_line((code.co_filename, code.co_firstlineno)) if code is not None else ''
 
 

@@ -386,7 +386,8 @@ class Layout:
         is_number = n.op == 'const'
         found = [self.blocks[user] if user.op == 'select' else self.block_of[user]
                  for user, at in self.users[n]
-                 if not (is_number and is_immediate(user, at, n.number))]
+                 # a number stands in the instruction that uses it, or is moved there first anyway
+                 if not (is_number and (fits(n.number) or at == 0 and user.op != 'select'))]
         if not is_number:
             found += [self.blocks[choice] for choice, early in self.early.items() if early is n]
             found += [self._find_end(user, n) for user in self.arm_of[n]
@@ -425,12 +426,6 @@ def words_tested(c: Node) -> Tuple[Node, Node]:
         if 0 < bits < 1 << 31:
             return a.args[0], Node('const', (), bits, -1)
     return a, b
-
-
-def is_immediate(user: Node, at: int, number: int) -> bool:
-    """Whether a number stands in the instruction that uses it, or is moved there first in any
-    case."""
-    return fits(number) or at == 0 and user.op != 'select'
 
 
 class Emission:

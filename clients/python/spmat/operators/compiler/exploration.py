@@ -26,9 +26,10 @@ from types import CodeType, FrameType
 from typing import Any, Callable, Dict, Iterator, List, NoReturn, Optional, Sequence, Set, Tuple
 
 from ...errors import CompileError
+from ...integers import LEAST, MOST
 from ..assembly import MEANINGS, OPERATIONS, WORDS, wrap
 from ..integer_functions import Operand, Whole, cdiv, cmod, rsh, udiv, ult, where, whole
-from .expressions import LEAST, MOST, Condition, Graph, Node, text_of
+from .expressions import Condition, Graph, Node, text_of
 MOST_WAYS, MOST_QUESTIONS, MOST_VALUES = 1024, 256, 256
 LONGEST_QUOTE = 60
 TOO_MANY_WAYS = ('more than %d ways%s: each further `if` doubles them. where(c, a, b), or a '

@@ -11,9 +11,9 @@ from __future__ import annotations
 
 from typing import Any, Dict, List, Optional, Sequence, Set, Tuple
 
+from ...integers import LEAST, MOST
 from ..assembly import MEANINGS, OPERATIONS, wrap
 
-LEAST, MOST = -1 << 63, (1 << 63) - 1
 CONDITIONS = ('eq', 'slt', 'ult', 'set')
 COMMUTE = (*(op for op, each in OPERATIONS.items() if each.commutes), 'eq', 'set')
 LEAVES = ('arg', 'const')
