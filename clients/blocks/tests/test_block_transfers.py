@@ -6,6 +6,7 @@ import bz2
 import gzip
 import io
 import os
+import pathlib
 import random
 import tempfile
 import unittest
@@ -111,8 +112,7 @@ class Files(unittest.TestCase):
                 self.assertEqual(self.many.mmread(path).to_text(), text)
             out = os.path.join(folder, 'out.mtx')
             self.many.mmread(path).mmwrite(out)
-            with open(out, 'rb') as file:
-                self.assertEqual(file.read(), text)
+            self.assertEqual(pathlib.Path(out).read_bytes(), text)
 
     def test_written_block_by_block(self):
         """No piece that is written has more than a block's lines, and the file is that of one

@@ -18,6 +18,7 @@ from unittest import mock
 import pytest
 
 import block_pairs
+import pathlib
 import graphs
 import spmat
 import support
@@ -86,8 +87,7 @@ class Page(unittest.TestCase):
                            if pair[0].startswith('from distributed'))
         with tempfile.TemporaryDirectory() as folder:
             path = os.path.join(folder, 'example.py')
-            with open(path, 'w', encoding='utf-8') as file:
-                file.write(lines)
+            pathlib.Path(path).write_text(lines, 'utf-8')
             path_of_packages = os.pathsep.join((support.CLIENT, FOLDER))
             printed = subprocess.run([sys.executable, path], stdout=subprocess.PIPE,
                                      stderr=subprocess.DEVNULL, check=True, timeout=SECONDS,
@@ -227,8 +227,7 @@ class Dask(unittest.TestCase):
             with tempfile.TemporaryDirectory() as folder, \
                     mock.patch.multiple(parallel_read, LEAST=1, MOST=100):
                 path = os.path.join(folder, 'graph.mtx')
-                with open(path, 'wb') as file:
-                    file.write(text)
+                pathlib.Path(path).write_bytes(text)
                 with self.sessions(folder=folder if given else None) as s, \
                         mock.patch.object(blocks.chunked_input, 'spool_file',
                                           side_effect=AssertionError):

@@ -1,6 +1,7 @@
 """Files that workers read by ranges: the matrix of one session, or its refusal; what is changed,
 lost, and told meanwhile."""
 import os
+import pathlib
 import random
 import signal
 import tempfile
@@ -64,8 +65,7 @@ class Files(unittest.TestCase):
             return fault.rule, fault.at, fault.line, fault.file
 
     def write(self, text):
-        with open(self.path, 'wb') as file:
-            file.write(text)
+        pathlib.Path(self.path).write_bytes(text)
 
     def test_as_one_session_reads_them(self):
         """Of each kind and order, in ranges of 300 bytes, by workers."""

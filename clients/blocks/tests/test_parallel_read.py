@@ -2,6 +2,7 @@
 files, and frames of Dask."""
 import gzip
 import os
+import pathlib
 import random
 import re
 import tempfile
@@ -58,8 +59,7 @@ class Lists(unittest.TestCase):
     def write(self, text, name='graph.csv'):
         path = os.path.join(self.folder, name)
         os.makedirs(os.path.dirname(path), exist_ok=True)
-        with open(path, 'wb') as file:
-            file.write(text)
+        pathlib.Path(path).write_bytes(text)
 
     def same(self, sessions, **options):
         """What blocks read is what one session reads, also what is known of it beside its

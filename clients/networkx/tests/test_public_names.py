@@ -1,5 +1,6 @@
 """The backend uses spmat as anyone may."""
 import os
+import pathlib
 import tempfile
 import unittest
 
@@ -22,8 +23,7 @@ class PublicNames(unittest.TestCase):
                  'import spmat.wire.connection', 'from spmat import integers',
                  'from spmat import metadata', 'from spmat.errors import _x', 'import os')
         with tempfile.TemporaryDirectory() as folder:
-            with open(os.path.join(folder, 'some.py'), 'w', encoding='utf-8') as file:
-                file.write('\n'.join(lines))
+            pathlib.Path(os.path.join(folder, 'some.py')).write_text('\n'.join(lines), 'utf-8')
             found = list(public_names.find_private(folder))
         self.assertEqual([one.split(': ')[0] for one in found],
                          ['some.py:3', 'some.py:4', 'some.py:5', 'some.py:6'])

@@ -4,6 +4,7 @@ one is missing here."""
 import inspect
 import io
 import os
+import pathlib
 import re
 import tempfile
 
@@ -235,8 +236,7 @@ def _file(text, read, name='graph.mtx'):
     """What reading a file gives."""
     with tempfile.TemporaryDirectory() as folder:
         path = os.path.join(folder, name)
-        with open(path, 'wb') as file:
-            file.write(text)
+        pathlib.Path(path).write_bytes(text)
         try:
             return read(path)
         except Exception as fault:                 # the folder has another name each time

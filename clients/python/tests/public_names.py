@@ -3,6 +3,7 @@ import ast
 import glob
 import importlib
 import os
+import pathlib
 import sys
 
 import support
@@ -15,8 +16,7 @@ from tools.reference.subjects import MODULES      # noqa: E402
 def list_imports(path):
     """The line, the module and the name of each import of a file; the name is empty if the module
     itself is imported."""
-    with open(path, encoding='utf-8') as file:
-        tree = ast.parse(file.read())
+    tree = ast.parse(pathlib.Path(path).read_text('utf-8'))
     for node in ast.walk(tree):
         if isinstance(node, ast.Import):
             yield from ((node.lineno, alias.name, '') for alias in node.names)

@@ -1,6 +1,7 @@
 """The reference of the client is made of its docstrings: it leaves nothing public out, and each
 entry has its sections in one order."""
 import os
+import pathlib
 import re
 import subprocess
 import sys
@@ -43,8 +44,7 @@ class Page(unittest.TestCase):
             done = made(path)
             if done.returncode:
                 raise AssertionError(done.stdout)
-            with open(path, encoding='utf-8') as file:
-                cls.page = file.read()
+            cls.page = pathlib.Path(path).read_text('utf-8')
         cls.entries = {part.partition('`')[2].partition('`')[0]: part
                        for part in re.split(r'^(?=#)', cls.page, flags=re.M)
                        if part.startswith('#### ')}

@@ -4,6 +4,7 @@ import copy
 import importlib
 import io
 import os
+import pathlib
 import pickle
 import re
 import traceback
@@ -52,8 +53,7 @@ class Sentences(unittest.TestCase):
 
     def test_of_a_gateway(self):
         """docs/service.md has a row, or a sentence, for each refusal that only a gateway gives."""
-        with open(os.path.join(support.TOP, 'docs', 'service.md'), encoding='utf-8') as file:
-            page = file.read()
+        page = pathlib.Path(os.path.join(support.TOP, 'docs', 'service.md')).read_text('utf-8')
         for rule in errors.OF_GATEWAY:
             with self.subTest(rule=rule):
                 self.assertIn('`no %s' % rule, page)

@@ -1,11 +1,10 @@
 """docs/from_networkx.md: each line of spmat gives what the line of networkx beside it gives."""
 import math
-import os
-import re
 import unittest
 
 import support
 import spmat
+from pages import rows_of
 from spmat import algorithms
 
 try:
@@ -19,10 +18,8 @@ EDGES = [('a', 'b', 4), ('b', 'c', 1), ('a', 'c', 7), ('c', 'd', 2)]
 NEAR = 1e-6
 
 
-def lines():
-    """The lines of networkx and of spmat of the page's tables."""
-    with open(os.path.join(support.TOP, 'docs', 'from_networkx.md'), encoding='utf-8') as file:
-        return re.findall(r'^\| `(.*?)` \| `(.*?)` \|$', file.read(), re.M)
+# lines of networkx and of spmat
+LINES = rows_of('docs/from_networkx.md')
 
 
 def plain(found):
@@ -57,7 +54,7 @@ class Page(support.InSession):
         ours = {'s': self.s, 'al': algorithms, 'frame': frame, 'array': array,
                 'D': self.s.from_edgelist(EDGES),
                 'U': self.s.from_edgelist([edge[:2] for edge in EDGES], directed=False)}
-        for left, right in lines():
+        for left, right in LINES:
             with self.subTest(networkx=left, spmat=right):
                 room = dict(ours, D=theirs['D']) if 'from_networkx' in right else ours
                 self.assertTrue(same(plain(self.by_weight(eval(left, dict(theirs)))),
@@ -71,4 +68,4 @@ class Page(support.InSession):
         return graph
 
     def test_how_many(self):
-        self.assertGreaterEqual(len(lines()), 30)
+        self.assertGreaterEqual(len(LINES), 30)

@@ -1,11 +1,10 @@
 """docs/graphblas.md: each line of spmat runs, and gives what plain Python gives."""
 import ast
-import os
-import re
 
 import support
 import model
 import spmat
+from pages import inside, rows_of
 
 A = {(0, 1): 2, (1, 2): 3, (2, 0): -4, (2, 2): 1}
 B = {(0, 1): 5, (1, 1): 1, (2, 0): 1, (2, 2): -2}
@@ -70,10 +69,8 @@ WANT = {
     'A.to_dicts()': {0: {1: 2}, 1: {2: 3}, 2: {0: -4, 2: 1}}, 'A.wait()': A}
 
 
-def lines():
-    """The lines of python-graphblas and of spmat of the page's tables."""
-    with open(os.path.join(support.TOP, 'docs', 'graphblas.md'), encoding='utf-8') as file:
-        return re.findall(r'^\| `(.*?)` \| `(.*?)` \|$', file.read(), re.M)
+# lines of python-graphblas and of spmat
+LINES = rows_of('docs/graphblas.md')
 
 
 def plain(found):
@@ -85,11 +82,9 @@ def plain(found):
 
 class Page(support.InSession):
     def test_each_line(self):
-        before = os.getcwd()
-        os.chdir(support.TOP)
-        self.addCleanup(os.chdir, before)
+        support.enter(self, inside())
         rows, cols = zip(*A)
-        for theirs, ours in lines():
+        for theirs, ours in LINES:
             with self.subTest(line=ours):
                 ast.parse(theirs)
                 made = {name: self.s.from_triples([(*at, x) for at, x in cells.items()], 3, ncols)
@@ -103,6 +98,6 @@ class Page(support.InSession):
                 self.assertTrue(right or not sign)
 
     def test_nothing_is_left_out(self):
-        ours = [line for _, line in lines()]
+        ours = [line for _, line in LINES]
         self.assertEqual(sorted(ours), sorted(WANT))
         self.assertGreaterEqual(len(ours), 40)

@@ -2,6 +2,7 @@
 outputs what the page says that they give. The case `notebook` of tests/program/cases runs them."""
 import json
 import os
+import pathlib
 import re
 import unittest
 
@@ -14,8 +15,7 @@ LARGEST = 200_000                                  # bytes, pictures included
 
 
 def text_of(name):
-    with open(os.path.join(DOCS, name), encoding='utf-8') as file:
-        return file.read()
+    return pathlib.Path(os.path.join(DOCS, name)).read_text('utf-8')
 
 
 def blocks():

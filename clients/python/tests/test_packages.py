@@ -1,6 +1,7 @@
 """What is installed: pyproject.toml names each folder of the package, and what it needs; Debian's
 packages need the same."""
 import os
+import pathlib
 import re
 import sys
 import tempfile
@@ -22,8 +23,7 @@ def list_folders():
 
 def read_project():
     """The text of pyproject.toml."""
-    with open(os.path.join(support.CLIENT, 'pyproject.toml'), encoding='utf-8') as file:
-        return file.read()
+    return pathlib.Path(os.path.join(support.CLIENT, 'pyproject.toml')).read_text('utf-8')
 
 
 def list_packages():

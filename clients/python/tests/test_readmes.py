@@ -1,7 +1,5 @@
 """What the READMEs and the client's page print is what they say, and the client's README leads
 somewhere from a wheel, too."""
-import contextlib
-import io
 import os
 import re
 import subprocess
@@ -12,6 +10,7 @@ import unittest
 
 import support
 import spmat
+from pages import blocks_of, printed, text_of
 
 
 def has_backends():
@@ -32,30 +31,13 @@ OF_SITE = re.compile(r'https://[^/]+/((?:docs/)?\w+)\.html$')
 
 
 class Page(unittest.TestCase):
-    def text(self, page):
-        with open(os.path.join(support.TOP, page), encoding='utf-8') as file:
-            return file.read()
-
-    def blocks(self, name):
-        page = self.text(name)
-        return [re.sub('^    ', '', block, flags=re.M)
-                for block in re.findall(r'^    .*\n(?:    .*\n|\n(?=    ))*', page, re.M)]
-
     def printed(self, lines):
-        said = io.StringIO()
         with tempfile.TemporaryDirectory() as folder:
-            before = os.getcwd()
-            os.chdir(folder)
-            try:
-                with contextlib.redirect_stdout(said):
-                    exec(lines, {})
-            finally:
-                os.chdir(before)
-        return said.getvalue()
+            return printed(lines, folder)
 
     def test_what_they_print(self):
         for page, least in ((CLIENT, 1), ('docs/python.md', 5)):
-            blocks = self.blocks(page)
+            blocks = blocks_of(text_of(page))
             pairs = [(lines, said) for lines, said in zip(blocks, blocks[1:])
                      if lines.startswith('import') and 'print(' in lines]
             self.assertGreaterEqual(len(pairs), least)
@@ -67,7 +49,7 @@ class Page(unittest.TestCase):
         """A wheel has its README and nothing beside it: links are whole addresses, of pages that
         the site has."""
         for name, least in ((CLIENT, 6), *((other, 1) for other in OTHERS)):
-            text = self.text(name)
+            text = text_of(name)
             self.assertLessEqual(text.count('\n'), LONGEST)
             links = re.findall(r'\]\(([^)]+)\)', text)
             self.assertGreaterEqual(len(links), least)
@@ -80,7 +62,7 @@ class Page(unittest.TestCase):
     def test_first_command(self):
         """What a newcomer runs first, by the reference implementation: within ten seconds on a
         machine that does nothing else."""
-        blocks = self.blocks('README.md')
+        blocks = blocks_of(text_of('README.md'))
         command, said = next(pair for pair in zip(blocks, blocks[1:])
                              if pair[0].startswith('PYTHONPATH='))
         begun = time.process_time() + sum(os.times()[2:4])
@@ -93,12 +75,12 @@ class Page(unittest.TestCase):
         self.assertLess(time.process_time() + sum(os.times()[2:4]) - begun, 10)
 
     def test_what_the_repository_prints(self):
-        blocks = self.blocks('README.md')
+        blocks = blocks_of(text_of('README.md'))
         lines, said = next(pair for pair in zip(blocks, blocks[1:]) if pair[0].startswith('import'))
         self.assertEqual(self.printed(lines), said)
 
     def test_refusal(self):
-        blocks = self.blocks('docs/python.md')
+        blocks = blocks_of(text_of('docs/python.md'))
         lines, said = next(pair for pair in zip(blocks, blocks[1:])
                            if pair[1].startswith('spmat.OperatorRefused'))
         with self.assertRaises(spmat.OperatorRefused) as fault:

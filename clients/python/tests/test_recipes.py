@@ -2,16 +2,13 @@
 what plain Python gives."""
 import ast
 import collections
-import contextlib
-import io
 import itertools
-import os
 import re
 import unittest
 
 import graphs
-import support
 from graphs import KARATE_PAIRS
+from pages import blocks_of, printed, text_of
 
 NEAR = collections.defaultdict(set)
 for _i, _j in KARATE_PAIRS:
@@ -21,12 +18,9 @@ for _i, _j in KARATE_PAIRS:
 
 def recipes():
     """The heading, the block and what it prints, of each recipe."""
-    with open(os.path.join(support.TOP, 'docs', 'examples.md'), encoding='utf-8') as file:
-        page = file.read().split('\n## Eleven questions\n')[1].split('\n## ')[0]
+    page = text_of('docs/examples.md').split('\n## Eleven questions\n')[1].split('\n## ')[0]
     for part in page.split('\n### ')[1:]:
-        blocks = [re.sub('^    ', '', block, flags=re.M)
-                  for block in re.findall(r'(?:^    .*\n)+', part, re.M)]
-        yield part.split('\n', 1)[0], blocks
+        yield part.split('\n', 1)[0], blocks_of(part)
 
 
 class Recipes(unittest.TestCase):
@@ -41,17 +35,9 @@ class Recipes(unittest.TestCase):
     def test_what_they_print(self):
         found = list(recipes())
         self.assertEqual(len(found), 11)
-        before = os.getcwd()
-        os.chdir(support.TOP)
-        try:
-            for heading, blocks in found:
-                self.assertEqual(len(blocks), 2, heading)
-                said = io.StringIO()
-                with contextlib.redirect_stdout(said):
-                    exec(blocks[0], {})
-                self.assertEqual(said.getvalue(), blocks[1], heading)
-        finally:
-            os.chdir(before)
+        for heading, blocks in found:
+            self.assertEqual(len(blocks), 2, heading)
+            self.assertEqual(printed(blocks[0]), blocks[1], heading)
 
     def test_pagerank(self):
         ranks = graphs.pagerank([NEAR[i] for i in range(34)])

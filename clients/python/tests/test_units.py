@@ -5,6 +5,7 @@ import csv
 import functools
 import io
 import os
+import pathlib
 import random
 import tempfile
 from decimal import Decimal
@@ -410,8 +411,7 @@ class OutAndIn(Case):
         self.edges = [(a, b, chance.randrange(-10 ** 6, 10 ** 6) / 1000) for a, b in cells]
 
     def write(self, text):
-        with open(self.path, 'w') as file:
-            file.write(text)
+        pathlib.Path(self.path).write_text(text)
         return self.path
 
     def same(self, matrix, unit=1000):

@@ -4,6 +4,7 @@ would be another vertex."""
 import itertools
 import json
 import os
+import pathlib
 import random
 import shutil
 import subprocess
@@ -266,8 +267,7 @@ class Test(support.InSession):
             'rows)\n    Search([name])\n    Search([3])\n')
         with tempfile.TemporaryDirectory() as folder:
             path = os.path.join(folder, 'mixed.py')
-            with open(path, 'w') as file:
-                file.write(text)
+            pathlib.Path(path).write_text(text)
             done = subprocess.run(['mypy', '--strict', '--cache-dir', folder, path],
                                   stdout=subprocess.PIPE, text=True, check=False,
                                   env=dict(os.environ, MYPYPATH=support.CLIENT), timeout=300)

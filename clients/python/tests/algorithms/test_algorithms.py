@@ -137,15 +137,6 @@ class Algorithms(support.InSession):
             self.assertEqual(algorithms.clustering(G).to_dict(), shares)
         self.each(graphs.UNDIRECTED, look)
 
-    def test_trusses_and_cores(self):
-        def look(graph, near, G, _):
-            for k in (2, 3, 4, 5, 7):
-                self.assertEqual(algorithms.k_truss(G, k).to_dict(), graphs.truss(near, k))
-            for k in range(7):
-                self.assertEqual(algorithms.k_core(G, k).to_dict(),
-                                 {(i, 0): many for i, many in graphs.core(near, k).items()})
-        self.each(graphs.UNDIRECTED, look)
-
     def test_pagerank(self):
         def look(graph, near, G, GT):
             ranks = algorithms.pagerank(G, GT)

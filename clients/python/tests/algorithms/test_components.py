@@ -138,11 +138,3 @@ class Scans(InSession):
                 ones = algorithms.sssp(G.apply('one'), 0).to_dict()
                 self.assertEqual(ones, found, graph.name)
         self.assertGreater(len(scanned), 20)
-
-    def test_cores(self):
-        for graph in graphs.UNDIRECTED:
-            G, want, k = graph.matrix(self.session), {(i, 0): 0 for i in range(graph.count)}, 1
-            while graphs.core(graph.near(), k):
-                want.update(dict.fromkeys([(i, 0) for i in graphs.core(graph.near(), k)], k))
-                k += 1
-            self.assertEqual(algorithms.core_numbers(G).to_dict(), want, graph.name)

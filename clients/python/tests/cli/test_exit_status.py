@@ -4,6 +4,7 @@ import bz2
 import gzip
 import lzma
 import os
+import pathlib
 import re
 import signal
 import socket
@@ -127,8 +128,7 @@ class Ends(CommandLine):
         os.mkfifo(path)
         for data, status in ((GRAPH.encode(), Status.DONE), (b'\0\1', Status.FILE)):
             def write(data=data):
-                with open(path, 'wb') as file:
-                    file.write(data)
+                pathlib.Path(path).write_bytes(data)
             writer = threading.Thread(target=write)
             writer.start()
             self.assertEqual(self.run_words('degrees', 'pipe').returncode, status)

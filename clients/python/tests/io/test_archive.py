@@ -5,6 +5,7 @@ import datetime
 import io
 import json
 import os
+import pathlib
 import signal
 import subprocess
 import sys
@@ -102,11 +103,9 @@ class Archives(InAFolder):
 
     def test_what_is_no_such_file(self):
         self.s.save(self.path, A=self.s.full(2, 2))
-        with open(self.path, 'rb') as file:
-            whole = file.read()
+        whole = pathlib.Path(self.path).read_bytes()
         for text in (b'', b'from,to\n', whole[:-30], whole[:40] + b'\0' * 20 + whole[60:]):
-            with open(self.path, 'wb') as file:
-                file.write(text)
+            pathlib.Path(self.path).write_bytes(text)
             self.assertIn('work.spmat: this is no file that save() wrote',
                           support.said(spmat.ReadError, self.s.load, self.path))
         with zipfile.ZipFile(self.path, 'w') as file:
@@ -168,8 +167,7 @@ class Archives(InAFolder):
         with zipfile.ZipFile(path, 'w') as file:
             file.writestr('g.mtx', support.BANNER + '2 2 1\n1 2 3\n')
         self.assertEqual(self.s.mmread(path).to_triples(), [(0, 1, 3)])
-        with open(path, 'rb') as file:
-            whole = bytearray(file.read())
+        whole = bytearray(pathlib.Path(path).read_bytes())
         at = whole.index(b'1 2 3')
         whole[at:at + 5] = b'1 2 4'
         self.assertIn('packed by zip, and damaged',
@@ -206,8 +204,7 @@ class Lists(InAFolder):
         self.assertTrue(self.s.read_graph(path, sep='\t').isequal(G))
         H = self.s.from_edgelist([(1, 2, 5), (2, 3, 6)])
         H.write_edgelist(path, values=False)
-        with open(path, encoding='utf-8') as file:
-            self.assertEqual(file.read(), '1 2\n2 3\n')
+        self.assertEqual(pathlib.Path(path).read_text('utf-8'), '1 2\n2 3\n')
 
     @support.needs('pandas', 'numpy')
     def test_pandas(self):

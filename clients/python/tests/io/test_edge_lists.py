@@ -7,6 +7,7 @@ import inspect
 import io
 import lzma
 import os
+import pathlib
 import pickle
 import random
 import re
@@ -24,6 +25,7 @@ import command_line
 from command_line import flags_of
 import support
 import spmat
+from pages import blocks_of, printed, text_of
 import spmat_blocks as blocks
 from spmat_blocks import parallel_read
 from spmat.cli import main
@@ -235,8 +237,7 @@ class Tables(Case):
                   [('manager', 'report', 1), ('ann', 'bob', 1), ('ann', 'cid', 1)])),
                 ('x;likes;y\na;knows;b\n', {'sep': ';', 'columns': (0, 2)},
                  ([('a', 'b', 1)], [('x', 'y', 1), ('a', 'b', 1)]))):
-                with open(path, 'w', encoding='utf-8') as file:
-                    file.write(text)
+                pathlib.Path(path).write_text(text, 'utf-8')
                 with self.assertRaises(spmat.HeaderUnclear) as asked:
                     self.s.read_edgelist(path, **how)
                 calls = re.findall(r's\.read_graph\(.*?header=\w+\)', str(asked.exception))
@@ -655,14 +656,12 @@ class Blocks(unittest.TestCase):
                               ('#id,from,to\n1,a,b\n', {'values': False}), ('a,b,1\n#c,d,1\n', {'comments': '#'}),
                               ('a,b,1\n#c,d,1\n', {'comments': None}),
                               ('user,item\n1,1\n1,2\n', {'bipartite': True})):
-                with open(path, 'w', encoding='utf-8') as file:
-                    file.write(text)
+                pathlib.Path(path).write_text(text, 'utf-8')
                 got, want = many.read_graph(path, **how), one.read_graph(path, **how)
                 self.assertEqual((got.to_edgelist(), support.known_of(got)),
                                  (want.to_edgelist(), support.known_of(want)), text)
             for text in (HOLES, 'manager,report\na,b\n', '#a,b\nc,d\n'):
-                with open(path, 'w', encoding='utf-8') as file:
-                    file.write(text)
+                pathlib.Path(path).write_text(text, 'utf-8')
                 said = []
                 for s in (many, one):
                     with self.assertRaises(spmat.ReadError, msg=text) as fault:
@@ -731,8 +730,7 @@ class ByTheCommandLine(unittest.TestCase):
     def degrees(self, name, text=None, command='degrees'):
         path = os.path.join(self.folder, name)
         if text is not None:
-            with open(path, 'wb') as file:
-                file.write(coded(text))
+            pathlib.Path(path).write_bytes(coded(text))
         with contextlib.redirect_stdout(io.StringIO()) as stdout, \
                 contextlib.redirect_stderr(io.StringIO()) as stderr:
             status = main([command, path])
@@ -761,8 +759,7 @@ class ByTheCommandLine(unittest.TestCase):
         os.mkfifo(path)
 
         def write():
-            with open(path, 'wb') as file:
-                file.write(gzip.compress(b'from to\na b\n'))
+            pathlib.Path(path).write_bytes(gzip.compress(b'from to\na b\n'))
         writer = threading.Thread(target=write)
         writer.start()
         self.assertEqual(self.degrees('fifo')[:2], (0, 'a 1\nb 0\n'))
@@ -780,19 +777,14 @@ class Page(unittest.TestCase):
     """docs/files.md: each block prints what stands below it, and each argument and flag of its
     table is there."""
 
-    def setUp(self):
-        with open(os.path.join(support.TOP, 'docs', 'files.md'), encoding='utf-8') as file:
-            self.page = file.read()
+    page = text_of('docs/files.md')
 
     def test_blocks(self):
-        blocks = [re.sub('^    ', '', block, flags=re.M)
-                  for block in re.findall(r'(?:^    .*\n)+', self.page, re.M)]
+        blocks = blocks_of(self.page)
         self.assertEqual(len(blocks) % 2, 0)
         self.assertGreaterEqual(len(blocks), 10)
         for block, said in zip(blocks[::2], blocks[1::2]):
-            with contextlib.redirect_stdout(io.StringIO()) as printed:
-                exec(block, {})
-            self.assertEqual(printed.getvalue(), said)
+            self.assertEqual(printed(block), said)
 
     def test_flags(self):
         told = set(re.findall(r'--[a-z][a-z-]*', self.page))

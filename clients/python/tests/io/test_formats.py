@@ -3,6 +3,7 @@ never passed over."""
 import inspect
 import io
 import os
+import pathlib
 import tempfile
 from unittest import mock
 
@@ -118,8 +119,7 @@ class MatrixMarket(InSession):
         with tempfile.TemporaryDirectory() as folder, blocks.Sessions(2) as s, \
                 mock.patch('spmat_blocks.parallel_read.LEAST', 1):
             path = os.path.join(folder, 'x.mtx')
-            with open(path, 'w', encoding='ascii') as file:
-                file.write(MARKET % ('general', 2, 2))
+            pathlib.Path(path).write_text(MARKET % ('general', 2, 2), 'ascii')
             B = s.read_graph(path, bipartite=True)
             with self.assertRaisesRegex(spmat.NamesDiffer, 'two kinds'):
                 B.mxm(B)
@@ -187,8 +187,7 @@ class Lists(InSession):
         """Its files are read as each by itself is."""
         with tempfile.TemporaryDirectory() as folder, blocks.Sessions(2) as s:
             def written(text):
-                with open(os.path.join(folder, 'part.csv'), 'wb') as file:
-                    file.write(text)
+                pathlib.Path(os.path.join(folder, 'part.csv')).write_bytes(text)
             written(TEXTS[DICTIONARIES])
             self.assertEqual(s.read_graph(folder).to_edgelist(), [(1, 2, 5)])
             with self.assertRaisesRegex(spmat.ReadError, 'max_bytes='):

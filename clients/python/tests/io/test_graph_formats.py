@@ -4,6 +4,7 @@ import bz2
 import gzip
 import io
 import os
+import pathlib
 import random
 import sys
 import tempfile
@@ -177,8 +178,7 @@ class Files(Case):
                                 b'2 1 1 0\n', ValueError))
 
     def test_paths(self):
-        with open(data('people.csv'), 'rb') as file:
-            text = file.read()
+        text = pathlib.Path(data('people.csv')).read_bytes()
         want = self.read(text, sep=',')
         with tempfile.TemporaryDirectory() as folder:
             for ending, opener in (('.gz', gzip.open), ('.bz2', bz2.open)):

@@ -6,6 +6,7 @@ import io
 import json
 import lzma
 import os
+import pathlib
 import subprocess
 import sys
 import tempfile
@@ -107,8 +108,7 @@ class Archives(support.InSession):
     def test_damage(self):
         """Each byte of a file, altered, gives what was saved or a ReadError."""
         self.s.save(self.path, G=self.s.from_edgelist([('a', 'b', 3), ('b', 'c', 4)]))
-        with open(self.path, 'rb') as file:
-            whole = file.read()
+        whole = pathlib.Path(self.path).read_bytes()
         for at in range(0, len(whole), 3):
             with open(self.path, 'wb') as file:
                 file.write(whole[:at] + bytes([whole[at] ^ 0x41]) + whole[at + 1:])
@@ -197,8 +197,7 @@ class Written(support.InSession):
             victim, path = os.path.join(folder, 'victim'), os.path.join(folder, 'out')
             for write in (G.to_csv, G.write_edgelist, G.mmwrite,
                           lambda path: self.s.save(path, G=G)):
-                with open(victim, 'w', encoding='ascii') as file:
-                    file.write('precious')
+                pathlib.Path(victim).write_text('precious', 'ascii')
                 with mock.patch.object(files.secrets, 'token_hex', lambda count: 'known'):
                     os.symlink(victim, path + '.known.part')
                     self.assertRaises(FileExistsError, write, path)
@@ -206,8 +205,7 @@ class Written(support.InSession):
                     os.remove(path + '.known.part')
                 write(path)
                 self.assertFalse(os.path.islink(path))
-                with open(victim, encoding='ascii') as file:
-                    self.assertEqual(file.read(), 'precious')
+                self.assertEqual(pathlib.Path(victim).read_text('ascii'), 'precious')
                 self.assertEqual(sorted(os.listdir(folder)), ['out', 'victim'])
 
 

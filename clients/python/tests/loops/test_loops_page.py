@@ -1,24 +1,16 @@
 """docs/loops.md: each block prints what stands below it, and that is what plain Python gives."""
 import ast
-import contextlib
-import io
-import os
-import re
 import unittest
 
 import graphs
-import support
+from pages import blocks_of, printed, text_of
 
 
 def parts():
     """The heading, the block and what it prints, of each part of the page that has blocks."""
-    with open(os.path.join(support.TOP, 'docs', 'loops.md'), encoding='utf-8') as file:
-        page = file.read()
-    for part in page.split('\n## ')[1:]:
-        blocks = [re.sub('^    ', '', block, flags=re.M)
-                  for block in re.findall(r'(?:^(?:    .*)?\n)+', part, re.M) if block.strip()]
-        if blocks:
-            yield part.split('\n', 1)[0], blocks[0].strip() + '\n', blocks[1].strip() + '\n'
+    for part in text_of('docs/loops.md').split('\n## ')[1:]:
+        if blocks_of(part):
+            yield (part.split('\n', 1)[0], *blocks_of(part)[:2])
 
 
 class Page(unittest.TestCase):
@@ -29,14 +21,8 @@ class Page(unittest.TestCase):
     def test_what_it_prints(self):
         found = list(parts())
         self.assertEqual(len(found), 3)
-        before = os.getcwd()
-        os.chdir(support.TOP)
-        self.addCleanup(os.chdir, before)
         for heading, block, want in found:
-            said = io.StringIO()
-            with contextlib.redirect_stdout(said):
-                exec(block, {})
-            self.assertEqual(said.getvalue(), want, heading)
+            self.assertEqual(printed(block), want, heading)
 
     def test_steps(self):
         levels = graphs.levels(graphs.UNDIRECTED[3].near(), 16)

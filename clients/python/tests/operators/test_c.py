@@ -5,6 +5,7 @@ before a server is asked.
 test_c.py --write` makes the code anew.
 """
 import os
+import pathlib
 import pickle
 import random
 import re
@@ -83,8 +84,7 @@ EDGES = [0, 1, -1, 2, 3, 4, 5, 6, -2, 7, 10, 127, -128, 2 ** 31 - 1, 2 ** 31, -2
 
 
 def read(name):
-    with open(os.path.join(FOLDER, name), encoding='ascii') as file:
-        return file.read()
+    return pathlib.Path(os.path.join(FOLDER, name)).read_text('ascii')
 
 
 def has_clang():
@@ -286,8 +286,7 @@ class Refusals(unittest.TestCase):
 
     def stand_in(self, folder, said):
         path = os.path.join(folder, 'clang-stand-in')
-        with open(path, 'w') as file:
-            file.write('#!/bin/sh\n%s\n' % said)
+        pathlib.Path(path).write_text('#!/bin/sh\n%s\n' % said)
         os.chmod(path, 0o755)
         return path
 

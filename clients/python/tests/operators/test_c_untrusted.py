@@ -1,6 +1,7 @@
 """C of untrusted users: each trick by which clang would read a file leaks without the guard, and is
 refused with it."""
 import os
+import pathlib
 import subprocess
 import tempfile
 import time
@@ -100,8 +101,7 @@ class Guarded(unittest.TestCase):
     def setUp(self):
         folder = support.enter(self, tempfile.TemporaryDirectory())
         self.path = os.path.join(folder, 'secret')
-        with open(self.path, 'w', encoding='ascii') as file:
-            file.write(str(SECRET))
+        pathlib.Path(self.path).write_text(str(SECRET), 'ascii')
         self.compilers = compilers()
         if not self.compilers:
             self.skipTest('no clang-14 or above')
@@ -156,8 +156,7 @@ class Guarded(unittest.TestCase):
 
     def test_an_error_in_a_file(self):
         """What clang says of an included file isn't shown, as it quotes the file."""
-        with open(self.path, 'w', encoding='ascii') as file:
-            file.write('root:x:0:0:%d:/bin/sh\n' % SECRET)
+        pathlib.Path(self.path).write_text('root:x:0:0:%d:/bin/sh\n' % SECRET, 'ascii')
         with self.assertRaisesRegex(spmat.CompileError,
                                     r'secret:1:\d+: error: in an included file') as got:
             spmat.c('#include "%s"\n%s' % (self.path, IDENTITY))

@@ -2,6 +2,7 @@
 docs/operators.md beside the files."""
 import collections
 import os
+import pathlib
 import random
 import re
 import subprocess
@@ -28,8 +29,7 @@ THUNKS = [0, 1, -1, 2, -3, 5, 2 ** 31, 2 ** 63 - 1, -2 ** 63]
 
 
 def file_of(kind, name):
-    with open(os.path.join(FOLDER, kind, name + '.asm'), encoding='ascii') as file:
-        return file.read()
+    return pathlib.Path(os.path.join(FOLDER, kind, name + '.asm')).read_text('ascii')
 
 
 def instructions(text):

@@ -1,5 +1,6 @@
 """Which program a session starts, and the command `spmat` of a wheel that carries one."""
 import os
+import pathlib
 import re
 import shutil
 import subprocess
@@ -23,8 +24,7 @@ class Order(unittest.TestCase):
         self.addCleanup(folder.cleanup)
         self.folder = folder.name
         for name in ('own', 'spmat'):
-            with open(os.path.join(self.folder, name), 'w', encoding='ascii') as file:
-                file.write(TELL)
+            pathlib.Path(os.path.join(self.folder, name)).write_text(TELL, 'ascii')
             os.chmod(os.path.join(self.folder, name), 0o755)
 
     def words(self, given=None, own=None, **variables):
@@ -79,8 +79,7 @@ class Carried(unittest.TestCase):
         shutil.copytree(os.path.dirname(spmat.__file__), os.path.join(self.folder, 'spmat'))
         os.mkdir(os.path.join(self.folder, 'spmat', 'carried'))
         self.own = os.path.join(self.folder, 'spmat', 'carried', 'spmat')
-        with open(self.own, 'w', encoding='ascii') as file:
-            file.write(TELL)
+        pathlib.Path(self.own).write_text(TELL, 'ascii')
 
     def ran(self, text):
         environment = {'PYTHONPATH': self.folder, 'PATH': os.path.dirname(shutil.which('sh'))}

@@ -1,7 +1,5 @@
 """docs/operators.md on Python: its blocks print what stands below them, and each row of its table
 says what operators give."""
-import contextlib
-import io
 import os
 import re
 import unittest
@@ -9,34 +7,26 @@ import unittest
 import support
 import spmat
 from operator_model import Plain
+from pages import blocks_of, printed, text_of
 
-PAGE = os.path.join(support.TOP, 'docs', 'operators.md')
+PAGE = 'docs/operators.md'
 ROW = re.compile(r'^\| `([^`]+)` \| [^|]+ \| (`\(.+) \|$', re.M)
 CALL = re.compile(r'`\(([-\d, ]+)\)` gives (-?\d+)')
 
 
-def page():
-    with open(PAGE, encoding='utf-8') as file:
-        return file.read()
-
-
-@unittest.skipUnless(os.path.exists(PAGE), 'the package stands without the repository')
+@unittest.skipUnless(os.path.exists(os.path.join(support.TOP, PAGE)), 'the package stands without the repository')
 class Page(unittest.TestCase):
     def test_blocks(self):
-        blocks = [re.sub('^    ', '', block, flags=re.M)
-                  for block in re.findall(r'(?:^    .*\n)+', page(), re.M)]
+        blocks = blocks_of(text_of(PAGE))
         found = [(block, blocks[at + 1]) for at, block in enumerate(blocks)
                  if block.startswith('import spmat')]
         self.assertGreaterEqual(len(found), 2)
-        for block, printed in found:
-            said = io.StringIO()
-            with contextlib.redirect_stdout(said):
-                exec(block, {})  # pylint: disable=exec-used
-            self.assertEqual(said.getvalue(), printed)
+        for block, said in found:
+            self.assertEqual(printed(block), said)
 
     def test_meanings(self):
         """Each call of each row, on the plain machine and by calling the operator."""
-        rows, calls = ROW.findall(page().split('\n## From Python\n')[1].split('\n## ')[0]), 0
+        rows, calls = ROW.findall(text_of(PAGE).split('\n## From Python\n')[1].split('\n## ')[0]), 0
         self.assertGreaterEqual(len(rows), 20)
         for expression, examples in rows:
             for operands, expected in CALL.findall(examples):
