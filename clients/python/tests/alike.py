@@ -13,6 +13,7 @@ import numpy
 import graphs
 import spmat
 import spmat_blocks as blocks
+from algorithm_calls import labels_of
 from spmat import algorithms
 from spmat_blocks.sessions import OF_ONE_SESSION
 
@@ -364,7 +365,8 @@ ALGORITHMS = {
     'bfs_parents': [lambda G: algorithms.bfs_parents(G, _some(G)[0]),
                     lambda G: algorithms.bfs_parents(G, _some(G)[1], depth=1)],
     'bipartite_sides': [lambda G: algorithms.bipartite_sides(G)],
-    'closeness': [lambda G: algorithms.closeness(G)],
+    'closeness': [lambda G: algorithms.closeness(G),
+                  lambda G: algorithms.closeness(G, weighted=True)],
     'clustering': [lambda G: algorithms.clustering(G),
                    lambda G: algorithms.clustering(algorithms.undirected(G))],
     'common_neighbours': [lambda G: algorithms.common_neighbours(G)],
@@ -380,11 +382,7 @@ ALGORITHMS = {
     'hits': [lambda G: algorithms.hits(algorithms.undirected(G))],
     'katz': [lambda G: algorithms.katz(G, .05)],
     'louvain': [lambda G: algorithms.louvain(algorithms.undirected(G))],
-    'modularity': [lambda G: algorithms.modularity(algorithms.undirected(G),
-                                                   G.session.from_coo(range(G.nrows), [0] * G.nrows,
-                                                                      [i % 3
-                                                                       for i in range(G.nrows)],
-                                                                      G.nrows, 1, nodes=G.nodes))],
+    'modularity': [lambda G: algorithms.modularity(algorithms.undirected(G), labels_of(G))],
     'jaccard': [lambda G: algorithms.jaccard(G)],
     'k_core': [lambda G: algorithms.k_core(algorithms.undirected(G), 2)],
     'k_hop': [lambda G: algorithms.k_hop(G, 2)],
@@ -466,6 +464,10 @@ def graphs_of(random_, count):
 
 # -- comparing
 
+# of what algorithms return
+KNOWN = ('error', 'rounds', 'modularity', 'levels')
+
+
 def plain(found):
     """What was found as values that can be compared: of a matrix its text, all that is known
     beside, its price and its steps."""
@@ -473,7 +475,7 @@ def plain(found):
         found.wait()
         notes = found.notes
         return ('matrix', found.to_text(), notes.rows, notes.columns, notes.directed,
-                notes.weighted, notes.unit)
+                notes.weighted, notes.unit, [getattr(found, what, None) for what in KNOWN])
     if isinstance(found, (list, tuple)):
         return [plain(one) for one in found]
     if (type(found).__module__.startswith('spmat.algorithms') and hasattr(found, '__dict__')

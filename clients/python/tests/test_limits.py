@@ -1,13 +1,13 @@
 """`Session.limit`: a batch that would pass it isn't run, and what is below it goes on."""
 import threading
 
+import algorithm_calls
 import alike
 import graphs
 import support
 import spmat
-from algorithm_calls import OPTIONS, arguments
 import spmat_blocks as blocks
-from spmat import algorithms
+from spmat.algorithms.registry import ALGORITHMS
 
 
 class Limits(support.InSession):
@@ -127,21 +127,20 @@ class Limits(support.InSession):
         """Each is bounded, and counts all that it spends; below a limit it gives what it gives."""
         graph = graphs.undirected('small', 8, [(0, 1), (1, 2), (2, 3), (3, 4), (4, 5), (0, 5),
                                                (1, 4), (5, 6), (6, 7)])
-        for name, options in OPTIONS.items():
-            call, W = getattr(algorithms, name), graph.matrix(self.s)
+        for name in ALGORITHMS:
             try:
-                want = alike.plain(call(W, **arguments(W, options[0])))
+                want = alike.plain(algorithm_calls.call(name, graph.matrix(self.s)))
             except ValueError:
                 continue
             with self.subTest(algorithm=name):
                 G, before = graph.matrix(self.s), self.spent()
                 with self.s.limit(1e9) as limit:
-                    self.assertEqual(alike.plain(call(G, **arguments(G, options[0]))), want)
+                    self.assertEqual(alike.plain(algorithm_calls.call(name, G)), want)
                 self.assertEqual(self.spent() - before, limit.spent)
                 H, before, spent = graph.matrix(self.s), self.spent(), limit.spent
                 if spent:
                     with self.assertRaises(spmat.BudgetExceeded), self.s.limit(spent - 1) as limit:
-                        alike.plain(call(H, **arguments(H, options[0])))
+                        alike.plain(algorithm_calls.call(name, H))
                     self.assertLess(limit.spent, spent)
                     self.s.run()
 

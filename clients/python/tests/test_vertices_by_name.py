@@ -17,6 +17,7 @@ import support
 import spmat
 from command_line import CommandLine
 import spmat_blocks as blocks
+from algorithm_calls import labels_of
 from spmat import algorithms
 from spmat.algorithms.registry import ALGORITHMS, BOTH_WAYS, WITHOUT_LOOPS
 
@@ -79,9 +80,7 @@ def call(name, graph, names, turned):
     if 'k' in ALGORITHMS[name].parameters:
         given['k'] = 2
     if name == 'modularity':
-        given['labels'] = graph.session.from_coo(range(graph.nrows), [0] * graph.nrows,
-                                                 [i % 3 for i in range(graph.nrows)], graph.nrows,
-                                                 1, nodes=graph.nodes)
+        given['labels'] = labels_of(graph)
     if name == 'pagerank':
         given['personalization'] = {names[1]: 1, names[4]: 2}
     if turned is not None:

@@ -145,7 +145,7 @@ class Checks(support.InSession):
 
 
 class Own(unittest.TestCase):
-    """Semirings of own operators, and a step until nothing changes."""
+    """Semirings of own operators."""
 
     def test_semiring(self):
         toll = spmat.asm('binary', 'mov64 r0, r1\nadd64 r0, r2\nadd64 r0, 2\nexit')
@@ -155,16 +155,3 @@ class Own(unittest.TestCase):
             self.assertEqual(spmat.semiring('min', 'plus'), spmat.semiring.min_plus)
             with self.assertRaisesRegex(ValueError, 'no built-in binary operator'):
                 spmat.semiring('min', 'no_such')
-
-    def test_fixpoint(self):
-        graph = graphs.DIRECTED[0]
-        with spmat.Session(program=support.program()) as s:
-            W, told = graph.matrix(s), []
-            start = s.from_coo([0], [0], 0, 1, graph.count)
-            step = lambda d: d.ewise_add(d.mxm(W, 'min_plus'), 'min')
-            got = spmat.fixpoint(start, step, progress=lambda *now: told.append(now))
-            want = graphs.shortest(graph.edges, graph.near(), 0)
-            self.assertEqual(got.to_dict(), {(0, i): x for i, x in want.items()})
-            self.assertEqual(told, [('round', k + 1, 0) for k in range(len(told))])
-            with self.assertRaisesRegex(RuntimeError, '2 rounds'):
-                spmat.fixpoint(start, step, most=2)

@@ -105,16 +105,6 @@ class Centralities(graphs.OnGraphs):
                          {'a': 1, 'b': 1.5, 'c': 1.75})
         self.assertIn('error', repr(algorithms.closeness(G)))
 
-    def test_blocks(self):
-        import spmat_blocks as blocks
-        graph = graphs.DIRECTED[0]
-        with blocks.Sessions(2) as sessions:
-            one, many = graph.matrix(self.s), sessions.from_triples(
-                [(i, j, x) for (i, j), x in graph.edges.items()], graph.count, graph.count)
-            for function in (lambda G: algorithms.katz(G, 0.25), lambda G: algorithms.hits(G)[1],
-                             lambda G: algorithms.eigenvector(G, rounds=9, tolerance=.5)):
-                self.assertEqual(function(one).by_node(), function(many).by_node())
-
 
 class Large(support.InSession):
     """Vectors of many vertices."""

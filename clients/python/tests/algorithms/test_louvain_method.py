@@ -1,13 +1,11 @@
 """Louvain's communities, and the modularity of any, beside a sum over all pairs of vertices and
 beside networkx."""
 import random
-import unittest
 
 import pytest
 
 import graphs
 import support
-import spmat
 from spmat import algorithms
 
 pytestmark = pytest.mark.slow
@@ -119,15 +117,3 @@ class Louvain(graphs.OnGraphs):
         sets = [set(some) for some in found.sets()]
         self.assertAlmostEqual(found.modularity,
                                networkx.algorithms.community.modularity(made, sets), 12)
-
-
-class InBlocks(unittest.TestCase):
-    def test_louvain(self):
-        import spmat_blocks as blocks
-        graph = graphs.UNDIRECTED[3]
-        triples = [(i, j, x) for (i, j), x in graph.edges.items()]
-        with spmat.Session() as session, blocks.Sessions(2) as sessions:
-            one, many = (algorithms.louvain(maker.from_triples(triples, 34, 34))
-                         for maker in (session, sessions))
-            self.assertEqual((one.modularity, one.labels.to_list()),
-                             (many.modularity, many.labels.to_list()))

@@ -7,9 +7,11 @@ from fractions import Fraction
 
 import pytest
 
+import algorithm_calls
 import graphs
 import support
 import spmat
+from algorithm_calls import GIVEN
 from spmat import algorithms
 from spmat.algorithms.registry import ALGORITHMS
 from spmat.algorithms.results import BOUND, CHANGE, RESIDUAL
@@ -20,7 +22,6 @@ NAMES = ['Ann', ('Bob', 2), 'Cid', 'd', 7, 'Eva', 'Flo', 'Gus', 'Hal']
 # two parts, and one alone
 EDGES = [(0, 1, 4), (1, 2, 1), (0, 2, 7), (2, 3, 2), (3, 4, 5), (5, 6, 3), (6, 7, 1), (5, 7, 2)]
 FORWARD = ('topological_levels', 'longest_paths')
-GIVEN = {'source': 0, 'target': 4, 'k': 2, 'sources': [1, 3], 'firsts': [0], 'seconds': [3]}
 
 # By the shape of the result: a column of numbers, of vertices, of groups; a matrix of pairs;
 # something else.
@@ -53,12 +54,10 @@ def graph_for(session, name, named):
 def called(G, name, named, **more):
     """The result of an algorithm on a graph, whose vertices are given by their names where it has
     any."""
-    given = {what: value for what, value in GIVEN.items() if what in ALGORITHMS[name].parameters}
-    for what in ('source', 'target', 'sources', 'firsts', 'seconds'):
-        if named and what in given:
-            given[what] = ([NAMES[i] for i in given[what]] if isinstance(given[what], list)
-                           else NAMES[given[what]])
-    return getattr(algorithms, name)(G, **{**given, **more})
+    given = {what: [NAMES[i] for i in at] if isinstance(at, list) else NAMES[at]
+             for what, at in GIVEN.items()
+             if named and what != 'k' and what in ALGORITHMS[name].parameters}
+    return algorithm_calls.call(name, G, **{**given, **more})
 
 
 class Shapes(support.InSession):
@@ -175,25 +174,6 @@ class Shapes(support.InSession):
             if 'weighted' in one.parameters:
                 text = ' '.join(inspect.getdoc(one.function).split())
                 self.assertRegex(text, r'weighted : bool, default False Whether [^:]*; otherwise ', name)
-
-    def test_in_blocks(self):
-        import spmat_blocks as blocks
-        with blocks.Sessions(2) as sessions:
-            for name in ('pagerank', 'closeness', 'katz', 'betweenness', 'louvain', 'bfs_parents',
-                         'k_core', 'clustering', 'eigenvector'):
-                with self.subTest(name=name):
-                    one, many = (called(graph_for(session, name, True), name, True)
-                                 for session in (self.s, sessions))
-                    self.assertEqual(many.by_node(), one.by_node())
-                    self.assertEqual(many.top(2), one.top(2))
-                    self.assertEqual(many.unit, one.unit)
-                    self.assertEqual(getattr(many, 'error', None), getattr(one, 'error', None))
-                    self.assertEqual(many.sets() if name in GROUPS else None,
-                                     one.sets() if name in GROUPS else None)
-            G = graph_for(sessions, '', True)
-            self.assertEqual(algorithms.closeness(G, weighted=True).by_node(),
-                             algorithms.closeness(graph_for(self.s, '', True),
-                                                  weighted=True).by_node())
 
 
 class Sets(support.InSession):
