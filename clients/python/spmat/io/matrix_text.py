@@ -112,8 +112,8 @@ def write_by_library(head: bytes, rows: Any, columns: Any, values: Any) -> Optio
 
 
 def read_by_library(text: bytes, count: int) -> Optional[Tuple[Any, Answer]]:
-    """Rows, columns (from 0) and values of a text that has so many entries: an array of three rows;
-    and what the library says of the text, whose entries the array has if that names no rule. None
+    """Rows, columns (from 0) and values of a text that has so many entries: an array of three rows.
+    Then what the library says of the text: the array has its entries if that names no rule. None
     without a library. MemoryError where there is none for the matrix."""
     library = load()
     if library is None:
