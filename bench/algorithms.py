@@ -1,6 +1,7 @@
 #!/usr/bin/env python3
 """algorithms.py [PATH_TO_SPMAT] [--scale N] [--sizes 1|2] [--even] [--workers W] [--rounds R]
-[--graphs kron,..] [--only sssp,..] [--figures FILE] [--processor]
+[--graphs kron,..] [--only sssp,..] [--without sssp,..] [--no-pairs] [--figures FILE]
+[--processor]
 
 Whole algorithms of the Python client beside what an analyst would take instead, on the same edges,
 by the clock: from a graph that is loaded to an answer in numpy. Wants numpy; the peers are scipy,
@@ -12,7 +13,7 @@ Graphs: kron (R-MAT, skewed), urand (uniform), road (a grid with one edge in twe
 paths), directed (uniform, one way alone), dag (the directed one's edges from lower to higher
 vertices); about 2^N vertices, eight edges each (road: two). The second size has four times as many
 vertices. Algorithms that look at each pair of vertices have graphs of a sixteenth of the vertices;
-with --even of as many as all.
+with --even of as many as all, and --no-pairs leaves them out.
 
 The first table has how many times as long as the best peer a call took. The second, which goes to
 FILE where one is named, has a line for each: the first call, which finds out what is then kept with
@@ -131,9 +132,11 @@ def measured_on(graph: str, scale: int, tasks: Sequence[Task], kinds: Sequence[T
 def all_lines(kinds: Sequence[Type[Peer]], options: argparse.Namespace) -> Iterator[Line]:
     """All lines, graph by graph."""
     only = options.only.split(',') if options.only else None
+    without = options.without.split(',')
     for graph in options.graphs.split(','):
-        tasks = [task for task in TASKS if graph in task.graphs
+        tasks = [task for task in TASKS if graph in task.graphs and task.name not in without
                  and (only is None or task.name in only)]
+        tasks = [task for task in tasks if not task.smaller] if options.no_pairs else tasks
         tasks = [task._replace(smaller=0) for task in tasks] if options.even else tasks
         for smaller in sorted({task.smaller for task in tasks}):
             for size in range(options.sizes):
@@ -171,8 +174,9 @@ def wanted() -> argparse.Namespace:
         words.add_argument('--' + name, type=int, default=value)
     words.add_argument('--graphs', default=','.join(GRAPHS))
     words.add_argument('--only', default='')
+    words.add_argument('--without', default='')
     words.add_argument('--figures')
-    for name in ('even', 'processor'):
+    for name in ('even', 'no-pairs', 'processor'):
         words.add_argument('--' + name, action='store_true')
     return words.parse_args()
 

@@ -4,10 +4,10 @@ ratios.py --check    sees that the pages have them as the raw figures are
 
 bench/peers.txt has the milliseconds of `bench/run peers`, bench/algorithms.txt the seconds of
 `bench/run algorithms`, bench/algorithms_few.txt those on graphs of 1,024 vertices,
-bench/algorithms_large.txt those on graphs of a million edges, bench/networkx.txt those of bench/networkx.py, bench/speed.txt the steps of a second, and
-bench/machine.txt what all of it stands on. The pages show ratios, which say more than seconds of
-some machine: each table stands between the comments `<!-- bench/ratios NAME -->` and `<!-- end
--->`.
+bench/algorithms_large.txt those on graphs of a million edges, bench/networkx.txt those of
+bench/networkx.py, bench/speed.txt the steps of a second, and bench/machine.txt what all of it
+stands on. The pages show ratios, which say more than seconds of some machine: each table stands
+between the comments `<!-- bench/ratios NAME -->` and `<!-- end -->`.
 """
 import os
 import re
@@ -20,11 +20,7 @@ PAGE = os.path.join(TOP, 'docs', 'performance.md')
 MEASUREMENTS = os.path.join(BENCH, 'README.md')
 LIMITS, FAQ, SERVICE, COMPARISON = (os.path.join(TOP, 'docs', name) for name in (
     'limits.md', 'faq.md', 'service.md', 'comparison.md'))
-UNKNOWN = """The figures of graphs of 4,096 and 16,384 vertices are of 2026-11-28 (commit 3cc2d2c8), those of a million edges
-of 2026-11-29 (commit 5628e646). They were made on four processors, of which nobody noted the kind, by Debian 12's libraries, SuiteSparse:GraphBLAS
-7.4 among them. The client has changed since. `bench/performance` measures all anew, and writes this paragraph and the tables."""
 FEW = 'algorithms_few.txt'
-UNMEASURED = 'Nobody has measured them on an idle machine yet. `bench/performance --few` does, and writes the table here.'
 FAR = 10.0                                         # times as long as the best library
 # how many times as long as the best library a call was to take at most, by graphs
 TARGETS: Dict[str, Dict[str, float]] = {
@@ -203,8 +199,6 @@ def named(task: str) -> Tuple[str, str]:
 def few() -> str:
     """The times of each algorithm by spmat and by two libraries, on the first graph that it was
     measured on, and how many times as long as by these it took."""
-    if not os.path.exists(os.path.join(BENCH, FEW)):
-        return UNMEASURED
     rows: Dict[str, List[str]] = {}
     for row in rows_of(text_of(FEW))[1:]:
         rows.setdefault(row[1], row)
@@ -259,9 +253,6 @@ def three(raw: str) -> str:
 
 def noted() -> str:
     """On which machine and when the figures were taken, in a sentence."""
-    if not os.path.exists(os.path.join(BENCH, 'machine.txt')):
-        return ('Measured on 2026-11-28, on a processor that wasn\'t noted, by the client as it was '
-                'then.')
     told = dict(line.split(': ', 1) for line in text_of('machine.txt').splitlines())
     return 'Measured on %s: %s.' % (told['date'], told['processor'])
 
@@ -270,8 +261,6 @@ def noted() -> str:
 
 def machine() -> str:
     """What the figures stand on, as a table."""
-    if not os.path.exists(os.path.join(BENCH, 'machine.txt')):
-        return UNKNOWN
     rows = [line.split(': ', 1) for line in text_of('machine.txt').splitlines()]
     return '\n'.join(['| What | These figures |', '|---|---|',
                       *('| %s | %s |' % (name, told) for name, told in rows)])
@@ -328,9 +317,9 @@ def targets(raw: str) -> str:
 def summary(raw: str) -> str:
     """How many times as long as the best peers the algorithms take, in a sentence."""
     found = sorted(float(one.ratio) for one in map(measured, rows_of(raw)[1:]) if one.best)
-    return ('On the graphs of a million edges below, a call took %s to %s times as long as the '
-            'fastest library. Half of\nthe calls took at most %s times as long.'
-            % (shown(found[0]), shown(found[-1]), shown(found[(len(found) - 1) // 2])))
+    return ('On the graphs of a million edges below, half of the calls took at most %s times as long '
+            'as the fastest library.\nThree of four took at most %s times as long.'
+            % (shown(found[(len(found) - 1) // 2]), shown(found[3 * (len(found) - 1) // 4])))
 
 
 def duration(seconds: float) -> str:
@@ -343,7 +332,8 @@ PAGES: Dict[str, Dict[str, Callable[[], str]]] = {
     PAGE: {'machine': machine, 'summary': lambda: summary(text_of('algorithms_large.txt')),
            'large': lambda: by_graph(text_of('algorithms_large.txt')),
            'small': lambda: by_graph(text_of('algorithms.txt'), smallest=True),
-           'few': few, 'slow': lambda: slow(text_of('algorithms.txt'), text_of('algorithms_large.txt')),
+           'few': few,
+           'slow': lambda: slow(text_of('algorithms.txt'), text_of('algorithms_large.txt')),
            'steps': steps_a_second, 'speed': lambda: text_of('speed.txt').strip()},
     COMPARISON: {'three': lambda: three(text_of('algorithms.txt'))},
     LIMITS: {'queue': whole_queue}, FAQ: {'million': a_million}, SERVICE: {'day': a_day},

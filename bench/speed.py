@@ -45,14 +45,14 @@ def matrix(session: spmat.Session, seed: int, rows: int, entries: int) -> spmat.
 
 def jobs(session: spmat.Session) -> Dict[str, Dict[str, Job]]:
     """The jobs by their forms, each with a built-in operator and with a long one."""
-    A, B = (matrix(session, seed, ROWS, ENTRIES) for seed in (1, 2))
+    A = matrix(session, 1, ROWS, ENTRIES)
     S = matrix(session, 3, SIDE, 64 * SIDE)
     one, two = (spmat.asm(kind, LONG, 'long') for kind in ('unary', 'binary'))
     some = spmat.asm('index', LONG, 'long')
     return {
         'apply': {'abs': lambda: A.apply('abs'), 'long': lambda: A.apply(one)},
         'select': {'triu': lambda: A.select('triu'), 'long': lambda: A.select(some)},
-        'union': {'plus': lambda: A.ewise_add(B, 'plus'), 'long': lambda: A.ewise_add(A, two)},
+        'union': {'plus': lambda: A.ewise_add(A, 'plus'), 'long': lambda: A.ewise_add(A, two)},
         'both': {'times': lambda: A.ewise_mult(A, 'times'),
                  'long': lambda: A.ewise_mult(A, two)},
         'reduce': {'plus': lambda: A.reduce_rowwise('plus'),
