@@ -201,30 +201,6 @@ valued_append (suc k) v (c ∷ xs) ys = ap (λ (r : Row). c ∷ r) (valued_appen
     by_place (inl l) = rw (lt-ltb k (length xs) l, lt-ltb (suc k) (suc (length xs)) (omega arith)) refl
     by_place (inr g) = let z : suc k - suc (length xs) ≡ k - length xs = omega arith in rw (le-ltb k (length xs) g, le-ltb (suc k) (suc (length xs)) (omega arith), z) refl
 
-valued_rows : (k v : ℕ) (rows : List Row) (opened : Row) → cells_in (valued_in k v rows) ++ (if nat_lt k (entries_in rows) then opened else valued (k - entries_in rows) v opened)
-    ≡ valued k v (cells_in rows ++ opened)
-valued_rows k v [] opened = let z : k - 0 ≡ k = omega arith in rw (le-ltb k 0 (omega arith), z) refl
-valued_rows k v (row ∷ rows) opened =
-    by_place (valued_rows (k - length row) v rows opened) (cases_lt k (length row)) ∙ sym (ap (valued k v) (append_assoc row (cells_in rows) opened) ∙ valued_append k v row (cells_in rows ++ opened))
-  where
-    by_rest : (length row ≤ k) → (k - length row < entries_in rows) ⊎ (entries_in rows ≤ k - length row)
-        → (if nat_lt k (length row + entries_in rows) then opened else valued (k - (length row + entries_in rows)) v opened)
-        ≡ (if nat_lt (k - length row) (entries_in rows) then opened else valued (k - length row - entries_in rows) v opened)
-    by_rest g (inl l) = rw (lt-ltb (k - length row) (entries_in rows) l, lt-ltb k (length row + entries_in rows) (omega arith)) refl
-    by_rest g (inr l) = let z : k - length row - entries_in rows ≡ k - (length row + entries_in rows) = omega arith in
-        rw (le-ltb (k - length row) (entries_in rows) l, le-ltb k (length row + entries_in rows) (omega arith), z) refl
-
-    by_place : cells_in (valued_in (k - length row) v rows) ++ (if nat_lt (k - length row) (entries_in rows) then opened else valued (k - length row - entries_in rows) v opened)
-        ≡ valued (k - length row) v (cells_in rows ++ opened)
-        → (k < length row) ⊎ (length row ≤ k)
-        → cells_in (if nat_lt k (length row) then valued k v row ∷ rows else row ∷ valued_in (k - length row) v rows)
-        ++ (if nat_lt k (length row + entries_in rows) then opened else valued (k - (length row + entries_in rows)) v opened)
-        ≡ (if nat_lt k (length row) then valued k v row ++ (cells_in rows ++ opened) else row ++ valued (k - length row) v (cells_in rows ++ opened))
-    by_place e (inl l) = let t : k < length row + entries_in rows = omega arith in
-        rw (lt-ltb k (length row) l, lt-ltb k (length row + entries_in rows) t) (append_assoc (valued k v row) (cells_in rows) opened)
-    by_place e (inr g) = rw (le-ltb k (length row) g, by_rest g (cases_lt (k - length row) (entries_in rows)))
-        (append_assoc row (cells_in (valued_in (k - length row) v rows)) _ ∙ ap (λ (r : Row). row ++ r) e)
-
 lengths_valued : (k v : ℕ) (rows : List Row) → map (λ (r : Row). length r) (valued_in k v rows) ≡ map (λ (r : Row). length r) rows
 lengths_valued k v [] = refl
 lengths_valued k v (row ∷ rows) = by_place (nat_lt k (length row)) (lengths_valued (k - length row) v rows)
@@ -240,9 +216,6 @@ with_value_alike k v r = record { first = refl; columns = refl; ended = sym (len
     by_place : (b : Bool) → length r.opened ≡ length (if b then r.opened else valued (k - entries_in r.ended) v r.opened)
     by_place true = refl
     by_place false = sym (length-valued (k - entries_in r.ended) v r.opened)
-
-pub with_value_cells : (k v : ℕ) (r : Run) → all_cells (with_value k v r) ≡ valued k v (all_cells r)
-with_value_cells k v r = valued_rows k v r.ended r.opened
 
 pub alike_then : (r s t : Run) → AreAlike r s → AreAlike s t → AreAlike r t
 alike_then r s t h m = record { first = h.first ∙ m.first; columns = h.columns ∙ m.columns; ended = h.ended ∙ m.ended; opened = h.opened ∙ m.opened }

@@ -1,6 +1,5 @@
 pub mod Standing
 pub mod Placing
-pub mod Following
 pub mod SelectBuffer
 pub mod Keeping
 pub mod Nexts

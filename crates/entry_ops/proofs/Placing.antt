@@ -13,7 +13,7 @@ use Rattle.bpf_run.specs.Meaning.{value_of}
 use Rattle.bpf_run.specs.Calls.{Call, Gathered, call_of, calls_on, values_on, steps_of, Charges}
 use Rattle.bpf_run.proofs.Charging.{Spends, spends-start, spends-step, calls_on-append, values_on-append}
 use Rattle.entry_ops.specs.inner.Standing.{CanPush, FollowIn, with_cell, with_cells, with_end}
-use Rattle.entry_ops.specs.inner.Placing.{placed, HavePlaces, Rise, Emission, final, Holds, standing, Does}
+use Rattle.entry_ops.specs.inner.Placing.{placed, HavePlaces, Emission, final, Holds, standing, Does}
 use Rattle.entry_ops.proofs.Standing.{empty_run, adds-nothing, adds-then, adds-waiting, adds-charged}
 
 pub values-count : (f : Accepted) (os : List Operands) → length (values_on f os) ≡ length os
@@ -82,14 +82,6 @@ have-set : (ps vs : List ℕ) (p v n : ℕ) → length vs < length ps → p < n 
 have-set [] vs p v n l b h = elim l [ ]
 have-set (q ∷ ps) [] p v n l b h = (b, tt)
 have-set (q ∷ ps) (w ∷ vs) p v n l b h = (h.0, have-set ps vs p v n (omega arith) b h.1)
-
--- it is behind the others
-rise-set : (from : ℕ) (ps vs : List ℕ) (p v n : ℕ) → length vs < length ps → from ≤ p → n ≤ p → HavePlaces ps vs n → Rise from ps vs
-    → Rise from (set ps (length vs) p) (vs ++ v ∷ [])
-rise-set from [] vs p v n l b m h r = elim l [ ]
-rise-set from (q ∷ ps) [] p v n l b m h r = (b, tt)
-rise-set from (q ∷ ps) (w ∷ vs) p v n l b m h r =
-    (r.0, rise-set (suc q) ps vs p v n (omega arith) (let q_inside = h.0 in omega (arith, q_inside, m)) m h.1 r.1)
 
 placed-set : (ps vs : List ℕ) (p v : ℕ) (run : Run) → length vs < length ps
     → placed (set ps (length vs) p) (vs ++ v ∷ []) run ≡ with_value p v (placed ps vs run)
@@ -160,7 +152,7 @@ module _ (f : Accepted) where
   does-flush e n g k rows steps none kind =
       let values : values_on f k.operands ≡ [] = ap (values_on f) none in
       let gone : calls_on f k.operands ≡ [] = ap (calls_on f) none in record {
-        holds = record { kind = kind; indices = subst (λ vs. HavePlaces n.indices vs (entries_of n.rows)) (sym values) tt; rise = subst (Rise 0 n.indices) (sym values) tt };
+        holds = record { kind = kind; indices = subst (λ vs. HavePlaces n.indices vs (entries_of n.rows)) (sym values) tt };
         adds = record {
           rows = ap (λ vs. placed n.indices vs n.rows) values ∙ rows;
           spends = λ rest. subst (λ cs. Spends (calls_on f g.operands ++ rest) e.steps (cs ++ rest) n.steps) (sym gone)
@@ -190,7 +182,6 @@ module _ (f : Accepted) where
       holds = record {
         kind = h.kind;
         indices = have-more e.indices (values_on f g.operands) (entries_of e.rows) _ (let m = entries_push e.rows (c, x) in omega arith) h.indices;
-        rise = h.rise;
       };
       adds = adds-waiting [] (with_cell c x) (standing f e g) (standing f (record e { rows = with_cell c x e.rows }) g)
           (placed-push c x e.indices (values_on f g.operands) e.rows h.indices) (sym (append-nil (calls_on f g.operands))) refl;
@@ -203,7 +194,6 @@ module _ (f : Accepted) where
         kind = h.kind;
         indices = have-more e.indices (values_on f g.operands) (entries_of e.rows) _
             (let m = length-append e.rows.opened cells in omega arith) h.indices;
-        rise = h.rise;
       };
       adds = adds-waiting [] (with_cells cells) (standing f e g) (standing f (record e { rows = with_cells cells e.rows }) g)
           (placed-cells cells e.indices (values_on f g.operands) e.rows h.indices) (sym (append-nil (calls_on f g.operands))) refl;
@@ -215,7 +205,6 @@ module _ (f : Accepted) where
       holds = record {
         kind = h.kind;
         indices = have-entries e.indices (values_on f g.operands) (entries_of e.rows) _ (sym (entries_end e.rows)) h.indices;
-        rise = h.rise;
       };
       adds = adds-waiting [] with_end (standing f e g) (standing f (record e { rows = with_end e.rows }) g)
           (placed-end e.indices (values_on f g.operands) e.rows h.indices) (sym (append-nil (calls_on f g.operands))) refl;
@@ -237,16 +226,12 @@ module _ (f : Accepted) where
         let calls : calls_on f k.operands ≡ calls_on f g.operands ++ call_of f o ∷ [] = ap (calls_on f) operands ∙ calls_on-append f g.operands (o ∷ []) in
         let pushed : entries_of (with_cell c x e.rows) ≡ entries_of e.rows + 1 = entries_push e.rows (c, x) in
         let here : HavePlaces (set e.indices (length vs) (entries_of e.rows)) (vs ++ value_of f o ∷ []) (entries_of (with_cell c x e.rows))
-        = have-set e.indices vs (entries_of e.rows) (value_of f o) _ capacity (omega arith) (have-more e.indices vs (entries_of e.rows) _ (omega arith) h.indices) in
-        let behind : Rise 0 (set e.indices (length vs) (entries_of e.rows)) (vs ++ value_of f o ∷ [])
-        = rise-set 0 e.indices vs (entries_of e.rows) (value_of f o) (entries_of e.rows) capacity (omega arith) (omega arith) h.indices h.rise in record {
+        = have-set e.indices vs (entries_of e.rows) (value_of f o) _ capacity (omega arith) (have-more e.indices vs (entries_of e.rows) _ (omega arith) h.indices) in record {
           holds = record {
             kind = ap (λ (m : Gathered). m.kind) more ∙ h.kind;
             indices = subst (λ (r : Run). HavePlaces n.indices (values_on f k.operands) (entries_of r)) (sym rows)
                 (subst (λ ps. HavePlaces ps (values_on f k.operands) (entries_of (with_cell c x e.rows))) (sym indices)
                 (subst (λ us. HavePlaces (set e.indices (length vs) (entries_of e.rows)) us (entries_of (with_cell c x e.rows))) (sym values) here));
-            rise = subst (λ ps. Rise 0 ps (values_on f k.operands)) (sym indices)
-                (subst (Rise 0 (set e.indices (length vs) (entries_of e.rows))) (sym values) behind);
           };
           adds = adds-waiting (call_of f o ∷ []) (with_cell c (value_of f o)) (standing f e g) (standing f n k)
               (ap (placed n.indices (values_on f k.operands)) rows

@@ -6,7 +6,7 @@ ghost use Rattle.bpf_run.specs.Calls.{call_of, calls_on, steps_of};
 ghost use Rattle.csr_store.specs.Valued.{entries_of};
 ghost use Rattle.job_forms.specs.Region.{finished};
 ghost use Rattle.entry_ops.specs.inner.Standing.{CanPush, FollowIn, with_cell, with_cells, with_end};
-ghost use Rattle.entry_ops.specs.inner.Placing.{placed, HavePlaces, Rise, Holds, Does, CanAdd, Puts, IsFlushed};
+ghost use Rattle.entry_ops.specs.inner.Placing.{placed, HavePlaces, Holds, Does, CanAdd, Puts, IsFlushed};
 
 use crate::operand_rows::Cell;
 use bpf_insn::Operands;
@@ -150,19 +150,12 @@ impl Emitter {
     }
 }
 
-/// Writes values to their entries: all at once if these are consecutive.
+/// Writes values to their entries.
 fn put_values(indices: &[usize], values: &[u64], rows: &mut Rows)
-    requires have { HavePlaces indices.now values.now (entries_of rows.old) }
-    requires rise { Rise 0 indices.now values.now }
+    requires { HavePlaces indices.now values.now (entries_of rows.old) }
     ensures { rows.new ≡ placed indices.now values.now rows.old }
 {
-    let many = values.len();
-    // Indices ascend, so the first and the last tell whether they are consecutive.
-    if many > 0 && indices[many - 1] - indices[0] == many - 1 {
-        rows.set_values(indices[0], values);
-        return;
-    }
-    for next in 0..many {
+    for next in 0..values.len() {
         rows.set_value(indices[next], values[next]);
     }
 }

@@ -1,6 +1,6 @@
 -- Rows whose cells are added at once, each called one with a word for the time being, and whose values are written when the
 -- gathered calls run. This project's own.
-use Rattle.std.specs.Prelude.{◌≡◌, ◌<◌, ◌≤◌, ◌+◌, ◌^◌, ℕ, suc, List, [], ◌∷◌, ◌++◌, Result, OnOk, OnErr}
+use Rattle.std.specs.Prelude.{◌≡◌, ◌<◌, ◌+◌, ◌^◌, ℕ, List, [], ◌∷◌, ◌++◌, Result, OnOk, OnErr}
 use Rattle.std.specs.declared.alloc.AllocError.{AllocError}
 use Rattle.bpf_verify.specs.Accepted.{Accepted}
 use Rattle.csr_store.specs.Run.{Run}
@@ -26,12 +26,6 @@ HavePlaces indices [] entries = Unit {0}
 HavePlaces [] (v ∷ values) entries = ⊥
 HavePlaces (p ∷ indices) (v ∷ values) entries = (p < entries) × HavePlaces indices values entries
 
--- the indices of values ascend, from one on
-abbrev pub Rise : ℕ → List ℕ → List ℕ → Type 0
-Rise from indices [] = Unit {0}
-Rise from [] (v ∷ values) = ⊥
-Rise from (p ∷ indices) (v ∷ values) = (from ≤ p) × Rise (suc p) indices values
-
 -- the rows as if the gathered calls had run
 abbrev pub final : Accepted → Emission → Gathered → Run
 final f e g = placed e.indices (values_on f g.operands) e.rows
@@ -40,7 +34,6 @@ final f e g = placed e.indices (values_on f g.operands) e.rows
 pub record Holds (f : Accepted) (e : Emission) (g : Gathered) : Type 0 where
   pub kind : g.kind ≡ f.kind
   pub indices : HavePlaces e.indices (values_on f g.operands) (entries_of e.rows)
-  pub rise : Rise 0 e.indices (values_on f g.operands)
 
 abbrev pub standing : Accepted → Emission → Gathered → Standing
 standing f e g = record { rows = final f e g; waiting = calls_on f g.operands; steps = e.steps }
