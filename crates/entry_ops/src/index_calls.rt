@@ -93,27 +93,6 @@ impl<'m> IndexCalls<'m> {
     }
 }
 
-/// Gathers the calls on the entries of the next 64 rows of one column, or of those up to a row, if
-/// each of them has one. Otherwise it reads no row.
-#[inline(always)]
-fn gather_full(reader: &mut RowReader<'_>, end: u64, thunk: u64, calls: &mut Calls)
-    requires column { IsGrid reader.old.grid × (reader.old.grid.columns ≤ 1) × (end ≤ reader.old.grid.rows) }
-    requires waits { NoneWaits kinds.Index calls.old }
-    ensures grid { reader.new.grid ≡ reader.old.grid }
-    ensures kind { calls.new.kind ≡ kinds.Index }
-    ensures parts { entries_up_to end thunk reader.old ≡ calls.new.operands ++ entries_up_to end thunk reader.new }
-{
-    let row = reader.row();
-    if row >= end {
-        return;
-    }
-    let many = (end - row).min(MOST_CALLS as u64);
-    if let Some(cells) = reader.next_full(many) {
-        // One loop over the cells, which asks of no row whether it has one.
-        calls.gather_down(cells, row, thunk);
-    }
-}
-
 /// Gathers the calls on the entries of rows of one column, up to a row, as many as fit in. Returns
 /// whether there are any.
 #[inline(always)]
@@ -124,7 +103,6 @@ fn gather_column(reader: &mut RowReader<'_>, end: u64, thunk: u64, calls: &mut C
         × Gathers (entries_up_to end thunk reader.old) calls.old (entries_up_to end thunk reader.new) calls.new result }
     ensures some { result ≡ nat_lt 0 (length calls.new.operands) }
 {
-    gather_full(reader, end, thunk, calls);
     while reader.row() < end && calls.len() < MOST_CALLS {
         let row = reader.row();
         gather_first(calls, reader.next_row(), row, thunk);
