@@ -1,12 +1,12 @@
 -- Steps of lists of calls, and charges for some of them.
-use Rattle.std.proofs.Common.{◌≡◌, ◌≤◌, ◌+◌, ◌*◌, ℕ, suc, List, length, [], ◌∷◌, ◌++◌, refl, sym, ap, subst, arith, inl, inr}
+use Rattle.std.proofs.Common.{◌≡◌, ◌≤◌, ◌+◌, ◌*◌, ℕ, List, length, [], ◌∷◌, ◌++◌, refl, sym, ap, subst, arith, inl, inr}
 use Rattle.bpf_insn.specs.declared.operands.Kind.TheVariants as kinds
 use Rattle.bpf_insn.specs.declared.operands.Operands.{Operands}
-use Rattle.bpf_insn.specs.declared.operands.Operands.TheVariants.{Binary, Unary, Index}
+use Rattle.bpf_insn.specs.declared.operands.Operands.TheVariants.{Binary, Unary}
 use Rattle.bpf_insn.specs.Machine.{kind_of}
 use Rattle.bpf_verify.specs.Accepted.{Accepted, IsAccepted}
 use Rattle.bpf_run.specs.Meaning.{value_of, cost_of}
-use Rattle.bpf_run.specs.Calls.{Call, call_of, steps_of, Charges, calls_on, values_on, pairs_with, words_of, entries_down}
+use Rattle.bpf_run.specs.Calls.{Call, call_of, steps_of, Charges, calls_on, values_on, pairs_with, words_of}
 use Rattle.bpf_run.proofs.Meaning.{has_value}
 use Rattle.bpf_run.proofs.Calling.{few_steps}
 
@@ -138,9 +138,3 @@ words_few f (c ∷ cs) a k =
     let h = cost-few f (Unary c.1) a (sym k) in
     let r = words_few f cs a k in
     omega (arith, h, r)
-
--- ---- the cells of rows that follow one another
-
-pub down_next : (row thunk next : ℕ) (c : ℕ × ℕ) (cs : List (ℕ × ℕ)) → suc row ≡ next
-    → entries_down row thunk (c ∷ cs) ≡ Index c.1 row c.0 thunk ∷ entries_down next thunk cs
-down_next row thunk next c cs e = ap (λ k. Index c.1 row c.0 thunk ∷ entries_down k thunk cs) e

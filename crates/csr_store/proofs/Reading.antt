@@ -4,10 +4,10 @@ use Rattle.std.proofs.Math.Seq.{take-append_seam, drop-append_seam}
 use Rattle.csr_store.specs.Along.{along}
 use Rattle.csr_store.specs.Grid.{Grid, row_of, row_start}
 use Rattle.csr_store.specs.Run.{Row}
-use Rattle.csr_store.proofs.Along.{along-next, along-split}
+use Rattle.csr_store.proofs.Along.{along-next}
 use Rattle.csr_store.specs.inner.Starts.{starts_of}
 use Rattle.csr_store.proofs.ByRow.{row_start-next}
-use Rattle.csr_store.proofs.Starting.{start_at, start_rises, length-along}
+use Rattle.csr_store.proofs.Starting.{start_at, start_rises}
 
 -- where a row and the next start
 module _ (g : Grid) (starts : List ℕ) (i : ℕ) (is : starts ≡ starts_of g) (l : i + 1 ≤ g.rows) where
@@ -39,40 +39,3 @@ module _ (g : Grid) (i end many : ℕ) (cells : Row) (is : cells ≡ along (row_
   pub rows_left : (later : Row) → later ≡ drop many cells → later ≡ along (row_of g) (i + 1) (end - (i + 1))
   rows_left later e =
       e ∙ (ap (λ n. drop n cells) size ∙ (ap (drop (length (row_of g i))) parts ∙ drop-append_seam (row_of g i) (along (row_of g) (i + 1) (end - (i + 1)))))
-
--- where a row starts, and one that comes later
-module _ (g : Grid) (starts : List ℕ) (i many : ℕ) (is : starts ≡ starts_of g) (l : i + many ≤ g.rows) where
-  pub steps_up : slice_index_or starts i 0 ≤ slice_index_or starts (i + many) 0
-  steps_up =
-      let a = start_at g starts i is (omega (arith, l)) in let b = start_at g starts (i + many) is l in let r = start_rises g i (i + many) (omega arith) in
-      omega (arith, a, b, r)
-
-  pub full_size : slice_index_or starts (i + many) 0 - slice_index_or starts i 0 ≡ many → row_start g i + many ≡ row_start g (i + many)
-  full_size e =
-      let a = start_at g starts i is (omega (arith, l)) in let b = start_at g starts (i + many) is l in let r = start_rises g i (i + many) (omega arith) in
-      omega (arith, a, b, r, e)
-
--- rows with as many cells as they are
-module _ (g : Grid) (i end many : ℕ) (cells : Row) (is : cells ≡ along (row_of g) i (end - i)) (l : i + many ≤ end) (m : row_start g i + many ≡ row_start g (i + many)) where
-  full_parts : cells ≡ along (row_of g) i many ++ along (row_of g) (i + many) (end - (i + many))
-  full_parts =
-      let z : end - i ≡ many + (end - (i + many)) = omega (arith, l) in
-      is ∙ ap (along (row_of g) i) z ∙ along-split (row_of g) i many (end - (i + many))
-
-  full_long : many ≡ length (along (row_of g) i many)
-  full_long = let s = length-along g i many in omega (arith, s, m)
-
-  pub full_there : many ≤ length cells
-  full_there =
-      let p = ap length full_parts in let a = length-append (along (row_of g) i many) (along (row_of g) (i + many) (end - (i + many))) in
-      let s = full_long in omega (arith, p, a, s)
-
-  pub full_read : (rows : Row) → rows ≡ take many cells → rows ≡ along (row_of g) i many
-  full_read rows e =
-      e ∙ (ap (λ n. take n cells) full_long
-      ∙ (ap (take (length (along (row_of g) i many))) full_parts ∙ take-append_seam (along (row_of g) i many) (along (row_of g) (i + many) (end - (i + many)))))
-
-  pub full_left : (later : Row) → later ≡ drop many cells → later ≡ along (row_of g) (i + many) (end - (i + many))
-  full_left later e =
-      e ∙ (ap (λ n. drop n cells) full_long
-      ∙ (ap (drop (length (along (row_of g) i many))) full_parts ∙ drop-append_seam (along (row_of g) i many) (along (row_of g) (i + many) (end - (i + many)))))

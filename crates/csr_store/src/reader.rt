@@ -1,5 +1,5 @@
 //! Rows of a matrix that are read one after the other.
-ghost use Rattle.std.specs.Prelude.{◌≡◌, ◌<◌, ◌≤◌, ◌+◌, ◌-◌, None, length, map, IfSome};
+ghost use Rattle.std.specs.Prelude.{◌≡◌, ◌<◌, ◌≤◌, ◌+◌, ◌-◌, map};
 ghost use Rattle.std.specs.List.{range_with_len};
 ghost use Rattle.csr_store.specs.Along.{along};
 ghost use Rattle.csr_store.specs.Grid.{row_of, row_start};
@@ -77,32 +77,6 @@ impl<'m> RowReader<'m> {
         self.end = end;
         self.row += 1;
         row
-    }
-
-    /// The entries of the next rows, `many` of them, if these have as many entries as they are, and
-    /// all in one list. Otherwise no row is read.
-    #[inline(always)]
-    pub fn next_full(&mut self, many: u64) -> Option<&'m [Cell]>
-        requires { self.old.row + many ≤ self.old.grid.rows }
-        ensures rows { IfSome result (λ cells. cells.now ≡ along (row_of self.old.grid) self.old.row many) }
-        ensures many { IfSome result (λ cells. length cells.now ≡ many) }
-        ensures next { IfSome result (λ cells. self.new ≡ record self.old { row = self.old.row + many }) }
-        ensures unchanged { result ≡ None → self.new ≡ self.old }
-    {
-        if many == 0 {
-            return None;
-        }
-        let (cells, end) = self.list();
-        let starts = self.starts;
-        let behind = self.row + many;
-        if behind > end || starts[behind as usize] - starts[self.row as usize] != many {
-            return None;
-        }
-        let (rows, later) = cells.split_at(many as usize);
-        self.cells = later;
-        self.end = end;
-        self.row = behind;
-        Some(rows)
     }
 
     /// The cells of the next row and of those behind it that stand in one list, up to a row.
