@@ -10,7 +10,6 @@ pub mod Mapped
 pub mod Whole
 pub mod Applying
 pub mod Paired
-pub mod PairCalls
 pub mod Filling
 pub mod Bounds
 pub mod Regions

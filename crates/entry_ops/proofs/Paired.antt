@@ -32,7 +32,7 @@ same_length [] (y ∷ ys) e = absurd (cc)
 same_length (x ∷ xs) [] e = absurd (cc)
 same_length (x ∷ xs) (y ∷ ys) e = ap suc (same_length xs ys (cc))
 
-pub length_pairs : (xs ys : List Cell) → length ys ≡ length xs → length (pairs_in xs ys) ≡ length xs
+length_pairs : (xs ys : List Cell) → length ys ≡ length xs → length (pairs_in xs ys) ≡ length xs
 length_pairs [] ys l = refl
 length_pairs (x ∷ xs) [] l = absurd (omega (arith, l))
 length_pairs (x ∷ xs) (y ∷ ys) l = ap suc (length_pairs xs ys (omega (arith, l)))

@@ -5,7 +5,6 @@ pub mod Folding
 pub mod Mapped
 pub mod Masked
 pub mod Paired
-pub mod PairCalls
 pub mod Placing
 pub mod SelectBuffer
 pub mod Shown

@@ -7,16 +7,15 @@
 //! Calls are gathered across rows and run many together, so a cell is added before its value is
 //! known. Without a mask, apply copies rows of one run (`runs`) and gives their entries the values
 //! of calls (`mapping`); so do union and both if their operands have the same positions (`pairs`),
-//! for which a recognised operator is called in a loop of its own (`pair_calls`), or if they are
-//! columns of which one has a word in each row (`column_pairs`, over `column_reader`). Under a
-//! mask, apply without a thunk copies the cells that the mask shows, and calls the operator on them
-//! where they are (`shown`). Select without a mask makes all calls first (`select_unmasked`).
-//! Otherwise rows are filled cell by cell (`rows`): from two rows read side by side (`merge`), or
-//! along the row of a mask (`masked`); `form` defines the result of a form at a position, and
-//! `emitter` writes values to their entries. Under a mask, select's last cells wait for their
-//! results (`select`, over `select_buffer` and `kept_cells`). A column is reduced by copying it
-//! (`column`). Other rows are reduced one by one with a short operator (`in_order`), many at once
-//! with a longer one (`folds`, over `open_rows`).
+//! or if they are columns of which one has a word in each row (`column_pairs`, over
+//! `column_reader`). Under a mask, apply without a thunk copies the cells that the mask shows, and
+//! calls the operator on them where they are (`shown`). Select without a mask makes all calls first
+//! (`select_unmasked`). Otherwise rows are filled cell by cell (`rows`): from two rows read side by
+//! side (`merge`), or along the row of a mask (`masked`); `form` defines the result of a form at a
+//! position, and `emitter` writes values to their entries. Under a mask, select's last cells wait
+//! for their results (`select`, over `select_buffer` and `kept_cells`). A column is reduced by
+//! copying it (`column`). Other rows are reduced one by one with a short operator (`in_order`), many
+//! at once with a longer one (`folds`, over `open_rows`).
 //!
 //! Read `ranges`, `apply`, `union` and `reduce` first, then `rows` with `specs/inner/Walking.antt`
 //! and `specs/inner/Placing.antt`.
@@ -38,7 +37,6 @@ mod masked;
 mod merge;
 mod open_rows;
 mod operand_rows;
-mod pair_calls;
 mod pairs;
 mod ranges;
 mod reduce;

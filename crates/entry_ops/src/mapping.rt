@@ -11,16 +11,13 @@ ghost use Rattle.entry_ops.specs.inner.Forms as forms;
 ghost use Rattle.job_forms.specs.Forms.{apply_kind};
 ghost use Rattle.entry_ops.specs.inner.IndexCalls.{NoneWaits};
 ghost use Rattle.entry_ops.specs.inner.Mapped.{range_operands, next_words, HasEntries, HasRoom, IsCopied, IsFurther};
-ghost use Rattle.entry_ops.specs.inner.PairCalls.{ArePairs};
-ghost use Rattle.entry_ops.specs.inner.Paired.{pairs_in};
 ghost use Rattle.entry_ops.specs.inner.Walking.{Joins, HaveRows, IsFormMade};
 
 use crate::column_pairs::join_columns;
 use crate::form::EntryForm;
 use crate::index_calls::IndexCalls;
 use crate::operand_rows::Sources;
-use crate::pair_calls::{CellPairs, call_known_pairs};
-use crate::pairs::{Pairs, gather_each};
+use crate::pairs::Pairs;
 use crate::rows::fill_region;
 use bpf_run::{Calls, MOST_CALLS};
 use bpf_verify::Operator;
@@ -89,36 +86,6 @@ impl Mapping<'_> {
         }
     }
 
-    /// Makes the calls on the pairs that come next, and writes the next entries with their values.
-    #[inline(always)]
-    fn add_next(
-        &mut self,
-        operator: &Operator,
-        calls: &mut Calls,
-        next: CellPairs,
-        values: &mut [u64; MOST_CALLS],
-    )
-        requires kind { operator.now.kind ≡ kinds.Binary }
-        requires waits { NoneWaits kinds.Binary calls.old }
-        requires pairs { ArePairs next }
-        requires capacity { HasRoom operator.now (pairs_in next.left.now next.right.now) self.old }
-        ensures waits { NoneWaits kinds.Binary calls.new }
-        ensures further { IsFurther operator.now (pairs_in next.entry.left.now next.entry.right.now) self.old self.new }
-    {
-        // A compiled loop reads its pairs where they are. Gathering them would cost more than the
-        // calls.
-        match call_known_pairs(operator, &next, values) {
-            Some(steps) => {
-                self.steps += steps;
-                self.rows.write_values(&values[..next.left.len()]);
-            }
-            None => {
-                gather_each(calls, next.left, next.right);
-                self.make(operator, calls);
-            }
-        }
-    }
-
     /// Makes the calls on all pairs.
     fn add_pairs(&mut self, operator: &Operator, calls: &mut Calls, mut pairs: Pairs)
         requires kind { operator.now.kind ≡ kinds.Binary }
@@ -126,9 +93,8 @@ impl Mapping<'_> {
         requires capacity { HasRoom operator.now pairs self.old }
         ensures { IsFurther operator.now pairs.entry self.old self.new }
     {
-        let mut values = [0; MOST_CALLS];
-        while let Some(next) = pairs.next_pairs() {
-            self.add_next(operator, calls, next, &mut values);
+        while pairs.gather(calls) {
+            self.make(operator, calls);
         }
     }
 

@@ -1,15 +1,14 @@
 //! The entries of two matrices that a binary operator is called on if both have the same positions,
 //! 64 at a time, regardless of row boundaries.
-ghost use Rattle.std.specs.Prelude.{◌≡◌, ◌<◌, ◌≤◌, ◌+◌, ◌-◌, ◌++◌, ℕ, [], None, length, IfSome, IsTrue};
+ghost use Rattle.std.specs.Prelude.{◌≡◌, ◌<◌, ◌≤◌, ◌+◌, ◌-◌, ◌++◌, ℕ, length, nat_lt, IfSome, IsTrue};
 ghost use Rattle.bpf_insn.specs.declared.operands.Kind.TheVariants as kinds;
 ghost use Rattle.csr_store.specs.Grid.{row_of};
 ghost use Rattle.csr_store.specs.Run.{IsInRun};
+ghost use Rattle.entry_ops.specs.inner.IndexCalls.{NoneWaits, Gathers};
 ghost use Rattle.entry_ops.specs.inner.Paired.{columns_of, pairs_in, ArePaired};
-ghost use Rattle.entry_ops.specs.inner.PairCalls.{ArePairs};
 ghost use Rattle.entry_ops.specs.inner.Walking.{HaveRows};
 
 use crate::operand_rows::{Cell, Sources};
-use crate::pair_calls::CellPairs;
 use crate::runs::is_in_run;
 use bpf_run::{Calls, MOST_CALLS};
 use csr_store::Matrix;
@@ -67,27 +66,27 @@ impl<'m> Pairs<'m> {
         Some(Pairs { left, right })
     }
 
-    /// Removes the pairs that come next, up to 64 of them, if there are any.
+    /// Gathers the calls on the pairs that come next, as many as fit in. Returns whether there are
+    /// any.
     #[inline(always)]
-    pub fn next_pairs(&mut self) -> Option<CellPairs<'m>>
-        ensures some { IfSome result (λ p. ArePairs p × (0 < length p.left.now)
-            × (self.old ≡ pairs_in p.left.now p.right.now ++ self.new)) }
-        ensures none { result ≡ None → self.old ≡ [] }
+    pub fn gather(&mut self, calls: &mut Calls) -> bool
+        requires { NoneWaits kinds.Binary calls.old }
+        ensures gathers { Gathers self.old calls.old self.new calls.new result }
+        ensures some { result ≡ nat_lt 0 (length calls.new.operands) }
     {
         let many = self.left.len().min(MOST_CALLS);
-        if many == 0 {
-            return None;
-        }
         let (left, lefts) = self.left.split_at(many);
         let (right, rights) = self.right.split_at(many);
+        gather_each(calls, left, right);
         self.left = lefts;
         self.right = rights;
-        Some(CellPairs { left, right })
+        many > 0
     }
 }
 
 /// Gathers the words of cells, each with that of the cell at the same index of another list.
-pub fn gather_each(calls: &mut Calls, left: &[Cell], right: &[Cell])
+#[inline(always)]
+fn gather_each(calls: &mut Calls, left: &[Cell], right: &[Cell])
     requires same { length right.now ≡ length left.now }
     requires capacity { length calls.old.operands + length left.now ≤ 64 }
     requires kind { calls.old.kind ≡ kinds.Binary }

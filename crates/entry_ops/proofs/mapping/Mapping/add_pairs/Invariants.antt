@@ -3,12 +3,12 @@ use Rattle.bpf_insn.specs.declared.operands.Kind.TheVariants as kinds
 use Rattle.entry_ops.proofs.Mapped.{IsMapping}
 use Rattle.entry_ops.proofs.mapping.Mapping.add_pairs.Given as goal
 
-abbrev pub invariant-loop-next : goal.invariant-loop-next
-invariant-loop-next l = record {
+abbrev pub invariant-loop-pairs : goal.invariant-loop-pairs
+invariant-loop-pairs l = record {
   kind : l.calls.kind ≡ kinds.Binary;
   none : l.calls.operands ≡ [];
   mapping : IsMapping l.operator l.fn.pairs l.fn.self l.pairs l.self;
 }
 
-abbrev pub decreases-loop-next : goal.decreases-loop-next
-decreases-loop-next l = length l.pairs
+abbrev pub decreases-loop-pairs : goal.decreases-loop-pairs
+decreases-loop-pairs l = length l.pairs
