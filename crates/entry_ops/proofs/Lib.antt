@@ -22,7 +22,6 @@ pub mod Singly
 pub mod Folding
 pub mod InOrder
 pub mod Reducing
-pub mod Columns
 pub mod IndexCalls
 pub mod Answering
 pub mod Beside

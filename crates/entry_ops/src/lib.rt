@@ -13,9 +13,8 @@
 //! (`select_unmasked`). Otherwise rows are filled cell by cell (`rows`): from two rows read side by
 //! side (`merge`), or along the row of a mask (`masked`); `form` defines the result of a form at a
 //! position, and `emitter` writes values to their entries. Under a mask, select's last cells wait
-//! for their results (`select`, over `select_buffer` and `kept_cells`). A column is reduced by
-//! copying it (`column`). Other rows are reduced one by one with a short operator (`in_order`), many
-//! at once with a longer one (`folds`, over `open_rows`).
+//! for their results (`select`, over `select_buffer` and `kept_cells`). Rows are reduced one by one
+//! with a short operator (`in_order`), many at once with a longer one (`folds`, over `open_rows`).
 //!
 //! Read `ranges`, `apply`, `union` and `reduce` first, then `rows` with `specs/inner/Walking.antt`
 //! and `specs/inner/Placing.antt`.
@@ -23,7 +22,6 @@
 
 mod apply;
 mod blank;
-mod column;
 mod column_pairs;
 mod column_reader;
 mod emitter;

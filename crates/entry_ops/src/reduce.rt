@@ -7,7 +7,6 @@ ghost use Rattle.job_forms.specs.Region.{IsRegion, IsPartOf};
 ghost use Rattle.entry_ops.specs.inner.Folding.{CanReduce, AddsReduced};
 
 use crate::blank::blank_region;
-use crate::column::{copy_rows, is_column};
 use crate::folds::{BLOCK_ROWS, Block, Folds};
 use crate::in_order::fill_in_order;
 use bpf_run::Calls;
@@ -53,10 +52,10 @@ fn fill_in_blocks<'m>(
 
 /// The reduction of each row of a region to one value, in the one column of the result.
 ///
-/// A row is folded by ascending column, beginning with its first word. So without a mask a column
-/// is its own result, and is copied. With a mask, of one column, calls run only for the rows
-/// at which it stores something. With a short operator rows are folded one by one; with a longer
-/// one up to 64 of them at once, a call for each run together with the others', in the scratch.
+/// A row is folded by ascending column, beginning with its first word. With a mask, of one column,
+/// calls run only for the rows at which it stores something. With a short operator rows are folded
+/// one by one; with a longer one up to 64 of them at once, a call for each run together with the
+/// others', in the scratch.
 pub fn reduce_region<'m>(
     alloc: Global,
     calls: &mut Calls,
@@ -73,9 +72,6 @@ pub fn reduce_region<'m>(
     a.recall();
     if is_blank_under(a, region.mask, &region.range) {
         return blank_region(alloc, 1, region.range);
-    }
-    if is_column(a, &region) {
-        return copy_rows(alloc, a, region.range);
     }
     let mut making = Making::begin(alloc, region.range.start, 1);
     if operator.len() <= MOST_IN_ORDER {

@@ -3,7 +3,6 @@ use Rattle.csr_store.specs.Mask.{mask_of}
 use Rattle.entry_ops.proofs.Reducing.{few_reduced, reduced}
 use Rattle.job_forms.specs.Forms.{reduce_at, reduce_calls_at}
 use Rattle.entry_ops.proofs.Nothing.{part_of_blank, reduce_nothing}
-use Rattle.entry_ops.proofs.Columns.{column_reduced}
 use Rattle.entry_ops.proofs.reduce.reduce_region.Goals as goal
 
 pub fill_in_order-filled-requires : goal.fill_in_order-filled-requires
@@ -48,8 +47,3 @@ returns-then-is_blank_under c =
     let mask = mask_of c.args.region.mask in
     part_of_blank 1 1 refl (reduce_at f a) (reduce_calls_at f a) c.args.region c.blank_region.result a
     (c.is_blank_under.ensures.0 c.if-is_blank_under.true) (λ i j l u e. reduce_nothing f a mask i j e) c.blank_region.ensures
-
-pub returns-then-is_column : goal.returns-then-is_column
-returns-then-is_column c =
-    let h = c.is_column.ensures c.if-is_column.true in
-    column_reduced c.args.operator.now c.args.a.now c.recall-2.ensures h.0 c.args.region c.copy_rows.result h.1 c.copy_rows.ensures
