@@ -1,13 +1,12 @@
-//! Rows of a matrix that are copied with other values, or with their own: each cell is written once.
-ghost use Rattle.std.specs.Prelude.{◌≡◌, ◌≤◌, ◌+◌, ◌++◌, [], length, slice_range, vec_capacity, IfOk};
+//! Rows of a matrix that are copied with other values: each cell is written once.
+ghost use Rattle.std.specs.Prelude.{◌≡◌, ◌≤◌, ◌+◌, ◌++◌, [], length, slice_range, vec_capacity};
 ghost use Rattle.csr_store.specs.Valued.{AreAlike, all_cells, entries_of, valued_from};
 ghost use Rattle.csr_store.specs.inner.Copied.{run_by_ends};
 ghost use Rattle.csr_store.specs.inner.Run.{AreRows};
 
 use crate::matrix::Cell;
-use crate::row::{append, cells_between};
+use crate::row::cells_between;
 use crate::rows::Rows;
-use std::alloc::AllocError;
 use std::marker::Model;
 use std::mem;
 
@@ -112,16 +111,6 @@ impl<'m> RowCopy<'m> {
         ensures { result ≡ self.entry.run }
     {
         Rows::of_ends(self.first, self.columns, self.ends, self.written)
-    }
-
-    /// The rows, with the entries that were not written as the matrix has them.
-    pub fn copy_rest(self) -> Result<Rows, AllocError>
-        ensures { IfOk result (λ r. r ≡ self.entry.run) }
-    {
-        let mut cells = self.written;
-        let from = cells.len();
-        append(&mut cells, &self.source[from..])?;
-        Ok(Rows::of_ends(self.first, self.columns, self.ends, cells))
     }
 }
 
