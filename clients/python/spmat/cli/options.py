@@ -144,8 +144,8 @@ def reading_options() -> List[click.Parameter]:
     return [
         option('--format', type=click.Choice(FORMATS),
                help='What it is (default: by what stands in it).'),
-        option('--sep', metavar='C', help='What separates the fields of a list (default: a comma in '
-               'a .csv, a tab in a .tsv, blanks elsewhere).'),
+        option('--sep', metavar='C', help='What separates the fields of a list (default: a comma '
+               'in a .csv, a tab in a .tsv, blanks elsewhere).'),
         option('--header/--no-header', default=None, help='The first line of a list names its '
                'columns, or is an edge (default: by what stands there).'),
         option('--columns', metavar='FROM,TO[,VALUE]',
