@@ -34,6 +34,8 @@ LEAST = Semiring(binary.min, binary.first)
 ANY_NEXT = Semiring(binary.any, asm('binary', 'mov64 r0, r1\nadd64 r0, 1\nexit\n', 'next_level'))
 KEPT = 1 << 10                                     # vertices of a front that isn't sent again
 GATHERED = 32                                      # levels after which what was found is gathered
+# rounds of a loop that looks for a target before its first look, and of one without a target
+FEW_ROUNDS, MOST_ROUNDS = 8, 1 << 40
 # places of searches from many whose levels in vain, behind the last one, cost little
 FEW_PLACES = 1 << 18
 # edges, of all searches together, that the client looks at in less time than a loop takes
@@ -50,8 +52,10 @@ class Search(NamedTuple):
 
     def is_over(self, level: int, numbers: Array) -> bool:
         """Whether a search is as far as it is wanted."""
-        if level == self.depth:
-            return True
+        return level == self.depth or self.is_found(numbers)
+
+    def is_found(self, numbers: Array) -> bool:
+        """Whether the vertex has a number at which a search stops."""
         return self.target is not None and int(numbers[int(self.target)]) != NONE
 
 
@@ -98,10 +102,26 @@ def continue_search(G: Matrix, numbers: Array, reached: Reached, search: Search,
 
     def heard(first: int, rounds: List[Round]) -> None:
         new = loop.shown[shown].drain()
-        numbers[new.places] = new.values - 1 if parents else new.rounds + level
-        tells(first, rounds)
-    most = G.nrows + 1 if search.depth is None else search.depth - level
-    loop.rounds(empty('front'), most, heard)
+        if search.is_found(numbers):               # these rounds were in vain
+            return
+        last = first + len(rounds) - 1
+        if search.target is not None:
+            last = int(new.rounds[new.places == int(search.target)].min(initial=last))
+        near = new.rounds <= last
+        numbers[new.places[near]] = new.values[near] - 1 if parents else new.rounds[near] + level
+        tells(first, rounds[:last - first + 1])
+    while not search.is_over(level + loop.number, numbers):
+        most = look_ahead(search.target, loop.number)
+        if search.depth is not None:
+            most = min(most, search.depth - level - loop.number)
+        if loop.rounds(empty('front'), most, heard):
+            return
+
+
+def look_ahead(target: Optional[Place], number: int) -> int:
+    """How many rounds a loop makes before the next look at whether the target is found, which may
+    be in vain by then: a quarter of those before."""
+    return MOST_ROUNDS if target is None else max(FEW_ROUNDS, number // 4)
 
 
 def run_search(lines: Traversal, search: Search, parents: bool,
@@ -117,7 +137,7 @@ def run_search(lines: Traversal, search: Search, parents: bool,
     numbers[front] = front if parents else 0
     level, left = 0, len(numbers) - len(front)
     while left and not search.is_over(level, numbers):
-        if search.target is None and lines.may_loop(level):
+        if lines.may_loop(level):
             continue_search(lines.graph, numbers, Reached(level, front, before), search, parents)
             break
         new, matrix = _next_front(lines, numbers, front, matrix, unseen, parents)
@@ -485,7 +505,7 @@ class Waiting(NamedTuple):
     near: Array
 
 
-def continue_lengths(W: Matrix, known: Array, some: Waiting, heaviest: int, progress: Progress,
+def continue_lengths(W: Matrix, known: Array, some: Waiting, heaviest: int, query: Query,
                      number: int) -> None:
     """Goes on with lengths of shortest paths, where no edge is negative; `number` rounds were made.
 
@@ -514,13 +534,18 @@ def continue_lengths(W: Matrix, known: Array, some: Waiting, heaviest: int, prog
     doubled = 2 * known[at]
     doubled[:len(some.waiting)] += 1
     loop = Loop(step, {'lengths': put_unsorted(W, at, doubled)}, ['final'], alike=True)
+    is_found = False
 
     def heard(first: int, rounds: List[Round]) -> None:
+        nonlocal is_found
         new = loop.shown['final'].drain()
         known[new.places] = new.values >> 1
+        is_found |= query.target is not None and bool((new.places == int(query.target)).any())
         for at in range(UNROLLED * (first - 1), UNROLLED * (first - 1 + len(rounds))):
-            tell(progress, 'round', number + 1 + at)
-    loop.rounds(empty('lengths'), 1 << 40, heard)
+            tell(query.progress, 'round', number + 1 + at)
+    while not is_found:
+        if loop.rounds(empty('lengths'), look_ahead(query.target, loop.number), heard):
+            return
 
 
 class Lengths:
@@ -537,7 +562,7 @@ class Lengths:
         least, self.heaviest = _extremes(lines.graph, query)
         self.ascends = least >= 0
         # no edge is negative, and lengths can be doubled
-        self.may_stay = query.cutoff is None and query.target is None and least >= 0 and (
+        self.may_stay = query.cutoff is None and least >= 0 and (
             4 * (self.heaviest + 1) * (lines.count + 1) < BEYOND)
         graph, self.width, self.end = lines.graph, 0, MOST
         if self.ascends and self.heaviest * lines.count < MOST:
@@ -557,7 +582,7 @@ class Lengths:
             elif self.may_stay and lines.may_loop(self.number):
                 if self.number:
                     tell(progress, 'round', self.number)
-                continue_lengths(lines.graph, self.known, self.open(), self.heaviest, progress,
+                continue_lengths(lines.graph, self.known, self.open(), self.heaviest, self.query,
                                  self.number)
                 return
             else:

@@ -7,7 +7,7 @@ import pytest
 import graphs
 import support
 from spmat import algorithms
-from spmat.algorithms import traversal
+from spmat.algorithms import searches, traversal
 
 pytestmark = pytest.mark.slow
 
@@ -15,6 +15,7 @@ SIDE = 12
 GRID = graphs.undirected('grid', SIDE * SIDE,
                          [(SIDE * r + c, SIDE * r + c + d) for r in range(SIDE) for c in range(SIDE)
                           for d in (1, SIDE) if (r < SIDE - 1 if d == SIDE else c < SIDE - 1)])
+LINE = graphs.undirected('line', 80, [(i, i + 1) for i in range(79)])
 SOME = [graphs.UNDIRECTED[2], graphs.UNDIRECTED[3], graphs.UNDIRECTED[5], graphs.UNDIRECTED[7],
         GRID]
 
@@ -54,6 +55,49 @@ class Long(support.InSession):
 
     def test_models(self):
         self.compare()
+
+    def test_targets(self):
+        """A search for one vertex has what is no farther than it, wherever the loop takes over."""
+        for after, few in ((0, 1), (1, 8), (3, 1)):
+            for graph in [*SOME, LINE]:
+                with self.subTest(after=after, few=few, graph=graph.name), \
+                        mock.patch.object(traversal, 'LONG', after), \
+                        mock.patch.object(searches, 'FEW_ROUNDS', few):
+                    self.to_targets(graph, graph.count // 3)
+
+    @mock.patch.object(traversal, 'LONG', 0)
+    @mock.patch.object(searches, 'FEW_ROUNDS', 1)
+    def test_searches_end_at_their_targets(self):
+        G = LINE.matrix(self.s)
+        for function in (algorithms.sssp, algorithms.bfs_levels, algorithms.shortest_path):
+            steps = []
+            for target in (79, 79, 30):            # the first call also looks at the graph
+                before = self.s.budget().spent
+                function(G, 20, target=target)
+                steps.append(self.s.budget().spent - before)
+            self.assertLess(1.2 * steps[2], steps[1])
+
+    def to_targets(self, graph, source):
+        G, near = graph.matrix(self.s), graph.near()
+        want, lengths = graphs.levels(near, source), graphs.shortest(graph.edges, near, source)
+        ends = sorted(want, key=want.__getitem__)
+        alone = [i for i in range(graph.count) if i not in want]
+        for end in {ends[0], ends[len(ends) // 2], ends[-1], *alone[:1]}:
+            told, far = [], want.get(end, graph.count)
+            found = algorithms.bfs_levels(G, source, progress=lambda *now: told.append(now),
+                                          target=end)
+            cut = {(i, 0): level for i, level in want.items() if level <= far}
+            self.assertEqual(found.to_dict(), cut)
+            self.assertEqual(told, [('level', k, 0) for k in range(1, max(cut.values()) + 1)])
+            parents = algorithms.bfs_parents(G, source, target=end).to_dict()
+            self.assertEqual(parents.keys(), cut.keys())
+            self.assertEqual(algorithms.has_path(G, source, end), end in want)
+            if end in want:
+                self.assertEqual(len(algorithms.shortest_path(G, source, end)), far + 1)
+                path = algorithms.shortest_path(G, source, end, weighted=True)
+                self.assertEqual(path.lengths[-1], lengths[end])
+                self.assertEqual(algorithms.sssp(G, source, target=end).to_dict()[end, 0],
+                                 lengths[end])
 
     def test_directed_graphs_stay_with_the_client(self):
         for graph in graphs.DIRECTED:
