@@ -1,13 +1,10 @@
 //! The entries of rows that an index operator is called on, 64 at a time, regardless of row
 //! boundaries.
-ghost use Rattle.std.specs.Prelude.{◌≡◌, ◌<◌, ◌≤◌, ◌-◌, ◌++◌, length, nat_lt};
+ghost use Rattle.std.specs.Prelude.{◌≡◌, ◌≤◌, ◌-◌, length, nat_lt};
 ghost use Rattle.bpf_insn.specs.declared.operands.Kind.TheVariants as kinds;
-ghost use Rattle.bpf_run.specs.Calls.{entries_of};
-ghost use Rattle.csr_store.specs.Grid.{IsGrid};
-ghost use Rattle.entry_ops.specs.inner.IndexCalls.{entries_along, entries_up_to, NoneWaits, Gathers};
+ghost use Rattle.entry_ops.specs.inner.IndexCalls.{entries_along, NoneWaits, Gathers};
 
 use crate::operand_rows::Cell;
-use bpf_insn::Operands;
 use bpf_run::{Calls, MOST_CALLS};
 use csr_store::{Matrix, RowReader};
 use std::marker::Model;
@@ -19,26 +16,23 @@ use std::ops::Range;
 #[derive(Drop)]
 pub struct IndexCalls<'m> {
     thunk: u64,
-    columns: u64,
     row: u64,
-    /// What is left of `row`: nothing if there is one column at most.
+    /// What is left of `row`.
     left: &'m [Cell],
     reader: RowReader<'m>,
     end: u64,
 }
 
 impl<'m> Model for IndexCalls<'m> {
-    ghost use Rattle.std.specs.Prelude.{◌≡◌, ◌≤◌, List, []};
+    ghost use Rattle.std.specs.Prelude.{◌≤◌, List};
     ghost use Rattle.bpf_insn.specs.declared.operands.Operands.{Operands};
-    ghost use Rattle.csr_store.specs.Grid.{IsGrid};
     ghost use Rattle.entry_ops.specs.inner.IndexCalls.{index_calls};
 
     ghost Value = { List Operands };
 
     ghost view = { λ c. index_calls c.reader.grid c.thunk c.row c.left.now c.reader.row c.end };
 
-    ghost invariant = { λ c. (c.end ≤ c.reader.grid.rows) × (c.columns ≡ c.reader.grid.columns) × IsGrid c.reader.grid
-        × (c.columns ≤ 1 → c.left.now ≡ []) };
+    ghost invariant = { λ c. c.end ≤ c.reader.grid.rows };
 }
 
 impl<'m> IndexCalls<'m> {
@@ -50,7 +44,6 @@ impl<'m> IndexCalls<'m> {
     {
         IndexCalls {
             thunk,
-            columns: a.columns(),
             row: range.start,
             left: &[],
             reader: a.rows_from(range.start),
@@ -66,11 +59,6 @@ impl<'m> IndexCalls<'m> {
         ensures gathers { Gathers self.old calls.old self.new calls.new result }
         ensures some { result ≡ nat_lt 0 (length calls.new.operands) }
     {
-        // Rows have one entry at most. Gathering single entries is then cheaper than gathering
-        // rows.
-        if self.columns <= 1 {
-            return gather_column(&mut self.reader, self.end, self.thunk, calls);
-        }
         // In locals, so that the loop doesn't write through `self`.
         let mut row = self.row;
         let mut left = self.left;
@@ -90,40 +78,5 @@ impl<'m> IndexCalls<'m> {
         self.row = row;
         self.left = later;
         true
-    }
-}
-
-/// Gathers the calls on the entries of rows of one column, up to a row, as many as fit in. Returns
-/// whether there are any.
-#[inline(always)]
-fn gather_column(reader: &mut RowReader<'_>, end: u64, thunk: u64, calls: &mut Calls) -> bool
-    requires column { IsGrid reader.old.grid × (reader.old.grid.columns ≤ 1) × (end ≤ reader.old.grid.rows) }
-    requires waits { NoneWaits kinds.Index calls.old }
-    ensures gathers { (reader.new.grid ≡ reader.old.grid)
-        × Gathers (entries_up_to end thunk reader.old) calls.old (entries_up_to end thunk reader.new) calls.new result }
-    ensures some { result ≡ nat_lt 0 (length calls.new.operands) }
-{
-    while reader.row() < end && calls.len() < MOST_CALLS {
-        let row = reader.row();
-        gather_first(calls, reader.next_row(), row, thunk);
-    }
-    calls.len() > 0
-}
-
-/// Gathers the call on the entry of a row that has one at most.
-#[inline(always)]
-fn gather_first(calls: &mut Calls, cells: &[Cell], row: u64, thunk: u64)
-    requires few { length cells.now ≤ 1 }
-    requires capacity { length calls.old.operands < 64 }
-    requires kind { calls.old.kind ≡ kinds.Index }
-    ensures { calls.new ≡ record calls.old { operands = calls.old.operands ++ entries_of row thunk cells.now } }
-{
-    if let Some((cell, _)) = cells.split_first() {
-        calls.gather(Operands::Index {
-            x: cell.1,
-            row,
-            column: cell.0,
-            thunk,
-        });
     }
 }

@@ -1,5 +1,4 @@
-use Rattle.std.proofs.Common.{◌≡◌, ◌<◌, ◌≤◌, ◌-◌, ◌++◌}
-use Rattle.csr_store.specs.Grid.{IsGrid}
+use Rattle.std.proofs.Common.{◌≡◌, ◌≤◌, ◌-◌, ◌++◌}
 use Rattle.bpf_insn.specs.declared.operands.Kind.TheVariants as kinds
 use Rattle.entry_ops.specs.inner.IndexCalls.{index_calls}
 use Rattle.entry_ops.proofs.index_calls.IndexCalls.gather.Given as goal
@@ -9,9 +8,6 @@ invariant-loop-left l = record {
   kind : l.calls.kind ≡ kinds.Index;
   parts : l.fn.self ≡ l.calls.operands ++ index_calls l.self-inside.reader.grid l.self-inside.thunk l.row l.left l.self-inside.reader.row l.self-inside.end;
   rows : l.self-inside.end ≤ l.self-inside.reader.grid.rows;
-  columns : l.self-inside.columns ≡ l.self-inside.reader.grid.columns;
-  is_grid : IsGrid l.self-inside.reader.grid;
-  many : 1 < l.self-inside.columns;
 }
 
 abbrev pub decreases-loop-left : goal.decreases-loop-left
