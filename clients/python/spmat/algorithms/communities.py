@@ -204,7 +204,7 @@ def _edges_between(G: Matrix, weighted: bool, numbers: Array,
         folded = contract(graph, (numpy.arange(len(numbers)), numbers), many, 'plus')
         return folded.to_coo()
     edges = held_edges(G)
-    tails, heads = edges.tails(), edges.heads
+    tails, heads = edges.tails, edges.heads
     values = edges.values if weighted else numpy.ones_like(heads)
     values = values * (1 + (tails == heads)) if is_both_ways(G) else values
     return numbers[tails], numbers[heads], values

@@ -353,7 +353,7 @@ def _in_unit(algorithm: Algorithm, given: inspect.BoundArguments) -> Any:
     some = given.arguments
     if algorithm.reads_unit or not any(isinstance(one, Matrix) and one.unit != 1
                                        for one in some.values()):
-        return algorithm.function(*given.args, **given.kwargs)
+        return algorithm.function(**some)
     graph = next(iter(some.values()))
     unit = graph.unit if isinstance(graph, Matrix) else 1
     counts = algorithm.values or bool(some.get('weighted'))
@@ -368,7 +368,7 @@ def _in_unit(algorithm: Algorithm, given: inspect.BoundArguments) -> Any:
     for name, one in some.items():
         if isinstance(one, Matrix):
             some[name] = views.setdefault(id(one), with_unit(one, 1))
-    found = algorithm.function(*given.args, **given.kwargs)
+    found = algorithm.function(**some)
     if not counts or not algorithm.lengths or isinstance(unit, scales.TimeUnit):
         return found                               # a sum of times is no time
     return _mark_unit(found, unit)

@@ -19,11 +19,11 @@ from ..types import Array, Place, Vertex, Vertices
 from .cached_properties import extremes, found, is_both_ways, transpose_of
 from .registry import algorithm
 from .results import keep_partial, of_vertices, unless_empty
-from .traversal import (NONE, SHORTEST, HeldRows, Traversal, Unseen, Vector, find_traversal,
-                        find_vectors, held_edges, is_ample, is_small, join, keep, put_known,
-                        put_unsorted, select_known, vector_of)
+from .traversal import (NONE, SHORTEST, HeldRows, Levels, Traversal, Unseen, Vector, find_traversal,
+                        find_vectors, held_edges, held_rows, is_ample, is_small, join, keep,
+                        put_known, put_unsorted, select_known, vector_of)
 from .utils import (Progress, beside, find_place, find_places, find_sources, mark_rows,
-                    name_of, name_rows, product, tell, warn_of_repeated)
+                    name_of, name_rows, names_of, product, tell, warn_of_repeated)
 
 __all__ = ['bfs_levels', 'bfs_parents', 'has_path', 'k_hop', 'k_shortest_paths', 'NoPath', 'Path',
            'PathTree', 'shortest_path', 'shortest_paths', 'sssp']
@@ -131,6 +131,9 @@ def run_search(lines: Traversal, search: Search, parents: bool,
     """
     if numbers is None:
         numbers = numpy.full(lines.count, NONE)
+    if isinstance(lines, HeldRows):
+        _search_held(lines.graph, search, parents, numbers)
+        return numbers
     front = numpy.array(search.sources, numpy.int64)
     unseen, before = Unseen(lines, front), front[:0]
     matrix: Optional[Matrix] = None
@@ -157,8 +160,6 @@ def _next_front(lines: Traversal, numbers: Array, front: Array, matrix: Optional
                 unseen: Unseen, parents: bool) -> Tuple[Vector, Optional[Matrix]]:
     """Those that an edge leads to and that weren't seen; where the front is large, under a mask of
     these, with a matrix of them."""
-    if isinstance(lines, HeldRows):
-        return lines.enter(front, numbers), None
     ring = LEAST if parents else REACHED
     start = Vector(front, front if parents else numpy.ones_like(front))
     if lines.pays_scan(len(front)):
@@ -167,6 +168,44 @@ def _next_front(lines: Traversal, numbers: Array, front: Array, matrix: Optional
     got = lines.push(start, ring)
     keep = numbers[got.at] == NONE
     return Vector(got.at[keep], got.values[keep] if parents else got.values), None
+
+
+def _search_held(G: Matrix, search: Search, parents: bool, numbers: Array) -> None:
+    """`run_search` by the client."""
+    levels = Levels(held_rows(G), map(int, search.sources))
+    end = NONE if search.target is None else int(search.target)
+    level = 0
+    while (level != search.depth and end not in levels.seen and len(levels.seen) < G.nrows
+           and levels.advance()):
+        level += 1
+        tell(search.progress, 'level', level)
+    levels.note(numbers)
+    if parents:
+        edges = held_edges(G)
+        # backwards, so that the least of several is put last
+        leads = numpy.flatnonzero(numbers[edges.heads] == (numbers + 1)[edges.tails])[::-1]
+        numbers[edges.heads[leads]] = edges.tails[leads]
+        numbers[search.sources] = search.sources
+
+
+def find_route(G: Matrix, start: Place, end: Place) -> List[Place]:
+    """The vertices of a shortest path, of several predecessors the least; none where there is no
+    path. The client searches from both ends, each time from where fewer vertices are in front."""
+    back = held_rows(G, back=True)
+    there, here = Levels(held_rows(G), [int(start)]), Levels(back, [int(end)])
+    while there.found[-1].isdisjoint(here.found[-1]):
+        is_less = len(there.found[-1]) <= len(here.found[-1])
+        if not (there if is_less else here).advance():
+            return []
+    # on from where they met, along what leads to the end
+    there.found[-1] &= here.found.pop()
+    while here.found:
+        there.advance()
+        there.found[-1] &= here.found.pop()
+    found = [int(end)]
+    for level in there.found[-2::-1]:
+        found.append(min(level.intersection(back[found[-1]])))
+    return list(map(Place, found[::-1]))
 
 
 def make_column(G: Matrix, missing: int, search: Callable[[Array], object]) -> Matrix:
@@ -396,14 +435,33 @@ def k_hop(G: Matrix, k: int, sources: Optional[Vertices] = None,
     at = find_sources(G, sources)
     warn_of_repeated(G, at)
     lines = find_traversal(G, None, False)
-    if not isinstance(lines, HeldRows) or len(at) * max(G.nrows, G.nvals) > MOST_HELD:
+    if not isinstance(lines, HeldRows) or not _are_few(G, k, len(at)):
         return name_rows(G, _find_hops(G, k, at, progress), at)
-    begun = [Place(number * G.nrows + int(one)) for number, one in enumerate(at)]
-    search = Search(begun, k, progress=lambda word, level, _: tell(progress, word, level, k))
-    places, values = select_known(run_search(lines, search, False,
-                                             numpy.full(len(at) * G.nrows, NONE)), NONE)
-    entries = Triples(*numpy.divmod(places, max(1, G.nrows)), values, len(at), G.nrows)
-    return name_rows(G, keep(G, entries), at)
+    return name_rows(G, keep(G, _search_hops(G, k, at, progress)), at)
+
+
+def _are_few(G: Matrix, k: int, many: int) -> bool:
+    """Whether searches, so many, look at so few edges that the client makes them."""
+    if many * G.nrows > MOST_HELD:
+        return False
+    most: int = found(G, 'most edges', lambda: int(numpy.diff(held_edges(G).starts).max(initial=2)))
+    return bool(many * min(G.nvals, most ** min(k, 16)) <= MOST_HELD)
+
+
+def _search_hops(G: Matrix, k: int, sources: List[Place], progress: Progress) -> Triples:
+    """The levels of searches from some vertices, a row each, by the client."""
+    searches, count = [Levels(held_rows(G), [int(one)]) for one in sources], max(1, G.nrows)
+    level = 0
+    while level < k and sum(one.advance() for one in searches):
+        level += 1
+        tell(progress, 'level', level, k)
+    found = {number * count + at: level for number, one in enumerate(searches)
+             for level, some in enumerate(one.found) for at in some}
+    places, values = (numpy.fromiter(some, numpy.int64, len(found))
+                      for some in (found, found.values()))
+    ranks = places.argsort()
+    rows, columns = numpy.divmod(places[ranks], count)
+    return Triples(rows, columns, values[ranks], len(sources), G.nrows)
 
 
 def _find_hops(G: Matrix, k: int, sources: List[Place], progress: Progress) -> Matrix:
@@ -922,8 +980,16 @@ def _follow(parents: Array, source: Place, target: Place) -> List[Place]:
     return found[::-1]
 
 
+def _find_vertices(lines: Traversal, start: Place, end: Place, progress: Progress) -> List[Place]:
+    """The vertices of a shortest path by edges; none where there is none."""
+    if isinstance(lines, HeldRows) and progress is None:
+        return find_route(lines.graph, start, end)
+    parents = run_search(lines, Search([start], None, end, progress), True)
+    return [] if parents[int(end)] == NONE else _follow(parents, start, end)
+
+
 def _make_path(graph: Matrix, vertices: List[Place], far: Array) -> Path:
-    return Path([name_of(graph, at) for at in vertices], [int(far[int(at)]) for at in vertices])
+    return Path(names_of(graph, vertices), [int(far[int(at)]) for at in vertices])
 
 
 def find_distances(G: Matrix, source: Place, GT: Optional[Matrix], weighted: bool,
@@ -1039,11 +1105,10 @@ def shortest_path(G: Matrix, source: Vertex, target: Vertex, GT: Optional[Matrix
     """
     start, end = find_place(G, source), find_place(G, target)
     if not weighted:
-        parents = run_search(find_vectors(G, GT, check), Search([start], None, end, progress), True)
-        if parents[int(end)] == NONE:
+        vertices = _find_vertices(find_vectors(G, GT, check), start, end, progress)
+        if not vertices:
             raise NoPath('no path leads from %r to %r' % (source, target))
-        vertices = _follow(parents, start, end)
-        return Path([name_of(G, at) for at in vertices], range(len(vertices)))
+        return Path(names_of(G, vertices), range(len(vertices)))
     far = find_distances(G, start, GT, True, Query(None, end, check, progress))
     if far[int(end)] == UNREACHED:
         raise NoPath('no path leads from %r to %r' % (source, target))
@@ -1172,7 +1237,10 @@ def has_path(G: Matrix, source: Vertex, target: Vertex, GT: Optional[Matrix] = N
     False
     """
     start, end = find_place(G, source), find_place(G, target)
-    levels = run_search(find_traversal(G, GT, check), Search([start], None, end), False)
+    lines = find_traversal(G, GT, check)
+    if isinstance(lines, HeldRows):
+        return bool(find_route(G, start, end))
+    levels = run_search(lines, Search([start], None, end), False)
     return int(levels[int(end)]) != NONE
 
 
@@ -1324,7 +1392,7 @@ def k_shortest_paths(G: Matrix, source: Vertex, target: Vertex, k: int, GT: Opti
         if not waiting:
             break
         found.append(heapq.heappop(waiting))
-    return [Path([name_of(G, at) for at in vertices], far) for _, vertices, far, _ in found]
+    return [Path(names_of(G, vertices), far) for _, vertices, far, _ in found]
 
 
 def _wait_for_deviations(spurs: Spurs, found: List[Route], waiting: List[Route],

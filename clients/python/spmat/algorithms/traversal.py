@@ -19,7 +19,8 @@ long by the clock. A pull looks at all rows, and needs the front as a column, wh
 """
 from __future__ import annotations
 
-from typing import Any, Dict, List, NamedTuple, Optional, Sequence, Tuple, Union, cast
+import itertools
+from typing import Any, Dict, Iterable, List, NamedTuple, Optional, Sequence, Tuple, Union, cast
 
 import numpy
 
@@ -153,14 +154,11 @@ class Rows(Traversal):
 
 class Edges(NamedTuple):
     """The edges of a graph at the client: where those of each vertex begin, by ascending vertices,
-    where each leads, and its value."""
+    from where to where each leads, and its value."""
     starts: Array
+    tails: Array
     heads: Array
     values: Array
-
-    def tails(self) -> Array:
-        """Where each edge begins."""
-        return numpy.repeat(numpy.arange(len(self.starts) - 1), numpy.diff(self.starts))
 
     def leaving(self, at: Array) -> Tuple[Array, Array]:
         """How many edges leave each of some vertices, and the places of these edges."""
@@ -186,22 +184,6 @@ class HeldRows(Rows):
         firsts = numpy.flatnonzero(numpy.diff(heads, prepend=-1))
         return Vector(heads[firsts], numpy.minimum.reduceat(lengths[ranks], firsts)
                       if len(firsts) else heads)
-
-    def enter(self, front: Array, numbers: Array) -> Vector:
-        """The vertices that edges lead to from a front, and that have no number yet, each with the
-        first vertex of the front from where. Of searches side by side the vertices of each are
-        numbered behind those of the one before. `numbers` has others at these vertices then, for
-        the caller to write."""
-        edges, at = held_edges(self.graph), front % self.count
-        many, places = edges.leaving(at)
-        heads = edges.heads[places] + (front - at).repeat(many)
-        is_new = numbers[heads] == NONE
-        heads, tails = heads[is_new], front.repeat(many)[is_new]
-        order = numpy.arange(len(heads))
-        numbers[heads[::-1]] = order[::-1]         # that of several is the first, which is put last
-        firsts = numpy.flatnonzero(numbers[heads] == order)
-        firsts = firsts[heads[firsts].argsort()]
-        return Vector(heads[firsts], tails[firsts])
 
     def pays_scan(self, front: int, part: int = 4) -> bool:
         return False
@@ -402,7 +384,7 @@ def read_column(matrix: Matrix) -> Vector:
 def load_edges(graph: Matrix) -> Edges:
     """The edges of a graph, which are read now."""
     tails, heads, values = read_entries(graph)[:3]
-    return Edges(numpy.searchsorted(tails, numpy.arange(graph.nrows + 1)), heads, values)
+    return Edges(numpy.searchsorted(tails, numpy.arange(graph.nrows + 1)), tails, heads, values)
 
 
 def held_edges(graph: Matrix) -> Edges:
@@ -411,11 +393,46 @@ def held_edges(graph: Matrix) -> Edges:
     return edges
 
 
+def held_rows(graph: Matrix, back: bool = False) -> List[List[int]]:
+    """Where the edges of each vertex lead, or from where edges lead to it, kept as the edges."""
+    def split() -> List[List[int]]:
+        edges, names = held_edges(graph), list(range(graph.nrows))
+        near, far = (edges.heads, edges.tails) if back else (edges.tails, edges.heads)
+        ranks = near.argsort(kind='stable')
+        starts = numpy.searchsorted(near[ranks], numpy.arange(graph.nrows + 1)).tolist()
+        # one object for each vertex: many would take longer to look up
+        ends = [names[at] for at in far[ranks].tolist()]
+        return [ends[begin:end] for begin, end in zip(starts, starts[1:])]
+    is_turned = back and graph.directed is not False
+    rows: List[List[int]] = found(graph, 'rows back' if is_turned else 'rows', split)
+    return rows
+
+
+class Levels:
+    """A search along rows that the client has: the vertices that it found at each level."""
+
+    def __init__(self, rows: List[List[int]], sources: Iterable[int]) -> None:
+        self.rows, self.found = rows, [set(sources)]
+        self.seen = self.found[0].copy()
+
+    def advance(self) -> bool:
+        """Whether another level has a vertex."""
+        near = map(self.rows.__getitem__, self.found[-1])
+        self.found.append(set[int]().union(*near) - self.seen)
+        self.seen |= self.found[-1]
+        return bool(self.found[-1])
+
+    def note(self, numbers: Array) -> None:
+        """Writes the level of each vertex that was found."""
+        at = numpy.fromiter(itertools.chain.from_iterable(self.found), numpy.int64, len(self.seen))
+        numbers[at] = numpy.arange(len(self.found)).repeat(list(map(len, self.found)))
+
+
 def read_edges(graph: Matrix) -> Tuple[Array, Array]:
     """Where the edges of a graph begin and end, by ascending vertices."""
     if is_small(graph):
         edges = held_edges(graph)
-        return edges.tails(), edges.heads
+        return edges.tails, edges.heads
     entries = read_entries(graph)
     return entries.rows, entries.columns
 

@@ -82,6 +82,12 @@ def name_of(graph: Matrix, at: Place) -> Any:
     return int(at) if graph.nodes is None else graph.nodes[int(at)]
 
 
+def names_of(graph: Matrix, rows: List[Place]) -> List[Any]:
+    """The names of the vertices in some rows, where the graph has names, else their numbers."""
+    names = graph.nodes
+    return [int(at) if names is None else names[int(at)] for at in rows]
+
+
 def beside(graph: Matrix, result: Matrix) -> Matrix:
     """A column that says something of each vertex, with the graph's names of its vertices."""
     result.notes = metadata.of_vertices(result.notes, graph.notes)
@@ -101,7 +107,7 @@ def name_rows(graph: Matrix, result: Matrix, rows: List[Place]) -> Matrix:
     """A matrix with a row for each of some vertices and a column for each vertex, with their names.
     Rows have none where a vertex stands twice. A row for each vertex of an undirected graph makes
     an undirected one, as distances are the same either way."""
-    if rows == list(range(graph.nrows)):
+    if len(rows) == graph.nrows and rows == list(range(graph.nrows)):
         result.notes = result.notes._replace(directed=metadata.even(graph.notes))
     vertices = metadata.vertices_of(graph.notes)
     if vertices is not None:

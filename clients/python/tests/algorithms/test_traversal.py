@@ -1,5 +1,6 @@
 """Rounds with full vectors, where many workers share a product with a column; and vectors out of
 matrices: their places and values, full and with gaps."""
+import itertools
 import unittest
 from unittest import mock
 
@@ -9,7 +10,7 @@ import graphs
 import spmat
 import support
 from spmat import algorithms
-from spmat.algorithms import traversal
+from spmat.algorithms import searches, traversal
 from spmat.algorithms.traversal import Columns, HeldRows, Rows
 
 pytestmark = pytest.mark.slow
@@ -18,6 +19,16 @@ PAIRS = [(i, j) for i in range(40) for j in range(40) if i != j and (7 * i + 3 *
 SOME_ALONE = graphs.undirected('some vertices have no edge', 50, PAIRS)
 SOME_END = graphs.directed('some vertices have no edge that leaves them', 50,
                            PAIRS + [(i, i + 9) for i in range(31, 41)])
+
+
+def answer_of(call, G, i, j, listens=True):
+    """What a call gives, or which error it raises; and what it tells."""
+    told = []
+    try:
+        got = call(G, i, j, (lambda *now: told.append(now)) if listens else None)
+    except ValueError as fault:
+        got = str(fault)
+    return got, told
 
 
 class ManyWorkers(unittest.TestCase):
@@ -117,6 +128,28 @@ class Held(support.InSession):
         for call in calls:
             call()
         self.assertEqual(self.session.connection.commands, before)
+
+    def test_searches_are_those_of_the_server(self):
+        """Paths, from both ends, take the least of several predecessors, as a search from one end
+        does, of whose levels someone is told; levels and parents end at a target or a depth."""
+        calls = [lambda G, i, j, tell: algorithms.shortest_path(G, i, j, progress=tell),
+                 lambda G, i, j, tell: algorithms.has_path(G, i, j),
+                 lambda G, i, j, tell: algorithms.bfs_parents(G, i, progress=tell).to_text(),
+                 lambda G, i, j, tell: algorithms.bfs_parents(G, [i, j], depth=2).to_text(),
+                 lambda G, i, j, tell: algorithms.bfs_levels(G, i, None, tell, target=j).to_text(),
+                 lambda G, i, j, tell: algorithms.k_hop(G, 2, [j, i], tell).to_text()]
+        for graph in [graphs.by_chance(9, 1, [1], 1), graphs.by_chance(30, 2, [1], 2),
+                      graphs.by_chance(40, 5, [1], 3)]:
+            held, other = graph.matrix(self.session), graph.matrix(self.session)
+            for i, j in itertools.product(range(0, 9, 4), range(0, 9, 2)):
+                for number, call in enumerate(calls):
+                    with self.subTest(graph=graph.name, i=i, j=j, call=number):
+                        got = answer_of(call, held, i, j)
+                        with mock.patch.object(traversal, 'AT_ONCE', 0), \
+                                mock.patch.object(searches, 'MOST_HELD', 0):
+                            want = answer_of(call, other, i, j)
+                        self.assertEqual(got, want)
+                        self.assertEqual(answer_of(call, held, i, j, False)[0], want[0])
 
     def test_who_counts_steps_keeps_no_edges(self):
         with spmat.Session(1 << 50) as few:
