@@ -26,6 +26,9 @@ if TYPE_CHECKING:
 
 Program = Union[str, Sequence[str]]
 PACKAGE = os.path.dirname(os.path.dirname(os.path.abspath(__file__)))
+# Bytes that are read at a time, as many as a pipe holds: memory for more is mapped anew for each
+# read, which takes longer than most commands.
+MOST_READ = 1 << 16
 SECONDS_TO_QUIT = 5.0
 TIMED_OUT = (
     'timed out: the command and its whole reply took longer than timeout= (or run_timeout=) says')
@@ -146,7 +149,7 @@ class Child(Awaited):
 
     def receive(self) -> bytes:
         """What came; nothing at the end."""
-        return os.read(self._output, PIECE)
+        return os.read(self._output, MOST_READ)
 
     def write(self, piece: Union[bytes, memoryview]) -> None:
         """Writes a piece, however long that takes: the program reads as it can."""
@@ -285,7 +288,7 @@ class Socket(Awaited):
         """What came; nothing at the end. socket.timeout where a piece of TLS doesn't come whole in
         time."""
         self._socket.settimeout(self.seconds_left())
-        return self._socket.recv(PIECE)
+        return self._socket.recv(MOST_READ)
 
     def write(self, piece: Union[bytes, memoryview]) -> None:
         """Writes a piece. socket.timeout where that takes longer than the deadline says."""
