@@ -9,7 +9,6 @@ import collections
 import copy
 import functools
 import itertools
-import operator
 import os
 import re
 import weakref
@@ -250,9 +249,9 @@ class ServerBackend(Backend):
         with self._lock:
             words, length = [job.form, ''], 0
             for op in job.operators:
-                uploaded = self._operators.get(op) or self._uploaded(op)
-                words.append(uploaded.name)
-                length += uploaded.instructions
+                called, instructions = self._operators.get(op) or self._uploaded(op)
+                words.append(called)
+                length += instructions
             queue, mask = self.queue, job.mask
             must_run = len(queue.waiting) >= QUEUE
             for handle in job.operands if mask is None else (*job.operands, mask):
@@ -451,7 +450,6 @@ class ServerNames:
 
 # the entries and the steps that a line of the reply to `run` ends with
 COUNTS = re.compile(r'([0-9]{1,20}) ([0-9]{1,20})')
-REFUSED, MOST = operator.attrgetter('is_refused'), operator.attrgetter('most')
 
 
 class Limit:
@@ -663,7 +661,7 @@ class QueuedRun(Command):
     def _read_counts(self, reply: Reply) -> List[Tuple[ServerHandle, int, int]]:
         """The entries and the steps of each job that was queued. ProtocolError where the lines
         aren't those of these jobs, or where their steps don't add up to what was spent."""
-        jobs, counts, spent = list(itertools.filterfalse(REFUSED, self._jobs)), [], 0
+        jobs, counts, spent = [job for job in self._jobs if not job.is_refused], [], 0
         if len(reply.lines) != len(jobs):
             raise_fault('run', '%d lines, one for each job' % len(jobs),
                         ['%d lines' % len(reply.lines)])
@@ -695,7 +693,7 @@ class QueuedRun(Command):
         queue.queued_there = 0
         queue.running -= 1
         # of those that were handed in at once, none was added
-        queue.unknown = max(0, queue.unknown - sum(map(MOST, self._jobs)))
+        queue.unknown = max(0, queue.unknown - sum(job.most for job in self._jobs))
 
 
 def _lose(job: ServerHandle, cause: BaseException) -> None:

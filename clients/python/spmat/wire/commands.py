@@ -129,10 +129,11 @@ LIMITS: Dict[str, Limits] = {
 }
 NOTHING: Mapping[str, Limits] = MappingProxyType({})
 
-REPLIES: Dict[str, Tuple[str, Tuple[str, ...]]] = {
-    name: (syntax.reply.split()[0], tuple(syntax.reply.split()[1:]))
+REPLIES: Dict[str, Tuple[str, Dict[str, Limits]]] = {
+    name: (syntax.reply.split()[0], {one: LIMITS[one] for one in syntax.reply.split()[1:]})
     for name, syntax in COMMANDS.items()}
-"""By command the first word behind `ok`, and the names of the numbers behind that."""
+"""By command the first word behind `ok`, and the names of the numbers behind that, with their
+limits."""
 
 
 def sizes_of_text(text: bytes) -> Mapping[str, Limits]:
@@ -303,14 +304,14 @@ class Command:
         if len(words) != 2 + len(names) or words[1] != first:
             raise_fault(self.line, '`ok %s`' % COMMANDS[self.word].reply, words)
         numbers = []
-        for name, number in zip(names, words[2:]):
-            least, most = self.within.get(name) or LIMITS[name]
+        for (name, limits), word in zip(names.items(), words[2:]):
+            least, most = self.within.get(name, limits)
             # int() takes blanks and letters of other scripts, and texts of any length
-            if (len(number) > LONGEST_NUMBER or not number.isdigit()
-                or not least <= int(number) <= most):
+            number = int(word) if len(word) <= LONGEST_NUMBER and word.isdigit() else -1
+            if not least <= number <= most:
                 asked = '%d to %d' % (least, most) if least != most else '%d' % least
                 raise_fault(self.line, '%s of %s' % (name, asked), words)
-            numbers.append(int(number))
+            numbers.append(number)
         return numbers
 
     def done(self, reply: Reply) -> None:
