@@ -81,6 +81,8 @@ def choose_places(matrix: MatrixBase, index: object, axis: int) -> Chosen:
     """The rows (or columns) that an index means: by names where they have some, else by position.
     ValueError where one isn't there, IndexError where a filter has another length, TypeError for
     what is no index."""
+    if isinstance(index, (str, int)):              # most are, and what else it is takes long to ask
+        return Chosen([locate(matrix, index, axis)], one=True)
     if isinstance(index, slice):
         return _of_slice(matrix, index, axis)
     if isinstance(index, (Mask, MatrixBase)):

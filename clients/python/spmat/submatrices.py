@@ -57,7 +57,7 @@ def _put_ones(matrix: 'Matrix', rows: Sequence[int], columns: Sequence[int], sha
     wants them."""
     at = numpy.array((rows, columns), numpy.int64)
     first, second = at[:, numpy.lexsort(at[::-1])] if len(rows) > 1 else at
-    ones = Triples(first, second, numpy.ones_like(first), *shape)
+    ones = Triples(first, second, numpy.ones(len(first), numpy.int64), *shape)
     made: Matrix = matrix.session.backend.keep(ones)
     made.notes = NOTHING.with_axes(*axes)
     return made
