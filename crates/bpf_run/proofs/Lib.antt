@@ -9,3 +9,4 @@ pub mod Cells
 pub mod Placing
 pub mod Gathering
 pub mod LaneCalls
+pub mod Ignoring

@@ -35,5 +35,5 @@ pub use bpf_flat::Outcome;
 pub use calls::{Calls, MOST_CALLS};
 pub use folding::fold;
 pub use function::Function;
-pub use native::{Loop, call_by, run_known};
+pub use native::{Loop, call_by, reads_first, reads_second, run_known};
 pub use single::call;

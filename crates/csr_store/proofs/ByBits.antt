@@ -1,12 +1,12 @@
 -- A column that is copied: a word a row, and a bit in words of 64 that says whether the row has one.
-use Rattle.std.proofs.Common.{◌≡◌, ◌≤◌, ◌<◌, ◌+◌, ◌*◌, ◌/◌, ◌%◌, ◌^◌, ◌++◌, ◌&&◌, ℕ, Bool, true, false, nat_eq, w64, List, [], ◌∷◌, None, Some, length, get_or, set, if◌then◌else◌, refl, sym, ap, ◌∙◌, subst, inl, inr, arith, length-append, get_or-set_same, get_or-set_other}
+use Rattle.std.proofs.Common.{◌≡◌, ◌≤◌, ◌<◌, ◌+◌, ◌*◌, ◌/◌, ◌%◌, ◌^◌, ◌++◌, ◌&&◌, ℕ, Bool, true, false, nat_eq, w64, List, [], ◌∷◌, None, Some, length, map, get_or, set, if◌then◌else◌, refl, sym, ap, ◌∙◌, subst, inl, inr, arith, length-append, get_or-set_same, get_or-set_other}
 use mir.Val.{bool_byte}
 use Rattle.std.proofs.Math.ListN.{get_or-append}
 use Rattle.std.proofs.Math.Logic.{⊎_elim}
 use Rattle.std.proofs.Math.Seq.{get_or-append_seam}
 use Rattle.std.proofs.lemmas.Bool.{cases_lt}
 use Rattle.std.proofs.lemmas.Bool.Decides.{eqb_tells}
-use Rattle.std.proofs.lemmas.List.{ext_get_or}
+use Rattle.std.proofs.lemmas.List.{ext_get_or, get_or-map, length-map}
 use Rattle.std.proofs.lemmas.List.FromFn.{length-map-range_with_len, get_or-map-range_with_len}
 use Rattle.std.proofs.lemmas.Nat.Bits.{bit_at_or, bit_at_set_same, bit_at_set_other, bit_at-zero, shr_and_one}
 use Rattle.std.specs.FinMap.{get}
@@ -92,6 +92,14 @@ column_at g k l = get_or-map-range_with_len (λ i. get g.cells (i, 0)) 0 g.rows 
 
 pub length_column : (g : Grid) → length (column_of g) ≡ g.rows
 length_column g = length-map-range_with_len (λ i. get g.cells (i, 0)) 0 g.rows
+
+-- where each row has a word
+pub slots_full : (words bits : List ℕ) → AllHave bits (length words) → slots words bits ≡ map (λ (w : ℕ). Some w) words
+slots_full words bits h =
+    let s = length_slots words bits in
+    ext_get_or None (slots words bits) (map (λ (w : ℕ). Some w) words) (s ∙ sym (length-map words (λ (w : ℕ). Some w)))
+    (λ k l. let n : k < length words = omega (arith, l, s) in
+    slot_is words bits k n ∙ (slot_full words bits k (h k n) ∙ sym (get_or-map (λ (w : ℕ). Some w) words k 0 None n)))
 
 pub copied_is : (g : Grid) (words bits : List ℕ) (full : Bool) → IsCopied g words bits full → slots words bits ≡ column_of g
 copied_is g words bits full h =

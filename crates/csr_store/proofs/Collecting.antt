@@ -11,7 +11,7 @@ use Rattle.std.specs.Cmp.{tied_itself, eq_by_cmp_equiv}
 use Rattle.std.specs.Ordering.{is_eq, eq_by_cmp, match_ordering}
 use Rattle.std.specs.BTreeMap.{is_at, insert_entry}
 use Rattle.std.specs.Map.{keys_of, lookup}
-use Rattle.std.specs.FinMap.{empty, entries, get, insert, is_sorted, len, len-entries, from_entries, get-from_entries}
+use Rattle.std.specs.FinMap.{empty, get, insert, is_sorted, len, len-entries, from_entries, get-from_entries}
 use Rattle.std.specs.FinMap.Entries.{find}
 use Rattle.csr_store.specs.declared.error.StoreError.TheVariants.{PositionGivenTwice, TooManyEntries}
 use Rattle.csr_store.specs.Grid.{Grid, IsGrid, Position, Entry, pos_cmp, limit}

@@ -10,7 +10,7 @@ use Rattle.std.specs.List.Sorted.{IsNonDecreasingBy}
 use Rattle.std.specs.FinMap.{is_sorted}
 use Rattle.std.specs.FinMap.Entries.{below_all}
 use Rattle.csr_store.specs.Grid.{Cell}
-use Rattle.csr_store.specs.inner.Grid.{columns_of}
+use Rattle.csr_store.specs.Columns.{columns_of}
 use Rattle.csr_store.proofs.Order.{both_true}
 
 less : (a b : ℕ) → is_lt (nat_cmp a b) ≡ true → a < b

@@ -7,7 +7,7 @@ use Rattle.std.specs.Ordering.{nat_cmp}
 use Rattle.std.specs.FinMap.{is_sorted}
 use Rattle.csr_store.specs.Grid.{Cell, Position}
 use Rattle.csr_store.specs.Repeated.{is_met, met_at}
-use Rattle.csr_store.specs.inner.Grid.{columns_of}
+use Rattle.csr_store.specs.Columns.{columns_of}
 use Rattle.csr_store.specs.inner.Parts.{ArePartStarts, IsIndexed}
 use Rattle.csr_store.specs.inner.Repeated.{found_in, number_at, place_of}
 use Rattle.csr_store.proofs.Marking.{marked_sorted, none_there, some_marked, some_there}

@@ -32,3 +32,4 @@ pub mod ByBits
 pub mod BlankEnds
 pub mod Alike
 pub mod Reading
+pub mod Narrowing

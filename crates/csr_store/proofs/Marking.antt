@@ -13,7 +13,7 @@ use Rattle.csr_store.specs.Grid.{Cell, Entry, Position, pos_cmp, limit}
 use Rattle.csr_store.specs.Listed.{NoneTwice}
 use Rattle.csr_store.specs.Packed.{unpacked}
 use Rattle.csr_store.specs.Repeated.{times, mark_of, met_at}
-use Rattle.csr_store.specs.inner.Grid.{columns_of}
+use Rattle.csr_store.specs.Columns.{columns_of}
 use Rattle.csr_store.specs.inner.Repeated.{BeginsRepeat, GoesOn, found_in, number_at, place_of}
 use Rattle.csr_store.proofs.Order.{both_true, pos_total}
 use Rattle.csr_store.proofs.InRow.{column_at, columns_rise, found_at, later_column, none_at}

@@ -9,7 +9,7 @@ use Rattle.std.specs.Ordering.{nat_cmp, is_lt}
 use Rattle.std.specs.FinMap.{is_sorted}
 use Rattle.std.specs.FinMap.Entries.{below_all}
 use Rattle.csr_store.specs.Grid.{Cell}
-use Rattle.csr_store.specs.inner.Grid.{columns_of}
+use Rattle.csr_store.specs.Columns.{columns_of}
 use Rattle.csr_store.specs.inner.Parts.{ArePartStarts, IsPartStart}
 use Rattle.csr_store.specs.inner.Repeated.{number_at}
 use Rattle.csr_store.proofs.Order.{both_true}

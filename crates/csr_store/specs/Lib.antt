@@ -15,4 +15,5 @@ pub mod Valued
 pub mod Copied
 pub mod Reading
 pub mod Column
+pub mod Columns
 pub mod inner

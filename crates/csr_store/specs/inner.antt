@@ -1,7 +1,7 @@
 -- What serves this crate's own modules: contracts between them, invariants and proofs. No public contract reaches it.
 pub mod ByRows
 pub mod Collected
-pub mod Grid
+pub mod Narrow
 pub mod Selected
 pub mod Moved
 pub mod Packed

@@ -1,5 +1,5 @@
 //! A copy of a matrix of one column, which is read by its rows.
-ghost use Rattle.std.specs.Prelude.{◌≡◌, ◌≤◌, ◌<◌, ◌*◌, ℕ, None, Some, length, get_or, IfOk, if◌then◌else◌, vec_capacity};
+ghost use Rattle.std.specs.Prelude.{◌≡◌, ◌≤◌, ◌<◌, ◌*◌, ℕ, None, Some, length, map, get_or, IfOk, IfSome, if◌then◌else◌, vec_capacity};
 ghost use Rattle.csr_store.specs.Column.{column_of};
 ghost use Rattle.csr_store.specs.inner.Column.{bit_of, IsCopied};
 
@@ -53,6 +53,14 @@ impl Column {
             full &= stands;
         }
         Ok(Column { words, bits, full })
+    }
+
+    /// The words of all rows, if each row has one.
+    #[inline(always)]
+    pub fn full_words(&self) -> Option<&[u64]>
+        ensures { IfSome result (λ words. self.now ≡ map Some words.now) }
+    {
+        if self.full { Some(&self.words) } else { None }
     }
 
     /// The word at row `k`, and whether the row has one. If not, the word may be any, so that a

@@ -36,6 +36,7 @@ mod join;
 mod limits;
 pub mod matrix;
 mod moving;
+mod narrow;
 mod parts;
 mod reader;
 mod repeat;

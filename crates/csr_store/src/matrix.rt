@@ -1,10 +1,11 @@
 //! A finished matrix.
-ghost use Rattle.std.specs.Prelude.{◌≡◌, ◌<◌, ◌≤◌, ◌+◌, ◌-◌, ◌*◌, ◌↔◌, [], length, map, IfOk, IsTrue};
+ghost use Rattle.std.specs.Prelude.{◌≡◌, ◌<◌, ◌≤◌, ◌+◌, ◌-◌, ◌*◌, ◌↔◌, [], length, map, IfOk, IfSome, IsTrue};
 ghost use Rattle.std.specs.List.{range_with_len};
 ghost use Rattle.std.specs.FinMap as fin;
 ghost use Rattle.csr_store.specs.Along.{along};
 ghost use Rattle.csr_store.specs.Grid.{IsGrid, limit, row_of, row_start};
 ghost use Rattle.csr_store.specs.ByRows.{grid, by_rows, ends_of};
+ghost use Rattle.csr_store.specs.Columns.{AreColumnsOf, IsOnlyWord};
 ghost use Rattle.csr_store.specs.Run.{IsInRun};
 ghost use Rattle.csr_store.specs.inner.ByRows.{AreStarts};
 ghost use Rattle.csr_store.specs.Valued.{rows_of};
@@ -15,6 +16,7 @@ mod column;
 use crate::cells::Cells;
 use crate::limits::RUN_ROWS;
 use crate::moving::push_moved;
+use crate::narrow::Narrow;
 use crate::reader::RowReader;
 use crate::row::value_at;
 use crate::row_copy::RowCopy;
@@ -24,6 +26,9 @@ use std::marker::Model;
 use std::ops::Range;
 use std::sync::Arc;
 
+/// The fewest entries whose columns are listed by themselves.
+const LEAST_LISTED: u64 = 4096;
+
 /// A column with its value, in a row that is known.
 pub type Cell = (u64, u64);
 
@@ -32,7 +37,8 @@ pub type Cell = (u64, u64);
 /// It is stored as compressed rows: where each row starts, and behind the last row where it ends,
 /// and the cells of all rows. So it takes 16 bytes an entry and 8 a row. The cells stand in one
 /// list where they were read, and in the runs of rows that they were computed in where they are a
-/// result. Matrices whose rows start alike may share where they do.
+/// result. Matrices whose rows start alike may share where they do. A matrix that products walk has
+/// the columns of its entries by themselves, too, which take four bytes an entry.
 #[derive(Drop)]
 pub struct Matrix {
     rows: u64,
@@ -40,14 +46,19 @@ pub struct Matrix {
     entries: u64,
     starts: RowStarts,
     cells: Cells,
+    /// The columns of all entries by themselves, once products walked enough of them.
+    narrow: Option<Narrow>,
+    /// About how many entries products walked before.
+    walked: u64,
 }
 
 impl Model for Matrix {
     ghost use Rattle.csr_store.specs.Grid.{Grid, grid_code, IsGrid};
     ghost use Rattle.csr_store.specs.ByRows.{grid, by_rows, ends_of};
-    ghost use Rattle.std.specs.Prelude.{◌≡◌, length};
+    ghost use Rattle.std.specs.Prelude.{◌≡◌, length, IfSome};
     ghost use Rattle.csr_store.specs.inner.ByRows.{AreStarts};
     ghost use Rattle.csr_store.specs.inner.Cells.{AreParts, joined_cells};
+    ghost use Rattle.csr_store.specs.inner.Narrow.{IsNarrow};
 
     ghost Value = { Grid };
 
@@ -58,7 +69,8 @@ impl Model for Matrix {
     ghost invariant = { λ m. IsGrid (grid m.rows m.columns (by_rows (ends_of m.starts) (joined_cells m.cells)))
         × AreStarts m.rows m.starts (joined_cells m.cells)
         × AreParts m.rows m.starts m.cells
-        × (m.entries ≡ length (joined_cells m.cells)) };
+        × (m.entries ≡ length (joined_cells m.cells))
+        × IfSome m.narrow (IsNarrow (joined_cells m.cells)) };
 }
 
 impl Matrix {
@@ -74,6 +86,8 @@ impl Matrix {
             entries: cells.len() as u64,
             starts,
             cells: Cells::Whole(cells),
+            narrow: None,
+            walked: 0,
         }
     }
 
@@ -96,6 +110,8 @@ impl Matrix {
             entries,
             starts,
             cells: Cells::Runs(lists),
+            narrow: None,
+            walked: 0,
         }
     }
 
@@ -168,6 +184,54 @@ impl Matrix {
         let from = starts[i as usize];
         let to = starts[i as usize + 1];
         self.cells.part(starts, i / RUN_ROWS, from, to)
+    }
+
+    /// Notes that a product is to walk about so many entries, and whether it reads their words. Once
+    /// those were half of all, the columns of all entries are listed by themselves: unless there is no
+    /// memory for them, or the words are read and differ. Contracts see no difference.
+    ///
+    /// The list takes four bytes an entry, and as long to make as to read all entries twice.
+    pub fn expect_walk(&mut self, alloc: Global, entries: u64, reads_words: bool)
+        ensures { self.new ≡ self.old }
+    {
+        // Neither a vector nor a small matrix: those are read from a near cache in either form.
+        let is_short = self.entries < LEAST_LISTED || self.rows < 2 || self.columns < 2;
+        if is_short || self.narrow.is_some() {
+            return;
+        }
+        self.walked = self.walked.saturating_add(entries);
+        if self.walked >= self.entries / 2 {
+            // What is refused isn't tried again before as many.
+            self.walked = 0;
+            self.narrow = Narrow::of(alloc, &self.cells, self.entries, reads_words);
+        }
+    }
+
+    /// The columns of row `i`, counted from 0, if they are listed by themselves.
+    #[inline(always)]
+    pub fn columns_in(&self, i: u64) -> Option<&[u32]>
+        requires { i < self.now.rows }
+        ensures { AreColumnsOf (row_of self.now i) result }
+    {
+        match &self.narrow {
+            Some(narrow) => {
+                let starts = self.starts.list();
+                let from = starts[i as usize];
+                let to = starts[i as usize + 1];
+                Some(narrow.between(from as usize, to as usize))
+            }
+            None => None,
+        }
+    }
+
+    /// The word that all entries have, if their columns are listed and they have one.
+    pub fn only_word(&self) -> Option<u64>
+        ensures { IfSome result (IsOnlyWord self.now) }
+    {
+        match &self.narrow {
+            Some(narrow) => narrow.only,
+            None => None,
+        }
     }
 
     /// The cells of the rows from one up to another, all of one run, counted from 0: these stand in

@@ -3,7 +3,7 @@
 ghost use Rattle.std.specs.Prelude.{◌≡◌, ◌<◌, ◌≤◌, ◌/◌, ◌^◌, ℕ, IsTrue, length, slice_index};
 ghost use Rattle.std.specs.Ordering.{nat_cmp};
 ghost use Rattle.std.specs.FinMap as map;
-ghost use Rattle.csr_store.specs.inner.Grid.{columns_of};
+ghost use Rattle.csr_store.specs.Columns.{columns_of};
 ghost use Rattle.csr_store.specs.inner.Parts.{ArePartStarts};
 ghost use Rattle.csr_store.specs.inner.Repeated.{number_at};
 

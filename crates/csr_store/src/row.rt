@@ -3,7 +3,7 @@ ghost use Rattle.std.specs.Prelude.{◌≡◌, ◌<◌, ◌≤◌, ◌+◌, ◌+
 ghost use Rattle.std.specs.Ordering.{nat_cmp};
 ghost use Rattle.std.specs.FinMap as map;
 ghost use Rattle.std.specs.Map.{lookup};
-ghost use Rattle.csr_store.specs.inner.Grid.{columns_of};
+ghost use Rattle.csr_store.specs.Columns.{columns_of};
 ghost use Rattle.csr_store.specs.Valued.{valued_from};
 
 use crate::matrix::Cell;

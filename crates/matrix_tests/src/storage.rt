@@ -7,6 +7,7 @@ use std::process::Abort;
 use std::sync::Arc;
 use std::test::Fail;
 
+mod columns;
 mod limits;
 mod lists;
 mod rows;

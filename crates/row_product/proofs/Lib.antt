@@ -16,3 +16,4 @@ pub mod Column
 pub mod Listed
 pub mod Ordered
 pub mod Folded
+pub mod StandIn

@@ -11,3 +11,4 @@ pub mod Progress
 pub mod Rows
 pub mod Single
 pub mod Sums
+pub mod StandIn

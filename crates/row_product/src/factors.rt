@@ -1,7 +1,10 @@
 //! The factors of a product.
+ghost use Rattle.std.specs.Prelude.{IfSome};
 ghost use Rattle.bpf_verify.specs.Accepted.{IsAccepted};
 ghost use Rattle.csr_store.specs.Grid.{IsGrid};
+ghost use Rattle.row_product.specs.inner.StandIn.{StandsOnLeft};
 
+use bpf_run::reads_first;
 use bpf_verify::Operator;
 use csr_store::{Column, Matrix};
 
@@ -39,5 +42,19 @@ pub(crate) struct MaskedFactors<'m> {
     pub(crate) a: &'m Matrix,
     pub(crate) b: &'m Matrix,
     pub(crate) column: Option<&'m Column>,
+    /// A word that stands for each word of A in MUL, if there is one.
+    pub(crate) left: Option<u64>,
     pub(crate) mask: Option<&'m Matrix>,
+}
+
+/// A word that stands for each word of A in MUL, if there is one: that of all entries, or any word
+/// where MUL doesn't read it.
+pub(crate) fn left_word(mul: &Operator, a: &Matrix) -> Option<u64>
+    ensures { IfSome result (StandsOnLeft mul.now a.now) }
+{
+    match a.only_word() {
+        Some(word) => Some(word),
+        None if reads_first(mul) => None,
+        None => Some(0),
+    }
 }

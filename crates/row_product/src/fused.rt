@@ -1,14 +1,17 @@
 //! Rows of a product by one column with a usual ADD and a recognised MUL: all rows of a range are
 //! computed in one loop, into which both are compiled. A term goes into its sum at once, and
 //! nothing is listed.
-ghost use Rattle.std.specs.Prelude.{◌≡◌, ◌≤◌, ◌+◌, None, Some, IfSome, if◌then◌else◌};
+ghost use Rattle.std.specs.Prelude.{◌≡◌, ◌≤◌, ◌+◌, None, Some, IfSome, map, if◌then◌else◌};
 ghost use Rattle.bpf_insn.specs.declared.operands.Kind.TheVariants as kinds;
 ghost use Rattle.bpf_run.specs.Calls.{steps_of};
 ghost use Rattle.bpf_run.specs.Known.{Computes};
 ghost use Rattle.bpf_verify.specs.Accepted.{IsAccepted};
-ghost use Rattle.csr_store.specs.Column.{IsCopyOf};
+ghost use Rattle.csr_store.specs.Column.{column_of, IsCopyOf};
+ghost use Rattle.csr_store.specs.Grid.{row_of};
 ghost use Rattle.row_product.specs.inner.Column.{MaySum, IsSummed, IsBegunInColumn};
 ghost use Rattle.row_product.specs.inner.Masked.{AddsRows};
+ghost use Rattle.row_product.specs.inner.Rows.{IsRowOfA};
+ghost use Rattle.row_product.specs.inner.StandIn.{cells_with};
 ghost use Rattle.row_product.specs.inner.Sums.{added, added_calls};
 
 use crate::column_terms::word_at;
@@ -83,6 +86,64 @@ fn sum_cells<A: Function, M: Function>(
     Summed { sum, steps }
 }
 
+/// Sums the terms of a word with the words of B's column at some rows, where each row has one.
+#[inline(always)]
+fn sum_columns<A: Function, M: Function>(
+    factors: &MaskedFactors,
+    x: u64,
+    words: &[u64],
+    columns: &[u32],
+) -> Summed
+    requires add { Computes factors.now.add.now A.meaning A.price }
+    requires mul { Computes factors.now.mul.now M.meaning M.price }
+    requires words { column_of factors.now.b.now ≡ map Some words.now }
+    requires row { MaySum factors.now (cells_with x columns.now) }
+    ensures { IsSummed factors.now (cells_with x columns.now) result.sum result.steps }
+{
+    if columns.is_empty() {
+        return Summed {
+            sum: None,
+            steps: 0,
+        };
+    }
+    // The first term apart, so that no other asks whether the sum has begun.
+    let first = call_by::<M>(factors.mul, x, words[columns[0] as usize]);
+    let mut sum = first.value;
+    let mut steps = first.steps;
+    for n in 1..columns.len() {
+        let term = call_by::<M>(factors.mul, x, words[columns[n] as usize]);
+        let with = call_by::<A>(factors.add, sum, term.value);
+        sum = with.value;
+        steps += term.steps + with.steps;
+    }
+    Summed {
+        sum: Some(sum),
+        steps,
+    }
+}
+
+/// Sums the terms of row `i` of A by its columns alone, if they are listed, a word stands for its
+/// words, and each row of B has a word.
+#[inline(always)]
+fn sum_listed<A: Function, M: Function>(factors: &MaskedFactors, i: u64) -> Option<Summed>
+    requires add { Computes factors.now.add.now A.meaning A.price }
+    requires mul { Computes factors.now.mul.now M.meaning M.price }
+    requires row { IsRowOfA factors.now i }
+    requires column { factors.now.b.now.columns ≡ 1 }
+    ensures { IfSome result (λ s. IsSummed factors.now (row_of factors.now.a.now i) s.sum s.steps) }
+{
+    let x = factors.left?;
+    let words = factors.column?.full_words()?;
+    let columns = factors.a.columns_in(i)?;
+    Some(sum_columns::<A, M>(factors, x, words, columns))
+}
+
+/// Whether rows of A may be read by their columns alone.
+fn are_listed(factors: &MaskedFactors, range: &Range<u64>) -> bool {
+    let rows = factors.a.rows();
+    factors.left.is_some() && range.start < rows && factors.a.columns_in(range.start).is_some()
+}
+
 /// Rows by operators that compute two functions, as types. It has no state.
 struct Fused<A, M>(PhantomData<(A, M)>);
 
@@ -109,6 +170,30 @@ impl<A: Function, M: Function> RowAccumulator for Fused<A, M> {
             None => sum_cells::<A, M>(factors, None, row),
         };
         end_summed(factors, i, &summed, making)
+    }
+}
+
+/// The same by the columns of A alone, where these are listed.
+struct Listed<A, M>(Fused<A, M>);
+
+impl<A: Function, M: Function> RowAccumulator for Listed<A, M> {
+    ghost is_ready = { λ columns s. columns ≡ 1 };
+
+    ghost may_fill = { λ f i. Computes f.add.now A.meaning A.price × Computes f.mul.now M.meaning M.price };
+
+    #[inline(always)]
+    fn fill_row(
+        &mut self,
+        factors: &MaskedFactors,
+        i: u64,
+        making: &mut Making,
+    ) -> Result<(), AllocError> {
+        if lets_pass(factors.mask, i) {
+            if let Some(summed) = sum_listed::<A, M>(factors, i) {
+                return end_summed(factors, i, &summed, making);
+            }
+        }
+        self.0.fill_row(factors, i, making)
     }
 }
 
@@ -170,11 +255,18 @@ impl<'r, 'f, 'm, A: Function> Loop for RowsBy<'r, 'f, 'm, A> {
     #[inline(never)]
     fn run<M: Function>(&self, mul: &Operator, filling: &mut Filling) -> u64 {
         let rows = self.rows;
-        let mut fused = Fused::<A, M>(PhantomData);
         let range = rows.range.start..rows.range.end;
-        filling.filled = Some(fill_rows(rows.factors, range, &mut fused, &mut filling.making));
-        // Taken apart, as above.
-        let Fused(_) = fused;
+        // A loop for each, as above.
+        if are_listed(rows.factors, &range) {
+            let mut listed = Listed(Fused::<A, M>(PhantomData));
+            filling.filled = Some(fill_rows(rows.factors, range, &mut listed, &mut filling.making));
+            // Taken apart, as above.
+            let Listed(Fused(_)) = listed;
+        } else {
+            let mut fused = Fused::<A, M>(PhantomData);
+            filling.filled = Some(fill_rows(rows.factors, range, &mut fused, &mut filling.making));
+            let Fused(_) = fused;
+        }
         // The steps are in `making`.
         0
     }

@@ -14,8 +14,9 @@ ghost use Rattle.workspace.specs.Turn.{SubmitTurn, BudgetTurn, Prices, Submits};
 use crate::found::find;
 use crate::share::share;
 use crate::workspace::Workspace;
+use bpf_run::reads_first;
 use command_text::{Refusal, Reply, SessionRule, Submission, queued, refuse, tell_budget};
-use job_plan::{Job, Priced, price};
+use job_plan::{Form, Job, Priced, price};
 use std::alloc::Global;
 use std::sync::Wait;
 use step_budget::{Reply as BudgetReply, Steps};
@@ -85,9 +86,35 @@ fn submit_job<T: Steps, H: Wait>(
     }
 }
 
-/// `apply`, `select`, `union`, `both`, `product` and `reduce`: a job, with the operators and
-/// matrices that its names stand for now.
-pub fn submit<T: Steps, H: Wait>(
+/// Notes that a product by a full column is to walk the rows of its first matrix.
+fn expect_walk(alloc: Global, workspace: &mut Workspace, submission: &Submission<'_>)
+    ensures { state_of workspace.new ≡ state_of workspace.old }
+{
+    let Form::Product {
+        mul,
+        left,
+        right,
+        ..
+    } = submission.form
+    else {
+        return;
+    };
+    let (Some(operator), Some(a), Some(b)) = (
+        workspace.operator(mul),
+        workspace.matrix(left),
+        workspace.matrix(right),
+    ) else {
+        return;
+    };
+    if b.columns() == 1 && b.entries() == b.rows() {
+        let entries = a.entries();
+        let reads_words = reads_first(operator);
+        workspace.expect_walk(alloc, left, entries, reads_words);
+    }
+}
+
+/// Submits a job, with the operators and matrices that its names stand for now.
+fn submit_found<T: Steps, H: Wait>(
     rt: &H,
     alloc: Global,
     workspace: &mut Workspace,
@@ -111,4 +138,25 @@ pub fn submit<T: Steps, H: Wait>(
         Ok(job) => submit_job(rt, workspace, job, steps, reply),
         Err(_) => refuse(reply, Refusal::Memory),
     }
+}
+
+/// `apply`, `select`, `union`, `both`, `product` and `reduce`: a job, with the operators and
+/// matrices that its names stand for now.
+pub fn submit<T: Steps, H: Wait>(
+    rt: &H,
+    alloc: Global,
+    workspace: &mut Workspace,
+    submission: &Submission<'_>,
+    steps: &mut T,
+    reply: &mut Reply,
+)
+    ensures turn { (dealings : List Dealing) ×
+        SubmitTurn (state_of workspace.old) (submission_of submission.now) dealings (whole reply.new)
+        (state_of workspace.new) × Deals T.leads steps.old dealings steps.new }
+    ensures owed { total_price (state_of workspace.new).queue + T.owes steps.old ≡
+        total_price (state_of workspace.old).queue + T.owes steps.new }
+{
+    // Before the job has its matrices: one with two owners is left as it is.
+    expect_walk(alloc, workspace, submission);
+    submit_found(rt, alloc, workspace, submission, steps, reply);
 }

@@ -1,5 +1,5 @@
 //! Values by their names.
-ghost use Rattle.std.specs.Prelude.{◌≡◌, ℕ, List, Option, IsTrue, OnOk, None, Some, option_copied};
+ghost use Rattle.std.specs.Prelude.{◌≡◌, ℕ, List, Option, IsTrue, OnOk, IfSome, None, Some, option_copied};
 ghost use Rattle.std.specs.Map.{update};
 ghost use Rattle.std.specs.Str.{bytes_eq};
 ghost use Rattle.workspace.specs.Names.{value_at};
@@ -54,6 +54,19 @@ impl<V: Drop> Names<V> {
         let key = String::from_str(self.alloc, name)?;
         self.declared.insert(key, None)?;
         Ok(())
+    }
+
+    /// Takes the value from under a name, which stays declared.
+    pub fn take(&mut self, name: &str) -> Option<V>
+        ensures taken { result ≡ value_at self.old.declared name.now }
+        ensures declared { IfSome result (λ _. IsTrue (is_declared self.new.declared name.now)) }
+        ensures left { (other : List ℕ) → value_at self.new.declared other ≡
+            update bytes_eq (value_at self.old.declared) name.now None other }
+    {
+        match self.declared.get_mut(name) {
+            Some(place) => place.take(),
+            None => None,
+        }
     }
 
     /// Binds a name, which is declared, to a value.

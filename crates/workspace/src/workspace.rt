@@ -60,6 +60,17 @@ impl Workspace {
         self.matrices.find(name.as_str())
     }
 
+    /// Notes that a product is to walk about so many entries of the matrix of a name, and whether it
+    /// reads their words. A matrix that a job in the queue has, too, is left as it is.
+    pub fn expect_walk(&mut self, alloc: Global, name: Name<'_>, entries: u64, reads_words: bool)
+        ensures { state_of self.new ≡ state_of self.old }
+    {
+        if let Some(version) = self.matrices.take(name.as_str()) {
+            let version = walked(alloc, version, entries, reads_words);
+            self.matrices.bind(name.as_str(), version);
+        }
+    }
+
     /// The operator of a name.
     pub fn operator(&self, name: Name<'_>) -> Option<&Arc<Operator>>
         ensures { option_map arc_value (option_copied result) ≡ (state_of self.now).operators (name_of name.entry) }
@@ -121,4 +132,16 @@ impl Workspace {
     {
         self.queue.submit(job)
     }
+}
+
+/// A version of which a product is to walk about so many entries. If it has more owners, it is left
+/// as it is.
+fn walked(alloc: Global, version: Version, entries: u64, reads_words: bool) -> Version
+    ensures { arc_value result ≡ arc_value version }
+{
+    let mut version = version;
+    if let Some(matrix) = Arc::get_mut(&mut version) {
+        matrix.expect_walk(alloc, entries, reads_words);
+    }
+    version
 }

@@ -1,6 +1,5 @@
-use Rattle.std.proofs.Common.{◌≡◌, ◌≤◌, ◌*◌, List, length, sym, ◌∙◌, refl, arith}
+use Rattle.std.proofs.Common.{sym, ◌∙◌, refl, arith}
 use Rattle.csr_store.specs.ByRows.{ends_of}
-use Rattle.csr_store.specs.Run.{Row}
 use Rattle.csr_store.specs.inner.Run.{ended_rows}
 use Rattle.csr_store.specs.inner.Cells.{joined}
 use Rattle.csr_store.proofs.InRuns.{run_parts, stacked_few}
@@ -22,4 +21,5 @@ invariant_of-result c =
       starts,
       run_parts c.args.rows c.args.columns c.args.starts c.args.lists starts h.bases (omega (arith, rows, filled)),
       h.count,
+      tt,
     )

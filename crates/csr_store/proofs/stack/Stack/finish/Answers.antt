@@ -1,4 +1,4 @@
-use Rattle.std.proofs.Common.{◌≡◌, ◌≤◌, ◌-◌, List, ℕ, length, ap, sym, ◌∙◌, arith}
+use Rattle.std.proofs.Common.{◌≡◌, ◌-◌, List, ℕ, length, ap, ◌∙◌, arith}
 use Rattle.csr_store.specs.ByRows.{grid, by_rows, ends_of}
 use Rattle.csr_store.specs.Run.{Run, numbered}
 use Rattle.csr_store.specs.inner.Cells.{joined}

@@ -2,7 +2,7 @@ use Rattle.std.proofs.Common.{[], refl}
 use Rattle.command_text.specs.Readings.{submission_of}
 use Rattle.workspace.specs.Workspace.{state_of}
 use Rattle.workspace.proofs.Turning.{submit_full}
-use Rattle.workspace.proofs.jobs.submit.Goals as goal
+use Rattle.workspace.proofs.jobs.submit_found.Goals as goal
 
 pub returns-then-not-has_room-clause-turn : goal.returns-then-not-has_room-clause-turn
 returns-then-not-has_room-clause-turn g c =
