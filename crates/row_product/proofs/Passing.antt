@@ -39,7 +39,7 @@ taken_so whole n cells mask c more left b e s t h =
     (sym (h ∙ ap is_some (sym (s c.0 (omega arith)) ∙ b.same c.0 a.0)))
 
 -- a cell is put behind those that passed, and counted if it passes
-pub put_next : (ps : List Cell) (n m : ℕ) (c : Cell) (all rest whole : List Cell) (b : Bool) → m ≡ n + bool_byte b → n < length ps
+pub put_next : {T : Type 0} (ps : List T) (n m : ℕ) (c : T) (all rest whole : List T) (b : Bool) → m ≡ n + bool_byte b → n < length ps
     → all ≡ (if b then c ∷ rest else rest) → take n ps ++ all ≡ whole → take m (set ps n c) ++ rest ≡ whole
 put_next ps n m c all rest whole true p f k h =
     ap (λ us. us ++ rest) (ap (λ q. take q (set ps n c)) p ∙ take_more_set ps n c f)

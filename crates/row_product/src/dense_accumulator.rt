@@ -1,19 +1,25 @@
 //! A row of sums, to which the cells of rows of B are added, each times a word.
 ghost use Rattle.std.specs.Prelude.{◌≡◌, ◌≤◌, ◌++◌, ℕ, None, [], length, IfOk, OnOk};
 ghost use Rattle.bpf_verify.specs.Accepted.{Accepted};
+ghost use Rattle.bpf_run.specs.Known.{Computes};
 ghost use Rattle.csr_store.specs.Along.{row_by};
+ghost use Rattle.csr_store.specs.Ascending.{Ascends};
+ghost use Rattle.csr_store.specs.Grid.{limit};
 ghost use Rattle.row_product.specs.inner.Adding.{none_gathered, AreBelow, AreTerms, ArePut, MayPut, IsMet};
 ghost use Rattle.row_product.specs.inner.Emitting.{MayEmit};
+ghost use Rattle.row_product.specs.inner.Masked.{AreMasked};
 ghost use Rattle.row_product.specs.inner.Rows.{IsPart, AddsCells};
 ghost use Rattle.row_product.specs.inner.Single.{multiplied, MayPutProducts, AreCharged};
+ghost use Rattle.row_product.specs.inner.StandIn.{IsTerm, cells_with};
 ghost use Rattle.row_product.specs.inner.Sums.{slot};
 
 use crate::additions::Additions;
 use crate::factors::MaskedFactors;
 use crate::single::push_words;
 use crate::sums::Sums;
+use crate::term::Term;
 use crate::terms::Terms;
-use bpf_run::{Calls, run_known};
+use bpf_run::{Calls, Function, run_known};
 use bpf_verify::Operator;
 use csr_store::Rows;
 use job_forms::Making;
@@ -93,6 +99,24 @@ impl DenseAccumulator {
             )
     }
 
+    /// Adds a term to the sums of columns, each of which costs its steps. Returns all steps.
+    #[inline(always)]
+    pub(crate) fn add_to_each<F: Function>(
+        &mut self,
+        factors: &MaskedFactors,
+        term: &Term,
+        columns: &[u32],
+    ) -> u64
+        requires computes { Computes factors.now.add.now F.meaning F.price }
+        requires term { IsTerm factors.now.mul.now term.now }
+        requires factors { AreMasked factors.now }
+        requires few { length columns.now ≤ limit }
+        requires apart { Ascends 0 (length self.old) (cells_with term.now.word columns.now) }
+        ensures { AddsCells factors.now term.now.x (cells_with term.now.word columns.now) self.old self.new result }
+    {
+        add_to_each::<F>(factors, term, columns, &mut self.sums)
+    }
+
     /// Appends a word times each of up to 64 cells to the open row, without a sum. The calls
     /// run, and are charged, before memory may be refused.
     pub(crate) fn push_products(
@@ -121,6 +145,29 @@ impl DenseAccumulator {
     {
         self.sums.emit(columns, rows)
     }
+}
+
+/// Adds a term to the sums of columns, each of which costs its steps. Returns all steps.
+#[inline(always)]
+fn add_to_each<F: Function>(
+    factors: &MaskedFactors,
+    term: &Term,
+    columns: &[u32],
+    sums: &mut Sums,
+) -> u64
+    requires computes { Computes factors.now.add.now F.meaning F.price }
+    requires term { IsTerm factors.now.mul.now term.now }
+    requires factors { AreMasked factors.now }
+    requires few { length columns.now ≤ limit }
+    requires apart { Ascends 0 (length sums.old) (cells_with term.now.word columns.now) }
+    ensures { AddsCells factors.now term.now.x (cells_with term.now.word columns.now) sums.old sums.new result }
+{
+    let mut steps = 0;
+    for column in columns {
+        let added = sums.add::<F>(factors.add, u64::from(*column), term.value);
+        steps += term.steps + added;
+    }
+    steps
 }
 
 /// Adds terms to the sums of the columns of cells. Returns the steps.

@@ -2,9 +2,9 @@
 ghost use Rattle.std.specs.Prelude.{IfSome};
 ghost use Rattle.bpf_verify.specs.Accepted.{IsAccepted};
 ghost use Rattle.csr_store.specs.Grid.{IsGrid};
-ghost use Rattle.row_product.specs.inner.StandIn.{StandsOnLeft};
+ghost use Rattle.row_product.specs.inner.StandIn.{StandsOnLeft, StandsOnRight};
 
-use bpf_run::reads_first;
+use bpf_run::{reads_first, reads_second};
 use bpf_verify::Operator;
 use csr_store::{Column, Matrix};
 
@@ -44,6 +44,8 @@ pub(crate) struct MaskedFactors<'m> {
     pub(crate) column: Option<&'m Column>,
     /// A word that stands for each word of A in MUL, if there is one.
     pub(crate) left: Option<u64>,
+    /// The same of B.
+    pub(crate) right: Option<u64>,
     pub(crate) mask: Option<&'m Matrix>,
 }
 
@@ -55,6 +57,17 @@ pub(crate) fn left_word(mul: &Operator, a: &Matrix) -> Option<u64>
     match a.only_word() {
         Some(word) => Some(word),
         None if reads_first(mul) => None,
+        None => Some(0),
+    }
+}
+
+/// The same of B.
+pub(crate) fn right_word(mul: &Operator, b: &Matrix) -> Option<u64>
+    ensures { IfSome result (StandsOnRight mul.now b.now) }
+{
+    match b.only_word() {
+        Some(word) => Some(word),
+        None if reads_second(mul) => None,
         None => Some(0),
     }
 }

@@ -64,10 +64,12 @@ mod progress;
 mod ranges;
 mod row;
 mod row_accumulator;
+mod row_adder;
 mod row_under_mask;
 mod single;
 mod sorted_accumulator;
 mod sums;
+mod term;
 mod terms;
 mod usual;
 

@@ -85,7 +85,7 @@ fn push_row_under(
         making.old making.new result }
     ensures little { making.new.steps ≤ making.old.steps + 8192 * limit }
     ensures unchanged { (progress.new.sums ≡ progress.old.sums) × (progress.new.allowed ≡ progress.old.allowed)
-        × (64 ≤ length progress.new.passing.items) }
+        × (64 ≤ length progress.new.passing.items) × (progress.new.passing_columns ≡ progress.old.passing_columns) }
 {
     let (k, x) = cell;
     let cells = factors.b.row(k);

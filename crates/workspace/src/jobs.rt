@@ -14,7 +14,7 @@ ghost use Rattle.workspace.specs.Turn.{SubmitTurn, BudgetTurn, Prices, Submits};
 use crate::found::find;
 use crate::share::share;
 use crate::workspace::Workspace;
-use bpf_run::reads_first;
+use bpf_run::{reads_first, reads_second};
 use command_text::{Refusal, Reply, SessionRule, Submission, queued, refuse, tell_budget};
 use job_plan::{Form, Job, Priced, price};
 use std::alloc::Global;
@@ -86,8 +86,9 @@ fn submit_job<T: Steps, H: Wait>(
     }
 }
 
-/// Notes that a product by a full column is to walk the rows of its first matrix.
-fn expect_walk(alloc: Global, workspace: &mut Workspace, submission: &Submission<'_>)
+/// Notes which rows a product is to walk: those of its first matrix where the second one is a full
+/// column, and else those of the second one.
+fn expect_walks(alloc: Global, workspace: &mut Workspace, submission: &Submission<'_>)
     ensures { state_of workspace.new ≡ state_of workspace.old }
 {
     let Form::Product {
@@ -106,8 +107,13 @@ fn expect_walk(alloc: Global, workspace: &mut Workspace, submission: &Submission
     ) else {
         return;
     };
-    if b.columns() == 1 && b.entries() == b.rows() {
-        let entries = a.entries();
+    let entries = a.entries();
+    if b.columns() != 1 {
+        // As many rows as A has entries, each as long as they are on average.
+        let walked = entries.saturating_mul(b.entries()) / b.rows().max(1);
+        let reads_words = reads_second(operator);
+        workspace.expect_walk(alloc, right, walked, reads_words);
+    } else if b.entries() == b.rows() {
         let reads_words = reads_first(operator);
         workspace.expect_walk(alloc, left, entries, reads_words);
     }
@@ -157,6 +163,6 @@ pub fn submit<T: Steps, H: Wait>(
         total_price (state_of workspace.old).queue + T.owes steps.new }
 {
     // Before the job has its matrices: one with two owners is left as it is.
-    expect_walk(alloc, workspace, submission);
+    expect_walks(alloc, workspace, submission);
     submit_found(rt, alloc, workspace, submission, steps, reply);
 }

@@ -58,6 +58,7 @@ loop-row-init c =
       sums = refl;
       allowed = refl;
       capacity = c.requires.capacity;
+      columns = refl;
     }
 
 pub returns-in_err-push_products-clause-row : goal.returns-in_err-push_products-clause-row
@@ -163,6 +164,7 @@ loop-row-preserved c =
       sums = c.push_products.ensures.sums ∙ i.sums;
       allowed = i.allowed;
       capacity = omega (arith, many, same, capacity);
+      columns = i.columns;
     }
 
 pub returns-clause-little : goal.returns-clause-little

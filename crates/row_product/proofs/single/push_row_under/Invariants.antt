@@ -24,4 +24,5 @@ invariant-loop-row l = record {
   sums : l.progress.sums ≡ l.fn.progress.sums;
   allowed : l.progress.allowed ≡ l.fn.progress.allowed;
   capacity : 64 ≤ length l.progress.passing.items;
+  columns : l.progress.passing_columns ≡ l.fn.progress.passing_columns;
 }

@@ -29,7 +29,7 @@ returns-then-not-masked-clause-ready c =
     let s = r.sums in
     let l = ap length c.add_cells.ensures.sums
     ∙ length_after c.args.factors.now.add.now c.args.factors.now.mul.now c.args.x c.args.self.now.sums c.args.cells.now in
-    (record { sums = omega (arith, s, l); allowed = r.allowed; passing = r.passing }, refl)
+    (record { sums = omega (arith, s, l); allowed = r.allowed; passing = r.passing; passing_columns = r.passing_columns }, refl)
 
 pub choose-count-requires-clause-within : goal.choose-count-requires-clause-within
 choose-count-requires-clause-within c =
@@ -72,4 +72,4 @@ returns-clause-ready c =
     let l = ap length c.add_cells-2.ensures.sums
     ∙ length_after c.args.factors.now.add.now c.args.factors.now.mul.now c.args.x c.args.self.now.sums
     (take c.choose-count.result c.deref-2.result.now) in
-    (record { sums = omega (arith, s, l); allowed = r.allowed; passing = omega (arith, p, m, put) }, refl)
+    (record { sums = omega (arith, s, l); allowed = r.allowed; passing = omega (arith, p, m, put); passing_columns = r.passing_columns }, refl)

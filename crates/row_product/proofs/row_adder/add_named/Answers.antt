@@ -8,13 +8,13 @@ use Rattle.job_forms.proofs.Counting.{row_few}
 use Rattle.row_product.specs.inner.Progress.{stands}
 use Rattle.row_product.specs.inner.Sums.{slot, takes, seen, after, extra}
 use Rattle.row_product.proofs.Gathering.{gathering_start, gathering_step, gathering_end}
-use Rattle.row_product.proofs.progress.Progress.add_rows.Goals as goal
+use Rattle.row_product.proofs.row_adder.add_named.Goals as goal
 use Rattle.std.specs.FinMap as fin
 
 pub loop-k-init : goal.loop-k-init
-loop-k-init c = record {
+loop-k-init g c = record {
   gathering = gathering_start c.args.factors.now.add.now c.args.factors.now.mul.now c.args.factors.now.b.now
-      c.args.factors.now.b.now.columns (takes c.args.masked c.args.self.now.allowed.items) (stands c.args.self.now)
+      c.args.factors.now.b.now.columns (takes c.args.masked c.args.progress.now.allowed.items) (stands c.args.progress.now)
       c.row-row.result.now;
   few = omega arith;
   ready = c.requires.ready;
@@ -22,7 +22,7 @@ loop-k-init c = record {
 }
 
 pub add_row-steps-requires-clause-row : goal.add_row-steps-requires-clause-row
-add_row-steps-requires-clause-row c =
+add_row-steps-requires-clause-row g c =
     let row = c.row-row.result.now in
     let k = c.loop-k.k in
     let e = c.row-row.ensures in
@@ -37,7 +37,7 @@ add_row-steps-requires-clause-row c =
     record { factors = c.requires.row.factors; row = omega (arith, h, s, w) }
 
 pub overflow_add-steps : goal.overflow_add-steps
-overflow_add-steps c =
+overflow_add-steps g c =
     let i = c.loop-k.invariant.few in
     let f = c.add_row-steps.ensures.added.little in
     let e = ap length c.row-row.ensures in
@@ -46,24 +46,24 @@ overflow_add-steps c =
     omega (arith, i, f, e, r, t)
 
 pub loop-k-preserved : goal.loop-k-preserved
-loop-k-preserved c =
+loop-k-preserved g c =
     let add = c.args.factors.now.add.now in
     let mul = c.args.factors.now.mul.now in
     let b = c.args.factors.now.b.now in
     let n = b.columns in
-    let t = takes c.args.masked c.args.self.now.allowed.items in
+    let t = takes c.args.masked c.args.progress.now.allowed.items in
     let row = c.row-row.result.now in
     let k = c.loop-k.k in
     let cell = get_or row k (0, 0) in
-    let was = stands c.loop-k.self in
-    let then_ = stands c.add_row-steps.new.self in
+    let was = stands c.loop-k.progress in
+    let then_ = stands c.add_row-steps.new.progress in
     let i = c.loop-k.invariant in
     let f = i.few in
     let e = c.add_row-steps.ensures in
     let g = e.added.little in
     let same = ap (λ v. v.items) i.allowed in
     record {
-      gathering = gathering_step add mul b n t (stands c.args.self.now) row was (drop k row) c.loop-k.steps cell (drop (k + 1) row)
+      gathering = gathering_step add mul b n t (stands c.args.progress.now) row was (drop k row) c.loop-k.steps cell (drop (k + 1) row)
           then_ _ i.gathering (drop_more row k (0, 0) c.loop-k-test.true) e.ready.2
           (λ j. e.added.sums j ∙ ap (λ fs. after add mul cell.1 (slot was j) (seen (takes c.args.masked fs j) (fin.get b.cells
           (cell.0, j))))
@@ -76,13 +76,13 @@ loop-k-preserved c =
     }
 
 pub returns-clause-added : goal.returns-clause-added
-returns-clause-added c =
+returns-clause-added g c =
     let f = c.args.factors.now in
     let row = c.row-row.result.now in
     let few = c.loop-k.invariant.few in
     let n = c.loop-k.auto.k-end in
     let e = ap length c.row-row.ensures in
-    let all = gathering_end f.add.now f.mul.now f.b.now f.b.now.columns (takes c.args.masked c.args.self.now.allowed.items)
-    (stands c.args.self.now) row (row_of f.a.now c.args.i) (stands c.loop-k.self) (drop c.loop-k.k row) c.loop-k.steps
+    let all = gathering_end f.add.now f.mul.now f.b.now f.b.now.columns (takes c.args.masked c.args.progress.now.allowed.items)
+    (stands c.args.progress.now) row (row_of f.a.now c.args.i) (stands c.loop-k.progress) (drop c.loop-k.k row) c.loop-k.steps
     c.loop-k.invariant.gathering (drop_all c.loop-k.k row c.loop-k-test.false) c.row-row.ensures in
     record { sums = all.0; steps = all.1; little = omega (arith, few, n, e) }
