@@ -314,7 +314,7 @@ def bytes_held(program):
          100 * MOST_SLOTS, 178),
         ('a name',
          b''.join(matrix_command('n%d' % number, matrix_text(1, 1, [])) for number in range(5000)),
-         5000, 270),]
+         5000, 350),]
     with Witness() as witness:
         for what, input_, units, bound in sessions:
             held = most_held(witness, program, input_)
