@@ -14,7 +14,7 @@ from unittest import mock
 from .support import (FIRST_SESSION, LINES, OPERATORS, PATIENCE, Certificates, Client, Gateway,
                       dense, direct, engine_command, folder, limits_memory, sessions_alone, until)
 
-# one word differs: of one word alone a product takes a third of the time
+# one word differs: of one word alone a product takes two thirds of the time
 BUSY = (OPERATORS + dense(250).replace(b'\n1 1 1\n', b'\n1 1 2\n', 1)
         + b'product B plus times A A\n' * 60)
 """Sixty products of some ninety million steps each, to be run: they take seconds at the least."""
