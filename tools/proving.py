@@ -6,7 +6,7 @@ import shutil
 import subprocess
 import time
 from concurrent.futures import FIRST_COMPLETED, Future, ThreadPoolExecutor, wait
-from typing import Dict, Iterable, List, NamedTuple, Sequence
+from typing import Callable, Dict, Iterable, List, NamedTuple, Sequence
 
 from paths import CRATES, TOP
 
@@ -113,15 +113,12 @@ def lengths_of_chains(names: Iterable[str], crates: Dict[str, Crate]) -> Dict[st
     return {name: length(name) for name in lines}
 
 
-def prove(folder: str) -> bool:
-    """Proves and builds the crates of a folder, and prints a line for each; of one that is refused
-    all that the prover said.
-
-    Each crate has an `rt ci` of its own, and half as many run at a time as there are processors.
-    For `rt ci` gives a proof those processors alone that no other proof waits for as it begins. Of
-    all crates at once it would prove the longest chain on one processor."""
+def prove_upward(tops: Iterable[str], prove_one: Callable[[str], Proof]) -> bool:
+    """Proves crates and those below them, each by `prove_one` once those below it are proved, those
+    with the longest chain above them first, and half as many at a time as there are processors.
+    Prints a line for each; of one that is refused all that the prover said. True if all are proved."""
     began, crates = time.monotonic(), listed()
-    waiting = {name for name in crates if os.path.isdir(os.path.join(folder, 'crates', name))}
+    waiting = {name for top in tops for name in below(top, crates)}
     chains = lengths_of_chains(waiting, crates)
     running: Dict['Future[Proof]', str] = {}
     at_once, is_proved = max(1, (os.cpu_count() or 1) // 2), True
@@ -132,7 +129,7 @@ def prove(folder: str) -> bool:
             ready.sort(key=chains.__getitem__, reverse=True)
             for name in ready[:at_once - len(running)]:
                 waiting.remove(name)
-                running[workers.submit(run_gate, folder, name)] = name
+                running[workers.submit(prove_one, name)] = name
             for one in wait(running, return_when=FIRST_COMPLETED).done:
                 name, proof = running.pop(one), one.result()
                 print('%s, %d s' % (told(name, proof), time.monotonic() - began), flush=True)
@@ -140,7 +137,17 @@ def prove(folder: str) -> bool:
                     print(proof.said)
                     is_proved = False
                     waiting -= {above for above in waiting if name in below(above, crates)}
-    if not is_proved:
+    return is_proved
+
+
+def prove(folder: str, tops: Iterable[str]) -> bool:
+    """Proves and builds crates and those below them, as the gate does, where they are laid out.
+
+    Each crate has an `rt ci` of its own. For `rt ci` gives a proof those processors alone that no
+    other proof waits for as it begins. Of all crates at once it would prove the longest chain on
+    one processor."""
+    began = time.monotonic()
+    if not prove_upward(tops, lambda name: run_gate(folder, name)):
         return False
     # builds the programs, and leaves the statements of all crates in the folder
     whole = run_gate(folder)
