@@ -139,8 +139,8 @@ class Attack(unittest.TestCase):
         self.assertEqual([words[-2_000:] for words in killer.faults + faults], [])
         self.assertEqual(off, [])
         self.assertIn('all sums', one.command('ledger', '--check'))
-        for gateway in gateways:
-            self.assertEqual(gateway.measure('sessions_unsettled'), 0)
+        until('none waits for the ledger', lambda: all(
+            gateway.measure('sessions_unsettled') == 0 for gateway in gateways))
 
 
 if __name__ == '__main__':
