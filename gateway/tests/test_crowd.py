@@ -54,9 +54,11 @@ class Seats(WithGateway):
         """Who has nothing left reads so, also where all seats are taken."""
         lea, max_, nora = (self.gateway.add(name) for name in ('lea', 'max', 'nora'))
         self.gateway.command('quota', 'nora', '--steps-in-all', '0')
-        held = [self.gateway.client(login) for login in (lea, lea, max_, self.anna)]
-        for client in held:
-            self.assertTrue(client.ask('budget').startswith('ok budget'))
+        held = []
+        # one by one, since the last seat is given to nobody who has one
+        for login in (lea, lea, max_, self.anna):
+            held.append(self.gateway.client(login))
+            self.assertRegex(held[-1].ask('budget'), '^ok budget', login)
         with self.gateway.client(nora) as client:
             self.assertEqual(client.rest(), b'no quota steps-in-all\n')
         for client in held:
