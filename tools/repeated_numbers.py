@@ -42,8 +42,6 @@ NUMBERS = (
            ('tools/releasing/bill.py', r"'name': 'glibc', 'version': '([\d.]+)'")),
     Number('the functions of networkx that are served', r'\b(\d+) functions(?= of networkx)'),
     Number('the steps a second', r'\b(\d+ to \d+) million (?:steps )?(?:per|a) second'),
-    Number('the mutants that the last whole run tried',
-           r'\b(\d{3}) (?=of an earlier version|older ones)'),
     Number('the mutants', r'\b(\d{3}) (?=edits of \d+ crates|others by hand)'),
     Number('how long the gate takes', r'\bunder (\w+ hours)'),
     Number('the steps of a chunk', r'\beach (\d{3},000) (?:of its )?steps'),
