@@ -72,6 +72,12 @@ class Proof(NamedTuple):
     is_proved: bool
     said: str
 
+    @property
+    def is_kept(self) -> bool:
+        """Whether the next run finds it proved."""
+        return not re.search('^rt: note: .*, so (nothing is kept|what came after is not kept)',
+                             self.said, re.M)
+
 
 def run_gate(folder: str, *names: str) -> Proof:
     """Runs `rt ci` in a folder, on some crates and those below them, or on all."""
@@ -116,7 +122,8 @@ def lengths_of_chains(names: Iterable[str], crates: Dict[str, Crate]) -> Dict[st
 def prove_upward(tops: Iterable[str], prove_one: Callable[[str], Proof]) -> bool:
     """Proves crates and those below them, each by `prove_one` once those below it are proved, those
     with the longest chain above them first, and half as many at a time as there are processors.
-    Prints a line for each; of one that is refused all that the prover said. True if all are proved."""
+    Prints a line for each; of one that is refused all that the prover said. False if one is refused.
+    Where a machine keeps no proofs, for lack of disk, say, crates are left to the run of all."""
     began, crates = time.monotonic(), listed()
     waiting = {name for top in tops for name in below(top, crates)}
     chains = lengths_of_chains(waiting, crates)
@@ -137,6 +144,9 @@ def prove_upward(tops: Iterable[str], prove_one: Callable[[str], Proof]) -> bool
                     print(proof.said)
                     is_proved = False
                     waiting -= {above for above in waiting if name in below(above, crates)}
+                elif waiting and not proof.is_kept:  # each crate above would prove those below it anew
+                    print('no proof is kept on this machine: %d more in one run' % len(waiting))
+                    waiting.clear()
     return is_proved
 
 
